@@ -1,0 +1,13 @@
+pub mod Key
+pub mod Value
+pub mod Name
+pub mod Limits
+pub mod Shape
+pub mod Class
+pub mod Recipe
+pub mod State
+pub mod Cell
+pub mod History
+pub mod Life
+pub mod Fits
+pub mod Scan
