@@ -1,0 +1,7 @@
+//! The arena: the bits that say which blocks are taken, the bytes of the blocks, and the blocks that a pass holds.
+#![tactic(auto)]
+
+pub mod blocks;
+pub mod layout;
+
+pub use blocks::{HeldBlock, HeldBlocks};

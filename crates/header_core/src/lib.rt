@@ -1,0 +1,9 @@
+//! Value headers: their words and states, and what a pass holds of them.
+#![tactic(auto)]
+
+pub mod holds;
+pub mod layout;
+pub mod states;
+
+pub use holds::{HeaderHolds, HeldHeader, PinnedHeader};
+pub use states::{DEAD, FREE, LIVE, LOCKED, OWNED, RETIRED};
