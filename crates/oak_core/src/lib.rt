@@ -1,13 +1,6 @@
-// A library with one function.
+//! The table of words, its passes, and the rule that holds of both between any two atomic steps.
 #![tactic(auto)]
 
-ghost use Rattle.std.specs.Prelude.{◌≡◌};
-ghost use Rattle.oak_core.specs.Echo.{echo_of};
+pub mod states;
 
-// The `ensures` clause is the contract: what `echo` returns is `echo_of` of its argument, a definition
-// in `specs/Echo.antt`, which a caller's clause can cite too.
-pub fn echo(x: usize) -> usize
-    ensures { result ≡ echo_of x }
-{
-    x
-}
+pub use states::{Finding, Findings, Full, Joined, KeyedWrite, Knowledge, Numbers, PassState};

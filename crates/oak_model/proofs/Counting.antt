@@ -98,6 +98,11 @@ unfolding below
 below_same f g zero h = refl
 below_same f g (suc n) h = let a = h n (omega arith) in let t = below_same f g n (λ k l. h k (omega arith)) in omega arith
 
+pub below_add : (f g : ℕ → ℕ) (n : ℕ) → below (λ k. f k + g k) n ≡ below f n + below g n
+unfolding below
+below_add f g zero = refl
+below_add f g (suc n) = let t = below_add f g n in omega arith
+
 -- a place of a part lies below the end of the parts
 pub below_inside : (f : ℕ → ℕ) (r q k : ℕ) → r < q → k < f r → below f r + k < below f q
 below_inside f r q k lt lk = let h = below_step f r q lt in omega arith

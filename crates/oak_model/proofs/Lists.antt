@@ -1,11 +1,11 @@
 -- Lists read by `get_elem?`, of which one element is exchanged, or which are lengthened or mapped.
-use Rattle.std.proofs.Common.{◌≡◌, ◌≢◌, ℕ, zero, suc, ◌<◌, ◌≤◌, ◌⊎◌, List, [], ◌∷◌, ◌++◌, map, length, set, sym, refl, ap, ◌∙◌, subst, inl, inr, ⊎_elim, arith, append_assoc, append-nil, length-append, cond, Bool, le-leb}
+use Rattle.std.proofs.Common.{get_or, ◌+◌, ◌≡◌, ◌≢◌, ℕ, zero, suc, ◌<◌, ◌≤◌, ◌⊎◌, List, [], ◌∷◌, ◌++◌, map, length, set, sym, refl, ap, ◌∙◌, subst, inl, inr, ⊎_elim, arith, append_assoc, append-nil, length-append, cond, Bool, le-leb}
 use Rattle.std.proofs.lemmas.Bool.{lt-leb}
 use mathlib.Core.Logic.{dite}
 use mathlib.Core.Option.{some, some-injective, some-ne-none}
 use native.Mathlib.Decide.{dec_le}
 use lib.ListN.{get_elem?}
-use Rattle.oak_model.specs.Counts.{Every, Each, Begins, longest}
+use Rattle.oak_model.specs.Counts.{rows, Every, Each, Begins, longest}
 
 module _ {A : Type 0} where
   pub at_set : (l : List A) (i j : ℕ) (a b : A) → get_elem? (set l i a) j ≡ some b → ((j ≡ i) × (a ≡ b)) ⊎ ((j ≢ i) × (get_elem? l j ≡ some b))
@@ -136,3 +136,22 @@ module _ {A : Type 0} where
       far : (x : List A) (xs ys : List (List A)) → (length (longest xs) ≤ length (longest ys) → longest (xs ++ ys) ≡ longest ys) × (length (longest ys) < length (longest xs) → longest (xs ++ ys) ≡ longest xs)
           → length x ≤ length (longest (xs ++ ys)) → length (longest ys) < length x → length (longest xs) < length x → ⊥
       far x xs ys r near a b = dite (dec_le (length (longest xs)) (length (longest ys))) (λ le. let n = ap length (r.0 le) in omega arith) (λ no. let n = ap length (r.1 (omega arith)) in omega arith)
+
+module _ {A : Type 0} where
+  pub rows_length : (i n : ℕ) (f : ℕ → A) → length (rows i n f) ≡ n
+  unfolding rows
+  rows_length i zero f = refl
+  rows_length i (suc n) f = ap suc (rows_length (suc i) n f)
+
+  pub rows_at : (i n k : ℕ) (f : ℕ → A) (d : A) → k < n → get_or (rows i n f) k d ≡ f (i + k)
+  unfolding rows
+  rows_at i zero k f d h = absurd (omega arith)
+  rows_at i (suc n) zero f d h = ap f (omega arith)
+  rows_at i (suc n) (suc k) f d h = rows_at (suc i) n k f d (omega arith) ∙ ap f (omega arith)
+
+  -- lists with the same elements are one
+  pub same_elements : (xs ys : List A) (d : A) → length xs ≡ length ys → ((k : ℕ) → k < length xs → get_or xs k d ≡ get_or ys k d) → xs ≡ ys
+  same_elements [] [] d l h = refl
+  same_elements [] (y ∷ ys) d l h = absurd (omega arith)
+  same_elements (x ∷ xs) [] d l h = absurd (omega arith)
+  same_elements (x ∷ xs) (y ∷ ys) d l h = let t = same_elements xs ys d (omega arith) (λ k lt. h (suc k) (omega arith)) in λ i. h zero (omega arith) i ∷ t i

@@ -1,5 +1,5 @@
 -- Numbers that a state keeps for words that no other may change. P names the words.
-use Rattle.std.specs.Prelude.{◌≡◌, ℕ, ◌≤◌, Bool, List, map}
+use Rattle.std.specs.Prelude.{◌≡◌, ℕ, ◌≤◌, cond, Bool, List, map}
 use Rattle.oak_model.specs.Counts.{one_if, total, Each, Every}
 
 pub record KeptWord (P : Type 0) : Type 0 where
@@ -21,3 +21,7 @@ pub record KeptNumbersStand {P : Type 0} (same : P → P → Bool) (read : P →
 -- the same words under other names
 abbrev pub renamed : {P Q : Type 0} → (P → Q) → List (KeptWord P) → List (KeptWord Q)
 renamed f ws = map (λ w. record { spot = f w.spot; number = w.number }) ws
+
+-- the words with x at one of them
+abbrev pub restored : {P : Type 0} → (P → P → Bool) → P → ℕ → List (KeptWord P) → List (KeptWord P)
+restored same p x ws = map (λ w. record { spot = w.spot; number = cond (same w.spot p) x w.number }) ws
