@@ -1,17 +1,15 @@
 -- The steps, splits and joins of the running table are those of the definitions.
-use Rattle.std.proofs.Common.{arith, shl_exact, ◌*◌, ◌%◌, ◌≡◌, ◌≢◌, ℕ, ◌<◌, ◌^◌, false, List, [], ◌∷◌, sym, refl, ap, ◌∙◌, subst, Some}
+use Rattle.std.proofs.Common.{arith, shl_exact, ◌*◌, ◌%◌, ◌≡◌, ℕ, ◌<◌, ◌^◌, false, [], ◌∷◌, sym, refl, ap, ◌∙◌, subst, Some}
 use Rattle.std.specs.Prelude.{bit_or}
 use Rattle.std.specs.Int.{bit_at}
 use Rattle.std.proofs.lemmas.Nat.Bits.{bit_at-pow_same, bit_at-pow_other}
 use mathlib.Core.Logic.{dite}
-use mathlib.Core.Option.{some}
 use native.Mathlib.Decide.{ℕ_discrete}
-use lib.ListN.{get_elem?}
-use Rattle.atomic_table.specs.Table.{State, Me, keeps, Allows, Splits, Joins}
+use Rattle.atomic_table.specs.Table.{Me, keeps, Allows, Splits, Joins}
 use Rattle.oak_model.specs.Limits.{Sizes}
 use Rattle.oak_model.proofs.Lists.{set_else}
 use Rattle.oak_core.specs.declared.states.PassState.{PassState}
-use Rattle.oak_core.specs.Memory.{Spot, at_given, index, IsInside, word_count}
+use Rattle.oak_core.specs.Memory.{index, word_count}
 use Rattle.oak_core.specs.Finding.{finding, grown}
 use Rattle.oak_core.specs.PassState.{left_state, right_state, both_state, spent_state}
 use Rattle.oak_core.specs.Running.{table_of, Holds, KeepsSeat}

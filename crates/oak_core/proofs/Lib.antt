@@ -10,3 +10,4 @@ pub mod Allowed
 pub mod Splits
 pub mod Alone
 pub mod UsedWords
+pub mod Frames

@@ -10,6 +10,8 @@ pub mod schedules;
 pub mod states;
 pub mod table;
 mod usage;
+#[cfg(test)]
+mod tests;
 pub mod writing;
 
 pub use closing::Closed;

@@ -1,4 +1,4 @@
-use Rattle.std.proofs.Common.{rules, ap}
+use Rattle.std.proofs.Common.{rules}
 use Rattle.oak_core.specs.Passes.{key, state}
 use Rattle.oak_core.proofs.Allowed.{joins}
 use Rattle.oak_core.proofs.Splits.{sees_longer}

@@ -1,7 +1,7 @@
 use Rattle.std.proofs.Common.{rules, ◌≡◌, ◌<◌, arith}
 use Rattle.std.specs.Int.{bit_at}
 use Rattle.oak_core.specs.Passes.{state, key, call_of}
-use Rattle.oak_core.proofs.Splits.{none_tried, may_give, tried_more, splits_off, now_in_hand}
+use Rattle.oak_core.proofs.Splits.{none_tried, may_give, tried_more, splits_off}
 use Rattle.oak_core.proofs.table.Pass.split.Goals as goal
 
 pub loop-number-init : goal.loop-number-init
