@@ -38,12 +38,7 @@ pub(crate) fn load_said<T: Said>(table: &OakTable, pass: &mut Pass, word: usize)
     table.table.shared.load::<Says<T>>(&mut pass.seat, word)
 }
 
-pub(crate) fn or_said<T: Said>(
-    table: &OakTable,
-    pass: &mut Pass,
-    word: usize,
-    bits: u64,
-) -> u64
+pub(crate) fn or_said<T: Said>(table: &OakTable, pass: &mut Pass, word: usize, bits: u64) -> u64
     requires own { IsPassOf table.now pass.old }
     requires inside { word < table.now.table.shared.table_id.words }
     requires rule { Allows (Holds (key table.now)) table.now.table.shared.table_id.slots pass.old.seat.id pass.old.seat.me word (λ n. bit_or n bits) (λ n m. T.told n m.0 × KeepsSeat pass.old.seat.me m) }

@@ -9,9 +9,9 @@ pub mod passes;
 pub mod schedules;
 pub mod states;
 pub mod table;
-mod usage;
 #[cfg(test)]
 mod tests;
+mod usage;
 pub mod writing;
 
 pub use closing::Closed;
