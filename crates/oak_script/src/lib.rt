@@ -1,0 +1,8 @@
+//! Scripts as text, and the text of a run.
+#![tactic(auto)]
+
+mod limits;
+mod scripts;
+
+pub use limits::{GREATEST_CALLS, GREATEST_SCANS, GREATEST_SCRIPT_NAME, GREATEST_THREADS};
+pub use scripts::{Call, Script, Threads};
