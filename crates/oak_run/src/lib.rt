@@ -1,0 +1,10 @@
+//! Runs scripts.
+#![tactic(auto)]
+
+mod asks;
+mod lasts;
+mod looks;
+mod plain;
+mod ranges;
+
+pub use lasts::{Held, Last};
