@@ -1,0 +1,46 @@
+ghost use Rattle.std.specs.Prelude.{◌≡◌};
+ghost use Rattle.outside.specs.Cause.{HasCause, faults_after};
+ghost use Rattle.outside.specs.Std.{writer_of, write_faults};
+ghost use Rattle.outside.specs.Taken.{WriteTakes};
+
+use crate::{Failed, Sink};
+use std::io::Write;
+
+/// A sink over a writer of std. It tells its bytes where the writer does.
+#[derive(Drop)]
+pub struct StdSink<W: Write + Drop> {
+    inner: W,
+    faults: u64,
+}
+
+impl<W: Write + Drop> StdSink<W> {
+    /// A sink over this writer, with no fault so far.
+    pub fn make(inner: W) -> StdSink<W>
+        ensures writer { writer_of result ≡ inner }
+        ensures faults { write_faults result ≡ 0 }
+    {
+        StdSink { inner, faults: 0 }
+    }
+}
+
+impl<W: Write + Drop> Sink for StdSink<W> {
+    ghost written = { λ s. W.contents s.inner };
+
+    ghost faults = { λ s. s.faults };
+
+    /// Writes once, and does not flush. Each `Err` of the writer is a fault, and so is an answer of 0
+    /// for a piece that is not empty.
+    fn write(&mut self, piece: &[u8]) -> Result<usize, Failed>
+        ensures bytes { WriteTakes (W.contents (writer_of self.old)) (W.contents (writer_of self.new)) result piece.now }
+        ensures cause { HasCause (write_faults self.old) (write_faults self.new) result }
+        ensures counted { write_faults self.new ≡ faults_after (write_faults self.old) result }
+    {
+        match self.inner.write(piece) {
+            Ok(count) if count > 0 || piece.is_empty() => Ok(count),
+            _ => {
+                self.faults = self.faults.saturating_add(1);
+                Err(Failed)
+            }
+        }
+    }
+}
