@@ -1,5 +1,5 @@
 -- What reading a source to its end gives.
-use Rattle.std.specs.Prelude.{◌≡◌, ℕ, ◌+◌, ◌≤◌, List, length, Option, Result, Ok, Err}
+use Rattle.std.specs.Prelude.{◌≡◌, ℕ, ◌+◌, ◌≤◌, List, length, ⊤, Option, Result, Ok, Err}
 use Rattle.std.specs.Io.KnownBytes.{Consumes, IsAtEnd}
 use Rattle.std.specs.Global.{Vec}
 use Rattle.outside.specs.Cause.{Rose}
@@ -17,14 +17,13 @@ pub record ReadsPast (old new : Option (List ℕ)) (most : ℕ) (bytes : List �
   pub took : Consumes old new bytes
   pub long : length bytes ≡ most + 1
 
--- these bytes came, so many at most
-pub record ReadsUpTo (old new : Option (List ℕ)) (most : ℕ) (bytes : List ℕ) : Type 0 where
-  pub took : Consumes old new bytes
-  pub short : length bytes ≤ most
+-- some bytes came, so many at most
+abbrev pub ConsumesUpTo : Option (List ℕ) → Option (List ℕ) → ℕ → Type 0
+ConsumesUpTo old new most = (bytes : List ℕ) × Consumes old new bytes × (length bytes ≤ most)
 
 -- what was read of a source, by the answer
 abbrev pub ReadsWhole : Option (List ℕ) → Option (List ℕ) → ℕ → ℕ → ℕ → Result (Vec ℕ) ReadStop → Type 0
 ReadsWhole old new before now most (Ok all) = ReadsToEnd old new most all.items
-ReadsWhole old new before now most (Err Failed) = Rose before now × ((bytes : List ℕ) × ReadsUpTo old new most bytes)
+ReadsWhole old new before now most (Err Failed) = Rose before now
 ReadsWhole old new before now most (Err TooLong) = (bytes : List ℕ) × ReadsPast old new most bytes
-ReadsWhole old new before now most (Err OutOfMemory) = (bytes : List ℕ) × ReadsUpTo old new (most + 1) bytes
+ReadsWhole old new before now most (Err OutOfMemory) = ⊤

@@ -10,6 +10,8 @@ mod memory_source;
 mod std_sink;
 mod std_source;
 mod sure_source;
+#[cfg(test)]
+mod tests;
 mod whole;
 
 ghost use Rattle.std.specs.Prelude.{ℕ, List, Option};

@@ -44,3 +44,53 @@ impl<W: Write + Drop> Sink for StdSink<W> {
         }
     }
 }
+
+#[cfg(test)]
+mod tests {
+    use super::*;
+    use std::io::{Error, ErrorKind, Result};
+    use std::test::Fail;
+
+    /// Takes one byte of a piece, then none, then fails, and so on.
+    #[derive(Drop)]
+    struct Flaky {
+        turn: u8,
+    }
+
+    impl Write for Flaky {
+        fn write(&mut self, buf: &[u8]) -> Result<usize> {
+            self.turn = (self.turn % 3) + 1;
+            match self.turn {
+                1 => Ok(buf.len().min(1)),
+                2 => Ok(0),
+                _ => Err(Error::from(ErrorKind::BrokenPipe)),
+            }
+        }
+
+        fn flush(&mut self) -> Result<()> {
+            Ok(())
+        }
+    }
+
+    #[test]
+    fn hands_the_bytes_to_the_writer(rt: HostRuntime) -> std::result::Result<(), Fail> {
+        let mut sink = StdSink::make(Vec::new(rt.alloc()));
+        assert_eq!(rt; sink.write(b"oak".as_slice())?, 3);
+        assert_eq!(rt; sink.write(b"".as_slice())?, 0);
+        assert_eq!(rt; sink.write(b" 1".as_slice())?, 2);
+        assert_eq!(rt; sink.inner.as_slice(), b"oak 1".as_slice());
+        assert_eq!(rt; sink.faults, 0);
+        Ok(())
+    }
+
+    #[test]
+    fn counts_each_error_and_each_write_of_nothing(rt: HostRuntime) {
+        let mut sink = StdSink::make(Flaky { turn: 0 });
+        for (want, faults) in [(Ok(1), 0), (Err(Failed), 1), (Err(Failed), 2), (Ok(1), 2)] {
+            assert_eq!(rt; sink.write(b"oak".as_slice()), want);
+            assert_eq!(rt; sink.faults, faults);
+        }
+        assert_eq!(rt; sink.write(b"".as_slice()), Ok(0));
+        assert_eq!(rt; sink.faults, 2);
+    }
+}

@@ -45,3 +45,58 @@ impl<R: Read + Drop> Source for StdSource<R> {
         }
     }
 }
+
+#[cfg(test)]
+mod tests {
+    use super::*;
+    use std::io::{Error, ErrorKind, Result};
+    use std::test::Fail;
+
+    /// Fails at every other read, from the first on, and gives one byte at the others.
+    #[derive(Drop)]
+    struct Flaky {
+        fails: bool,
+    }
+
+    impl Read for Flaky {
+        fn read(&mut self, buf: &mut [u8]) -> Result<usize> {
+            self.fails = !self.fails;
+            if !self.fails {
+                return Err(Error::from(ErrorKind::Interrupted));
+            }
+            match buf.first_mut() {
+                None => Ok(0),
+                Some(first) => {
+                    *first = 7;
+                    Ok(1)
+                }
+            }
+        }
+    }
+
+    #[test]
+    fn gives_what_the_reader_gives(rt: HostRuntime) -> std::result::Result<(), Fail> {
+        let mut source = StdSource::make(b"oak".as_slice());
+        let mut piece = [0u8; 2];
+        let want = [(2, [b'o', b'a']), (1, [b'k', b'a']), (0, [b'k', b'a'])];
+        for (count, bytes) in want {
+            assert_eq!(rt; source.read(&mut piece)?, count);
+            assert!(rt; piece == bytes);
+        }
+        assert_eq!(rt; source.faults, 0);
+        Ok(())
+    }
+
+    #[test]
+    fn counts_each_error_of_the_reader(rt: HostRuntime) {
+        let mut source = StdSource::make(Flaky { fails: true });
+        let mut piece = [0u8; 2];
+        for (want, faults) in [(Err(Failed), 1), (Ok(1), 1), (Err(Failed), 2), (Ok(1), 2)] {
+            assert_eq!(rt; source.read(&mut piece), want);
+            assert_eq!(rt; source.faults, faults);
+        }
+        source.faults = u64::MAX;
+        assert_eq!(rt; source.read(&mut piece), Err(Failed));
+        assert_eq!(rt; source.faults, u64::MAX);
+    }
+}

@@ -1,8 +1,8 @@
-ghost use Rattle.std.specs.Prelude.{◌≤◌, OnOk, OnErr};
+ghost use Rattle.std.specs.Prelude.{◌≤◌, ◌+◌, OnOk, OnErr};
 ghost use Rattle.std.specs.Io.KnownBytes.{Appends};
 ghost use Rattle.outside.specs.Cause.{HasCause};
 ghost use Rattle.outside.specs.Taken.{AppendsFront};
-ghost use Rattle.outside.specs.Whole.{ReadsWhole};
+ghost use Rattle.outside.specs.Whole.{ConsumesUpTo, ReadsWhole};
 
 use crate::{Failed, Sink, Source};
 use std::alloc::Global;
@@ -11,7 +11,7 @@ use std::alloc::Global;
 const PIECE: usize = 8192;
 
 /// Why a source was not read to its end.
-#[derive(Debug, Drop)]
+#[derive(Clone, Copy, Debug, PartialEq, Eq)]
 pub enum ReadStop {
     /// A read failed.
     Failed,
@@ -30,6 +30,7 @@ pub fn read_whole<S: Source>(
     most: usize,
 ) -> Result<Vec<u8>, ReadStop>
     ensures bytes { ReadsWhole (S.left source.old) (S.left source.new) (S.faults source.old) (S.faults source.new) most result }
+    ensures lost { OnErr result (ConsumesUpTo (S.left source.old) (S.left source.new) (most + 1)) }
     ensures later { S.faults source.old ≤ S.faults source.new }
 {
     let mut all = Vec::new(alloc);

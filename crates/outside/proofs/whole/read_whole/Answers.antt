@@ -3,15 +3,13 @@ use Rattle.std.proofs.lemmas.List.{length-take}
 use Rattle.outside.proofs.Read.{Consumes-then}
 use Rattle.outside.proofs.whole.read_whole.Goals as goal
 
-pub returns-then-is_err-clause-bytes : goal.returns-then-is_err-clause-bytes
-returns-then-is_err-clause-bytes g c =
+pub returns-then-is_err-clause-lost : goal.returns-then-is_err-clause-lost
+returns-then-is_err-clause-lost g c =
     let piece = take c.in-Ok.count c.read.new.piece in
     let asked = simp length-take at c.read.auto.piece in (
       c.pieces.all.items ++ piece,
-      record {
-        took = Consumes-then _ _ _ c.pieces.all.items piece c.pieces.invariant.took c.in-Ok.ensures.bytes.0;
-        short = simp length-append (omega (arith, c.pieces.all.ok.0, asked, c.in-Ok.ensures.bound.0, c.in-Ok.ensures.bound.1));
-      },
+      Consumes-then _ _ _ c.pieces.all.items piece c.pieces.invariant.took c.in-Ok.ensures.bytes.0,
+      simp length-append (omega (arith, c.pieces.all.ok.0, asked, c.in-Ok.ensures.bound.0, c.in-Ok.ensures.bound.1)),
     )
 
 pub returns-clause-bytes : goal.returns-clause-bytes
