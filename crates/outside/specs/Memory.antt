@@ -1,7 +1,8 @@
 -- What contracts see of the sources and sinks in memory.
 use Rattle.std.specs.Prelude.{ℕ, List}
 
--- the bytes that are left, how many reads came and failed, and the numbers of those that are to fail
+-- the bytes that are left, how many reads came and failed, and the numbers of those that are to
+-- fail
 pub record MemorySourceState : Type 0 where
   pub left : List ℕ
   pub calls : ℕ

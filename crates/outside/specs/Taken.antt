@@ -13,6 +13,7 @@ pub record TakesFront (old new : Option (List ℕ)) (count : ℕ) (piece : List 
   pub bytes : Appends old new (take count piece)
 
 -- what a write of a piece did, by its answer
-abbrev pub WriteTakes : {E : Type 0} → Option (List ℕ) → Option (List ℕ) → Result ℕ E → List ℕ → Type 0
+abbrev pub WriteTakes :
+    {E : Type 0} → Option (List ℕ) → Option (List ℕ) → Result ℕ E → List ℕ → Type 0
 WriteTakes old new result piece =
     MatchResult result (λ n. TakesFront old new n piece) (λ _. AppendsFront old new piece)

@@ -22,7 +22,8 @@ abbrev pub ConsumesUpTo : Option (List ℕ) → Option (List ℕ) → ℕ → Ty
 ConsumesUpTo old new most = (bytes : List ℕ) × Consumes old new bytes × (length bytes ≤ most)
 
 -- what was read of a source, by the answer
-abbrev pub ReadsWhole : Option (List ℕ) → Option (List ℕ) → ℕ → ℕ → ℕ → Result (Vec ℕ) ReadStop → Type 0
+abbrev pub ReadsWhole :
+    Option (List ℕ) → Option (List ℕ) → ℕ → ℕ → ℕ → Result (Vec ℕ) ReadStop → Type 0
 ReadsWhole old new before now most (Ok all) = ReadsToEnd old new most all.items
 ReadsWhole old new before now most (Err Failed) = Rose before now
 ReadsWhole old new before now most (Err TooLong) = (bytes : List ℕ) × ReadsPast old new most bytes

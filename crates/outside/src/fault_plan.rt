@@ -6,6 +6,7 @@ use crate::Failed;
 /// Which calls are to fail, by their numbers from 1, and how many came and how many failed so far.
 #[derive(Drop)]
 pub struct FaultPlan {
+    /// How many calls came. It stands still at its type's end, as `faults` does.
     pub calls: u64,
     pub faults: u64,
     pub fails: Vec<u64>,

@@ -39,9 +39,9 @@ pub trait Source {
     /// How many reads failed so far. The count stands still at 2^64 - 1.
     ghost faults: { Self → ℕ };
 
-    /// Puts the first bytes that are left at the front of the piece, and answers how many. They are
-    /// no longer left afterwards. 0 for a piece that is not empty is the end: nothing is left. After
-    /// `Failed` all bytes are left that were left before.
+    /// Puts the first bytes that are left at the front of the piece, and answers how many. They
+    /// are no longer left afterwards. 0 for a piece that is not empty is the end: nothing is left.
+    /// After `Failed` all bytes are left that were left before.
     fn read(&mut self, piece: &mut [u8]) -> Result<usize, Failed>
         ensures bound { ReadsAtMost result piece.new }
         ensures bytes { ReadConsumes (left self.old) (left self.new) result piece.new }
@@ -56,8 +56,8 @@ pub trait Sink {
     /// How many writes failed so far. The count stands still at 2^64 - 1.
     ghost faults: { Self → ℕ };
 
-    /// Writes some first bytes of the piece, and answers how many: at least one, unless the piece is
-    /// empty. After `Failed` some first bytes of the piece were written, or none.
+    /// Writes some first bytes of the piece, and answers how many: at least one, unless the piece
+    /// is empty. After `Failed` some first bytes of the piece were written, or none.
     fn write(&mut self, piece: &[u8]) -> Result<usize, Failed>
         ensures bytes { WriteTakes (written self.old) (written self.new) result piece.now }
         ensures cause { HasCause (faults self.old) (faults self.new) result };

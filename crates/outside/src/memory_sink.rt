@@ -1,4 +1,4 @@
-ghost use Rattle.std.specs.Prelude.{◌≡◌, ◌≤◌, ◌<◌, ◌+◌, ◌-◌, ◌++◌, ◌↔◌, ◌⊎◌, ℕ, List, [], Some, IsErr, IfOk, OnErr, Contains, take, length, min, vec_len};
+ghost use Rattle.std.specs.Prelude.{◌≡◌, ◌≤◌, ◌<◌, ◌+◌, ◌-◌, ◌++◌, ◌↔◌, ◌⊎◌, [], Some, IsErr, IfOk, OnErr, Contains, take, length, min, vec_len};
 ghost use Rattle.outside.specs.Cause.{HasCause, next_count, faults_after};
 ghost use Rattle.outside.specs.Taken.{WriteTakes};
 
@@ -36,7 +36,13 @@ impl Model for MemorySink {
 impl MemorySink {
     /// A sink over this room, that fails at the calls whose numbers, from 1, are listed.
     pub fn make(room: Vec<u8>, fails: Vec<u64>) -> MemorySink
-        ensures { result ≡ record { written = []; free = vec_len room; calls = 0; faults = 0; fails = fails.items } }
+        ensures { result ≡ record {
+          written = [];
+          free = vec_len room;
+          calls = 0;
+          faults = 0;
+          fails = fails.items;
+        } }
     {
         MemorySink {
             room,
@@ -60,7 +66,8 @@ impl Sink for MemorySink {
 
     /// Takes as many bytes as fit into the room.
     fn write(&mut self, piece: &[u8]) -> Result<usize, Failed>
-        ensures bytes { WriteTakes (Some self.old.written) (Some self.new.written) result piece.now }
+        ensures bytes { WriteTakes (Some self.old.written) (Some self.new.written)
+            result piece.now }
         ensures cause { HasCause self.old.faults self.new.faults result }
 
         // it fails exactly at the listed calls and where the room is full
@@ -68,7 +75,8 @@ impl Sink for MemorySink {
             ⊎ ((self.old.free ≡ 0) × (0 < length piece.now))) }
         ensures count { IfOk result (λ n. n ≡ min (length piece.now) self.old.free) }
         ensures filled { IfOk result (λ n. self.old.free ≡ self.new.free + n) }
-        ensures unwritten { OnErr result ((self.new.written ≡ self.old.written) × (self.new.free ≡ self.old.free)) }
+        ensures unwritten { OnErr result (self.new.written ≡ self.old.written) }
+        ensures kept { OnErr result (self.new.free ≡ self.old.free) }
 
         ensures calls { self.new.calls ≡ next_count self.old.calls }
         ensures counted { self.new.faults ≡ faults_after self.old.faults result }

@@ -30,7 +30,12 @@ impl Model for MemorySource {
 impl MemorySource {
     /// A source that gives these bytes, and fails at the calls whose numbers, from 1, are listed.
     pub fn make(bytes: Vec<u8>, fails: Vec<u64>) -> MemorySource
-        ensures { result ≡ record { left = bytes.items; calls = 0; faults = 0; fails = fails.items } }
+        ensures { result ≡ record {
+          left = bytes.items;
+          calls = 0;
+          faults = 0;
+          fails = fails.items;
+        } }
     {
         MemorySource {
             bytes: SureSource::make(bytes),
@@ -44,7 +49,7 @@ impl Source for MemorySource {
 
     ghost faults = { λ s. s.faults };
 
-    /// Gives as many bytes as are left and fit into the piece, and leaves the rest of the piece alone.
+    /// Gives as many bytes as are left and fit into the piece. The rest of the piece stays as it is.
     fn read(&mut self, piece: &mut [u8]) -> Result<usize, Failed>
         ensures bound { ReadsAtMost result piece.new }
         ensures bytes { ReadConsumes (Some self.old.left) (Some self.new.left) result piece.new }

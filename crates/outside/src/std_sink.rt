@@ -10,6 +10,7 @@ use std::io::Write;
 #[derive(Drop)]
 pub struct StdSink<W: Write + Drop> {
     inner: W,
+    /// How many writes failed. It stands still at its type's end.
     faults: u64,
 }
 
@@ -28,10 +29,11 @@ impl<W: Write + Drop> Sink for StdSink<W> {
 
     ghost faults = { λ s. s.faults };
 
-    /// Writes once, and does not flush. Each `Err` of the writer is a fault, and so is an answer of 0
-    /// for a piece that is not empty.
+    /// Writes once, and does not flush. Each `Err` of the writer is a fault, and so is an answer of
+    /// 0 for a piece that is not empty.
     fn write(&mut self, piece: &[u8]) -> Result<usize, Failed>
-        ensures bytes { WriteTakes (W.contents (writer_of self.old)) (W.contents (writer_of self.new)) result piece.now }
+        ensures bytes { WriteTakes (W.contents (writer_of self.old))
+            (W.contents (writer_of self.new)) result piece.now }
         ensures cause { HasCause (write_faults self.old) (write_faults self.new) result }
         ensures counted { write_faults self.new ≡ faults_after (write_faults self.old) result }
     {

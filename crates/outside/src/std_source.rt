@@ -11,6 +11,7 @@ use std::io::Read;
 #[derive(Drop)]
 pub struct StdSource<R: Read + Drop> {
     inner: R,
+    /// How many reads failed. It stands still at its type's end.
     faults: u64,
 }
 
@@ -32,7 +33,8 @@ impl<R: Read + Drop> Source for StdSource<R> {
     /// Reads once. Each `Err` of the reader is a fault, also of the kind `Interrupted`.
     fn read(&mut self, piece: &mut [u8]) -> Result<usize, Failed>
         ensures bound { ReadsAtMost result piece.new }
-        ensures bytes { ReadConsumes (R.remaining (reader_of self.old)) (R.remaining (reader_of self.new)) result piece.new }
+        ensures bytes { ReadConsumes (R.remaining (reader_of self.old))
+            (R.remaining (reader_of self.new)) result piece.new }
         ensures cause { HasCause (read_faults self.old) (read_faults self.new) result }
         ensures counted { read_faults self.new ≡ faults_after (read_faults self.old) result }
     {

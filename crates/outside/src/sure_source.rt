@@ -35,7 +35,7 @@ impl Source for SureSource {
 
     ghost faults = { λ _. 0 };
 
-    /// Gives as many bytes as are left and fit into the piece, and leaves the rest of the piece alone.
+    /// Gives as many bytes as are left and fit into the piece. The rest of the piece stays as it is.
     fn read(&mut self, piece: &mut [u8]) -> Result<usize, Failed>
         ensures bound { ReadsAtMost result piece.new }
         ensures bytes { ReadConsumes (Some self.old) (Some self.new) result piece.new }

@@ -21,15 +21,16 @@ pub enum ReadStop {
     OutOfMemory,
 }
 
-/// Reads a source to its end, but takes no more than one byte past the first `most`: if that many
-/// come, the answer is `TooLong`, and a fault that would come later is not met. What was read before
-/// a stop is lost, and only that.
+/// Reads a source to its end, but takes no more than one byte past the first `most`: if that one
+/// comes, the answer is `TooLong`, and a fault that would come later is not met. After a stop the
+/// bytes that were read are lost, and no others.
 pub fn read_whole<S: Source>(
     alloc: Global,
     source: &mut S,
     most: usize,
 ) -> Result<Vec<u8>, ReadStop>
-    ensures bytes { ReadsWhole (S.left source.old) (S.left source.new) (S.faults source.old) (S.faults source.new) most result }
+    ensures bytes { ReadsWhole (S.left source.old) (S.left source.new)
+        (S.faults source.old) (S.faults source.new) most result }
     ensures lost { OnErr result (ConsumesUpTo (S.left source.old) (S.left source.new) (most + 1)) }
     ensures later { S.faults source.old ≤ S.faults source.new }
 {
