@@ -8,3 +8,4 @@ mod text;
 
 pub use limits::{GREATEST_CALLS, GREATEST_SCANS, GREATEST_SCRIPT_NAME, GREATEST_THREADS};
 pub use scripts::{Call, Script, Threads};
+pub use text::print_run;
