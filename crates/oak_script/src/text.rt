@@ -248,13 +248,10 @@ pub fn print_run(
 {
     let stamps = Stamps::of(alloc, script, replies)?;
     let mut out = Vec::new(alloc);
-    put_threads(
-        alloc,
-        &mut out,
-        &stamps,
-        script.threads.as_slice(),
-        replies,
-    )?;
+    put_threads(alloc, &mut out, &stamps, script.threads.as_slice(), replies)?;
     put_map(alloc, &mut out, finals)?;
     Ok(out)
 }
+
+#[cfg(test)]
+mod tests;
