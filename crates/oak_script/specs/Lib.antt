@@ -1,3 +1,5 @@
 pub mod Lines
 pub mod Words
 pub mod Grammar
+pub mod Places
+pub mod Text

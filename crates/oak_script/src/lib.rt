@@ -2,7 +2,10 @@
 #![tactic(auto)]
 
 mod limits;
+mod places;
 mod scripts;
+mod text;
 
 pub use limits::{GREATEST_CALLS, GREATEST_SCANS, GREATEST_SCRIPT_NAME, GREATEST_THREADS};
 pub use scripts::{Call, Script, Threads};
+pub use text::print_run;

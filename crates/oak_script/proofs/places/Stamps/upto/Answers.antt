@@ -1,0 +1,12 @@
+use Rattle.std.proofs.Common.{sym, subst, rules}
+use Rattle.std.proofs.lemmas.List.Sorted.{IsPartitionPoint-from_clause}
+use Rattle.oak_script.specs.Places.{AreInOrder, is_not_behind}
+use Rattle.oak_script.proofs.PlaceLemmas.{count_from_point, not_behind_come_first}
+use Rattle.oak_script.proofs.places.Stamps.upto.Goals as goal
+
+pub returns : goal.returns
+returns c =
+    let ws = c.as_slice-writes.result.now in
+    let sorted : AreInOrder ws = subst AreInOrder (sym c.as_slice-writes.ensures.value) c.args.self.now.in_order in
+    let point = IsPartitionPoint-from_clause (is_not_behind c.args.key.now c.args.at) ws _ c.partition_point.ensures.partitioned (not_behind_come_first c.args.key.now c.args.at ws sorted) (λ a r q h. search rules) in
+    rw (← c.as_slice-writes.ensures.value) (sym (count_from_point (is_not_behind c.args.key.now c.args.at) ws c.partition_point.result c.partition_point.ensures.bound point))

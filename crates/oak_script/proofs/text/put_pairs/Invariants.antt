@@ -1,0 +1,10 @@
+use Rattle.std.proofs.Common.{◌≡◌, ◌++◌, take, length, codes}
+use Rattle.std.specs.List.{flat_map}
+use Rattle.std.specs.Fmt.{decimal}
+use Rattle.oak_script.specs.Places.{place_among}
+use Rattle.oak_script.specs.Text.{pairs_text, read_line}
+use Rattle.oak_script.proofs.text.put_pairs.Given as goal
+
+abbrev pub invariant-loop-pair : goal.invariant-loop-pair
+invariant-loop-pair l =
+    l.out.items ≡ l.initial.out.items ++ flat_map (read_line (place_among l.stamps.writes.items)) (take l.pair-index l.pairs)

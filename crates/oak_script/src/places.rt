@@ -1,0 +1,152 @@
+ghost use Rattle.std.specs.Prelude.{◌≡◌, ◌++◌, ◌∷◌, [], List, ℕ, map, Bool, nat_lt, nat_le, cond, length, count_by, IfOk, OnOk, option_copied};
+ghost use Rattle.std.specs.Option.{option_map};
+ghost use Rattle.std.specs.Ordering.{ordering_then, is_lt, is_le, nat_cmp};
+ghost use Rattle.oak_model.specs.Key.{key_cmp};
+ghost use Rattle.oak_script.specs.Places.{key_of, stamp_of, stamp_of_wrote, write_in, writes_along, writes_of, as_pair, place_among, is_lower, is_not_behind, AreInOrder, written_upto};
+ghost use Rattle.oak_script.specs.Text.{RepliesAnswer, CallsAnswered};
+
+use crate::scripts::{Call, Script};
+use oak_model::{Key, OutOfMemory, Reply, Wrote};
+use std::alloc::Global;
+use std::cmp::Ordering;
+
+/// A write, by its key and its stamp.
+#[derive(Clone, Copy, PartialEq, Eq, PartialOrd, Ord)]
+pub struct Stamped<'a> {
+    pub key: &'a Key,
+    pub stamp: u64,
+}
+
+/// The writes of a run, sorted, so that a place is found by halving.
+#[derive(Drop)]
+pub struct Stamps<'a> {
+    writes: Vec<Stamped<'a>>,
+    ghost in_order: { AreInOrder writes.items },
+}
+
+impl Call {
+    /// The key that the call names.
+    pub fn key(&self) -> Option<&Key>
+        ensures { option_copied result ≡ key_of self.now }
+    {
+        match self {
+            Call::Put { key, .. } => Some(key),
+            Call::Get { key } => Some(key),
+            Call::PutNew { key, .. } => Some(key),
+            Call::Compute { key, .. } => Some(key),
+            Call::Upsert { key, .. } => Some(key),
+            Call::Remove { key } => Some(key),
+            Call::Hold { key, .. } => Some(key),
+            Call::Look { .. } => None,
+            Call::Scan { .. } => None,
+            Call::Back { .. } => None,
+        }
+    }
+}
+
+fn stamp_of_wrote(wrote: &Wrote) -> Option<u64>
+    ensures { result ≡ stamp_of_wrote wrote.now }
+{
+    match wrote {
+        Wrote::New { at } => Some(*at),
+        Wrote::Over { at } => Some(*at),
+        Wrote::Kept { .. } => None,
+        Wrote::Done { at } => Some(*at),
+        Wrote::Removed { at } => Some(*at),
+        Wrote::Absent { .. } => None,
+        Wrote::Full(_) => None,
+    }
+}
+
+fn stamp_of(reply: &Reply) -> Option<u64>
+    ensures { result ≡ stamp_of reply.now }
+{
+    match reply {
+        Reply::Wrote(wrote) => stamp_of_wrote(wrote),
+        Reply::Value { .. } => None,
+        Reply::Held { .. } => None,
+        Reply::Gone => None,
+        Reply::Unheld => None,
+        Reply::Pairs(_) => None,
+    }
+}
+
+/// The write that a reply tells.
+fn write_in<'a>(call: &'a Call, reply: &Reply) -> Option<Stamped<'a>>
+    ensures { option_map as_pair result ≡ write_in call.now reply.now }
+{
+    let key = call.key()?;
+    let stamp = stamp_of(reply)?;
+    Some(Stamped { key, stamp })
+}
+
+fn add_writes<'a>(
+    writes: &mut Vec<Stamped<'a>>,
+    calls: &'a [Call],
+    replies: &[Reply],
+) -> Result<(), OutOfMemory>
+    requires { length calls.now ≡ length replies.now }
+    ensures { OnOk result (map as_pair writes.new.items ≡ map as_pair writes.old.items ++ writes_along calls.now replies.now) }
+{
+    for (i, call) in calls.iter().enumerate() {
+        if let Some(write) = write_in(call, &replies[i]) {
+            writes.push(write)?;
+        }
+    }
+    Ok(())
+}
+
+/// The writes of all threads.
+fn all_writes<'a>(
+    alloc: Global,
+    threads: &'a [Vec<Call>],
+    replies: &[Vec<Reply>],
+) -> Result<Vec<Stamped<'a>>, OutOfMemory>
+    requires { RepliesAnswer (map (λ v. v.items) threads.now) (map (λ v. v.items) replies.now) }
+    ensures { IfOk result (λ v. map as_pair v.items ≡ writes_of (map (λ v. v.items) threads.now) (map (λ v. v.items) replies.now)) }
+{
+    let mut writes = Vec::new(alloc);
+    for (i, calls) in threads.iter().enumerate() {
+        add_writes(&mut writes, calls.as_slice(), replies[i].as_slice())?;
+    }
+    Ok(writes)
+}
+
+impl<'a> Stamps<'a> {
+    /// The writes that the replies to a script tell.
+    pub fn of(
+        alloc: Global,
+        script: &'a Script,
+        replies: &[Vec<Reply>],
+    ) -> Result<Stamps<'a>, OutOfMemory>
+        requires { RepliesAnswer script.now.threads (map (λ v. v.items) replies.now) }
+        ensures { IfOk result (λ s. place_among s.writes.items ≡ written_upto script.now.threads (map (λ v. v.items) replies.now)) }
+    {
+        let mut writes = all_writes(alloc, script.threads.as_slice(), replies)?;
+        writes.sort_unstable();
+        Ok(Stamps { writes })
+    }
+
+    /// How many writes of the key have a stamp of at most `at`.
+    pub fn place(&self, key: &Key, at: u64) -> usize
+        ensures { result ≡ place_among self.now.writes.items key.now at }
+    {
+        self.upto(key, at) - self.lower(key)
+    }
+
+    /// How many writes are of lower keys.
+    fn lower(&self, key: &Key) -> usize
+        ensures { result ≡ count_by (is_lower key.now) self.now.writes.items }
+    {
+        let writes = self.writes.as_slice();
+        writes.partition_point(|w| w.key < key)
+    }
+
+    /// How many writes are of lower keys, or of the key with a stamp of at most `at`.
+    fn upto(&self, key: &Key, at: u64) -> usize
+        ensures { result ≡ count_by (is_not_behind key.now at) self.now.writes.items }
+    {
+        let writes = self.writes.as_slice();
+        writes.partition_point(|w| w.key.cmp(key).then(w.stamp.cmp(&at)).is_le())
+    }
+}
