@@ -6,4 +6,6 @@ pub mod CellLaws
 pub mod LookLaws
 pub mod MapLaws
 pub mod TurnLaws
+pub mod CanLaws
 pub mod StepLaws
+pub mod ThreadLaws

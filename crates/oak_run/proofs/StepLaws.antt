@@ -22,13 +22,15 @@ use Rattle.oak_script.specs.declared.scripts.Call.{Call}
 use Rattle.oak_script.specs.declared.scripts.Call.TheVariants.{Put, Get, PutNew, Compute, Upsert, Remove, Hold, Look, Scan, Back}
 use Rattle.oak_run.specs.declared.lasts.Last.{Last}
 use Rattle.oak_run.specs.declared.lasts.Held.{Held}
-use Rattle.oak_run.specs.Told.{Ask, ask_of, makes_write}
+use Rattle.oak_run.specs.Told.{Ask, ask_of, makes_write, Tells, is_held, reply_at}
 use Rattle.oak_run.specs.Turn.{Turn}
 use Rattle.oak_run.specs.Answers.{Mark, mark_of, marks, writes_key}
 use Rattle.oak_run.specs.Views.{View, Names, no_names, named, names_after}
 use Rattle.oak_run.specs.Plain.{write_of, grown, number_of, after_ask}
 use Rattle.oak_run.specs.Keeps.{KeepsLasts, KeepsHolds, IsViewOf, IsBornAt}
-use Rattle.oak_run.specs.Does.{CellDid, SaysWord, HoldDid, LookDid, ShowsRange, AskDoes, PairsDo, Does}
+use Rattle.oak_run.specs.Does.{CellDid, TellsWord, HoldDid, LookDid, ShowsRange, AskDoes, PairsDo, Does}
+use Rattle.oak_script.specs.Text.{CanReply, CallsAnswered}
+use Rattle.oak_run.proofs.CanLaws.{has_word, reply-has_word, can-put, can-get, can-put_new, can-compute, can-upsert, can-remove, answered-push}
 use Rattle.oak_run.proofs.CellLaws.{keeps-read}
 use Rattle.oak_run.proofs.GrowLaws.{Grows}
 use Rattle.oak_run.proofs.PushLaws.{Goes, Joins, names_of, goes-push, marks-push}
@@ -48,19 +50,20 @@ pub record Running (lasts : BTreeMap (List ℕ) Last) (holds : BTreeMap (List �
   pub kept : KeepsLasts lasts history
   pub held : KeepsHolds holds history (names_of no_names turns)
   pub few : (q : List ℕ) → length (history q) ≤ length turns
+  pub answered : CallsAnswered cs ys
 
 -- the marks that a turn adds to a key's
 abbrev pub mark_in : List ℕ → ℕ → Turn → List Mark
-mark_in q n t = cond (writes_key q t) (record { stamp = Rattle.oak_run.specs.Told.reply_at t.reply; caller = 1; call = n } ∷ []) []
+mark_in q n t = cond (writes_key q t) (record { stamp = reply_at t.reply; caller = 1; call = n } ∷ []) []
 
 pub running-push : (lasts now : BTreeMap (List ℕ) Last) (holds held : BTreeMap (List ℕ) Held) (cs : List Call) (ys : List Reply) (r : Running lasts holds cs ys) (e : Histories) (t : Turn)
     → Grows (lengths r.history) r.history e → ((q : List ℕ) → lengths r.history q ≤ lengths e q) → IsPlain e 1 (suc (length r.turns))
     → Joins (lengths e) r.history e (names_of no_names r.turns) 1 (suc (length r.turns)) t
     → ((q : List ℕ) → map mark_of (e q) ≡ map mark_of (r.history q) ++ mark_in q (suc (length r.turns)) t)
     → ((q : List ℕ) → length (e q) ≤ suc (length (r.history q)))
-    → KeepsLasts now e → KeepsHolds held e (names_after (names_of no_names r.turns) t)
+    → KeepsLasts now e → KeepsHolds held e (names_after (names_of no_names r.turns) t) → CanReply t.call t.reply
     → Running now held (cs ++ t.call ∷ []) (ys ++ t.reply ∷ [])
-running-push lasts now holds held cs ys r e t grows up plain joins new_marks one kept views = record {
+running-push lasts now holds held cs ys r e t grows up plain joins new_marks one kept views can = record {
   history = e;
   turns = r.turns ++ t ∷ [];
   of_calls = map_push (λ (x : Turn). x.call) r.turns t ∙ ap (λ (xs : List Call). xs ++ t.call ∷ []) r.of_calls;
@@ -71,6 +74,7 @@ running-push lasts now holds held cs ys r e t grows up plain joins new_marks one
   kept = kept;
   held = subst (λ (names : Names). KeepsHolds held e names) (sym (fold-append names_after no_names r.turns (t ∷ []))) views;
   few = λ q. omega (arith, one q, r.few q, more);
+  answered = answered-push cs ys t.call t.reply r.answered can;
 }
   where
     more : length (r.turns ++ t ∷ []) ≡ suc (length r.turns)
@@ -123,17 +127,17 @@ one-more h n a q =
     few false e = omega (arith, e)
 
 pub step-ask : (lasts now : BTreeMap (List ℕ) Last) (holds held : BTreeMap (List ℕ) Held) (cs : List Call) (ys : List Reply) (r : Running lasts holds cs ys) (c : Call) (a : Ask) (y : Reply) (word : CellReply) (at : ℕ)
-    → ask_of c ≡ Some a → CellDid r.history 1 (suc (length r.turns)) a word at now → SaysWord a.key word at y
-    → KeepsHolds held r.history (names_after (names_of no_names r.turns) (ask_turn r.history c y a))
+    → ask_of c ≡ Some a → CellDid r.history 1 (suc (length r.turns)) a word at now → TellsWord a.key word at y
+    → KeepsHolds held r.history (names_after (names_of no_names r.turns) (ask_turn r.history c y a)) → CanReply c y
     → Running now held (cs ++ c ∷ []) (ys ++ y ∷ [])
-step-ask lasts now holds held cs ys r c a y word at is did says views =
+step-ask lasts now holds held cs ys r c a y word at is did says views can =
     let n = suc (length r.turns) in
     let e = after_ask r.history 1 n (Some a) in
     running-push lasts now holds held cs ys r e (ask_turn r.history c y a) (grows-after r.history 1 n (Some a)) (lengths-after r.history 1 n (Some a)) (plain-after r.history 1 (length r.turns) (Some a) r.plain)
     (joins-ask r.history (names_of no_names r.turns) n c a word at y r.plain.dense is did.answer did.number says)
     (λ q. rw (is, says.writes, says.number, did.answer, did.number) (marks-after r.history n a q))
     (one-more r.history n a) did.keeps
-    (holds-grow held r.history e (names_after (names_of no_names r.turns) (ask_turn r.history c y a)) (grows-after r.history 1 n (Some a)).extends views)
+    (holds-grow held r.history e (names_after (names_of no_names r.turns) (ask_turn r.history c y a)) (grows-after r.history 1 n (Some a)).extends views) can
 
 -- ---- a hold
 
@@ -162,14 +166,14 @@ step-hold lasts now holds held cs ys r a k (replies.Held at) did same =
     rw same (step-ask lasts lasts holds held cs ys r (Hold a k) ask (replies.Held at) (words.Holds b.0) at refl
     (get-did lasts h (suc (length r.turns)) k (words.Holds b.0) at r.kept (sym (ap (λ (s : State). reply_of s asks.Get) b.1)) did.1)
     (record { tells = (b.0, refl); number = refl; not_full = refl; writes = refl })
-    (rw (same_itself k, get-reads (last_state (h k))) did.2))
+    (rw (same_itself k, get-reads (last_state (h k))) did.2) tt)
 step-hold lasts now holds held cs ys r a k (replies.Wrote (wrote.Absent at)) did same =
     let h = r.history in
     let ask : Ask = record { key = k; cell = asks.Get } in
     rw same (step-ask lasts lasts holds held cs ys r (Hold a k) ask (replies.Wrote (wrote.Absent at)) words.Absent at refl
     (get-did lasts h (suc (length r.turns)) k words.Absent at r.kept (rw did.0 refl) did.1)
     (record { tells = refl; number = refl; not_full = refl; writes = refl })
-    did.2)
+    did.2 tt)
 step-hold lasts now holds held cs ys r a k (replies.Wrote (wrote.New at)) did same = absurd did
 step-hold lasts now holds held cs ys r a k (replies.Wrote (wrote.Over at)) did same = absurd did
 step-hold lasts now holds held cs ys r a k (replies.Wrote (wrote.Kept at)) did same = absurd did
@@ -184,22 +188,30 @@ step-hold lasts now holds held cs ys r a k (replies.Pairs pairs) did same = absu
 -- ---- calls that leave the histories
 
 step-stays : (lasts : BTreeMap (List ℕ) Last) (holds : BTreeMap (List ℕ) Held) (cs : List Call) (ys : List Reply) (r : Running lasts holds cs ys) (t : Turn)
-    → Joins (lengths r.history) r.history r.history (names_of no_names r.turns) 1 (suc (length r.turns)) t → ask_of t.call ≡ None → names_after (names_of no_names r.turns) t ≡ names_of no_names r.turns
+    → Joins (lengths r.history) r.history r.history (names_of no_names r.turns) 1 (suc (length r.turns)) t → ask_of t.call ≡ None → names_after (names_of no_names r.turns) t ≡ names_of no_names r.turns → CanReply t.call t.reply
     → Running lasts holds (cs ++ t.call ∷ []) (ys ++ t.reply ∷ [])
-step-stays lasts holds cs ys r t joins is same =
+step-stays lasts holds cs ys r t joins is same can =
     let h = r.history in
     let n = suc (length r.turns) in
     running-push lasts lasts holds holds cs ys r h t (grows-after h 1 n None) (lengths-after h 1 n None) (plain-after h 1 (length r.turns) None r.plain) joins
     (λ q. rw is (sym (append-nil (map mark_of (h q)))))
     (λ q. omega arith)
     r.kept
-    (rw same r.held)
+    (rw same r.held) can
+
+can-look : (h : Histories) (view : Option View) (a : List ℕ) (y : Reply) → LookDid h view y → CanReply (Look a) y
+can-look h view a replies.Unheld did = tt
+can-look h view a (replies.Value key value at) did = tt
+can-look h view a replies.Gone did = tt
+can-look h view a (replies.Wrote w) did = absurd did
+can-look h view a (replies.Held at) did = absurd did
+can-look h view a (replies.Pairs pairs) did = absurd did
 
 step-look : (lasts : BTreeMap (List ℕ) Last) (holds : BTreeMap (List ℕ) Held) (cs : List Call) (ys : List Reply) (r : Running lasts holds cs ys) (a : List ℕ) (y : Reply)
     → LookDid r.history (names_of no_names r.turns a) y → Running lasts holds (cs ++ Look a ∷ []) (ys ++ y ∷ [])
 step-look lasts holds cs ys r a y did =
     let s = look-stays r.history (names_of no_names r.turns) (suc (length r.turns)) a y r.plain.dense did in
-    let made = step-stays lasts holds cs ys r s.turn s.joins (rw s.of_call refl) (rw s.of_call refl) in
+    let made = step-stays lasts holds cs ys r s.turn s.joins (rw s.of_call refl) (rw s.of_call refl) (rw (s.of_call, s.of_reply) (can-look r.history (names_of no_names r.turns a) a y did)) in
     rw (s.of_call, s.of_reply) at made
 
 step-scan : (lasts : BTreeMap (List ℕ) Last) (holds : BTreeMap (List ℕ) Held) (cs : List Call) (ys : List Reply) (r : Running lasts holds cs ys) (low high : Option (List ℕ)) (y : Reply)
@@ -208,7 +220,7 @@ step-scan lasts holds cs ys r low high (replies.Pairs pairs) does =
     let h = r.history in
     let s = does.1 h r.kept in
     step-stays lasts holds cs ys r (range_turn h (Scan low high) pairs low high)
-    (range-joins h (names_of no_names r.turns) (suc (length r.turns)) (Scan low high) low high pairs refl tt (does.0, range-fits h (Scan low high) low high pairs r.plain.dense s) s) refl refl
+    (range-joins h (names_of no_names r.turns) (suc (length r.turns)) (Scan low high) low high pairs refl tt (does.0, range-fits h (Scan low high) low high pairs r.plain.dense s) s) refl refl tt
 step-scan lasts holds cs ys r low high (replies.Wrote w) does = absurd does
 step-scan lasts holds cs ys r low high (replies.Value key value at) does = absurd does
 step-scan lasts holds cs ys r low high (replies.Held at) does = absurd does
@@ -221,7 +233,7 @@ step-back lasts holds cs ys r low high (replies.Pairs pairs) does =
     let h = r.history in
     let s = does.1 h r.kept in
     step-stays lasts holds cs ys r (range_turn h (Back low high) pairs low high)
-    (range-joins h (names_of no_names r.turns) (suc (length r.turns)) (Back low high) low high pairs refl tt (does.0, range-fits h (Back low high) low high pairs r.plain.dense s) s) refl refl
+    (range-joins h (names_of no_names r.turns) (suc (length r.turns)) (Back low high) low high pairs refl tt (does.0, range-fits h (Back low high) low high pairs r.plain.dense s) s) refl refl tt
 step-back lasts holds cs ys r low high (replies.Wrote w) does = absurd does
 step-back lasts holds cs ys r low high (replies.Value key value at) does = absurd does
 step-back lasts holds cs ys r low high (replies.Held at) does = absurd does
@@ -232,18 +244,21 @@ step-back lasts holds cs ys r low high replies.Unheld does = absurd does
 
 step-does : (lasts now : BTreeMap (List ℕ) Last) (holds held : BTreeMap (List ℕ) Held) (cs : List Call) (ys : List Reply) (r : Running lasts holds cs ys) (c : Call) (a : Ask) (y : Reply)
     → ask_of c ≡ Some a → ((h : Histories) → (names_after (names_of no_names r.turns) (ask_turn h c y a)) ≡ names_of no_names r.turns) → AskDoes lasts now a y → held ≡ holds
+    → ((word : CellReply) → Tells a.key y word → is_held y ≡ false → has_word a.cell word ≡ true → CanReply c y)
     → Running now held (cs ++ c ∷ []) (ys ++ y ∷ [])
-step-does lasts now holds held cs ys r c a y is names does same =
-    step-ask lasts now holds held cs ys r c a y does.0 does.1 is (does.2 r.history 1 (suc (length r.turns)) r.kept) does.3 (rw (names r.history, same) r.held)
+step-does lasts now holds held cs ys r c a y is names does same can =
+    let did = does.2 r.history 1 (suc (length r.turns)) r.kept in
+    step-ask lasts now holds held cs ys r c a y does.0 does.1 is did does.3.said (rw (names r.history, same) r.held)
+    (can does.0 does.3.said.tells does.3.not_held (ap (has_word a.cell) did.answer ∙ reply-has_word (last_state (r.history a.key)) a.cell))
 
 pub step : (lasts now : BTreeMap (List ℕ) Last) (holds held : BTreeMap (List ℕ) Held) (cs : List Call) (ys : List Reply) (c : Call) (y : Reply)
     → Running lasts holds cs ys → Does lasts holds now held c y → Running now held (cs ++ c ∷ []) (ys ++ y ∷ [])
-step lasts now holds held cs ys (Put k v) y r does = step-does lasts now holds held cs ys r (Put k v) (record { key = k; cell = asks.Put v }) y refl (λ h. refl) does.0 does.1
-step lasts now holds held cs ys (Get k) y r does = step-does lasts now holds held cs ys r (Get k) (record { key = k; cell = asks.Get }) y refl (λ h. refl) does.0 does.1
-step lasts now holds held cs ys (PutNew k v) y r does = step-does lasts now holds held cs ys r (PutNew k v) (record { key = k; cell = asks.PutNew v }) y refl (λ h. refl) does.0 does.1
-step lasts now holds held cs ys (Compute k f n) y r does = step-does lasts now holds held cs ys r (Compute k f n) (record { key = k; cell = asks.Compute f n }) y refl (λ h. refl) does.0 does.1
-step lasts now holds held cs ys (Upsert k v f n) y r does = step-does lasts now holds held cs ys r (Upsert k v f n) (record { key = k; cell = asks.Upsert v f n }) y refl (λ h. refl) does.0 does.1
-step lasts now holds held cs ys (Remove k) y r does = step-does lasts now holds held cs ys r (Remove k) (record { key = k; cell = asks.Remove }) y refl (λ h. refl) does.0 does.1
+step lasts now holds held cs ys (Put k v) y r does = step-does lasts now holds held cs ys r (Put k v) (record { key = k; cell = asks.Put v }) y refl (λ h. refl) does.0 does.1 (can-put k v y)
+step lasts now holds held cs ys (Get k) y r does = step-does lasts now holds held cs ys r (Get k) (record { key = k; cell = asks.Get }) y refl (λ h. refl) does.0 does.1 (can-get k y)
+step lasts now holds held cs ys (PutNew k v) y r does = step-does lasts now holds held cs ys r (PutNew k v) (record { key = k; cell = asks.PutNew v }) y refl (λ h. refl) does.0 does.1 (can-put_new k v y)
+step lasts now holds held cs ys (Compute k f n) y r does = step-does lasts now holds held cs ys r (Compute k f n) (record { key = k; cell = asks.Compute f n }) y refl (λ h. refl) does.0 does.1 (can-compute k f n y)
+step lasts now holds held cs ys (Upsert k v f n) y r does = step-does lasts now holds held cs ys r (Upsert k v f n) (record { key = k; cell = asks.Upsert v f n }) y refl (λ h. refl) does.0 does.1 (can-upsert k v f n y)
+step lasts now holds held cs ys (Remove k) y r does = step-does lasts now holds held cs ys r (Remove k) (record { key = k; cell = asks.Remove }) y refl (λ h. refl) does.0 does.1 (can-remove k y)
 step lasts now holds held cs ys (Hold a k) y r does = step-hold lasts now holds held cs ys r a k y (does.0 r.history (names_of no_names r.turns) r.kept r.held) does.1
 step lasts now holds held cs ys (Look a) y r does = rw (does.1, does.2) (step-look lasts holds cs ys r a y (does.0 r.history (names_of no_names r.turns) r.kept r.held))
 step lasts now holds held cs ys (Scan low high) y r does = rw (does.1, does.2) (step-scan lasts holds cs ys r low high y does.0)

@@ -36,7 +36,7 @@ use Rattle.oak_run.specs.Views.{View, Names, ViewFits, Shows, IsGone, named, nam
 use Rattle.oak_run.specs.Scans.{ScanTurnFits, PairsFit, within_range}
 use Rattle.oak_run.specs.Plain.{write_of, grown, number_of, after_ask}
 use Rattle.oak_run.specs.Keeps.{KeepsLasts, KeepsHolds, IsViewOf, IsBornAt}
-use Rattle.oak_run.specs.Does.{CellDid, SaysWord, HoldDid, LookDid, ShowsLast, ShowsRange}
+use Rattle.oak_run.specs.Does.{CellDid, TellsWord, HoldDid, LookDid, ShowsLast, ShowsRange}
 use Rattle.oak_run.proofs.GrowLaws.{Grows, UpTo, ReplyUpTo}
 use Rattle.oak_run.proofs.PushLaws.{Joins, FloorsWithin}
 use Rattle.oak_run.proofs.PlainLaws.{lengths, length-grown, reply_fits-grown, grows-after, dense-after, IsPlain}
@@ -94,7 +94,7 @@ after-here h caller n a = rw (same_itself a.key) refl
 length-here : (h : Histories) (caller n : ℕ) (a : Ask) → length (after_ask h caller n (Some a) a.key) ≡ number_of (h a.key) a.cell
 length-here h caller n a = ap length (after-here h caller n a) ∙ length-grown (h a.key) caller n a.cell
 
-key_answer-ask : (h : Histories) (n : ℕ) (c : Call) (a : Ask) (word : CellReply) (at : ℕ) (y : Reply) → ((q : List ℕ) → IsDense (h q)) → word ≡ reply_of (last_state (h a.key)) a.cell → at ≡ number_of (h a.key) a.cell → SaysWord a.key word at y
+key_answer-ask : (h : Histories) (n : ℕ) (c : Call) (a : Ask) (word : CellReply) (at : ℕ) (y : Reply) → ((q : List ℕ) → IsDense (h q)) → word ≡ reply_of (last_state (h a.key)) a.cell → at ≡ number_of (h a.key) a.cell → TellsWord a.key word at y
     → KeyAnswer (after_ask h 1 n (Some a)) 1 n a (ask_turn h c y a)
 key_answer-ask h n c a word at y dense answer number says =
     let e = after_ask h 1 n (Some a) in
@@ -116,7 +116,7 @@ wrote-up top k word replies.Unheld tells le = tt
 wrote-up top k word (replies.Pairs pairs) tells le = absurd tells
 
 pub joins-ask : (h : Histories) (names : Names) (n : ℕ) (c : Call) (a : Ask) (word : CellReply) (at : ℕ) (y : Reply) → ((q : List ℕ) → IsDense (h q)) → ask_of c ≡ Some a
-    → word ≡ reply_of (last_state (h a.key)) a.cell → at ≡ number_of (h a.key) a.cell → SaysWord a.key word at y
+    → word ≡ reply_of (last_state (h a.key)) a.cell → at ≡ number_of (h a.key) a.cell → TellsWord a.key word at y
     → Joins (lengths (after_ask h 1 n (Some a))) h (after_ask h 1 n (Some a)) names 1 n (ask_turn h c y a)
 joins-ask h names n c a word at y dense is answer number says =
     let e = after_ask h 1 n (Some a) in

@@ -18,7 +18,7 @@ use Rattle.oak_script.specs.declared.scripts.Call.{Call}
 use Rattle.oak_script.specs.declared.scripts.Call.TheVariants.{Put, Get, PutNew, Compute, Upsert, Remove, Hold, Look, Scan, Back}
 use Rattle.oak_run.specs.declared.lasts.Last.{Last}
 use Rattle.oak_run.specs.declared.lasts.Held.{Held}
-use Rattle.oak_run.specs.Told.{Ask, ask_of, Tells, reply_at, is_full, makes_write}
+use Rattle.oak_run.specs.Told.{Ask, ask_of, Tells, reply_at, is_full, is_held, makes_write}
 use Rattle.oak_run.specs.Turn.{Turn}
 use Rattle.oak_run.specs.Views.{View, Names, named, names_after}
 use Rattle.oak_run.specs.Plain.{number_of, after_ask}
@@ -34,11 +34,16 @@ abbrev pub CellDoes : BTreeMap (List ℕ) Last → BTreeMap (List ℕ) Last → 
 CellDoes old now a word at = (h : Histories) (caller n : ℕ) → KeepsLasts old h → CellDid h caller n a word at now
 
 -- the reply tells the cell's word of the key, with this number
-pub record SaysWord (k : List ℕ) (word : CellReply) (at : ℕ) (y : Reply) : Type 0 where
+pub record TellsWord (k : List ℕ) (word : CellReply) (at : ℕ) (y : Reply) : Type 0 where
   pub tells : Tells k y word
   pub number : reply_at y ≡ at
   pub not_full : is_full y ≡ false
   pub writes : makes_write y ≡ is_write word
+
+-- and it tells the bytes where there are any
+pub record SaysWord (k : List ℕ) (word : CellReply) (at : ℕ) (y : Reply) : Type 0 where
+  pub said : TellsWord k word at y
+  pub not_held : is_held y ≡ false
 
 -- a hold names the life that is present, or nothing
 abbrev pub HoldDid : Histories → Names → List ℕ → List ℕ → Reply → BTreeMap (List ℕ) Held → Type 0

@@ -6,5 +6,6 @@ pub mod Views
 pub mod Scans
 pub mod RunFits
 pub mod Plain
+pub mod ThreadRuns
 pub mod Keeps
 pub mod Does

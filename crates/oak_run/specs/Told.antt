@@ -61,6 +61,14 @@ is_full replies.Gone = false
 is_full replies.Unheld = false
 is_full (replies.Pairs pairs) = false
 
+abbrev pub is_held : Reply → Bool
+is_held (replies.Held at) = true
+is_held (replies.Wrote w) = false
+is_held (replies.Value key value at) = false
+is_held replies.Gone = false
+is_held replies.Unheld = false
+is_held (replies.Pairs pairs) = false
+
 -- the reply of a write
 abbrev pub wrote_writes : Wrote → Bool
 wrote_writes (wrote.New at) = true
