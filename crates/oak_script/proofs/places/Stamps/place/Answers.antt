@@ -1,5 +1,5 @@
 use Rattle.std.proofs.Common.{arith}
-use Rattle.oak_script.proofs.PlaceLemmas.{split_count}
+use Rattle.oak_script.proofs.StampLemmas.{split_count}
 use Rattle.oak_script.proofs.places.Stamps.place.Goals as goal
 
 pub overflow_sub-result : goal.overflow_sub-result
