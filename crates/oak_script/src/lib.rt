@@ -1,8 +1,14 @@
 //! Scripts as text, and the text of a run.
 #![tactic(auto)]
 
+mod faults;
 mod limits;
+mod numbers;
 mod scripts;
+mod stops;
+mod verbs;
+mod words;
 
+pub use faults::{ScriptFault, What};
 pub use limits::{GREATEST_CALLS, GREATEST_SCANS, GREATEST_SCRIPT_NAME, GREATEST_THREADS};
 pub use scripts::{Call, Script, Threads};
