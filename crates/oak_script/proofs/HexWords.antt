@@ -8,7 +8,12 @@ use Rattle.std.proofs.lemmas.Bool.Decides.{nat_tests}
 use Rattle.hex.specs.declared.error.FromHexError.{FromHexError}
 use Rattle.hex.specs.Hex.{◌>>=◌, IsBytes, decode_of, decode_pairs, pair_value, value_at, digit_or_error, hex_digit_value, encode_lower, encode_with, lower_digits}
 use Rattle.hex.proofs.HexLemmas.{decode_of-even, decode_of-ok, decode_of-encode_lower, length-encode_with}
+use Rattle.hex.specs.Hex.{decode_sized}
+use Rattle.hex.specs.Hex.{is_hex_digit as is_either_digit}
+use Rattle.hex.proofs.HexLemmas.{decode_of-digits, decode_sized-twice}
+use Rattle.std.proofs.lemmas.List.Sums.{AllPass-from_list_all}
 use Rattle.oak_script.specs.Forms.{is_hex_digit, is_hex}
+use Rattle.oak_script.specs.Stops.{ReadsWord}
 
 bind_ok : {A B : Type 0} (r : Result A FromHexError) (f : A → Result B FromHexError) (y : B) → (r >>= f) ≡ Ok y → (x : A) × (r ≡ Ok x) × (f x ≡ Ok y)
 bind_ok (Ok x) f y e = (x, refl, e)
@@ -123,3 +128,41 @@ pub written-injective : (a b : List ℕ) → IsBytes a → IsBytes b → encode_
 written-injective a b ha hb e =
     let same : decoded a ≡ decoded b = sym (decode_of-encode_lower a ha) ∙ ap decode_of e ∙ decode_of-encode_lower b hb in
     cc
+
+-- ---- words that are read
+
+either : (c : ℕ) → is_hex_digit c ≡ true → is_either_digit c ≡ true
+either c low = grind (arith, nat_tests)
+
+all_either : (w : List ℕ) → list_all is_hex_digit w ≡ true → list_all is_either_digit w ≡ true
+all_either [] h = refl
+all_either (c ∷ w) h = rw (either c (and-left (is_hex_digit c) (list_all is_hex_digit w) h), all_either w (and-right (is_hex_digit c) (list_all is_hex_digit w) h)) refl
+
+even_from : (n : ℕ) → eqb (n % 2) 0 ≡ true → n % 2 ≡ 0
+even_from n h = grind (arith, nat_tests)
+
+-- an even number of digits spells bytes
+pub hex-read : (word : List ℕ) → is_hex word ≡ true → (bytes : List ℕ) × (decode_of word ≡ Ok bytes) × ReadsWord bytes word
+hex-read word h =
+    let even = even_from (length word) (and-left (eqb (length word % 2) 0) (list_all is_hex_digit word) h) in
+    let r = decode_of-digits word even (AllPass-from_list_all is_either_digit word (all_either word (and-right (eqb (length word % 2) 0) (list_all is_hex_digit word) h))) in
+    let ok = decode_of-ok word r.0 r.1 in
+    (r.0, r.1, record { spelled = hex-back word r.0 h r.1; in_range = ok.3; twice = ok.2 })
+
+two_from : (n : ℕ) (b : Bool) → (eqb n 2 && b) ≡ true → (n ≡ 2) × (b ≡ true)
+two_from n b h = (by_two (and-left (eqb n 2) b h), and-right (eqb n 2) b h)
+  where
+    by_two : eqb n 2 ≡ true → n ≡ 2
+    by_two e = grind (arith, nat_tests)
+
+-- two digits spell a byte
+pub byte-read : (word : List ℕ) → (eqb (length word) 2 && is_hex word) ≡ true → (b : ℕ) × (decode_sized word 1 ≡ Ok (b ∷ [])) × (encode_lower (b ∷ []) ≡ word) × (b < 256)
+byte-read word h =
+    let p = two_from (length word) (is_hex word) h in
+    let r = hex-read word p.1 in
+    by r.0 (decode_sized-twice word 1 p.0 ∙ r.1) r.2.spelled r.2.in_range (omega (arith, p.0, r.2.twice))
+  where
+    by : (bytes : List ℕ) → decode_sized word 1 ≡ Ok bytes → encode_lower bytes ≡ word → IsBytes bytes → length bytes ≡ 1 → (b : ℕ) × (decode_sized word 1 ≡ Ok (b ∷ [])) × (encode_lower (b ∷ []) ≡ word) × (b < 256)
+    by [] d e f len = absurd (omega (arith, len))
+    by (b ∷ []) d e f len = (b, d, e, f 0)
+    by (b ∷ c ∷ bs) d e f len = absurd (omega (arith, len))

@@ -4,6 +4,7 @@
 mod faults;
 mod limits;
 mod numbers;
+mod recipes;
 mod scripts;
 mod stops;
 mod verbs;
