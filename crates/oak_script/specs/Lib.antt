@@ -5,3 +5,4 @@ pub mod Numbers
 pub mod Forms
 pub mod Faults
 pub mod Stops
+pub mod Reading

@@ -1,6 +1,7 @@
 //! Scripts as text, and the text of a run.
 #![tactic(auto)]
 
+mod calls;
 mod faults;
 mod limits;
 mod numbers;
