@@ -1,3 +1,4 @@
 pub mod HexWords
 pub mod NumberLemmas
 pub mod StopLemmas
+pub mod LineLemmas

@@ -3,7 +3,9 @@
 
 mod calls;
 mod faults;
+mod gathered;
 mod limits;
+mod lines;
 mod numbers;
 mod recipes;
 mod scripts;
