@@ -6,3 +6,4 @@ pub mod Forms
 pub mod Faults
 pub mod Stops
 pub mod Reading
+pub mod Answers

@@ -13,7 +13,7 @@ use Rattle.oak_script.specs.declared.lines.Stage.TheVariants.{Start, Headed, Ope
 use Rattle.oak_script.specs.Lines.{Words, words_of}
 use Rattle.oak_script.specs.Grammar.{oak_line, thread_line, end_line, call_words, CallFits, is_scan, scans_in}
 use Rattle.oak_script.specs.Forms.{form, fills, is_call}
-use Rattle.oak_script.specs.Faults.{Past, is_empty, where_so, slot_faults, part_faults, faults}
+use Rattle.oak_script.specs.Faults.{Past, past_of, is_empty, where_so, slot_faults, part_faults, faults}
 use Rattle.oak_script.specs.Stops.{Stops}
 
 -- the faults of the words behind a call's word, where none is empty
@@ -55,3 +55,16 @@ CallsFit Start calls = calls ≡ []
 CallsFit Headed calls = calls ≡ []
 CallsFit Opened calls = AreCalls calls
 CallsFit Ended calls = AreCalls calls
+
+-- the first line that was left was taken, and has no fault
+pub record Took (before : List Words) (left : List (List ℕ)) (after : List Words) (rest : List (List ℕ)) : Type 0 where
+  pub line : List ℕ
+  pub first : left ≡ line ∷ rest
+  pub fine : faults (past_of before) (Some (words_of line)) ≡ []
+  pub grown : after ≡ before ++ words_of line ∷ []
+
+-- the first line that was left has a fault, and this is its first, or memory ran out
+abbrev pub StopsAt : Stop → List Words → List (List ℕ) → Type 0
+StopsAt OutOfMemory before left = ⊤
+StopsAt (Fault w) before [] = ⊥
+StopsAt (Fault w) before (line ∷ more) = Stops (Fault w) (faults (past_of before) (Some (words_of line)))

@@ -7,6 +7,7 @@ mod gathered;
 mod limits;
 mod lines;
 mod numbers;
+mod reader;
 mod recipes;
 mod scripts;
 mod stops;
