@@ -4,3 +4,8 @@ pub mod StopLemmas
 pub mod LineLemmas
 pub mod FormLemmas
 pub mod OpenLemmas
+pub mod CutLemmas
+pub mod PlaceLemmas
+pub mod PastLemmas
+pub mod StepLemmas
+pub mod EndLemmas

@@ -1,5 +1,5 @@
 -- What a reader of lines has taken.
-use Rattle.std.specs.Prelude.{◌≡◌, ℕ, suc, ◌≤◌, ◌==◌, ◌&&◌, ◌||◌, not, List, [], ◌∷◌, ◌++◌, length, map, Option, Some, None, ⊤}
+use Rattle.std.specs.Prelude.{◌≡◌, ℕ, suc, ◌<◌, ◌≤◌, ◌==◌, ◌&&◌, ◌||◌, not, List, [], ◌∷◌, ◌++◌, length, map, Option, Some, None, ⊤}
 use Rattle.std.specs.List.{list_any, AllByRecursion}
 use Rattle.oak_script.specs.declared.limits.TheConstants.{GREATEST_CALLS, GREATEST_SCANS}
 use Rattle.oak_script.specs.declared.faults.What.{What}
@@ -13,7 +13,7 @@ use Rattle.oak_script.specs.declared.lines.Stage.TheVariants.{Start, Headed, Ope
 use Rattle.oak_script.specs.Lines.{Words, words_of}
 use Rattle.oak_script.specs.Grammar.{oak_line, thread_line, end_line, call_words, CallFits, is_scan, scans_in}
 use Rattle.oak_script.specs.Forms.{form, fills, is_call}
-use Rattle.oak_script.specs.Faults.{Past, past_of, is_empty, where_so, slot_faults, part_faults, faults}
+use Rattle.oak_script.specs.Faults.{Past, past_of, is_empty, where_so, slot_faults, part_faults, faults, faults_at}
 use Rattle.oak_script.specs.Stops.{Stops}
 
 -- the faults of the words behind a call's word, where none is empty
@@ -55,6 +55,10 @@ CallsFit Start calls = calls ≡ []
 CallsFit Headed calls = calls ≡ []
 CallsFit Opened calls = AreCalls calls
 CallsFit Ended calls = AreCalls calls
+
+-- none of these lines has a fault
+abbrev pub AreFine : List Words → Type 0
+AreFine lines = (k : ℕ) → k < length lines → faults_at lines k ≡ []
 
 -- the first line that was left was taken, and has no fault
 pub record Took (before : List Words) (left : List (List ℕ)) (after : List Words) (rest : List (List ℕ)) : Type 0 where

@@ -36,7 +36,7 @@ impl<'a> Lines<'a> {
     }
 
     pub fn next_line(&mut self) -> Option<&'a [u8]>
-        ensures { MatchOption result (self.old ≡ []) (λ line. self.old ≡ line.now ∷ self.new) }
+        ensures { MatchOption result ((self.old ≡ []) × (self.new ≡ [])) (λ line. self.old ≡ line.now ∷ self.new) }
     {
         let rest = self.rest;
         if rest.is_empty() {
