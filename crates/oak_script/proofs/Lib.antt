@@ -1,3 +1,14 @@
 pub mod Answered
 pub mod StampLemmas
 pub mod TextLemmas
+pub mod HexWords
+pub mod NumberLemmas
+pub mod StopLemmas
+pub mod LineLemmas
+pub mod FormLemmas
+pub mod OpenLemmas
+pub mod CutLemmas
+pub mod PlaceLemmas
+pub mod PastLemmas
+pub mod StepLemmas
+pub mod EndLemmas

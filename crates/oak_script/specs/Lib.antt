@@ -3,3 +3,9 @@ pub mod Words
 pub mod Grammar
 pub mod Places
 pub mod Text
+pub mod Numbers
+pub mod Forms
+pub mod Faults
+pub mod Stops
+pub mod Reading
+pub mod Answers
