@@ -9,3 +9,6 @@ pub mod PlaceLemmas
 pub mod PastLemmas
 pub mod StepLemmas
 pub mod EndLemmas
+pub mod WordLemmas
+pub mod CallLemmas
+pub mod InjectiveLemmas
