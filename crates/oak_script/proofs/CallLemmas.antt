@@ -45,7 +45,7 @@ call-spelled (Back low high) is = let a = bound-spelled low is.0 in let b = boun
 
 -- ---- what has no fault spells a call
 
-or-false : (a b : Bool) → (a || b) ≡ false → (a ≡ false) × (b ≡ false)
+pub or-false : (a b : Bool) → (a || b) ≡ false → (a ≡ false) × (b ≡ false)
 or-false true b e = absurd cc
 or-false false b e = (refl, e)
 

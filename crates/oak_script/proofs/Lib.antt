@@ -12,3 +12,5 @@ pub mod EndLemmas
 pub mod WordLemmas
 pub mod CallLemmas
 pub mod InjectiveLemmas
+pub mod ScriptLemmas
+pub mod LawLemmas

@@ -4,6 +4,7 @@
 mod calls;
 mod faults;
 mod gathered;
+mod laws;
 mod limits;
 mod lines;
 mod numbers;
@@ -15,5 +16,7 @@ mod verbs;
 mod words;
 
 pub use faults::{ScriptFault, What};
+pub use laws::script_or_fault;
 pub use limits::{GREATEST_CALLS, GREATEST_SCANS, GREATEST_SCRIPT_NAME, GREATEST_THREADS};
+pub use reader::{NoScript, read_script};
 pub use scripts::{Call, Script, Threads};

@@ -1,5 +1,6 @@
 ghost use Rattle.std.specs.Prelude.{◌≡◌, ◌<◌, ◌≤◌, ◌+◌, ◌++◌, ◌∷◌, [], Some, None, map, length, true, false, if◌then◌else◌, OnOk, OnErr, IfOk, IfErr};
 ghost use Rattle.std.specs.List.{list_any};
+ghost use Rattle.oak_script.specs.declared.scripts.Script.{Script};
 ghost use Rattle.oak_script.specs.declared.limits.TheConstants.{GREATEST_THREADS, GREATEST_CALLS};
 ghost use Rattle.oak_script.specs.Lines.{lines_of, text_words};
 ghost use Rattle.oak_script.specs.Grammar.{CallFits, IsScript, Spells, default_sizes, call_words, thread_line, end_line, script_lines};
@@ -296,4 +297,16 @@ fn read_lines(alloc: Global, text: &[u8]) -> Result<Script, NoScript>
         }
     }
     reader.finish()
+}
+
+/// The script that a text is, or its first fault.
+pub fn read_script(alloc: Global, text: &[u8]) -> Result<Script, NoScript>
+    // What is told is the first fault of the text, and there is none where a script is read.
+    ensures exact { Tells result (text_words text.now) }
+    // What is read is a script, and the lines of the text are its lines.
+    ensures found { IfOk result (λ s. Spells text.now s) }
+    // A script that the text is the text of is read, unless memory runs out.
+    ensures only { (s : Script) → Spells text.now s → Gives result s }
+{
+    read_lines(alloc, text)
 }
