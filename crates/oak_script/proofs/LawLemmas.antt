@@ -7,9 +7,9 @@ use Rattle.oak_script.specs.declared.faults.What.{What}
 use Rattle.oak_script.specs.declared.faults.ScriptFault.{ScriptFault}
 use Rattle.oak_script.specs.declared.scripts.Call.{Call}
 use Rattle.oak_script.specs.declared.scripts.Script.{Script}
-use Rattle.oak_script.specs.declared.lines.Stage.TheVariants.{Ended}
-use Rattle.oak_script.specs.declared.reader.NoScript.{NoScript}
-use Rattle.oak_script.specs.declared.reader.NoScript.TheVariants.{Fault, OutOfMemory}
+use Rattle.oak_script.specs.declared.stages.Stage.TheVariants.{Ended}
+use Rattle.oak_script.specs.declared.faults.NoScript.{NoScript}
+use Rattle.oak_script.specs.declared.faults.NoScript.TheVariants.{Fault, OutOfMemory}
 use Rattle.oak_script.specs.Lines.{Words, text_words}
 use Rattle.oak_script.specs.Grammar.{script_lines, default_sizes, IsScript, Spells}
 use Rattle.oak_script.specs.Faults.{faults_at, IsFirstAt, IsFirstFault, HasNoFault}

@@ -10,8 +10,8 @@ use Rattle.oak_script.specs.declared.faults.What.{What}
 use Rattle.oak_script.specs.declared.faults.What.TheVariants as what
 use Rattle.oak_script.specs.declared.scripts.Call.{Call}
 use Rattle.oak_script.specs.declared.scripts.Script.{Script}
-use Rattle.oak_script.specs.declared.lines.Stage.{Stage}
-use Rattle.oak_script.specs.declared.lines.Stage.TheVariants.{Start, Headed, Opened, Ended}
+use Rattle.oak_script.specs.declared.stages.Stage.{Stage}
+use Rattle.oak_script.specs.declared.stages.Stage.TheVariants.{Start, Headed, Opened, Ended}
 use Rattle.oak_script.specs.declared.limits.TheConstants.{GREATEST_CALLS, GREATEST_SCANS}
 use Rattle.oak_script.specs.Lines.{Words}
 use Rattle.oak_script.specs.Grammar.{oak_line, thread_line, end_line, call_words, script_lines, CallFits, is_scan, scans_in, default_sizes, IsScript}
@@ -62,13 +62,13 @@ spelled-fine all done (c ∷ calls) split fine each few scans =
     let grown = grown-by done c in
     let sum = scans-cons c calls in
     let none : faults (past_of (so_far Opened done)) (Some (call_words c)) ≡ [] =
-        ap (λ (p : Past). faults p (Some (call_words c))) (past_so_far Opened done)
-        ∙ open-line done (call_words c) (call-thread c) (call-end c)
-        ∙ rw (call-spelled c each.0) (counts-fine done c (omega arith) (omega (arith, sum))) in
+    ap (λ (p : Past). faults p (Some (call_words c))) (past_so_far Opened done)
+    ∙ open-line done (call_words c) (call-thread c) (call-end c)
+    ∙ rw (call-spelled c each.0) (counts-fine done c (omega arith) (omega (arith, sum))) in
     spelled-fine all (done ++ c ∷ []) calls
-      (subst (λ (ls : List Words). ls ++ (map call_words calls ++ end_line ∷ []) ≡ all) grown (rw append_assoc split))
-      (λ k h. fine_more all (so_far Opened done) (call_words c) (map call_words calls ++ end_line ∷ []) split fine none k (subst (λ (ls : List Words). k < length ls) (sym grown) h))
-      each.1 (omega (arith, length_push done c)) (omega (arith, sum, scans-push done c))
+    (subst (λ (ls : List Words). ls ++ (map call_words calls ++ end_line ∷ []) ≡ all) grown (rw append_assoc split))
+    (λ k h. fine_more all (so_far Opened done) (call_words c) (map call_words calls ++ end_line ∷ []) split fine none k (subst (λ (ls : List Words). k < length ls) (sym grown) h))
+    each.1 (omega (arith, length_push done c)) (omega (arith, sum, scans-push done c))
 
 pub no_fault : (calls : List Call) → AreCalls calls → HasNoFault (so_far Ended calls)
 no_fault calls are = spelled-fine (so_far Ended calls) [] calls refl two are.each (omega (arith, are.few)) (omega (arith, are.scans))

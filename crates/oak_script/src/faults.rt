@@ -55,3 +55,10 @@ pub struct ScriptFault {
     pub line: u32,
     pub what: What,
 }
+
+/// Why a text gave no script.
+#[derive(Debug, Drop)]
+pub enum NoScript {
+    Fault(ScriptFault),
+    OutOfMemory,
+}
