@@ -6,10 +6,10 @@ use Rattle.oak_script.specs.declared.scripts.Call.{Call}
 use Rattle.oak_script.specs.declared.scripts.Script.{Script}
 use Rattle.oak_script.specs.declared.stops.Stop.{Stop}
 use Rattle.oak_script.specs.declared.stops.Stop.TheVariants as stops
-use Rattle.oak_script.specs.declared.reader.NoScript.{NoScript}
-use Rattle.oak_script.specs.declared.reader.NoScript.TheVariants.{Fault, OutOfMemory}
-use Rattle.oak_script.specs.declared.lines.Stage.{Stage}
-use Rattle.oak_script.specs.declared.lines.Stage.TheVariants.{Start, Headed, Opened, Ended}
+use Rattle.oak_script.specs.declared.faults.NoScript.{NoScript}
+use Rattle.oak_script.specs.declared.faults.NoScript.TheVariants.{Fault, OutOfMemory}
+use Rattle.oak_script.specs.declared.stages.Stage.{Stage}
+use Rattle.oak_script.specs.declared.stages.Stage.TheVariants.{Start, Headed, Opened, Ended}
 use Rattle.oak_script.specs.Lines.{Words}
 use Rattle.oak_script.specs.Faults.{Past, faults, past_of, IsFirstAt, HasNoFault}
 use Rattle.oak_script.specs.Reading.{so_far, past_at, AreFine, StopsAt}

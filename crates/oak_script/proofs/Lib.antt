@@ -12,3 +12,8 @@ pub mod PlaceLemmas
 pub mod PastLemmas
 pub mod StepLemmas
 pub mod EndLemmas
+pub mod WordLemmas
+pub mod CallLemmas
+pub mod InjectiveLemmas
+pub mod ScriptLemmas
+pub mod LawLemmas

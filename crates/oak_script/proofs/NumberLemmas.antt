@@ -70,21 +70,35 @@ is_decimal-from (b ∷ c ∷ more) d =
     by true e = let is : b ≡ 48 = grind (arith, nat_tests) in absurd (omega (arith, d.canonical is))
     by false e = refl
 
--- what is written is a number
-pub written : (n : ℕ) → n < 2 ^ 64 → is_number (decimal n) ≡ true
+lt-test : (m : ℕ) → m < 2 ^ 64 → ltb m (2 ^ 64) ≡ true
+lt-test m h = grind (arith, nat_tests)
+
+lt-from : (m : ℕ) → ltb m (2 ^ 64) ≡ true → m < 2 ^ 64
+lt-from m h = grind (arith, nat_tests)
+
+-- what is written is a number, and no empty word
+pub written : (n : ℕ) → n < 2 ^ 64 → (is_number (decimal n) ≡ true) × (0 < length (decimal n))
 written n lt =
     let some = decimal_nonempty n lt in
     let d : Decimal (decimal n) = record { digits = digits_decimal own n lt; some = some; canonical = once (cases_lt 0 n) } in
     let v = digits_value-decimal own n lt in
     let small : ltb (digits_value 10 (decimal n)) (2 ^ 64) ≡ true = rw v (lt-test n lt) in
-    rw (is_decimal-from (decimal n) d, small) refl
+    (rw (is_decimal-from (decimal n) d, small) refl, some)
   where
-    lt-test : (m : ℕ) → m < 2 ^ 64 → ltb m (2 ^ 64) ≡ true
-    lt-test m h = grind (arith, nat_tests)
-
     once : (0 < n) ⊎ (n ≤ 0) → get_or (decimal n) 0 0 ≡ 48 → length (decimal n) ≡ 1
     once (inl pos) e = absurd (omega (arith, first_decimal n pos lt))
     once (inr zero_) e = let z : n ≡ 0 = omega arith in rw z (ap length (decimal_digit 0 (omega arith)))
+
+-- a number is written so
+pub read : (w : List ℕ) → is_number w ≡ true → (n : ℕ) × (decimal n ≡ w) × (n < 2 ^ 64)
+read w e =
+    let p = and-both (is_decimal w) (ltb (digits_value 10 w) (2 ^ 64)) e in
+    let d = decided w p.0 in
+    let lt = lt-from (digits_value 10 w) p.1 in
+    (digits_value 10 w, decimal-digits_value own w d.digits d.some d.canonical lt, lt)
+
+pub decimal-injective : (m n : ℕ) → m < 2 ^ 64 → n < 2 ^ 64 → decimal m ≡ decimal n → m ≡ n
+decimal-injective m n hm hn e = sym (digits_value-decimal own m hm) ∙ ap (digits_value 10) e ∙ digits_value-decimal own n hn
 
 pub is_utf8 : (w : List ℕ) → is_decimal w ≡ true → IsUtf8 w
 is_utf8 w e = IsUtf8-from_ascii w (IsAscii-from_digits w (own.to w (decided w e).digits))

@@ -7,7 +7,7 @@ use Rattle.oak_script.specs.declared.faults.What.TheVariants as what
 use Rattle.oak_script.specs.Grammar.{scans_in}
 use Rattle.oak_script.specs.declared.scripts.Call.{Call}
 use Rattle.oak_script.specs.declared.stops.Stop.{Stop}
-use Rattle.oak_script.specs.declared.lines.Stage.TheVariants.{Start, Headed, Opened, Ended}
+use Rattle.oak_script.specs.declared.stages.Stage.TheVariants.{Start, Headed, Opened, Ended}
 use Rattle.oak_script.specs.Lines.{Words}
 use Rattle.oak_script.specs.Forms.{is_thread, is_end, is_call, is_scan_line}
 use Rattle.oak_script.specs.Faults.{faults, where_so}

@@ -6,8 +6,8 @@ use Rattle.std.proofs.lemmas.List.Sums.{sum_by-cons, sum_by_push}
 use Rattle.oak_model.specs.declared.recipes.RecipeKind.TheVariants.{Add, Xor, Rev}
 use Rattle.oak_script.specs.declared.scripts.Call.{Call}
 use Rattle.oak_script.specs.declared.scripts.Call.TheVariants.{Put, Get, PutNew, Compute, Upsert, Remove, Hold, Look, Scan, Back}
-use Rattle.oak_script.specs.declared.lines.Stage.{Stage}
-use Rattle.oak_script.specs.declared.lines.Stage.TheVariants.{Start, Headed, Opened, Ended}
+use Rattle.oak_script.specs.declared.stages.Stage.{Stage}
+use Rattle.oak_script.specs.declared.stages.Stage.TheVariants.{Start, Headed, Opened, Ended}
 use Rattle.oak_script.specs.Lines.{Words}
 use Rattle.oak_script.specs.Grammar.{oak_line, thread_line, end_line, call_words, is_scan, scans_in}
 use Rattle.oak_script.specs.Forms.{is_thread, is_end, is_call, is_scan_line}

@@ -21,6 +21,16 @@ faults_here before line more =
 pub faults_behind : (lines : List Words) → faults_at lines (length lines) ≡ faults (past_of lines) None
 faults_behind lines = rw (take-length lines, slice_get_past lines (length lines) (omega arith)) refl
 
+-- one line more without a fault
+pub fine_more : (all before : List Words) (line : Words) (more : List Words) → before ++ line ∷ more ≡ all → ((k : ℕ) → k < length before → faults_at all k ≡ []) → faults (past_of before) (Some line) ≡ []
+    → (k : ℕ) → k < length (before ++ line ∷ []) → faults_at all k ≡ []
+fine_more all before line more split fine none k h =
+    let here : faults_at all (length before) ≡ faults (past_of before) (Some line) = rw split at (faults_here before line more) in
+    elim (cases_lt k (length before)) [
+      | inl lt ↦ fine k lt
+      | inr ge ↦ let is : k ≡ length before = omega (arith, length_push before line) in rw is (here ∙ none)
+    ]
+
 -- the lines before and the lines left are all of them, and none of those before has a fault
 pub record Goes (all before : List Words) (left : List (List ℕ)) (number : ℕ) : Type 0 where
   pub whole : before ++ map words_of left ≡ all
@@ -35,16 +45,9 @@ goes_on all before after left rest n g t =
     let split : before ++ words_of t.line ∷ map words_of rest ≡ all = rw t.first at g.whole in
     record {
       whole = rw (t.grown, append_assoc) split;
-      fine = λ k h. by k (rw (t.grown, length_push before (words_of t.line)) at h) (rw split at (faults_here before (words_of t.line) (map words_of rest)));
+      fine = rw t.grown (fine_more all before (words_of t.line) (map words_of rest) split g.fine t.fine);
       count = rw (t.grown, length_push before (words_of t.line)) (omega (arith, g.count));
     }
-  where
-    by : (k : ℕ) → k < length before + 1 → faults_at all (length before) ≡ faults (past_of before) (Some (words_of t.line)) → faults_at all k ≡ []
-    by k h e =
-        elim (cases_lt k (length before)) [
-          | inl lt ↦ g.fine k lt
-          | inr ge ↦ let is : k ≡ length before = omega arith in rw (is, e) t.fine
-        ]
 
 -- a stop at the next line tells the first fault
 pub stops_at : (all before : List Words) (left : List (List ℕ)) (n : ℕ) (w : What) → Goes all before left n → StopsAt (Fault w) before left → IsFirstAt all (n + 1) w

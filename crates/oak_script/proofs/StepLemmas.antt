@@ -3,7 +3,7 @@ use Rattle.std.proofs.Common.{◌≡◌, ℕ, List, [], ◌∷◌, ◌++◌, len
 use Rattle.oak_script.specs.declared.scripts.Call.{Call}
 use Rattle.oak_script.specs.declared.stops.Stop.{Stop}
 use Rattle.oak_script.specs.declared.stops.Stop.TheVariants.{Fault, OutOfMemory}
-use Rattle.oak_script.specs.declared.lines.Stage.{Stage}
+use Rattle.oak_script.specs.declared.stages.Stage.{Stage}
 use Rattle.oak_script.specs.Lines.{Words, words_of}
 use Rattle.oak_script.specs.Faults.{Past, faults, past_of}
 use Rattle.oak_script.specs.Stops.{Stops}

@@ -4,8 +4,8 @@ use Rattle.std.specs.Prelude.{List}
 use Rattle.oak_script.specs.declared.scripts.Script.{Script}
 use Rattle.oak_script.specs.declared.stops.Stop.{Stop}
 use Rattle.oak_script.specs.declared.stops.Stop.TheVariants as stops
-use Rattle.oak_script.specs.declared.reader.NoScript.{NoScript}
-use Rattle.oak_script.specs.declared.reader.NoScript.TheVariants.{Fault, OutOfMemory}
+use Rattle.oak_script.specs.declared.faults.NoScript.{NoScript}
+use Rattle.oak_script.specs.declared.faults.NoScript.TheVariants.{Fault, OutOfMemory}
 use Rattle.oak_script.specs.Lines.{Words}
 use Rattle.oak_script.specs.Faults.{IsFirstAt, HasNoFault}
 

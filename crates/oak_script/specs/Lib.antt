@@ -9,3 +9,4 @@ pub mod Faults
 pub mod Stops
 pub mod Reading
 pub mod Answers
+pub mod Told

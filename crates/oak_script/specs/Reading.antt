@@ -8,8 +8,8 @@ use Rattle.oak_script.specs.declared.scripts.Call.{Call}
 use Rattle.oak_script.specs.declared.stops.Stop.{Stop}
 use Rattle.oak_script.specs.declared.stops.Stop.TheVariants.{Fault, OutOfMemory}
 use Rattle.oak_script.specs.declared.verbs.Verb.{Verb}
-use Rattle.oak_script.specs.declared.lines.Stage.{Stage}
-use Rattle.oak_script.specs.declared.lines.Stage.TheVariants.{Start, Headed, Opened, Ended}
+use Rattle.oak_script.specs.declared.stages.Stage.{Stage}
+use Rattle.oak_script.specs.declared.stages.Stage.TheVariants.{Start, Headed, Opened, Ended}
 use Rattle.oak_script.specs.Lines.{Words, words_of}
 use Rattle.oak_script.specs.Grammar.{oak_line, thread_line, end_line, call_words, CallFits, is_scan, scans_in}
 use Rattle.oak_script.specs.Forms.{form, fills, is_call}

@@ -1,161 +1,76 @@
-ghost use Rattle.std.specs.Prelude.{◌≡◌, ◌<◌, ◌∷◌, [], length, OnOk, IfOk, IfErr};
-ghost use Rattle.oak_script.specs.Grammar.{CallFits, call_words};
-ghost use Rattle.oak_script.specs.Forms.{verb_word};
+ghost use Rattle.std.specs.Prelude.{◌≡◌, ◌++◌, ◌∷◌, [], OnOk, IfErr};
+ghost use Rattle.oak_script.specs.Grammar.{CallFits, is_scan};
 ghost use Rattle.oak_script.specs.Stops.{Stops};
-ghost use Rattle.oak_script.specs.Reading.{call_faults};
+ghost use Rattle.oak_script.specs.Reading.{AreCalls, count_faults};
 
 use crate::faults::What;
-use crate::recipes::{recipe_of_one, recipe_of_two};
+use crate::limits::{GREATEST_CALLS, GREATEST_SCANS};
 use crate::scripts::Call;
 use crate::stops::Stop;
-use crate::verbs::Verb;
-use crate::words::{bound_of, key_of, name_of, value_of};
 use std::alloc::Global;
+use std::marker::Model;
 
-/// The call of a verb and one more word.
-pub fn call_of_one(alloc: Global, verb: Verb, word: &[u8]) -> Result<Call, Stop>
-    requires { 0 < length word.now }
-    ensures ok { IfOk result (λ call. call_words call ≡ verb_word verb ∷ word.now ∷ []) }
-    ensures call { IfOk result CallFits }
-    ensures fine { OnOk result (call_faults verb (word.now ∷ []) ≡ []) }
-    ensures err { IfErr result (λ e. Stops e (call_faults verb (word.now ∷ []))) }
+fn is_scan(call: &Call) -> bool
+    ensures { result ≡ is_scan call.now }
 {
-    match verb {
-        Verb::Get => {
-            let key = key_of(alloc, word)?;
-            Ok(Call::Get { key })
-        }
-        Verb::Remove => {
-            let key = key_of(alloc, word)?;
-            Ok(Call::Remove { key })
-        }
-        Verb::Look => {
-            let name = name_of(alloc, word)?;
-            Ok(Call::Look { name })
-        }
-        _ => Err(Stop::Fault(What::Word)),
-    }
+    matches!(call, Call::Scan { .. } | Call::Back { .. })
 }
 
-/// The call of a verb and two more words.
-pub fn call_of_two(alloc: Global, verb: Verb, first: &[u8], second: &[u8]) -> Result<Call, Stop>
-    requires first { 0 < length first.now }
-    requires second { 0 < length second.now }
-    ensures ok { IfOk result (λ call. call_words call ≡ verb_word verb ∷ first.now ∷ second.now ∷ []) }
-    ensures call { IfOk result CallFits }
-    ensures fine { OnOk result (call_faults verb (first.now ∷ second.now ∷ []) ≡ []) }
-    ensures err { IfErr result (λ e. Stops e (call_faults verb (first.now ∷ second.now ∷ []))) }
-{
-    match verb {
-        Verb::Put => {
-            let key = key_of(alloc, first)?;
-            let value = value_of(alloc, second)?;
-            Ok(Call::Put { key, value })
-        }
-        Verb::PutNew => {
-            let key = key_of(alloc, first)?;
-            let value = value_of(alloc, second)?;
-            Ok(Call::PutNew { key, value })
-        }
-        Verb::Compute => {
-            let key = key_of(alloc, first)?;
-            let (recipe, argument) = recipe_of_one(second)?;
-            Ok(Call::Compute {
-                key,
-                recipe,
-                argument,
-            })
-        }
-        Verb::Hold => {
-            let name = name_of(alloc, first)?;
-            let key = key_of(alloc, second)?;
-            Ok(Call::Hold { name, key })
-        }
-        Verb::Scan => {
-            let low = bound_of(alloc, first)?;
-            let high = bound_of(alloc, second)?;
-            Ok(Call::Scan { low, high })
-        }
-        Verb::Back => {
-            let low = bound_of(alloc, first)?;
-            let high = bound_of(alloc, second)?;
-            Ok(Call::Back { low, high })
-        }
-        _ => Err(Stop::Fault(What::Word)),
-    }
+/// The calls of a script so far, with the number of scans among them.
+#[derive(Drop)]
+pub struct Calls {
+    calls: Vec<Call>,
+    scans: usize,
 }
 
-/// The call of a verb and three more words.
-pub fn call_of_three(
-    alloc: Global,
-    verb: Verb,
-    first: &[u8],
-    second: &[u8],
-    third: &[u8],
-) -> Result<Call, Stop>
-    requires first { 0 < length first.now }
-    requires second { 0 < length second.now }
-    requires third { 0 < length third.now }
-    ensures ok { IfOk result (λ call. call_words call ≡ verb_word verb ∷ first.now ∷ second.now ∷ third.now ∷ []) }
-    ensures call { IfOk result CallFits }
-    ensures fine { OnOk result (call_faults verb (first.now ∷ second.now ∷ third.now ∷ []) ≡ []) }
-    ensures err { IfErr result (λ e. Stops e (call_faults verb (first.now ∷ second.now ∷ third.now ∷ []))) }
-{
-    match verb {
-        Verb::Compute => {
-            let key = key_of(alloc, first)?;
-            let (recipe, argument) = recipe_of_two(second, third)?;
-            Ok(Call::Compute {
-                key,
-                recipe,
-                argument,
-            })
-        }
-        Verb::Upsert => {
-            let key = key_of(alloc, first)?;
-            let value = value_of(alloc, second)?;
-            let (recipe, argument) = recipe_of_one(third)?;
-            Ok(Call::Upsert {
-                key,
-                value,
-                recipe,
-                argument,
-            })
-        }
-        _ => Err(Stop::Fault(What::Word)),
-    }
+impl Model for Calls {
+    ghost use Rattle.std.specs.Prelude.{◌≡◌, List};
+    ghost use Rattle.oak_script.specs.declared.scripts.Call.{Call};
+    ghost use Rattle.oak_script.specs.Grammar.{scans_in};
+    ghost use Rattle.oak_script.specs.Reading.{AreCalls};
+
+    ghost Value = { List Call };
+
+    ghost view = { λ c. c.calls.items };
+
+    ghost invariant = { λ c. (c.scans ≡ scans_in c.calls.items) × AreCalls c.calls.items };
 }
 
-/// The call of a verb and four more words.
-pub fn call_of_four(
-    alloc: Global,
-    verb: Verb,
-    first: &[u8],
-    second: &[u8],
-    third: &[u8],
-    fourth: &[u8],
-) -> Result<Call, Stop>
-    requires first { 0 < length first.now }
-    requires second { 0 < length second.now }
-    requires third { 0 < length third.now }
-    requires fourth { 0 < length fourth.now }
-    ensures ok { IfOk result (λ call. call_words call ≡ verb_word verb ∷ first.now ∷ second.now ∷ third.now ∷ fourth.now ∷ []) }
-    ensures call { IfOk result CallFits }
-    ensures fine { OnOk result (call_faults verb (first.now ∷ second.now ∷ third.now ∷ fourth.now ∷ []) ≡ []) }
-    ensures err { IfErr result (λ e. Stops e (call_faults verb (first.now ∷ second.now ∷ third.now ∷ fourth.now ∷ []))) }
-{
-    match verb {
-        Verb::Upsert => {
-            let key = key_of(alloc, first)?;
-            let value = value_of(alloc, second)?;
-            let (recipe, argument) = recipe_of_two(third, fourth)?;
-            Ok(Call::Upsert {
-                key,
-                value,
-                recipe,
-                argument,
-            })
+impl Calls {
+    pub fn new(alloc: Global) -> Calls
+        ensures { result ≡ [] }
+    {
+        Calls {
+            calls: Vec::new(alloc),
+            scans: 0,
         }
-        _ => Err(Stop::Fault(What::Word)),
+    }
+
+    /// Adds a call, unless it is one call or one scan too many.
+    pub fn push(&mut self, call: Call) -> Result<(), Stop>
+        requires { CallFits call }
+        ensures ok { OnOk result (self.new ≡ self.old ++ call ∷ []) }
+        ensures fine { OnOk result (count_faults self.old call ≡ []) }
+        ensures fit { OnOk result (AreCalls self.new) }
+        ensures err { IfErr result (λ e. Stops e (count_faults self.old call)) }
+    {
+        if self.calls.len() == GREATEST_CALLS {
+            return Err(Stop::Fault(What::Calls));
+        }
+        let is_scan = is_scan(&call);
+        if is_scan && self.scans == GREATEST_SCANS {
+            return Err(Stop::Fault(What::Scans));
+        }
+        self.calls.push(call)?;
+        if is_scan {
+            self.scans += 1;
+        }
+        Ok(())
+    }
+
+    pub fn into_vec(self) -> Vec<Call>
+        ensures { result.items ≡ self }
+    {
+        self.calls
     }
 }

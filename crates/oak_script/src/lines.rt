@@ -4,15 +4,6 @@ ghost use Rattle.oak_script.specs.Lines.{lines_of, words_of, front_len};
 use std::alloc::{AllocError, Global};
 use std::marker::Model;
 
-/// How far a script was read.
-#[derive(Clone, Copy, Debug, PartialEq, Eq)]
-pub enum Stage {
-    Start,
-    Headed,
-    Opened,
-    Ended,
-}
-
 /// The lines of a text that are left.
 #[derive(Drop)]
 pub struct Lines<'a> {

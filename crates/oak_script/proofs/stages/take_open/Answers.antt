@@ -4,7 +4,7 @@ use Rattle.std.proofs.lemmas.Result.{err_from_is_err_and}
 use Rattle.oak_script.specs.Lines.{Words}
 use Rattle.oak_script.specs.Forms.{is_thread, is_end}
 use Rattle.oak_script.proofs.OpenLemmas.{open_stops}
-use Rattle.oak_script.proofs.reader.take_open.Goals as goal
+use Rattle.oak_script.proofs.stages.take_open.Goals as goal
 
 pub returns-in_err-call-clause-err : goal.returns-in_err-call-clause-err
 returns-in_err-call-clause-err c =

@@ -2,7 +2,7 @@ use Rattle.std.proofs.lemmas.Result.{err_from_is_err_and}
 use Rattle.oak_script.specs.Forms.{KeySlot, ValueSlot}
 use Rattle.oak_script.specs.Faults.{word_faults}
 use Rattle.oak_script.proofs.StopLemmas.{stops_more, stops_behind}
-use Rattle.oak_script.proofs.calls.call_of_four.Goals as goal
+use Rattle.oak_script.proofs.call_lines.call_of_four.Goals as goal
 
 pub returns-in_err-key-in-Upsert-clause-err : goal.returns-in_err-key-in-Upsert-clause-err
 returns-in_err-key-in-Upsert-clause-err c =

@@ -3,7 +3,7 @@ use denote.Ref.{Bor}
 use Rattle.std.proofs.lemmas.List.{length-map}
 use Rattle.oak_script.specs.Lines.{Words}
 use Rattle.oak_script.proofs.FormLemmas.{short_line, long_line}
-use Rattle.oak_script.proofs.reader.read_call.Goals as goal
+use Rattle.oak_script.proofs.call_lines.read_call.Goals as goal
 
 pub returns-in-empty-clause-err : goal.returns-in-empty-clause-err
 returns-in-empty-clause-err c =

@@ -4,7 +4,7 @@ use denote.Ref.{Bor}
 use Rattle.std.proofs.lemmas.Iterator.{YieldsList-from_slice}
 use Rattle.std.proofs.lemmas.Iterator.Search.{any_from_yields_List}
 use Rattle.oak_script.specs.Faults.{is_empty}
-use Rattle.oak_script.proofs.reader.has_empty_word.Goals as goal
+use Rattle.oak_script.proofs.forms.has_empty_word.Goals as goal
 
 any_of : (words : List (Bor (List ℕ))) → list_any (λ (w : Bor (List ℕ)). is_empty w.now) words ≡ list_any is_empty (map (λ (w : Bor (List ℕ)). w.now) words)
 any_of [] = refl
