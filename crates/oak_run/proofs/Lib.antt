@@ -9,3 +9,4 @@ pub mod TurnLaws
 pub mod CanLaws
 pub mod StepLaws
 pub mod ThreadLaws
+pub mod PlaceLaws
