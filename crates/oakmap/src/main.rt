@@ -3,6 +3,8 @@
 #![tactic(auto)]
 
 mod status;
+#[cfg(test)]
+mod tests;
 mod top;
 
 use outside::{StdSink, StdSource};
