@@ -22,10 +22,11 @@ use Rattle.oak_script.specs.declared.scripts.Call.{Call}
 use Rattle.oak_script.specs.declared.scripts.Call.TheVariants.{Put, Get, PutNew, Compute, Upsert, Remove, Hold, Look, Scan, Back}
 use Rattle.oak_run.specs.declared.lasts.Last.{Last}
 use Rattle.oak_run.specs.declared.lasts.Held.{Held}
-use Rattle.oak_run.specs.Told.{Ask, ask_of, makes_write, Tells, is_held, reply_at}
+use Rattle.oak_run.specs.Told.{Ask, ask_of, makes_write, Tells, is_held, is_full, reply_at}
 use Rattle.oak_run.specs.Turn.{Turn}
 use Rattle.oak_run.specs.Answers.{Mark, mark_of, marks, writes_key}
 use Rattle.oak_run.specs.Views.{View, Names, no_names, named, names_after}
+use Rattle.oak_run.specs.RunFits.{NoneRefused}
 use Rattle.oak_run.specs.Plain.{write_of, grown, number_of, after_ask}
 use Rattle.oak_run.specs.Keeps.{KeepsLasts, KeepsHolds, IsViewOf, IsBornAt}
 use Rattle.oak_run.specs.Does.{CellDid, TellsWord, HoldDid, LookDid, ShowsRange, AskDoes, PairsDo, Does}
@@ -33,7 +34,7 @@ use Rattle.oak_script.specs.Text.{CanReply, CallsAnswered}
 use Rattle.oak_run.proofs.CanLaws.{has_word, reply-has_word, can-put, can-get, can-put_new, can-compute, can-upsert, can-remove, answered-push}
 use Rattle.oak_run.proofs.CellLaws.{keeps-read}
 use Rattle.oak_run.proofs.GrowLaws.{Grows}
-use Rattle.oak_run.proofs.PushLaws.{Goes, Joins, names_of, goes-push, marks-push}
+use Rattle.oak_run.proofs.PushLaws.{all-push, Goes, Joins, names_of, goes-push, marks-push}
 use Rattle.oak_run.proofs.PlainLaws.{IsPlain, lengths, lengths-after, grows-after, plain-after, length-grown}
 use Rattle.oak_run.proofs.TurnLaws.{ask_turn, joins-ask, Stays, look-stays, range_turn, range-fits, range-joins}
 
@@ -51,6 +52,7 @@ pub record Running (lasts : BTreeMap (List ℕ) Last) (holds : BTreeMap (List �
   pub held : KeepsHolds holds history (names_of no_names turns)
   pub few : (q : List ℕ) → length (history q) ≤ length turns
   pub answered : CallsAnswered cs ys
+  pub unrefused : NoneRefused turns
 
 -- the marks that a turn adds to a key's
 abbrev pub mark_in : List ℕ → ℕ → Turn → List Mark
@@ -61,9 +63,9 @@ pub running-push : (lasts now : BTreeMap (List ℕ) Last) (holds held : BTreeMap
     → Joins (lengths e) r.history e (names_of no_names r.turns) 1 (suc (length r.turns)) t
     → ((q : List ℕ) → map mark_of (e q) ≡ map mark_of (r.history q) ++ mark_in q (suc (length r.turns)) t)
     → ((q : List ℕ) → length (e q) ≤ suc (length (r.history q)))
-    → KeepsLasts now e → KeepsHolds held e (names_after (names_of no_names r.turns) t) → CanReply t.call t.reply
+    → KeepsLasts now e → KeepsHolds held e (names_after (names_of no_names r.turns) t) → CanReply t.call t.reply → is_full t.reply ≡ false
     → Running now held (cs ++ t.call ∷ []) (ys ++ t.reply ∷ [])
-running-push lasts now holds held cs ys r e t grows up plain joins new_marks one kept views can = record {
+running-push lasts now holds held cs ys r e t grows up plain joins new_marks one kept views can fine = record {
   history = e;
   turns = r.turns ++ t ∷ [];
   of_calls = map_push (λ (x : Turn). x.call) r.turns t ∙ ap (λ (xs : List Call). xs ++ t.call ∷ []) r.of_calls;
@@ -75,6 +77,7 @@ running-push lasts now holds held cs ys r e t grows up plain joins new_marks one
   held = subst (λ (names : Names). KeepsHolds held e names) (sym (fold-append names_after no_names r.turns (t ∷ []))) views;
   few = λ q. omega (arith, one q, r.few q, more);
   answered = answered-push cs ys t.call t.reply r.answered can;
+  unrefused = all-push (λ (x : Turn). is_full x.reply ≡ false) r.turns t r.unrefused fine;
 }
   where
     more : length (r.turns ++ t ∷ []) ≡ suc (length r.turns)
@@ -137,7 +140,7 @@ step-ask lasts now holds held cs ys r c a y word at is did says views can =
     (joins-ask r.history (names_of no_names r.turns) n c a word at y r.plain.dense is did.answer did.number says)
     (λ q. rw (is, says.writes, says.number, did.answer, did.number) (marks-after r.history n a q))
     (one-more r.history n a) did.keeps
-    (holds-grow held r.history e (names_after (names_of no_names r.turns) (ask_turn r.history c y a)) (grows-after r.history 1 n (Some a)).extends views) can
+    (holds-grow held r.history e (names_after (names_of no_names r.turns) (ask_turn r.history c y a)) (grows-after r.history 1 n (Some a)).extends views) can says.not_full
 
 -- ---- a hold
 
@@ -188,16 +191,16 @@ step-hold lasts now holds held cs ys r a k (replies.Pairs pairs) did same = absu
 -- ---- calls that leave the histories
 
 step-stays : (lasts : BTreeMap (List ℕ) Last) (holds : BTreeMap (List ℕ) Held) (cs : List Call) (ys : List Reply) (r : Running lasts holds cs ys) (t : Turn)
-    → Joins (lengths r.history) r.history r.history (names_of no_names r.turns) 1 (suc (length r.turns)) t → ask_of t.call ≡ None → names_after (names_of no_names r.turns) t ≡ names_of no_names r.turns → CanReply t.call t.reply
+    → Joins (lengths r.history) r.history r.history (names_of no_names r.turns) 1 (suc (length r.turns)) t → ask_of t.call ≡ None → names_after (names_of no_names r.turns) t ≡ names_of no_names r.turns → CanReply t.call t.reply → is_full t.reply ≡ false
     → Running lasts holds (cs ++ t.call ∷ []) (ys ++ t.reply ∷ [])
-step-stays lasts holds cs ys r t joins is same can =
+step-stays lasts holds cs ys r t joins is same can fine =
     let h = r.history in
     let n = suc (length r.turns) in
     running-push lasts lasts holds holds cs ys r h t (grows-after h 1 n None) (lengths-after h 1 n None) (plain-after h 1 (length r.turns) None r.plain) joins
     (λ q. rw is (sym (append-nil (map mark_of (h q)))))
     (λ q. omega arith)
     r.kept
-    (rw same r.held) can
+    (rw same r.held) can fine
 
 can-look : (h : Histories) (view : Option View) (a : List ℕ) (y : Reply) → LookDid h view y → CanReply (Look a) y
 can-look h view a replies.Unheld did = tt
@@ -207,11 +210,19 @@ can-look h view a (replies.Wrote w) did = absurd did
 can-look h view a (replies.Held at) did = absurd did
 can-look h view a (replies.Pairs pairs) did = absurd did
 
+fine-look : (h : Histories) (view : Option View) (y : Reply) → LookDid h view y → is_full y ≡ false
+fine-look h view replies.Unheld did = refl
+fine-look h view (replies.Value key value at) did = refl
+fine-look h view replies.Gone did = refl
+fine-look h view (replies.Wrote w) did = absurd did
+fine-look h view (replies.Held at) did = absurd did
+fine-look h view (replies.Pairs pairs) did = absurd did
+
 step-look : (lasts : BTreeMap (List ℕ) Last) (holds : BTreeMap (List ℕ) Held) (cs : List Call) (ys : List Reply) (r : Running lasts holds cs ys) (a : List ℕ) (y : Reply)
     → LookDid r.history (names_of no_names r.turns a) y → Running lasts holds (cs ++ Look a ∷ []) (ys ++ y ∷ [])
 step-look lasts holds cs ys r a y did =
     let s = look-stays r.history (names_of no_names r.turns) (suc (length r.turns)) a y r.plain.dense did in
-    let made = step-stays lasts holds cs ys r s.turn s.joins (rw s.of_call refl) (rw s.of_call refl) (rw (s.of_call, s.of_reply) (can-look r.history (names_of no_names r.turns a) a y did)) in
+    let made = step-stays lasts holds cs ys r s.turn s.joins (rw s.of_call refl) (rw s.of_call refl) (rw (s.of_call, s.of_reply) (can-look r.history (names_of no_names r.turns a) a y did)) (rw s.of_reply (fine-look r.history (names_of no_names r.turns a) y did)) in
     rw (s.of_call, s.of_reply) at made
 
 step-scan : (lasts : BTreeMap (List ℕ) Last) (holds : BTreeMap (List ℕ) Held) (cs : List Call) (ys : List Reply) (r : Running lasts holds cs ys) (low high : Option (List ℕ)) (y : Reply)
@@ -220,7 +231,7 @@ step-scan lasts holds cs ys r low high (replies.Pairs pairs) does =
     let h = r.history in
     let s = does.1 h r.kept in
     step-stays lasts holds cs ys r (range_turn h (Scan low high) pairs low high)
-    (range-joins h (names_of no_names r.turns) (suc (length r.turns)) (Scan low high) low high pairs refl tt (does.0, range-fits h (Scan low high) low high pairs r.plain.dense s) s) refl refl tt
+    (range-joins h (names_of no_names r.turns) (suc (length r.turns)) (Scan low high) low high pairs refl tt (does.0, range-fits h (Scan low high) low high pairs r.plain.dense s) s) refl refl tt refl
 step-scan lasts holds cs ys r low high (replies.Wrote w) does = absurd does
 step-scan lasts holds cs ys r low high (replies.Value key value at) does = absurd does
 step-scan lasts holds cs ys r low high (replies.Held at) does = absurd does
@@ -233,7 +244,7 @@ step-back lasts holds cs ys r low high (replies.Pairs pairs) does =
     let h = r.history in
     let s = does.1 h r.kept in
     step-stays lasts holds cs ys r (range_turn h (Back low high) pairs low high)
-    (range-joins h (names_of no_names r.turns) (suc (length r.turns)) (Back low high) low high pairs refl tt (does.0, range-fits h (Back low high) low high pairs r.plain.dense s) s) refl refl tt
+    (range-joins h (names_of no_names r.turns) (suc (length r.turns)) (Back low high) low high pairs refl tt (does.0, range-fits h (Back low high) low high pairs r.plain.dense s) s) refl refl tt refl
 step-back lasts holds cs ys r low high (replies.Wrote w) does = absurd does
 step-back lasts holds cs ys r low high (replies.Value key value at) does = absurd does
 step-back lasts holds cs ys r low high (replies.Held at) does = absurd does

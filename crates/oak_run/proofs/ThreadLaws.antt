@@ -54,6 +54,7 @@ running-start lasts holds empty idle = record {
   held = λ a. rw (none_held holds a idle) refl;
   few = λ q. omega arith;
   answered = tt;
+  unrefused = tt;
 }
 
 -- behind the last call
@@ -72,6 +73,7 @@ running-end lasts holds cs ys r = (
     order = r.goes.order;
     views = r.goes.views;
     scans = r.goes.scans;
+    unrefused = r.unrefused;
   },
   r.kept,
 )
@@ -138,6 +140,7 @@ plain-fits lasts cs ys finals r does rising =
         order = (t.order, tt);
         views = (t.views, tt);
         scans = (t.scans, tt);
+        unrefused = (t.unrefused, tt);
         final = record { states = λ q. states-of h finals (does h r.2) q; ordered = rising };
       },
     )

@@ -1,5 +1,5 @@
 -- When the replies and the final map of a run fit the histories of its keys.
-use Rattle.std.specs.Prelude.{◌≡◌, ℕ, suc, ◌+◌, ◌≤◌, ◌<◌, List, [], ◌∷◌, length, map, Option, Some, None, IfSome, ⊤, slice_index}
+use Rattle.std.specs.Prelude.{◌≡◌, ℕ, suc, ◌+◌, ◌≤◌, ◌<◌, List, [], ◌∷◌, length, map, Option, Some, None, IfSome, ⊤, slice_index, false}
 use Rattle.std.specs.List.{AllByRecursion}
 use Rattle.std.specs.List.Sorted.{IsPermutation}
 use Rattle.oak_model.specs.declared.replies.Pair.{Pair}
@@ -18,7 +18,7 @@ use Rattle.oak_run.specs.Turn.{Turn}
 use Rattle.oak_run.specs.Answers.{AnswersFit, mark_of, all_marks}
 use Rattle.oak_run.specs.Order.{Ordered}
 use Rattle.oak_run.specs.Views.{Names, ViewsFit, no_names, names_after}
-use Rattle.oak_run.specs.Told.{Ask, ask_of, wrote_at}
+use Rattle.oak_run.specs.Told.{Ask, ask_of, wrote_at, is_full}
 use Rattle.oak_run.specs.Scans.{ScansFit}
 
 -- for each thread from this number on
@@ -37,13 +37,17 @@ pub record RepliesFit (h : Histories) (threads : List (List Turn)) : Type 0 wher
   pub each : EachThread (λ thread ts. AnswersFit h thread 1 ts) 1 threads
   pub once : (q : List ℕ) → IsPermutation (all_marks q 1 threads) (map mark_of (h q))
 
+-- no call was refused
+abbrev pub NoneRefused : List Turn → Type 0
+NoneRefused ts = AllByRecursion (λ (t : Turn). is_full t.reply ≡ false) ts
+
 -- the pairs are the last states, in the order of the keys
 pub record MapFits (h : Histories) (finals : List Pair) : Type 0 where
   pub states : (q : List ℕ) → value_in finals q ≡ last_state (h q)
   pub ordered : IsRising finals
 
--- What one thread's run over a plain list of writes promises: legal histories, and of a run that fits
--- the parts on replies, order, views and scans, and the map.
+-- What one thread's run over a plain list of writes promises: legal histories, no refusal, and of a run
+-- that fits the parts on replies, order, views and scans, and the map.
 pub record PlainFits (h : Histories) (calls : List (List Call)) (said : List (List Reply)) (finals : List Pair) : Type 0 where
   pub threads : List (List Turn)
   pub of_calls : calls_of threads ≡ calls
@@ -54,6 +58,7 @@ pub record PlainFits (h : Histories) (calls : List (List Call)) (said : List (Li
   pub order : EachThread (λ _ ts. Ordered ts) 1 threads
   pub views : EachThread (λ _ ts. ViewsFit h no_names ts) 1 threads
   pub scans : EachThread (λ _ ts. ScansFit h ts) 1 threads
+  pub unrefused : EachThread (λ _ ts. NoneRefused ts) 1 threads
   pub final : MapFits h finals
 
 -- ---- the parts that only a table can show

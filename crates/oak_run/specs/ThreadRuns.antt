@@ -11,6 +11,7 @@ use Rattle.oak_run.specs.Answers.{AnswersFit, mark_of, marks}
 use Rattle.oak_run.specs.Order.{Ordered}
 use Rattle.oak_run.specs.Views.{ViewsFit, no_names}
 use Rattle.oak_run.specs.Scans.{ScansFit}
+use Rattle.oak_run.specs.RunFits.{NoneRefused}
 use Rattle.oak_run.specs.Keeps.{KeepsLasts}
 
 -- the replies of caller 1 fit the histories, which hold its writes alone
@@ -26,6 +27,7 @@ pub record ThreadRuns (h : Histories) (calls : List Call) (replies : List Reply)
   pub order : Ordered turns
   pub views : ViewsFit h no_names turns
   pub scans : ScansFit h turns
+  pub unrefused : NoneRefused turns
 
 -- and what is kept behind them is of these histories
 abbrev pub RunsThread : BTreeMap (List ℕ) Last → List Call → List Reply → Type 0
