@@ -1,8 +1,8 @@
 -- The places of replies: for a key and a number, how many writes of the key have a stamp of at most the number.
-use Rattle.std.specs.Prelude.{ℕ, ◌&&◌, nat_le, Bool, false, if◌then◌else◌, List, [], ◌∷◌, ◌++◌, count_by, Option, Some, None, option_to_list}
+use Rattle.std.specs.Prelude.{◌≡◌, ℕ, ◌+◌, ◌≤◌, length, true, ◌&&◌, nat_le, Bool, false, if◌then◌else◌, List, [], ◌∷◌, ◌++◌, count_by, Option, Some, None, option_to_list}
 use Rattle.std.specs.Option.{option_map_or}
-use Rattle.std.specs.List.Sorted.{IsSorted}
-use Rattle.std.specs.Ordering.{nat_cmp, ordering_then, is_lt, is_le}
+use Rattle.std.specs.List.Sorted.{IsSorted, IsPartitionPoint}
+use Rattle.std.specs.Ordering.{nat_cmp, ordering_then, is_le}
 use Rattle.std.specs.declared.cmp.Ordering.{Ordering}
 use Rattle.oak_model.specs.declared.replies.Wrote.{Wrote}
 use Rattle.oak_model.specs.declared.replies.Wrote.TheVariants.{New, Over, Kept, Done, Removed, Absent, Full}
@@ -110,10 +110,19 @@ stamped_cmp v w = ordering_then (key_cmp v.key.now w.key.now) (nat_cmp v.stamp w
 abbrev pub AreInOrder : List Stamped → Type 0
 AreInOrder ws = IsSorted stamped_cmp ws
 
--- writes of lower keys
-abbrev pub is_lower : List ℕ → Stamped → Bool
-is_lower k w = is_lt (key_cmp w.key.now k)
-
 -- writes of lower keys, and those of the key with a stamp of at most the number
 abbrev pub is_not_behind : List ℕ → ℕ → Stamped → Bool
 is_not_behind k at w = is_le (ordering_then (key_cmp w.key.now k) (nat_cmp w.stamp at))
+
+-- these are the first n writes
+pub record IsEndOf (k : List ℕ) (at : ℕ) (ws : List Stamped) (n : ℕ) : Type 0 where
+  pub within : n ≤ length ws
+  pub point : IsPartitionPoint (λ w. is_not_behind k at w ≡ true) (λ w. is_not_behind k at w ≡ false) ws n
+
+-- the place of a write of the key, behind one with a key and a place
+abbrev pub next_place : List ℕ → ℕ → List ℕ → ℕ
+next_place last place k = if same_key k last then place + 1 else 1
+
+abbrev pub places_along : List ℕ → ℕ → List Stamped → List ℕ
+places_along last place [] = []
+places_along last place (w ∷ ws) = next_place last place w.key.now ∷ places_along w.key.now (next_place last place w.key.now) ws
