@@ -14,7 +14,8 @@ use Rattle.oak_model.specs.Key.{key_cmp, same_key}
 use Rattle.oak_script.specs.declared.scripts.Call.{Call}
 use Rattle.oak_script.specs.declared.places.Stamped.{Stamped}
 use Rattle.oak_script.proofs.Answered.{rest_from}
-use Rattle.oak_script.specs.Places.{key_of, stamp_of, stamps_in, stamps_along, stamps_of, written_upto, write_of, write_in, writes_along, writes_of, is_upto, as_pair, place_among, stamped_cmp, is_not_behind, AreInOrder, IsEndOf, next_place, places_along}
+use Rattle.oak_script.specs.Places.{key_of, stamp_of, stamps_in, stamps_along, stamps_of, written_upto}
+use Rattle.oak_script.specs.Stamps.{write_of, write_in, writes_along, writes_of, is_upto, as_pair, place_among, stamped_cmp, is_not_behind, AreInOrder, IsEndOf, next_place, places_along}
 
 -- ---- the writes of all replies are counted key by key
 

@@ -2,4 +2,5 @@ pub mod Lines
 pub mod Words
 pub mod Grammar
 pub mod Places
+pub mod Stamps
 pub mod Text

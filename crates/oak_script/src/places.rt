@@ -1,14 +1,12 @@
-ghost use Rattle.std.specs.Prelude.{◌≡◌, ◌<◌, ◌++◌, ◌∷◌, [], List, ℕ, map, Bool, nat_lt, nat_le, cond, length, count_by, IfOk, OnOk, option_copied};
+ghost use Rattle.std.specs.Prelude.{◌≡◌, ◌<◌, ◌++◌, [], map, length, IfOk, OnOk, option_copied};
 ghost use Rattle.std.specs.Option.{option_map};
-ghost use Rattle.std.specs.Ordering.{ordering_then, is_lt, is_le, nat_cmp};
-ghost use Rattle.oak_model.specs.Key.{key_cmp};
-ghost use Rattle.oak_script.specs.Places.{key_of, stamp_of, stamp_of_wrote, write_in, writes_along, writes_of, as_pair, place_among, AreInOrder, IsEndOf, next_place, places_along, written_upto};
-ghost use Rattle.oak_script.specs.Text.{RepliesAnswer, CallsAnswered};
+ghost use Rattle.oak_script.specs.Places.{key_of, stamp_of, stamp_of_wrote, written_upto};
+ghost use Rattle.oak_script.specs.Stamps.{write_in, writes_along, writes_of, as_pair, place_among, AreInOrder, IsEndOf, next_place, places_along};
+ghost use Rattle.oak_script.specs.Text.{RepliesAnswer};
 
 use crate::scripts::{Call, Script};
 use oak_model::{Key, OutOfMemory, Reply, Wrote};
 use std::alloc::Global;
-use std::cmp::Ordering;
 
 /// A write, by its key and its stamp.
 #[derive(Clone, Copy, PartialEq, Eq, PartialOrd, Ord)]
@@ -17,7 +15,8 @@ pub struct Stamped<'a> {
     pub stamp: u64,
 }
 
-/// The writes of a run, sorted, so that a place is found by halving, and beside each its place.
+/// The writes of a run in the order of their keys and stamps, so that a place is found by halving,
+/// and the place of each.
 #[derive(Drop)]
 pub struct Stamps<'a> {
     writes: Vec<Stamped<'a>>,

@@ -1,5 +1,5 @@
 use Rattle.std.proofs.Common.{◌≡◌, ◌≤◌, ◌++◌, [], drop}
-use Rattle.oak_script.specs.Places.{places_along}
+use Rattle.oak_script.specs.Stamps.{places_along}
 use Rattle.oak_script.proofs.places.places_along.Given as goal
 
 abbrev pub invariant-loop-write : goal.invariant-loop-write

@@ -1,6 +1,6 @@
 use Rattle.std.proofs.Common.{◌≡◌, ◌++◌, take}
 use Rattle.std.specs.List.{flat_map}
-use Rattle.oak_script.specs.Places.{place_among}
+use Rattle.oak_script.specs.Stamps.{place_among}
 use Rattle.oak_script.specs.Text.{read_line}
 use Rattle.oak_script.proofs.text.put_pairs.Given as goal
 
