@@ -1,3 +1,3 @@
 pub mod Answered
-pub mod PlaceLemmas
+pub mod StampLemmas
 pub mod TextLemmas

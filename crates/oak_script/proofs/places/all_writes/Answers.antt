@@ -1,6 +1,6 @@
 use Rattle.std.proofs.Common.{◌<◌, length, ap, ◌∙◌, sym, append_assoc, arith}
 use Rattle.oak_script.proofs.Answered.{length-answered, length-answered_at}
-use Rattle.oak_script.proofs.PlaceLemmas.{writes_more}
+use Rattle.oak_script.proofs.StampLemmas.{writes_more}
 use Rattle.oak_script.proofs.places.all_writes.Goals as goal
 
 pub bounds-replies-i : goal.bounds-replies-i

@@ -1,6 +1,6 @@
 use Rattle.std.proofs.Common.{◌≡◌, true, false, refl, sym, ◌∙◌}
 use Rattle.oak_model.specs.Key.{same_key}
-use Rattle.oak_script.proofs.PlaceLemmas.{same_bytes}
+use Rattle.oak_script.proofs.StampLemmas.{same_bytes}
 use Rattle.oak_script.proofs.places.next_place.Goals as goal
 
 pub returns-then-eq : goal.returns-then-eq

@@ -1,7 +1,7 @@
 use Rattle.std.proofs.Common.{sym, subst, rules}
 use Rattle.std.proofs.lemmas.List.Sorted.{IsPartitionPoint-from_clause}
 use Rattle.oak_script.specs.Stamps.{AreInOrder, IsEndOf, is_not_behind}
-use Rattle.oak_script.proofs.PlaceLemmas.{not_behind_come_first}
+use Rattle.oak_script.proofs.StampLemmas.{not_behind_come_first}
 use Rattle.oak_script.proofs.places.Stamps.end.Goals as goal
 
 pub returns : goal.returns

@@ -1,5 +1,5 @@
 use Rattle.std.proofs.Common.{map}
-use Rattle.oak_script.proofs.PlaceLemmas.{place_among-sorted}
+use Rattle.oak_script.proofs.StampLemmas.{place_among-sorted}
 use Rattle.oak_script.proofs.places.Stamps.of.Goals as goal
 
 pub returns : goal.returns

@@ -1,6 +1,6 @@
 use Rattle.std.proofs.Common.{◌≡◌, ◌-◌, true, false, nat_eq, [], length, get_or, sym, ap, ◌∙◌, arith}
 use Rattle.std.specs.Cmp.Lexicographic.{pointwise}
-use Rattle.oak_script.proofs.PlaceLemmas.{no_place, place_before, length-places_along}
+use Rattle.oak_script.proofs.StampLemmas.{no_place, place_before, length-places_along}
 use Rattle.oak_script.proofs.places.Stamps.place.Goals as goal
 
 pub returns-then-end-eq0 : goal.returns-then-end-eq0
