@@ -12,7 +12,7 @@ use Rattle.oak_script.specs.declared.limits.TheConstants.{GREATEST_CALLS, GREATE
 use Rattle.oak_script.specs.declared.scripts.Call.{Call}
 use Rattle.oak_script.specs.declared.scripts.Call.TheVariants.{Put, Get, PutNew, Compute, Upsert, Remove, Hold, Look, Scan, Back}
 use Rattle.oak_script.specs.declared.scripts.Script.{Script}
-use Rattle.oak_script.specs.Lines.{Words}
+use Rattle.oak_script.specs.Lines.{Words, text_words}
 use Rattle.oak_script.specs.Words.{value_word, bound_word, recipe_words, is_name}
 
 abbrev pub oak_line : Words
@@ -100,3 +100,8 @@ pub record IsScript (s : Script) : Type 0 where
   pub each : AllByRecursion CallFits calls
   pub few : length calls ≤ GREATEST_CALLS
   pub scans : scans_in calls ≤ GREATEST_SCANS
+
+-- the text is cut into the lines of the script
+pub record Spells (text : List ℕ) (s : Script) : Type 0 where
+  pub script : IsScript s
+  pub lines : text_words text ≡ script_lines s.threads

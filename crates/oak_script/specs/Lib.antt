@@ -4,3 +4,10 @@ pub mod Grammar
 pub mod Places
 pub mod Stamps
 pub mod Text
+pub mod Numbers
+pub mod Forms
+pub mod Faults
+pub mod Stops
+pub mod Reading
+pub mod Answers
+pub mod Told
