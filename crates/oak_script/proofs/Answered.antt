@@ -1,10 +1,10 @@
 -- What it says that replies answer the calls of threads.
-use Rattle.std.proofs.Common.{◌≡◌, ℕ, suc, zero, ◌+◌, ◌<◌, List, [], ◌∷◌, length, map, get_or, drop, ap, refl, sym, ◌∙◌, arith}
+use Rattle.std.proofs.Common.{◌≡◌, ℕ, suc, zero, ◌+◌, ◌<◌, List, [], ◌∷◌, ◌++◌, length, map, get_or, drop, ap, refl, sym, ◌∙◌, arith}
 use Rattle.std.proofs.Math.ListN.{get_or-map}
 use Rattle.std.proofs.lemmas.List.{length-map, drop_more}
 use Rattle.oak_model.specs.declared.replies.Reply.{Reply}
 use Rattle.oak_script.specs.declared.scripts.Call.{Call}
-use Rattle.oak_script.specs.Text.{CallsAnswered, RepliesAnswer}
+use Rattle.oak_script.specs.Text.{CanReply, CallsAnswered, RepliesAnswer}
 
 pub length-calls_answered : (cs : List Call) (ys : List Reply) → CallsAnswered cs ys → length cs ≡ length ys
 length-calls_answered [] [] h = refl
@@ -41,3 +41,10 @@ module _ {T R : Type 0} (calls_of : T → List Call) (replies_of : R → List Re
 -- the rest of a list, by the element at its front
 pub rest_from : {X : Type 0} (xs : List X) (i : ℕ) (x : X) → i < length xs → x ≡ get_or xs i x → drop i xs ≡ x ∷ drop (i + 1) xs
 rest_from xs i x l e = drop_more xs i x l ∙ ap (λ y. y ∷ drop (i + 1) xs) (sym e)
+
+-- one more call with its reply
+pub CallsAnswered-push : (cs : List Call) (ys : List Reply) (c : Call) (y : Reply) → CallsAnswered cs ys → CanReply c y → CallsAnswered (cs ++ c ∷ []) (ys ++ y ∷ [])
+CallsAnswered-push [] [] c y h one = (one, tt)
+CallsAnswered-push [] (z ∷ ys) c y h one = absurd h
+CallsAnswered-push (d ∷ cs) [] c y h one = absurd h
+CallsAnswered-push (d ∷ cs) (z ∷ ys) c y h one = (h.0, CallsAnswered-push cs ys c y h.1 one)

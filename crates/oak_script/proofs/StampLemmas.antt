@@ -1,10 +1,10 @@
 -- A place is counted from the sorted writes of a run.
-use Rattle.std.proofs.Common.{◌≡◌, ℕ, suc, zero, ◌+◌, ◌-◌, ◌<◌, ◌≤◌, ◌&&◌, nat_le, leb, Bool, true, false, cond, List, [], ◌∷◌, ◌++◌, length, map, get_or, drop, Ordering, Less, Equal, Greater, count_by, Option, Some, None, option_to_list, refl, sym, ap, ◌∙◌, subst, arith, rules}
+use Rattle.std.proofs.Common.{◌≡◌, ℕ, suc, zero, ◌+◌, ◌-◌, ◌<◌, ◌≤◌, ◌≢◌, nat_eq, ◌&&◌, nat_le, Bool, true, false, cond, List, [], ◌∷◌, ◌++◌, length, map, get_or, drop, Ordering, Less, Equal, Greater, count_by, Option, Some, None, option_to_list, refl, sym, ap, ◌∙◌, arith}
 use Rattle.std.specs.Option.{option_map_or}
-use Rattle.std.specs.List.{AllWithin}
 use Rattle.std.specs.List.Sorted.{IsPermutation, IsPartitionedBy, IsPartitionPoint}
-use Rattle.std.specs.Ordering.{ordering_then, ordering_reverse, nat_cmp, is_lt, is_le, is_eq, is_gt, on, then_cmp}
-use Rattle.std.specs.Cmp.{IsTotalOrder}
+use Rattle.std.specs.Ordering.{ordering_then, ordering_reverse, nat_cmp, is_lt, is_le, is_eq, is_gt}
+use Rattle.std.specs.Cmp.{IsTotalOrder, unsigned_ties}
+use Rattle.std.specs.Cmp.Lexicographic.{pointwise, lists_ties}
 use Rattle.std.proofs.lemmas.Cmp.{upto, on_total, then_total, nat_cmp_total, nat_list_cmp_total}
 use Rattle.std.proofs.lemmas.List.Sorted.{sum_by-IsPermutation, sorted_far, ranks_by}
 use Rattle.std.proofs.lemmas.List.Sums.{sum_by-cons, sum_by-append}
@@ -14,7 +14,8 @@ use Rattle.oak_model.specs.Key.{key_cmp, same_key}
 use Rattle.oak_script.specs.declared.scripts.Call.{Call}
 use Rattle.oak_script.specs.declared.places.Stamped.{Stamped}
 use Rattle.oak_script.proofs.Answered.{rest_from}
-use Rattle.oak_script.specs.Places.{Places, key_of, stamp_of, stamps_in, stamps_along, stamps_of, written_upto, write_of, write_in, writes_along, writes_of, is_upto, as_pair, place_among, stamped_cmp, is_lower, is_not_behind, AreInOrder}
+use Rattle.oak_script.specs.Places.{key_of, stamp_of, stamps_in, stamps_along, stamps_of, written_upto}
+use Rattle.oak_script.specs.Stamps.{write_of, write_in, writes_along, writes_of, is_upto, as_pair, place_among, stamped_cmp, is_not_behind, AreInOrder, IsEndOf, next_place, places_along}
 
 -- ---- the writes of all replies are counted key by key
 
@@ -61,43 +62,16 @@ place_among-sorted ts rs ws sorted e moved =
 
 -- ---- a sorted list is searched by halving
 
--- where the writes that pass stand in front, their number is the place at which they end
-pub count_from_point : (p : Stamped → Bool) (ws : List Stamped) (i : ℕ) → i ≤ length ws → IsPartitionPoint (λ w. p w ≡ true) (λ w. p w ≡ false) ws i → count_by p ws ≡ i
-count_from_point p [] i l h = omega arith
-count_from_point p (w ∷ ws) zero l h =
-    let no : p w ≡ false = h.1 0 w (omega arith) (omega arith) in
-    let rest = count_from_point p ws 0 (omega arith) (λ k d a b. absurd (omega arith), λ k d a b. h.1 (suc k) d (omega arith) (omega arith)) in
-    sum_by-cons (λ w. cond (p w) 1 0) w ws ∙ rw (no, rest) refl
-count_from_point p (w ∷ ws) (suc i) l h =
-    let yes : p w ≡ true = h.0 0 w (omega arith) (omega arith) in
-    let rest = count_from_point p ws i (omega arith) (λ k d a b. h.0 (suc k) d (omega arith) (omega arith), λ k d a b. h.1 (suc k) d (omega arith) (omega arith)) in
-    sum_by-cons (λ w. cond (p w) 1 0) w ws ∙ rw (yes, rest) (omega arith)
+reversed_eq : (r : Ordering) → is_eq (ordering_reverse r) ≡ is_eq r
+reversed_eq Less = refl
+reversed_eq Equal = refl
+reversed_eq Greater = refl
 
-same_reversed : (r : Ordering) → is_eq (ordering_reverse r) ≡ is_eq r
-same_reversed Less = refl
-same_reversed Equal = refl
-same_reversed Greater = refl
+same_key-comm : (k l : List ℕ) → same_key k l ≡ same_key l k
+same_key-comm k l = ap is_eq (nat_list_cmp_total.antisymm k l) ∙ reversed_eq (key_cmp l k)
 
 le_tested : (x y : ℕ) → is_le (nat_cmp x y) ≡ nat_le x y
 le_tested x y = grind (arith, nat_tests)
-
-split_one : (r : Ordering) (o : Ordering) (b : Bool) → is_le o ≡ b → cond (is_le (ordering_then r o)) 1 0 ≡ cond (is_lt r) 1 0 + cond (is_eq r && b) 1 0
-split_one Less o b e = refl
-split_one Equal o b e = ap (λ c. cond c 1 0) e ∙ omega arith
-split_one Greater o b e = refl
-
--- a key's writes up to a stamp stand between the writes of lower keys and what is behind them
-pub split_count : (k : List ℕ) (at : ℕ) (ws : List Stamped) → count_by (is_not_behind k at) ws ≡ count_by (is_lower k) ws + place_among ws k at
-split_count k at [] = refl
-split_count k at (w ∷ ws) =
-    let whole = sum_by-cons (λ w. cond (is_not_behind k at w) 1 0) w ws in
-    let lower = sum_by-cons (λ w. cond (is_lower k w) 1 0) w ws in
-    let place = sum_by-cons (λ (w : Stamped). cond (is_upto k at (as_pair w)) 1 0) w ws in
-    let key : same_key k w.key.now ≡ is_eq (key_cmp w.key.now k) = ap is_eq (nat_list_cmp_total.antisymm k w.key.now) ∙ same_reversed (key_cmp w.key.now k) in
-    let one = split_one (key_cmp w.key.now k) (nat_cmp w.stamp at) (nat_le w.stamp at) (le_tested w.stamp at) in
-    let one_if : Bool → ℕ = λ b. cond b 1 0 in
-    let here : one_if (is_upto k at (as_pair w)) ≡ one_if (is_eq (key_cmp w.key.now k) && nat_le w.stamp at) = ap (λ b. one_if (b && nat_le w.stamp at)) key in
-    omega (arith, whole, lower, place, one, here, split_count k at ws)
 
 abbrev pair_cmp : List ℕ × ℕ → List ℕ × ℕ → Ordering
 pair_cmp v w = ordering_then (key_cmp v.0 w.0) (nat_cmp v.1 w.1)
@@ -125,6 +99,11 @@ first_not_gt Less o h = refl
 first_not_gt Equal o h = refl
 first_not_gt Greater o h = h
 
+lt_not_eq : (r : Ordering) → is_lt r ≡ true → is_eq r ≡ false
+lt_not_eq Less h = refl
+lt_not_eq Equal h = absurd (cc)
+lt_not_eq Greater h = refl
+
 below_from_upto : (x y z : List ℕ) (r s : Ordering) → key_cmp x y ≡ r → key_cmp y z ≡ s → is_gt r ≡ false → is_lt s ≡ true → is_lt (key_cmp x z) ≡ true
 below_from_upto x y z Less Less p q h k = ap is_lt (nat_list_cmp_total.trans x y z p q)
 below_from_upto x y z Equal Less p q h k = ap is_lt (nat_list_cmp_total.congr x y z p ∙ q)
@@ -139,14 +118,117 @@ in_order_far ws up i j d l m =
     let back : is_lt (stamped_cmp w v) ≡ false = sorted_far (λ x y. is_lt (stamped_cmp x y)) (ranks_by pair_cmp_total as_pair) ws up i j d l m in
     ap is_gt (pair_cmp_total.antisymm (as_pair v) (as_pair w)) ∙ gt_reversed (stamped_cmp w v) ∙ back
 
-pub lower_come_first : (k : List ℕ) (ws : List Stamped) → AreInOrder ws → IsPartitionedBy (is_lower k) ws
-lower_come_first k ws up i j d l m passes =
-    let v = get_or ws i d in
-    let w = get_or ws j d in
-    below_from_upto v.key.now w.key.now k (key_cmp v.key.now w.key.now) (key_cmp w.key.now k) refl refl (first_not_gt (key_cmp v.key.now w.key.now) (nat_cmp v.stamp w.stamp) (in_order_far ws up i j d l m)) passes
-
 pub not_behind_come_first : (k : List ℕ) (at : ℕ) (ws : List Stamped) → AreInOrder ws → IsPartitionedBy (is_not_behind k at) ws
 not_behind_come_first k at ws up i j d l m passes =
     let v = as_pair (get_or ws i d) in
     let w = as_pair (get_or ws j d) in
     le_from_not_gt (pair_cmp v (k, at)) (upto pair_cmp_total v w (k, at) (in_order_far ws up i j d l m) (not_gt_from_le (pair_cmp w (k, at)) passes))
+
+-- ---- the place of a key is that of its last write in front of the end
+
+abbrev place_if : List ℕ → List ℕ → ℕ → ℕ
+place_if k last place = cond (same_key k last) place 0
+
+-- the place of the key behind the first writes, where one with a key and a place stands in front of them
+abbrev ended : List ℕ → List ℕ → ℕ → ℕ → List Stamped → ℕ
+ended k last place zero ws = place_if k last place
+ended k last place (suc j) [] = place_if k last place
+ended k last place (suc j) (w ∷ ws) = ended k w.key.now (next_place last place w.key.now) j ws
+
+-- the keys do not fall
+abbrev Ascend : List ℕ → List Stamped → Type 0
+Ascend last [] = Unit {0}
+Ascend last (w ∷ ws) = (is_gt (key_cmp last w.key.now) ≡ false) × Ascend w.key.now ws
+
+abbrev AscendFar : List Stamped → Type 0
+AscendFar ws = (i j : ℕ) (d : Stamped) → i ≤ j → j < length ws → is_gt (key_cmp (get_or ws i d).key.now (get_or ws j d).key.now) ≡ false
+
+ascend_behind : (v : Stamped) (ws : List Stamped) → AscendFar (v ∷ ws) → Ascend v.key.now ws
+ascend_behind v [] far = tt
+ascend_behind v (w ∷ ws) far = (far 0 1 v (omega arith) (omega arith), ascend_behind w ws (λ i j d l m. far (suc i) (suc j) d (omega arith) (omega arith)))
+
+empty_first : (k : List ℕ) → is_gt (key_cmp [] k) ≡ false
+empty_first [] = refl
+empty_first (x ∷ xs) = refl
+
+ascend : (ws : List Stamped) → AscendFar ws → Ascend [] ws
+ascend [] far = tt
+ascend (w ∷ ws) far = (empty_first w.key.now, ascend_behind w ws far)
+
+none_behind : (k : List ℕ) (at : ℕ) (w : Stamped) → is_not_behind k at w ≡ false → is_upto k at (as_pair w) ≡ false
+none_behind k at w h = ap (λ b. b && nat_le w.stamp at) (same_key-comm k w.key.now) ∙ behind_by (key_cmp w.key.now k) (nat_cmp w.stamp at) (nat_le w.stamp at) (le_tested w.stamp at) h
+  where
+    behind_by : (r o : Ordering) (b : Bool) → is_le o ≡ b → is_le (ordering_then r o) ≡ false → (is_eq r && b) ≡ false
+    behind_by Less o b e h = refl
+    behind_by Equal o b e h = sym e ∙ h
+    behind_by Greater o b e h = refl
+
+none_upto : (k : List ℕ) (at : ℕ) (ws : List Stamped) → ((i : ℕ) (d : Stamped) → i < length ws → is_not_behind k at (get_or ws i d) ≡ false) → place_among ws k at ≡ 0
+none_upto k at [] h = refl
+none_upto k at (w ∷ ws) h =
+    sum_by-cons (λ (w : Stamped). cond (is_upto k at (as_pair w)) 1 0) w ws ∙ rw (none_behind k at w (h 0 w (omega arith)), none_upto k at ws (λ i d l. h (suc i) d (omega arith))) refl
+
+-- a write that is not behind raises the key's place by one, if it is the key's
+step_equal : (b : Bool) (place : ℕ) → cond b (place + 1) 1 ≡ cond b place 0 + 1
+step_equal true place = refl
+step_equal false place = refl
+
+step_by : (k last : List ℕ) (place at : ℕ) (w : Stamped) (r : Ordering) → key_cmp w.key.now k ≡ r → is_gt (key_cmp last w.key.now) ≡ false → is_le (ordering_then r (nat_cmp w.stamp at)) ≡ true
+    → place_if k w.key.now (next_place last place w.key.now) ≡ place_if k last place + cond (is_upto k at (as_pair w)) 1 0
+step_by k last place at w Less e up h =
+    let mine : same_key k w.key.now ≡ false = same_key-comm k w.key.now ∙ ap is_eq e in
+    let later : is_lt (key_cmp last k) ≡ true = below_from_upto last w.key.now k (key_cmp last w.key.now) (key_cmp w.key.now k) refl refl up (ap is_lt e) in
+    let theirs : same_key k last ≡ false = same_key-comm k last ∙ lt_not_eq (key_cmp last k) later in
+    rw (mine, theirs) refl
+step_by k last place at w Equal e up h =
+    let mine : same_key k w.key.now ≡ true = same_key-comm k w.key.now ∙ ap is_eq e in
+    let theirs : same_key w.key.now last ≡ same_key k last = ap is_eq (nat_list_cmp_total.congr w.key.now k last e) in
+    let stamp : nat_le w.stamp at ≡ true = sym (le_tested w.stamp at) ∙ h in
+    rw (mine, theirs, stamp) (step_equal (same_key k last) place)
+step_by k last place at w Greater e up h = absurd (cc)
+
+ended_counts : (k : List ℕ) (at : ℕ) (last : List ℕ) (place j : ℕ) (ws : List Stamped) → Ascend last ws → j ≤ length ws → IsPartitionPoint (λ w. is_not_behind k at w ≡ true) (λ w. is_not_behind k at w ≡ false) ws j
+    → ended k last place j ws ≡ place_if k last place + place_among ws k at
+ended_counts k at last place zero ws up l point =
+    omega (arith, none_upto k at ws (λ i d m. point.1 i d (omega arith) m))
+ended_counts k at last place (suc j) [] up l point = absurd (omega arith)
+ended_counts k at last place (suc j) (w ∷ ws) up l point =
+    let rest = ended_counts k at w.key.now (next_place last place w.key.now) j ws up.1 (omega arith)
+    (λ i d a b. point.0 (suc i) d (omega arith) (omega arith), λ i d a b. point.1 (suc i) d (omega arith) (omega arith)) in
+    let one = step_by k last place at w (key_cmp w.key.now k) refl up.0 (point.0 0 w (omega arith) (omega arith)) in
+    let count = sum_by-cons (λ (w : Stamped). cond (is_upto k at (as_pair w)) 1 0) w ws in
+    omega (arith, rest, one, count)
+
+cond_none : (b : Bool) → ◌≡◌ {A = ℕ} (cond b 0 0) 0
+cond_none true = refl
+cond_none false = refl
+
+place_among-ended : (k : List ℕ) (at : ℕ) (ws : List Stamped) (n : ℕ) → AreInOrder ws → IsEndOf k at ws n → place_among ws k at ≡ ended k [] 0 n ws
+place_among-ended k at ws n up end =
+    let far : AscendFar ws = λ i j d l m. first_not_gt (key_cmp (get_or ws i d).key.now (get_or ws j d).key.now) (nat_cmp (get_or ws i d).stamp (get_or ws j d).stamp) (in_order_far ws up i j d l m) in
+    omega (arith, ended_counts k at [] 0 n ws (ascend ws far) end.within end.point, cond_none (same_key k []))
+
+pub no_place : (k : List ℕ) (at : ℕ) (ws : List Stamped) (n : ℕ) → AreInOrder ws → IsEndOf k at ws n → n ≡ 0 → place_among ws k at ≡ 0
+no_place k at ws zero up end e = place_among-ended k at ws 0 up end ∙ cond_none (same_key k [])
+no_place k at ws (suc m) up end e = absurd (omega arith)
+
+ended_at : (k last : List ℕ) (place j : ℕ) (ws : List Stamped) (d : Stamped) (e : ℕ) → j < length ws → ended k last place (suc j) ws ≡ cond (same_key k (get_or ws j d).key.now) (get_or (places_along last place ws) j e) 0
+ended_at k last place j [] d e l = absurd (omega arith)
+ended_at k last place zero (w ∷ ws) d e l = refl
+ended_at k last place (suc j) (w ∷ ws) d e l = ended_at k w.key.now (next_place last place w.key.now) j ws d e (omega arith)
+
+pub same_bytes : (k l : List ℕ) → pointwise nat_eq k l ≡ same_key k l
+same_bytes k l = lists_ties nat_cmp unsigned_ties k l
+
+-- the write in front of the end tells the place, if it is the key's
+pub place_before : (k : List ℕ) (at : ℕ) (ws : List Stamped) (n : ℕ) (d : Stamped) (e : ℕ) → AreInOrder ws → IsEndOf k at ws n → n ≢ 0
+    → place_among ws k at ≡ cond (pointwise nat_eq (get_or ws (n - 1) d).key.now k) (get_or (places_along [] 0 ws) (n - 1) e) 0
+place_before k at ws zero d e up end some = absurd (some refl)
+place_before k at ws (suc m) d e up end some =
+    let before : suc m - 1 ≡ m = omega arith in
+    let within : m < length ws = omega (arith, end.within) in
+    rw (before, same_bytes (get_or ws m d).key.now k, same_key-comm (get_or ws m d).key.now k) (place_among-ended k at ws (suc m) up end ∙ ended_at k [] 0 m ws d e within)
+
+pub length-places_along : (last : List ℕ) (place : ℕ) (ws : List Stamped) → length (places_along last place ws) ≡ length ws
+length-places_along last place [] = refl
+length-places_along last place (w ∷ ws) = ap suc (length-places_along w.key.now (next_place last place w.key.now) ws)

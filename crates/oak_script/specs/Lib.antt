@@ -2,6 +2,7 @@ pub mod Lines
 pub mod Words
 pub mod Grammar
 pub mod Places
+pub mod Stamps
 pub mod Text
 pub mod Numbers
 pub mod Forms

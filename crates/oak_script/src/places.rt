@@ -1,27 +1,28 @@
-ghost use Rattle.std.specs.Prelude.{◌≡◌, ◌++◌, ◌∷◌, [], List, ℕ, map, Bool, nat_lt, nat_le, cond, length, count_by, IfOk, OnOk, option_copied};
+ghost use Rattle.std.specs.Prelude.{◌≡◌, ◌<◌, ◌++◌, [], map, length, IfOk, OnOk, option_copied};
 ghost use Rattle.std.specs.Option.{option_map};
-ghost use Rattle.std.specs.Ordering.{ordering_then, is_lt, is_le, nat_cmp};
-ghost use Rattle.oak_model.specs.Key.{key_cmp};
-ghost use Rattle.oak_script.specs.Places.{key_of, stamp_of, stamp_of_wrote, write_in, writes_along, writes_of, as_pair, place_among, is_lower, is_not_behind, AreInOrder, written_upto};
-ghost use Rattle.oak_script.specs.Text.{RepliesAnswer, CallsAnswered};
+ghost use Rattle.oak_script.specs.Places.{key_of, stamp_of, stamp_of_wrote, written_upto};
+ghost use Rattle.oak_script.specs.Stamps.{write_in, writes_along, writes_of, as_pair, place_among, AreInOrder, IsEndOf, next_place, places_along};
+ghost use Rattle.oak_script.specs.Text.{RepliesAnswer};
 
 use crate::scripts::{Call, Script};
 use oak_model::{Key, OutOfMemory, Reply, Wrote};
 use std::alloc::Global;
-use std::cmp::Ordering;
 
 /// A write, by its key and its stamp.
 #[derive(Clone, Copy, PartialEq, Eq, PartialOrd, Ord)]
 pub struct Stamped<'a> {
-    pub key: &'a Key,
+    pub key: &'a [u8],
     pub stamp: u64,
 }
 
-/// The writes of a run, sorted, so that a place is found by halving.
+/// The writes of a run in the order of their keys and stamps, so that a place is found by halving,
+/// and the place of each.
 #[derive(Drop)]
 pub struct Stamps<'a> {
     writes: Vec<Stamped<'a>>,
+    places: Vec<usize>,
     ghost in_order: { AreInOrder writes.items },
+    ghost numbered: { places.items ≡ places_along [] 0 writes.items },
 }
 
 impl Call {
@@ -77,7 +78,10 @@ fn write_in<'a>(call: &'a Call, reply: &Reply) -> Option<Stamped<'a>>
 {
     let key = call.key()?;
     let stamp = stamp_of(reply)?;
-    Some(Stamped { key, stamp })
+    Some(Stamped {
+        key: key.bytes(),
+        stamp,
+    })
 }
 
 fn add_writes<'a>(
@@ -112,6 +116,28 @@ fn all_writes<'a>(
     Ok(writes)
 }
 
+/// The place of each write, by counting the writes of its key, where they stand in order.
+fn places_along(alloc: Global, writes: &[Stamped]) -> Result<Vec<usize>, OutOfMemory>
+    ensures { IfOk result (λ v. v.items ≡ places_along [] 0 writes.now) }
+{
+    let mut places = Vec::with_capacity(alloc, writes.len())?;
+    let mut last: &[u8] = &[];
+    let mut place = 0;
+    for write in writes {
+        place = next_place(last, place, write.key);
+        last = write.key;
+        places.push(place)?;
+    }
+    Ok(places)
+}
+
+fn next_place(last: &[u8], place: usize, key: &[u8]) -> usize
+    requires { place < usize.MAX }
+    ensures { result ≡ next_place last.now place key.now }
+{
+    if key == last { place + 1 } else { 1 }
+}
+
 impl<'a> Stamps<'a> {
     /// The writes that the replies to a script tell.
     pub fn of(
@@ -124,28 +150,31 @@ impl<'a> Stamps<'a> {
     {
         let mut writes = all_writes(alloc, script.threads.as_slice(), replies)?;
         writes.sort_unstable();
-        Ok(Stamps { writes })
+        let places = places_along(alloc, writes.as_slice())?;
+        Ok(Stamps { writes, places })
     }
 
     /// How many writes of the key have a stamp of at most `at`.
     pub fn place(&self, key: &Key, at: u64) -> usize
         ensures { result ≡ place_among self.now.writes.items key.now at }
     {
-        self.upto(key, at) - self.lower(key)
-    }
-
-    /// How many writes are of lower keys.
-    fn lower(&self, key: &Key) -> usize
-        ensures { result ≡ count_by (is_lower key.now) self.now.writes.items }
-    {
-        let writes = self.writes.as_slice();
-        writes.partition_point(|w| w.key < key)
+        let end = self.end(key, at);
+        if end == 0 {
+            return 0;
+        }
+        let last = end - 1;
+        if self.writes[last].key == key.bytes() {
+            self.places[last]
+        } else {
+            0
+        }
     }
 
     /// How many writes are of lower keys, or of the key with a stamp of at most `at`.
-    fn upto(&self, key: &Key, at: u64) -> usize
-        ensures { result ≡ count_by (is_not_behind key.now at) self.now.writes.items }
+    fn end(&self, key: &Key, at: u64) -> usize
+        ensures { IsEndOf key.now at self.now.writes.items result }
     {
+        let key = key.bytes();
         let writes = self.writes.as_slice();
         writes.partition_point(|w| w.key.cmp(key).then(w.stamp.cmp(&at)).is_le())
     }

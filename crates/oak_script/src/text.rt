@@ -1,8 +1,9 @@
-ghost use Rattle.std.specs.Prelude.{◌≡◌, ◌++◌, ◌∷◌, [], List, ℕ, map, length, codes, IfOk, OnOk};
+ghost use Rattle.std.specs.Prelude.{◌≡◌, ◌++◌, map, length, IfOk, OnOk};
 ghost use Rattle.std.specs.String.{string_bytes};
 ghost use Rattle.oak_script.specs.Words.{value_word};
-ghost use Rattle.oak_script.specs.Places.{place_among, written_upto};
-ghost use Rattle.oak_script.specs.Text.{RepliesAnswer, class_word, lack_word, place_in, placed_text, full_text, wrote_text, shown_text, read_line, pairs_text, reply_text, call_name, call_text, thread_text, threads_text, pair_line, map_text, run_text};
+ghost use Rattle.oak_script.specs.Places.{written_upto};
+ghost use Rattle.oak_script.specs.Stamps.{place_among};
+ghost use Rattle.oak_script.specs.Text.{RepliesAnswer, class_word, lack_word, place_in, placed_text, full_text, wrote_text, shown_text, read_line, pairs_text, reply_text, call_name, thread_text, threads_text, pair_line, map_text, run_text};
 
 use crate::places::Stamps;
 use crate::scripts::{Call, Script};
@@ -235,8 +236,9 @@ fn put_map(alloc: Global, out: &mut Vec<u8>, finals: &[Pair]) -> Result<(), OutO
     Ok(())
 }
 
-/// The text of a run: a line for each reply, and the final map. A reply's place is the number of
-/// the writes of its key, over all threads, whose stamp is at most the reply's `at`.
+/// The text of a run: the reply to each call, and the final map. A reply's place is the number of
+/// the writes of its key, over all threads, whose stamp is at most the reply's `at`. It is refused
+/// only for want of memory.
 pub fn print_run(
     alloc: Global,
     script: &Script,

@@ -1,6 +1,7 @@
-ghost use Rattle.std.specs.Prelude.{◌≡◌, ◌≤◌, ◌<◌, length, map, IfOk};
-ghost use Rattle.oak_model.specs.Name.{IsName};
-ghost use Rattle.oak_script.specs.Text.{CallsAnswered, RepliesAnswer};
+ghost use Rattle.std.specs.Prelude.{◌≡◌, IfOk, OnOk};
+ghost use Rattle.oak_model.specs.Key.{IsKey};
+ghost use Rattle.oak_model.specs.Value.{IsValue};
+ghost use Rattle.oak_script.specs.Text.{CanReply, CallsAnswered};
 
 use super::*;
 use crate::scripts::Threads;
@@ -8,48 +9,83 @@ use oak_model::{Name, Pairs, RecipeKind, Shape};
 use std::process::Abort;
 use std::test::Fail;
 
-fn key(alloc: Global, byte: u8) -> Result<Key, OutOfMemory> {
-    Key::make(alloc, &[byte])
+/// The calls of a thread, and the replies to them.
+#[derive(Drop)]
+struct Thread {
+    calls: Vec<Call>,
+    replies: Vec<Reply>,
 }
 
-fn value(alloc: Global, bytes: &[u8]) -> Result<Value, OutOfMemory>
-    requires { length bytes.now ≤ 8 }
-{
-    Value::make(alloc, bytes)
+impl Thread {
+    fn new(alloc: Global) -> Thread
+        ensures { CallsAnswered result.calls.items result.replies.items }
+    {
+        Thread {
+            calls: Vec::new(alloc),
+            replies: Vec::new(alloc),
+        }
+    }
+
+    fn add(&mut self, call: Call, reply: Reply) -> Result<(), OutOfMemory>
+        requires answered { CallsAnswered self.old.calls.items self.old.replies.items }
+        requires one { CanReply call reply }
+        ensures { OnOk result (CallsAnswered self.new.calls.items self.new.replies.items) }
+    {
+        self.calls.push(call)?;
+        self.replies.push(reply)?;
+        Ok(())
+    }
 }
 
-fn pair(alloc: Global, byte: u8, bytes: &[u8], at: u64) -> Result<Pair, OutOfMemory>
-    requires { length bytes.now ≤ 8 }
+fn put_call(alloc: Global, key: &[u8], value: &[u8]) -> Result<Call, OutOfMemory>
+    requires key { IsKey key.now }
+    requires value { IsValue value.now }
+    ensures { IfOk result (λ c. c ≡ Call.Put key.now value.now) }
 {
-    Ok(Pair {
-        key: key(alloc, byte)?,
-        value: value(alloc, bytes)?,
+    Ok(Call::Put {
+        key: Key::make(alloc, key)?,
+        value: Value::make(alloc, value)?,
+    })
+}
+
+fn shown(alloc: Global, key: &[u8], value: &[u8], at: u64) -> Result<Reply, OutOfMemory>
+    requires key { IsKey key.now }
+    requires value { IsValue value.now }
+    ensures { IfOk result (λ r. r ≡ Reply.Value key.now value.now at) }
+{
+    Ok(Reply::Value {
+        key: Key::make(alloc, key)?,
+        value: Value::make(alloc, value)?,
         at,
     })
 }
 
-/// A put of `6b31` and a get.
-fn short_thread(alloc: Global) -> Result<(Vec<Call>, Vec<Reply>), OutOfMemory>
-    ensures { IfOk result (λ t. CallsAnswered t.0.items t.1.items) }
+fn pair(alloc: Global, key: &[u8], value: &[u8], at: u64) -> Result<Pair, OutOfMemory>
+    requires key { IsKey key.now }
+    requires value { IsValue value.now }
 {
-    let calls = vec![in alloc;
-        Call::Put {
-            key: Key::make(alloc, &[0x6b, 0x31])?,
-            value: value(alloc, &[0x76, 0x31])?
-        },
-        Call::Get {
-            key: Key::make(alloc, &[0x6b, 0x31])?
-        },
-    ]?;
-    let replies = vec![in alloc;
+    Ok(Pair {
+        key: Key::make(alloc, key)?,
+        value: Value::make(alloc, value)?,
+        at,
+    })
+}
+
+fn short_thread(alloc: Global) -> Result<Thread, OutOfMemory>
+    ensures { IfOk result (λ t. CallsAnswered t.calls.items t.replies.items) }
+{
+    let mut thread = Thread::new(alloc);
+    thread.add(
+        put_call(alloc, b"k1", b"v1")?,
         Reply::Wrote(Wrote::New { at: 1 }),
-        Reply::Value {
-            key: Key::make(alloc, &[0x6b, 0x31])?,
-            value: value(alloc, &[0x76, 0x31])?,
-            at: 1
+    )?;
+    thread.add(
+        Call::Get {
+            key: Key::make(alloc, b"k1")?,
         },
-    ]?;
-    Ok((calls, replies))
+        shown(alloc, b"k1", b"v1", 1)?,
+    )?;
+    Ok(thread)
 }
 
 const SHORT_TEXT: &str = "\
@@ -59,159 +95,157 @@ map 1
 6b31 7631
 ";
 
-/// The writes of key 61 with the stamps 2 and 9, and what stands between them and behind them.
-fn first_thread(alloc: Global) -> Result<(Vec<Call>, Vec<Reply>), OutOfMemory>
-    ensures { IfOk result (λ t. CallsAnswered t.0.items t.1.items) }
+/// The writes of the key `a` with the stamps 2 and 9, and what stands between them and behind them.
+fn first_thread(alloc: Global) -> Result<Thread, OutOfMemory>
+    ensures { IfOk result (λ t. CallsAnswered t.calls.items t.replies.items) }
 {
-    let calls = vec![in alloc;
-        Call::Put {
-            key: key(alloc, 0x61)?,
-            value: value(alloc, &[])?
-        },
-        Call::Get {
-            key: key(alloc, 0x61)?
-        },
-        Call::PutNew {
-            key: key(alloc, 0x61)?,
-            value: value(alloc, &[1])?
-        },
-        Call::Hold {
-            name: Name::make(alloc, b"a")?,
-            key: key(alloc, 0x61)?
-        },
-        Call::Look {
-            name: Name::make(alloc, b"a")?
-        },
-        Call::Remove {
-            key: key(alloc, 0x61)?
-        },
-        Call::Look {
-            name: Name::make(alloc, b"a")?
-        },
-        Call::Look {
-            name: Name::make(alloc, b"b")?
-        },
-        Call::Get {
-            key: key(alloc, 0x61)?
-        },
-    ]?;
-    let replies = vec![in alloc;
+    let mut thread = Thread::new(alloc);
+    thread.add(
+        put_call(alloc, b"a", b"")?,
         Reply::Wrote(Wrote::New { at: 2 }),
-        Reply::Value {
-            key: key(alloc, 0x61)?,
-            value: value(alloc, &[])?,
-            at: 2
+    )?;
+    thread.add(
+        Call::Get {
+            key: Key::make(alloc, b"a")?,
+        },
+        shown(alloc, b"a", b"", 2)?,
+    )?;
+    thread.add(
+        Call::PutNew {
+            key: Key::make(alloc, b"a")?,
+            value: Value::make(alloc, b"1")?,
         },
         Reply::Wrote(Wrote::Kept { at: 4 }),
+    )?;
+    thread.add(
+        Call::Hold {
+            name: Name::make(alloc, b"h")?,
+            key: Key::make(alloc, b"a")?,
+        },
         Reply::Held { at: 5 },
-        Reply::Value {
-            key: key(alloc, 0x61)?,
-            value: value(alloc, &[3])?,
-            at: 7
+    )?;
+    thread.add(
+        Call::Look {
+            name: Name::make(alloc, b"h")?,
+        },
+        shown(alloc, b"a", &[3], 7)?,
+    )?;
+    thread.add(
+        Call::Remove {
+            key: Key::make(alloc, b"a")?,
         },
         Reply::Wrote(Wrote::Removed { at: 9 }),
+    )?;
+    thread.add(
+        Call::Look {
+            name: Name::make(alloc, b"h")?,
+        },
         Reply::Gone,
+    )?;
+    thread.add(
+        Call::Look {
+            name: Name::make(alloc, b"i")?,
+        },
         Reply::Unheld,
+    )?;
+    thread.add(
+        Call::Get {
+            key: Key::make(alloc, b"a")?,
+        },
         Reply::Wrote(Wrote::Absent { at: 9 }),
-    ]?;
-    Ok((calls, replies))
+    )?;
+    Ok(thread)
 }
 
-/// The writes of key 61 with the stamps 5 and 7, those of key 62 with 3 and 6, and scans.
-fn second_thread(alloc: Global) -> Result<(Vec<Call>, Vec<Reply>), OutOfMemory>
-    ensures { IfOk result (λ t. CallsAnswered t.0.items t.1.items) }
+/// The writes of the key `a` with the stamps 5 and 7, those of `b` with 3 and 6, and scans.
+fn second_thread(alloc: Global) -> Result<Thread, OutOfMemory>
+    ensures { IfOk result (λ t. CallsAnswered t.calls.items t.replies.items) }
 {
-    let calls = vec![in alloc;
-        Call::Put {
-            key: key(alloc, 0x61)?,
-            value: value(alloc, &[3])?
-        },
+    let mut thread = Thread::new(alloc);
+    thread.add(
+        put_call(alloc, b"a", &[3])?,
+        Reply::Wrote(Wrote::Over { at: 5 }),
+    )?;
+    thread.add(
         Call::Compute {
-            key: key(alloc, 0x61)?,
+            key: Key::make(alloc, b"a")?,
             recipe: RecipeKind::Rev,
-            argument: 0
+            argument: 0,
         },
+        Reply::Wrote(Wrote::Done { at: 7 }),
+    )?;
+    thread.add(
         Call::Upsert {
-            key: key(alloc, 0x62)?,
-            value: value(alloc, &[1])?,
+            key: Key::make(alloc, b"b")?,
+            value: Value::make(alloc, b"")?,
             recipe: RecipeKind::Xor,
-            argument: 1
+            argument: 1,
         },
-        Call::Put {
-            key: key(alloc, 0x62)?,
-            value: value(alloc, &[0x0a, 0xff])?
-        },
+        Reply::Wrote(Wrote::New { at: 3 }),
+    )?;
+    thread.add(
+        put_call(alloc, b"b", &[0x0a, 0xff])?,
+        Reply::Wrote(Wrote::Over { at: 6 }),
+    )?;
+    let risen = vec![in alloc;
+        pair(alloc, b"a", &[3], 8)?,
+        pair(alloc, b"b", &[0x0a, 0xff], 6)?,
+    ]?;
+    thread.add(
         Call::Scan {
-            low: Some(key(alloc, 0x61)?),
-            high: None
+            low: Some(Key::make(alloc, b"a")?),
+            high: None,
         },
+        Reply::Pairs(Pairs::of(risen)),
+    )?;
+    let fallen = vec![in alloc; pair(alloc, b"b", &[1], 5)?, pair(alloc, b"a", b"", 2)?]?;
+    thread.add(
         Call::Back {
             low: None,
-            high: Some(key(alloc, 0x62)?)
+            high: Some(Key::make(alloc, b"b")?),
         },
-        Call::Scan {
-            low: Some(key(alloc, 0x62)?),
-            high: Some(key(alloc, 0x61)?)
-        },
-    ]?;
-    let risen = vec![in alloc;
-        pair(alloc, 0x61, &[3], 8)?,
-        pair(alloc, 0x62, &[0x0a, 0xff], 6)?,
-    ]?;
-    let fallen = vec![in alloc; pair(alloc, 0x62, &[1], 5)?, pair(alloc, 0x61, &[], 2)?]?;
-    let replies = vec![in alloc;
-        Reply::Wrote(Wrote::Over { at: 5 }),
-        Reply::Wrote(Wrote::Done { at: 7 }),
-        Reply::Wrote(Wrote::New { at: 3 }),
-        Reply::Wrote(Wrote::Over { at: 6 }),
-        Reply::Pairs(Pairs::of(risen)),
         Reply::Pairs(Pairs::of(fallen)),
+    )?;
+    thread.add(
+        Call::Scan {
+            low: None,
+            high: None,
+        },
         Reply::Pairs(Pairs::of(Vec::new(alloc))),
-    ]?;
-    Ok((calls, replies))
+    )?;
+    Ok(thread)
 }
 
-/// A thread that lacks each kind of room in turn.
-fn full_thread(alloc: Global) -> Result<(Vec<Call>, Vec<Reply>), OutOfMemory>
-    ensures { IfOk result (λ t. CallsAnswered t.0.items t.1.items) }
+/// A thread that lacks each thing in turn.
+fn full_thread(alloc: Global) -> Result<Thread, OutOfMemory>
+    ensures { IfOk result (λ t. CallsAnswered t.calls.items t.replies.items) }
 {
-    let calls = vec![in alloc;
-        Call::Put {
-            key: key(alloc, 0x64)?,
-            value: value(alloc, &[])?
-        },
-        Call::Put {
-            key: key(alloc, 0x64)?,
-            value: value(alloc, &[])?
-        },
-        Call::Put {
-            key: key(alloc, 0x64)?,
-            value: value(alloc, &[])?
-        },
-        Call::Put {
-            key: key(alloc, 0x64)?,
-            value: value(alloc, &[])?
-        },
-        Call::PutNew {
-            key: key(alloc, 0x64)?,
-            value: value(alloc, &[])?
-        },
-        Call::Upsert {
-            key: key(alloc, 0x64)?,
-            value: value(alloc, &[])?,
-            recipe: RecipeKind::Add,
-            argument: 1
-        },
-    ]?;
-    let replies = vec![in alloc;
+    let mut thread = Thread::new(alloc);
+    thread.add(
+        put_call(alloc, b"d", b"")?,
         Reply::Wrote(Wrote::Full(Lack::Block(Class::B16))),
+    )?;
+    thread.add(
+        put_call(alloc, b"d", b"")?,
         Reply::Wrote(Wrote::Full(Lack::Block(Class::B64))),
+    )?;
+    thread.add(
+        put_call(alloc, b"d", b"")?,
         Reply::Wrote(Wrote::Full(Lack::Block(Class::B256))),
+    )?;
+    thread.add(
+        put_call(alloc, b"d", b"")?,
         Reply::Wrote(Wrote::Full(Lack::Block(Class::B1024))),
+    )?;
+    thread.add(
+        put_call(alloc, b"d", b"")?,
         Reply::Wrote(Wrote::Full(Lack::Header)),
+    )?;
+    thread.add(
+        put_call(alloc, b"d", b"")?,
         Reply::Wrote(Wrote::Full(Lack::Room)),
-    ]?;
-    Ok((calls, replies))
+    )?;
+    Ok(thread)
 }
 
 const LONG_TEXT: &str = "\
@@ -249,33 +283,27 @@ map 2
 #[test]
 fn prints_every_reply(rt: HostRuntime) -> Result<(), Fail> {
     let alloc = rt.alloc();
-    let (calls, answers) = short_thread(alloc)?;
+    let Thread { calls, replies } = short_thread(alloc)?;
     let script = Script {
         shape: Shape::make(2, 256, 64, 8_192, [16_384, 4_096, 1_024, 512])?,
         threads: Threads::of(vec![in alloc; calls]?),
     };
-    let replies = vec![in alloc; answers]?;
-    let finals = vec![in alloc;
-        Pair {
-            key: Key::make(alloc, &[0x6b, 0x31])?,
-            value: value(alloc, &[0x76, 0x31])?,
-            at: 1
-        },
-    ]?;
+    let replies = vec![in alloc; replies]?;
+    let finals = vec![in alloc; pair(alloc, b"k1", b"v1", 1)?]?;
     let text = print_run(alloc, &script, replies.as_slice(), finals.as_slice())?;
     assert_eq!(rt; text.as_slice(), SHORT_TEXT.as_bytes());
 
-    let (first_calls, first_replies) = first_thread(alloc)?;
-    let (second_calls, second_replies) = second_thread(alloc)?;
-    let (full_calls, full_replies) = full_thread(alloc)?;
+    let first = first_thread(alloc)?;
+    let second = second_thread(alloc)?;
+    let full = full_thread(alloc)?;
     let script = Script {
         shape: Shape::make(4, 256, 64, 8_192, [16_384, 4_096, 1_024, 512])?,
-        threads: Threads::of(vec![in alloc; first_calls, second_calls, full_calls]?),
+        threads: Threads::of(vec![in alloc; first.calls, second.calls, full.calls]?),
     };
-    let replies = vec![in alloc; first_replies, second_replies, full_replies]?;
+    let replies = vec![in alloc; first.replies, second.replies, full.replies]?;
     let finals = vec![in alloc;
-        pair(alloc, 0x62, &[0x0a, 0xff], 6)?,
-        pair(alloc, 0x63, &[], 1)?,
+        pair(alloc, b"b", &[0x0a, 0xff], 6)?,
+        pair(alloc, b"c", b"", 1)?,
     ]?;
     let text = print_run(alloc, &script, replies.as_slice(), finals.as_slice())?;
     assert_eq!(rt; text.as_slice(), LONG_TEXT.as_bytes());

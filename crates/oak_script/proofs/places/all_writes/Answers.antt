@@ -1,4 +1,4 @@
-use Rattle.std.proofs.Common.{◌≡◌, ◌<◌, List, length, ap, ◌∙◌, sym, append_assoc, arith}
+use Rattle.std.proofs.Common.{◌<◌, length, ap, ◌∙◌, sym, append_assoc, arith}
 use Rattle.oak_script.proofs.Answered.{length-answered, length-answered_at}
 use Rattle.oak_script.proofs.StampLemmas.{writes_more}
 use Rattle.oak_script.proofs.places.all_writes.Goals as goal

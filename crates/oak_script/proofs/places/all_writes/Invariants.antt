@@ -1,5 +1,5 @@
 use Rattle.std.proofs.Common.{◌≡◌, ◌++◌, map, drop}
-use Rattle.oak_script.specs.Places.{writes_of, as_pair}
+use Rattle.oak_script.specs.Stamps.{writes_of, as_pair}
 use Rattle.oak_script.proofs.places.all_writes.Given as goal
 
 abbrev pub invariant-loop-i : goal.invariant-loop-i

@@ -1,6 +1,6 @@
 use Rattle.std.proofs.Common.{◌≡◌, ◌+◌, [], ◌∷◌, ◌++◌, take, sym, ap, ◌∙◌}
 use Rattle.std.proofs.lemmas.List.{flat_map_more, take_more}
-use Rattle.oak_script.specs.Places.{place_among}
+use Rattle.oak_script.specs.Stamps.{place_among}
 use Rattle.oak_script.specs.Text.{read_line}
 use Rattle.oak_script.proofs.text.put_pairs.Goals as goal
 

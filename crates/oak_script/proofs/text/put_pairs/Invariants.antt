@@ -1,8 +1,7 @@
-use Rattle.std.proofs.Common.{◌≡◌, ◌++◌, take, length, codes}
+use Rattle.std.proofs.Common.{◌≡◌, ◌++◌, take}
 use Rattle.std.specs.List.{flat_map}
-use Rattle.std.specs.Fmt.{decimal}
-use Rattle.oak_script.specs.Places.{place_among}
-use Rattle.oak_script.specs.Text.{pairs_text, read_line}
+use Rattle.oak_script.specs.Stamps.{place_among}
+use Rattle.oak_script.specs.Text.{read_line}
 use Rattle.oak_script.proofs.text.put_pairs.Given as goal
 
 abbrev pub invariant-loop-pair : goal.invariant-loop-pair

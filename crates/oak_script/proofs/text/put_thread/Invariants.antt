@@ -1,5 +1,5 @@
 use Rattle.std.proofs.Common.{◌≡◌, ◌+◌, ◌++◌, drop}
-use Rattle.oak_script.specs.Places.{place_among}
+use Rattle.oak_script.specs.Stamps.{place_among}
 use Rattle.oak_script.specs.Text.{thread_text}
 use Rattle.oak_script.proofs.text.put_thread.Given as goal
 

@@ -1,5 +1,5 @@
-use Rattle.std.proofs.Common.{◌≡◌, ◌+◌, ◌<◌, length, ap, ◌∙◌, sym, append_assoc, arith}
-use Rattle.oak_script.specs.Places.{place_among}
+use Rattle.std.proofs.Common.{◌+◌, ◌<◌, length, ap, ◌∙◌, sym, append_assoc, arith}
+use Rattle.oak_script.specs.Stamps.{place_among}
 use Rattle.oak_script.proofs.Answered.{length-answered, length-answered_at}
 use Rattle.oak_script.proofs.TextLemmas.{threads_more}
 use Rattle.oak_script.proofs.text.put_threads.Goals as goal

@@ -1,5 +1,5 @@
 use Rattle.std.proofs.Common.{◌≡◌, ◌+◌, ◌++◌, map, drop}
-use Rattle.oak_script.specs.Places.{place_among}
+use Rattle.oak_script.specs.Stamps.{place_among}
 use Rattle.oak_script.specs.Text.{threads_text}
 use Rattle.oak_script.proofs.text.put_threads.Given as goal
 
