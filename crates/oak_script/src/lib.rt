@@ -14,6 +14,8 @@ mod recipes;
 mod scripts;
 mod stages;
 mod stops;
+#[cfg(test)]
+mod tests;
 mod verbs;
 mod words;
 
