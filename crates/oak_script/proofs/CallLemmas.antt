@@ -1,19 +1,17 @@
 -- A line has no fault where only a call may stand exactly where it spells a call.
-use Rattle.std.proofs.Common.{◌≡◌, ℕ, Bool, true, false, not, ◌||◌, List, [], ◌∷◌, ◌++◌, length, map, Option, Some, None, refl, ap, sym, ◌∙◌, subst, codes, cond}
+use Rattle.std.proofs.Common.{◌≡◌, ℕ, Bool, true, false, not, ◌||◌, List, [], ◌∷◌, ◌++◌, Option, Some, None, refl, ap, sym, ◌∙◌, cond}
 use Rattle.std.specs.Prelude.{find}
-use Rattle.std.specs.List.{list_any, AllByRecursion}
+use Rattle.std.specs.List.{list_any}
 use Rattle.std.specs.Str.{bytes_eq}
-use Rattle.hex.specs.Hex.{encode_lower}
 use Rattle.oak_model.specs.declared.recipes.RecipeKind.{RecipeKind}
 use Rattle.oak_model.specs.declared.recipes.RecipeKind.TheVariants.{Add, Xor, Rev}
-use Rattle.oak_script.specs.declared.faults.What.{What}
 use Rattle.oak_script.specs.declared.faults.What.TheVariants as what
 use Rattle.oak_script.specs.declared.scripts.Call.{Call}
 use Rattle.oak_script.specs.declared.scripts.Call.TheVariants.{Put, Get, PutNew, Compute, Upsert, Remove, Hold, Look, Scan, Back}
 use Rattle.oak_script.specs.declared.verbs.Verb.{Verb}
 use Rattle.oak_script.specs.declared.verbs.Verb.TheVariants as verb
 use Rattle.oak_script.specs.Lines.{Words}
-use Rattle.oak_script.specs.Words.{value_word, bound_word, recipe_words}
+use Rattle.oak_script.specs.Words.{recipe_words}
 use Rattle.oak_script.specs.Grammar.{call_words, CallFits}
 use Rattle.oak_script.specs.Forms.{verbs, verb_word, verb_of, form, fills, verb_fills, is_call, is_recipe, KeySlot, ValueSlot, NameSlot, BoundSlot, RecipeSlot}
 use Rattle.oak_script.specs.Faults.{is_empty, where_so, word_faults, slot_faults, verb_faults, part_faults}

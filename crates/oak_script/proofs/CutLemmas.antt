@@ -1,13 +1,12 @@
 -- A line of nine words or more has the faults of its first nine words.
-use Rattle.std.proofs.Common.{◌≡◌, ℕ, suc, ◌<◌, ◌≤◌, Bool, true, false, not, ◌||◌, ◌&&◌, List, [], ◌∷◌, ◌++◌, length, take, Option, Some, None, refl, arith, eqb, sym, ◌∙◌}
+use Rattle.std.proofs.Common.{◌≡◌, ℕ, ◌≤◌, Bool, true, false, not, ◌||◌, ◌&&◌, List, [], ◌∷◌, ◌++◌, length, take, Option, Some, None, refl, arith, eqb}
 use Rattle.std.specs.List.{list_any}
 use Rattle.std.proofs.lemmas.Bool.Decides.{nat_tests}
-use Rattle.oak_script.specs.declared.faults.What.{What}
 use Rattle.oak_script.specs.declared.faults.What.TheVariants as what
 use Rattle.oak_script.specs.declared.verbs.Verb.{Verb}
 use Rattle.oak_script.specs.declared.verbs.Verb.TheVariants.{Put, Get, PutNew, Compute, Upsert, Remove, Hold, Look, Scan, Back}
 use Rattle.oak_script.specs.Lines.{Words}
-use Rattle.oak_script.specs.Forms.{verb_of, is_call, is_shape}
+use Rattle.oak_script.specs.Forms.{verb_of, is_shape}
 use Rattle.oak_script.specs.Faults.{Past, faults, verb_faults, is_empty, is_bad_word, may_stand, is_none, is_once}
 use Rattle.oak_script.proofs.FormLemmas.{or-true, many_behind}
 

@@ -1,5 +1,5 @@
 -- What is told at the end of a text, and of a stop before it.
-use Rattle.std.proofs.Common.{◌≡◌, ℕ, ◌+◌, List, [], ◌∷◌, ◌++◌, length, map, Option, Some, None, Result, Ok, Err, refl, sym, ap, ◌∙◌, arith}
+use Rattle.std.proofs.Common.{◌≡◌, ℕ, ◌+◌, List, [], ◌∷◌, length, None, Result, Ok, Err, refl, ap, arith}
 use Rattle.std.specs.Prelude.{IfErr}
 use Rattle.oak_script.specs.declared.faults.What.TheVariants as what
 use Rattle.oak_script.specs.declared.scripts.Call.{Call}
@@ -11,8 +11,8 @@ use Rattle.oak_script.specs.declared.faults.NoScript.TheVariants.{Fault, OutOfMe
 use Rattle.oak_script.specs.declared.stages.Stage.{Stage}
 use Rattle.oak_script.specs.declared.stages.Stage.TheVariants.{Start, Headed, Opened, Ended}
 use Rattle.oak_script.specs.Lines.{Words}
-use Rattle.oak_script.specs.Faults.{Past, faults, past_of, IsFirstAt, HasNoFault}
-use Rattle.oak_script.specs.Reading.{so_far, past_at, AreFine, StopsAt}
+use Rattle.oak_script.specs.Faults.{Past, faults, IsFirstAt, HasNoFault}
+use Rattle.oak_script.specs.Reading.{so_far, AreFine, StopsAt}
 use Rattle.oak_script.specs.Answers.{Tells, IsTold}
 use Rattle.oak_script.proofs.PastLemmas.{past_so_far}
 use Rattle.oak_script.proofs.PlaceLemmas.{Goes, stops_at, fine_to_end, faulty_end}

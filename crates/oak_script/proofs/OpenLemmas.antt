@@ -1,5 +1,5 @@
 -- The faults of a line behind the `thread` line.
-use Rattle.std.proofs.Common.{◌≡◌, ℕ, suc, ◌+◌, ◌<◌, ◌≤◌, Bool, true, false, ◌||◌, List, [], ◌∷◌, ◌++◌, length, map, Option, Some, None, refl, arith, ap, eqb, ◌&&◌, append_assoc}
+use Rattle.std.proofs.Common.{◌≡◌, false, List, ◌++◌, length, Some, eqb, ◌&&◌, append_assoc}
 use Rattle.std.proofs.lemmas.List.{append-nil}
 use Rattle.oak_script.specs.declared.limits.TheConstants.{GREATEST_CALLS, GREATEST_SCANS}
 use Rattle.oak_script.specs.declared.faults.What.{What}
@@ -7,7 +7,7 @@ use Rattle.oak_script.specs.declared.faults.What.TheVariants as what
 use Rattle.oak_script.specs.Grammar.{scans_in}
 use Rattle.oak_script.specs.declared.scripts.Call.{Call}
 use Rattle.oak_script.specs.declared.stops.Stop.{Stop}
-use Rattle.oak_script.specs.declared.stages.Stage.TheVariants.{Start, Headed, Opened, Ended}
+use Rattle.oak_script.specs.declared.stages.Stage.TheVariants.{Opened}
 use Rattle.oak_script.specs.Lines.{Words}
 use Rattle.oak_script.specs.Forms.{is_thread, is_end, is_call, is_scan_line}
 use Rattle.oak_script.specs.Faults.{faults, where_so}

@@ -1,12 +1,11 @@
 -- The faults at each place of a text.
-use Rattle.std.proofs.Common.{◌≡◌, ℕ, suc, ◌+◌, ◌<◌, ◌≤◌, ◌⊎◌, Bool, true, false, List, [], ◌∷◌, ◌++◌, length, map, take, Option, Some, None, refl, sym, ap, ◌∙◌, arith, inl, inr, append_assoc}
+use Rattle.std.proofs.Common.{◌≡◌, ℕ, ◌+◌, ◌<◌, List, [], ◌∷◌, ◌++◌, length, map, Some, None, refl, sym, ap, ◌∙◌, arith, inl, inr, append_assoc}
 use Rattle.std.specs.Prelude.{slice_get}
 use Rattle.std.proofs.Math.Seq.{take-append_seam, take-length, get_or-append_seam}
 use Rattle.std.proofs.lemmas.Bool.{cases_lt}
 use Rattle.std.proofs.lemmas.List.{length-append, append-nil, length_push}
 use Rattle.std.proofs.lemmas.Option.{slice_get_read, slice_get_past}
 use Rattle.oak_script.specs.declared.faults.What.{What}
-use Rattle.oak_script.specs.declared.stops.Stop.{Stop}
 use Rattle.oak_script.specs.declared.stops.Stop.TheVariants.{Fault}
 use Rattle.oak_script.specs.Lines.{Words, words_of}
 use Rattle.oak_script.specs.Faults.{faults, faults_at, past_of, IsFirstAt, HasNoFault}

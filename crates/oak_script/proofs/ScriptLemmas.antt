@@ -1,20 +1,18 @@
 -- A text has no fault exactly where it spells a script, and it spells one only.
-use Rattle.std.proofs.Common.{◌≡◌, ℕ, zero, suc, ◌+◌, ◌<◌, ◌≤◌, ◌⊎◌, Bool, true, false, not, ◌||◌, ◌&&◌, cond, eqb, List, [], ◌∷◌, ◌++◌, length, map, Option, Some, None, refl, ap, sym, subst, ◌∙◌, inl, inr, arith, append_assoc, codes}
+use Rattle.std.proofs.Common.{◌≡◌, ℕ, zero, suc, ◌+◌, ◌<◌, ◌≤◌, Bool, true, false, not, ◌||◌, ◌&&◌, cond, eqb, List, [], ◌∷◌, ◌++◌, length, map, Some, None, refl, ap, sym, subst, ◌∙◌, inl, inr, arith, append_assoc, codes}
 use Rattle.std.specs.List.{AllByRecursion, list_any}
 use Rattle.std.specs.Str.{bytes_eq}
-use Rattle.std.proofs.lemmas.Bool.{cases_Bool, cases_lt}
+use Rattle.std.proofs.lemmas.Bool.{cases_Bool}
 use Rattle.std.proofs.lemmas.Bool.Decides.{nat_tests}
 use Rattle.std.proofs.lemmas.List.{map_push, length_push, length-append, append-nil, append_cancel_right}
 use Rattle.std.proofs.lemmas.List.Sums.{sum_by-cons, sum_by_push}
-use Rattle.oak_script.specs.declared.faults.What.{What}
 use Rattle.oak_script.specs.declared.faults.What.TheVariants as what
 use Rattle.oak_script.specs.declared.scripts.Call.{Call}
-use Rattle.oak_script.specs.declared.scripts.Script.{Script}
 use Rattle.oak_script.specs.declared.stages.Stage.{Stage}
 use Rattle.oak_script.specs.declared.stages.Stage.TheVariants.{Start, Headed, Opened, Ended}
 use Rattle.oak_script.specs.declared.limits.TheConstants.{GREATEST_CALLS, GREATEST_SCANS}
 use Rattle.oak_script.specs.Lines.{Words}
-use Rattle.oak_script.specs.Grammar.{oak_line, thread_line, end_line, call_words, script_lines, CallFits, is_scan, scans_in, default_sizes, IsScript}
+use Rattle.oak_script.specs.Grammar.{oak_line, thread_line, end_line, call_words, script_lines, CallFits, is_scan, scans_in}
 use Rattle.oak_script.specs.Forms.{is_one, is_two, is_oak, is_thread, is_end, is_shape, is_call, is_scan_line}
 use Rattle.oak_script.specs.Faults.{Past, past_of, faults, faults_at, where_so, is_empty, is_bad_word, is_not_built, HasNoFault}
 use Rattle.oak_script.specs.Reading.{so_far, past_at, CallsFit, AreCalls, line_faults}

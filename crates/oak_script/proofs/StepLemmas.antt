@@ -1,5 +1,5 @@
 -- One step of a reader.
-use Rattle.std.proofs.Common.{◌≡◌, ℕ, List, [], ◌∷◌, ◌++◌, length, take, Some, refl, sym, ap, ◌∙◌}
+use Rattle.std.proofs.Common.{◌≡◌, ℕ, List, [], ◌∷◌, ◌++◌, take, Some, sym, ap, ◌∙◌}
 use Rattle.oak_script.specs.declared.scripts.Call.{Call}
 use Rattle.oak_script.specs.declared.stops.Stop.{Stop}
 use Rattle.oak_script.specs.declared.stops.Stop.TheVariants.{Fault, OutOfMemory}

@@ -1,5 +1,5 @@
 -- The first of several faults.
-use Rattle.std.proofs.Common.{◌≡◌, ℕ, ◌<◌, Bool, true, false, ◌||◌, eqb, List, [], ◌∷◌, ◌++◌, length, refl, arith}
+use Rattle.std.proofs.Common.{◌≡◌, List, [], ◌∷◌, ◌++◌}
 use Rattle.oak_script.specs.declared.faults.What.{What}
 use Rattle.oak_script.specs.declared.stops.Stop.{Stop}
 use Rattle.oak_script.specs.declared.stops.Stop.TheVariants.{Fault, OutOfMemory}

@@ -1,23 +1,21 @@
 -- Words that have no fault are those that keys, values, bounds, names and recipes are spelled by.
-use Rattle.std.proofs.Common.{◌≡◌, ℕ, zero, suc, ◌+◌, ◌*◌, ◌^◌, ◌<◌, ◌≤◌, Bool, true, false, not, ◌||◌, ◌&&◌, List, [], ◌∷◌, ◌++◌, length, Option, Some, None, refl, ap, sym, ◌∙◌, inl, inr, arith, codes, cond, ltb, leb, eqb}
+use Rattle.std.proofs.Common.{◌≡◌, ℕ, zero, suc, ◌<◌, ◌≤◌, Bool, true, false, not, ◌||◌, ◌&&◌, List, [], ◌∷◌, ◌++◌, length, Option, Some, None, refl, ap, sym, ◌∙◌, inl, inr, arith, codes, ltb, leb, eqb}
 use Rattle.std.specs.Prelude.{IfSome}
 use Rattle.std.specs.List.{list_any, list_all}
 use Rattle.std.specs.Str.{bytes_eq}
 use Rattle.std.specs.Fmt.{decimal}
 use Rattle.std.proofs.lemmas.Bool.Decides.{nat_tests}
 use Rattle.std.proofs.lemmas.Slice.Eq.{bytes_eq-Decides}
-use Rattle.hex.specs.Hex.{encode_lower, encode_with, lower_digits, IsBytes}
+use Rattle.hex.specs.Hex.{encode_lower, IsBytes}
 use Rattle.oak_model.specs.declared.recipes.RecipeKind.{RecipeKind}
 use Rattle.oak_model.specs.declared.recipes.RecipeKind.TheVariants.{Add, Xor, Rev}
-use Rattle.oak_model.specs.Key.{IsKey}
-use Rattle.oak_model.specs.Value.{IsValue}
 use Rattle.oak_script.specs.declared.faults.What.{What}
 use Rattle.oak_script.specs.declared.faults.What.TheVariants as what
 use Rattle.oak_script.specs.Lines.{Words}
 use Rattle.oak_script.specs.Words.{value_word, bound_word, recipe_words, is_name, is_name_byte}
 use Rattle.oak_script.specs.Grammar.{KeyFits, ValueFits, ArgumentFits}
 use Rattle.oak_script.specs.Numbers.{is_number}
-use Rattle.oak_script.specs.Forms.{is_dash, is_hex, is_recipe, KeySlot, ValueSlot, NameSlot, BoundSlot, RecipeSlot}
+use Rattle.oak_script.specs.Forms.{is_dash, is_hex, is_recipe, KeySlot, ValueSlot, NameSlot, BoundSlot}
 use Rattle.oak_script.specs.Faults.{is_empty, where_so, word_faults}
 use Rattle.oak_script.proofs.FormLemmas.{or-true}
 use Rattle.std.proofs.lemmas.Bool.{cases_Bool}

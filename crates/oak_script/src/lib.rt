@@ -15,6 +15,8 @@ mod recipes;
 mod scripts;
 mod stages;
 mod stops;
+#[cfg(test)]
+mod tests;
 mod text;
 mod verbs;
 mod words;

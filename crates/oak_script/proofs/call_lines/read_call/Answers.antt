@@ -1,7 +1,6 @@
-use Rattle.std.proofs.Common.{List, ℕ, ◌<◌, ◌≤◌, length, map, arith, ◌≡◌}
+use Rattle.std.proofs.Common.{List, ℕ, map, arith}
 use denote.Ref.{Bor}
 use Rattle.std.proofs.lemmas.List.{length-map}
-use Rattle.oak_script.specs.Lines.{Words}
 use Rattle.oak_script.proofs.FormLemmas.{short_line, long_line}
 use Rattle.oak_script.proofs.call_lines.read_call.Goals as goal
 

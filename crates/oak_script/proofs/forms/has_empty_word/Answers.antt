@@ -1,4 +1,4 @@
-use Rattle.std.proofs.Common.{◌≡◌, List, [], ◌∷◌, ℕ, ◌||◌, map, refl, ap, ◌∙◌, rules, tests}
+use Rattle.std.proofs.Common.{◌≡◌, List, [], ◌∷◌, ℕ, map, refl, ◌∙◌, rules, tests}
 use Rattle.std.specs.List.{list_any}
 use denote.Ref.{Bor}
 use Rattle.std.proofs.lemmas.Iterator.{YieldsList-from_slice}

@@ -1,4 +1,4 @@
-use Rattle.std.proofs.Common.{◌≡◌, true, rules, arith, sym, ◌∙◌}
+use Rattle.std.proofs.Common.{◌≡◌, true, rules}
 use Rattle.oak_script.specs.Numbers.{is_decimal}
 use Rattle.oak_script.proofs.NumberLemmas.{decided, spelled, found, is_utf8}
 use Rattle.oak_script.proofs.numbers.number_of.Goals as goal

@@ -1,4 +1,4 @@
-use Rattle.std.proofs.Common.{◌+◌, ◌≡◌}
+use Rattle.std.proofs.Common.{◌≡◌}
 use Rattle.oak_script.specs.Lines.{text_words}
 use Rattle.oak_script.specs.Reading.{so_far}
 use Rattle.oak_script.proofs.PlaceLemmas.{goes_on}

@@ -1,4 +1,4 @@
-use Rattle.std.proofs.Common.{rules, refl, ◌≡◌, ◌&&◌, ◌==◌, length, true}
+use Rattle.std.proofs.Common.{rules, ◌≡◌, ◌&&◌, ◌==◌, length, true}
 use Rattle.oak_script.specs.Forms.{is_hex}
 use Rattle.oak_script.proofs.HexWords.{byte-read}
 use Rattle.oak_script.proofs.recipes.byte_of.Goals as goal

@@ -1,4 +1,4 @@
-use Rattle.std.proofs.Common.{◌≡◌, List, ℕ, ◌∷◌, [], ◌++◌, map, take, rules, Some}
+use Rattle.std.proofs.Common.{◌≡◌, List, ℕ, ◌∷◌, map, take, rules}
 use denote.Ref.{Bor}
 use Rattle.std.proofs.lemmas.Result.{err_from_is_err_and}
 use Rattle.oak_script.specs.Lines.{Words, words_of}
