@@ -11,3 +11,6 @@ pub mod History
 pub mod Life
 pub mod Fits
 pub mod Scan
+pub mod Counts
+pub mod KeyNumber
+pub mod Kept

@@ -1,0 +1,2 @@
+pub mod ArenaWords
+pub mod ArenaSizes

@@ -1,0 +1,11 @@
+//! Rooms, called chunks while they are in use: their words and states, and what a pass holds of them.
+#![tactic(auto)]
+
+pub mod holds;
+pub mod layout;
+pub mod states;
+#[cfg(test)]
+mod tests;
+
+pub use holds::{HeldRoom, PinnedRoom, RoomHolds};
+pub use states::{FREE, FROZEN, HELD, OPEN};

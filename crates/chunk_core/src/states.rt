@@ -1,0 +1,13 @@
+//! The states of a room, as they stand in its pin word. The generation of a room stays 0.
+
+/// May be claimed where no pin stands.
+pub const FREE: u8 = 0;
+
+/// Covers its range, and may be pinned.
+pub const OPEN: u8 = 1;
+
+/// Covers its range; its freezer waits until no pin stands.
+pub const FROZEN: u8 = 2;
+
+/// One pass has it alone.
+pub const HELD: u8 = 3;

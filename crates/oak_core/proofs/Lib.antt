@@ -1,0 +1,13 @@
+pub mod Words
+pub mod GivenNumbers
+pub mod Histories
+pub mod Found
+pub mod Keeps
+pub mod TwoSeats
+pub mod Opening
+pub mod EachEvent
+pub mod Allowed
+pub mod Splits
+pub mod Alone
+pub mod UsedWords
+pub mod Frames

@@ -1,0 +1,135 @@
+-- A split and a join keep the rule.
+use Rattle.std.proofs.Common.{false, true≢false, ◌≡◌, ◌≢◌, ℕ, ◌+◌, ◌*◌, ◌≤◌, ◌⊎◌, cond, Bool, List, [], ◌∷◌, ◌++◌, map, length, set, sym, refl, ap, ◌∙◌, subst, arith, ⊎_elim, Option}
+use Rattle.std.proofs.lemmas.List.{map-append}
+use mathlib.Core.Option.{some}
+use lib.ListN.{get_elem?}
+use Rattle.oak_model.specs.Limits.{Sizes}
+use Rattle.oak_model.specs.Counts.{one_at, total, below, Begins}
+use Rattle.oak_model.specs.Kept.{KeptNumbersStand, renamed}
+use Rattle.oak_model.proofs.Lists.{at_map, map_set_same, set_else, each_append}
+use Rattle.oak_model.proofs.Counting.{total_append, below_add, below_same}
+use Rattle.oak_model.proofs.Changes.{Change, divided, joined, change_parts}
+use Rattle.oak_model.proofs.KeptLaws.{kept_idle}
+use Rattle.arena_core.specs.HeldBlocks.{kept_of_blocks}
+use Rattle.header_core.specs.HeaderHolds.{kept_of_headers}
+use Rattle.oak_core.specs.declared.states.Joined.{Joined}
+use Rattle.oak_core.specs.declared.states.KeyedWrite.{KeyedWrite}
+use Rattle.oak_core.specs.declared.states.Knowledge.{Knowledge}
+use Rattle.oak_core.specs.declared.states.PassState.{PassState}
+use Rattle.oak_core.specs.Memory.{Memory, in_arena, in_headers, same_spot, read, memory}
+use Rattle.oak_core.specs.PassState.{numbers_of, findings_of, knowledge_of, kept_of, rooted, in_hand, has_number, is_parent, of_key, seen_of, history, number_in, left_state, right_state, joined_from, both_state, spent_state}
+use Rattle.oak_core.specs.TableState.{TableState}
+use Rattle.oak_core.specs.Rule.{FoundStays, SpentIsSpent, Rule}
+use Rattle.oak_core.specs.Schedule.{MaySplit, MayJoin}
+use Rattle.oak_core.proofs.GivenNumbers.{numbers_frame}
+use Rattle.oak_core.proofs.Found.{none_found}
+use Rattle.oak_core.proofs.Histories.{histories_frame, seen_both}
+
+module _ (z : Sizes) (s : TableState) (seat : ℕ) (v : PassState) (r : Rule z s) (here : get_elem? s.states seat ≡ some v) where
+  abbrev m : Memory
+  m = memory z s.words
+
+  module _ (may : MaySplit v) where
+    abbrev left : PassState
+    left = left_state v
+
+    abbrev right : PassState
+    right = right_state v
+
+    abbrev apart : Change s.states (set s.states seat left ++ right ∷ []) (v ∷ []) (left ∷ right ∷ [])
+    apart = divided s.states seat v left right here
+
+    same_numbers : (k : ℕ) → total (has_number k) (left.numbers ∷ right.numbers ∷ []) ≡ total (has_number k) (v.numbers ∷ [])
+    unfolding total
+    same_numbers k = let a : in_hand k v.numbers.hand ≡ one_at may.number k = ap (in_hand k) may.hand in let b : one_at (number_in v.numbers.hand) k ≡ one_at may.number k = ap (λ (o : Option ℕ). one_at (number_in o) k) may.hand in omega arith
+
+    more_parents : (k : ℕ) → total (is_parent k) (v.numbers ∷ []) ≤ total (is_parent k) (left.numbers ∷ right.numbers ∷ [])
+    unfolding total
+    more_parents k = let p : ℕ = is_parent k v.numbers in let q : ℕ = is_parent k right.numbers in let h : p + 0 ≤ p + (q + 0) = omega arith in h
+
+    keeps_nothing : kept_of right ≡ []
+    unfolding kept_of_blocks kept_of_headers
+    keeps_nothing = refl
+
+    same_kept : map kept_of (set s.states seat left ++ right ∷ []) ≡ map kept_of s.states ++ [] ∷ []
+    same_kept = map-append kept_of (set s.states seat left) (right ∷ []) ∙ (λ i. map_set_same kept_of s.states seat v left here refl i ++ keeps_nothing i ∷ [])
+
+    pub split_keeps : Rule z record { words = s.words; states = set s.states seat left ++ right ∷ [] }
+    split_keeps = record {
+      sizes = r.sizes;
+      words = r.words;
+      numbers = numbers_frame z m.given (change_parts numbers_of apart) same_numbers more_parents r.numbers;
+      findings = (change_parts findings_of apart).every (FoundStays m.given) (r.findings seat v.findings (at_map findings_of s.states seat v here), (none_found m.given right.findings refl, tt)) (λ j x _ e. r.findings j x e);
+      histories = histories_frame (change_parts knowledge_of apart) seat v.knowledge (at_map knowledge_of s.states seat v here) r.histories
+          (λ k. let h = r.histories k seat v.knowledge (at_map knowledge_of s.states seat v here) in (h, (h, tt)))
+          (λ k y g. (v.knowledge, (change_parts knowledge_of apart).come.0, ⊎_elim (λ (q : v.knowledge ≡ y). let e = ap (λ (z : Knowledge). length (seen_of k z)) q in omega arith) (λ (q : ⊥). absurd q) g));
+      spent = apart.every SpentIsSpent ((λ e. absurd (true≢false (sym e ∙ may.going))), ((λ e. absurd (true≢false (sym e))), tt)) (λ j u _ at. r.spent j u at);
+      kept = subst (KeptNumbersStand same_spot (read m)) (sym same_kept) (kept_idle same_spot (read m) (map kept_of s.states) r.kept);
+    }
+
+  module _ (other : ℕ) (w : PassState) (there : get_elem? s.states other ≡ some w) (ne : other ≢ seat) (going : v.numbers.spent ≡ false) (may : MayJoin w) where
+    abbrev both : PassState
+    both = both_state v w
+
+    abbrev together : Change s.states (set (set s.states seat both) other spent_state) (v ∷ w ∷ []) (both ∷ spent_state ∷ [])
+    together = joined s.states seat other v w both spent_state here there ne
+
+    -- the other's own number and those joined into it
+    roots : (k : ℕ) → rooted k both.numbers ≡ rooted k v.numbers + rooted k w.numbers
+    unfolding total
+    roots k = let a = total_append (λ (j : Joined). one_at j.number k) v.numbers.joined (joined_from w ∷ w.numbers.joined) in
+        let b : cond w.numbers.spent 0 (one_at w.numbers.number k) ≡ one_at w.numbers.number k = ap (λ (t : Bool). cond t 0 (one_at w.numbers.number k)) may.going in
+        let c : ℕ = cond v.numbers.spent 0 (one_at v.numbers.number k) in let d : ℕ = total (λ (j : Joined). one_at j.number k) w.numbers.joined in let f : ℕ = total (λ (j : Joined). one_at j.number k) v.numbers.joined in
+        let g : ℕ = total (λ (j : Joined). one_at j.number k) (v.numbers.joined ++ joined_from w ∷ w.numbers.joined) in let o : ℕ = one_at w.numbers.number k in let x : ℕ = cond w.numbers.spent 0 (one_at w.numbers.number k) in
+        let a' : g ≡ f + (o + d) = a in let b' : x ≡ o = b in let h : c + g ≡ (c + f) + (x + d) = omega arith in h
+
+    same_all : (k : ℕ) → total (has_number k) (both.numbers ∷ spent_state.numbers ∷ []) ≡ total (has_number k) (v.numbers ∷ w.numbers ∷ [])
+    unfolding total
+    same_all k = let a : in_hand k w.numbers.hand ≡ 0 = ap (in_hand k) may.idle.hand in let b = roots k in
+        let x : ℕ = rooted k both.numbers in let p : ℕ = rooted k v.numbers in let q : ℕ = rooted k w.numbers in let hv : ℕ = in_hand k v.numbers.hand in let hw : ℕ = in_hand k w.numbers.hand in
+        let b' : x ≡ p + q = b in let a' : hw ≡ 0 = a in let h : (x + hv) + (0 + 0 + 0 + 0) ≡ (p + hv) + ((q + hw) + 0) = omega arith in h
+
+    more_all : (k : ℕ) → total (is_parent k) (v.numbers ∷ w.numbers ∷ []) ≤ total (is_parent k) (both.numbers ∷ spent_state.numbers ∷ [])
+    unfolding total
+    more_all k =
+        let below_both : below (λ n. rooted n both.numbers) k ≡ below (λ n. rooted n v.numbers) k + below (λ n. rooted n w.numbers) k =
+        below_same (λ n. rooted n both.numbers) (λ n. rooted n v.numbers + rooted n w.numbers) k (λ n _. roots n) ∙ below_add (λ n. rooted n v.numbers) (λ n. rooted n w.numbers) k in
+        let made_both : total (λ (n : ℕ). one_at n k) both.numbers.made ≡ total (λ (n : ℕ). one_at n k) v.numbers.made + total (λ (n : ℕ). one_at n k) w.numbers.made =
+        total_append (λ (n : ℕ). one_at n k) v.numbers.made w.numbers.made in
+        let p = products (below (λ n. rooted n v.numbers) k) (total (λ (n : ℕ). one_at n k) v.numbers.made) (below (λ n. rooted n w.numbers) k) (total (λ (n : ℕ). one_at n k) w.numbers.made) in
+        let whole : is_parent k both.numbers ≡ (below (λ n. rooted n v.numbers) k + below (λ n. rooted n w.numbers) k) * (total (λ (n : ℕ). one_at n k) v.numbers.made + total (λ (n : ℕ). one_at n k) w.numbers.made) =
+        (λ i. below_both i * made_both i) in
+        let a : ℕ = is_parent k v.numbers in let b : ℕ = is_parent k w.numbers in let c : ℕ = is_parent k both.numbers in let d : ℕ = is_parent k spent_state.numbers in
+        let e : a + b ≤ c = subst (λ (n : ℕ). a + b ≤ n) (sym whole) p in let h : a + (b + 0) ≤ c + (d + 0) = omega arith in h
+      where
+        products : (a b c d : ℕ) → a * b + c * d ≤ (a + c) * (b + d)
+        products a b c d = grind arith
+
+    kept_w : kept_of w ≡ []
+    unfolding kept_of_blocks kept_of_headers
+    kept_w = λ i. renamed in_arena (kept_of_blocks (may.idle.blocks i).held) ++ renamed in_headers (kept_of_headers (may.idle.headers i).held)
+
+    kept_spent : kept_of spent_state ≡ []
+    unfolding kept_of_blocks kept_of_headers
+    kept_spent = refl
+
+    same_words : map kept_of (set (set s.states seat both) other spent_state) ≡ map kept_of s.states
+    same_words = map_set_same kept_of (set s.states seat both) other w spent_state (set_else s.states seat other both ne ∙ there) (kept_spent ∙ sym kept_w) ∙ map_set_same kept_of s.states seat v both here refl
+
+    pub join_keeps : Rule z record { words = s.words; states = set (set s.states seat both) other spent_state }
+    join_keeps = let av = at_map knowledge_of s.states seat v here in let aw = at_map knowledge_of s.states other w there in record {
+      sizes = r.sizes;
+      words = r.words;
+      numbers = numbers_frame z m.given (change_parts numbers_of together) same_all more_all r.numbers;
+      findings = (change_parts findings_of together).every (FoundStays m.given) (r.findings seat v.findings (at_map findings_of s.states seat v here), (none_found m.given spent_state.findings refl, tt)) (λ j x _ e. r.findings j x e);
+      histories = histories_frame (change_parts knowledge_of together) seat v.knowledge av r.histories
+          (λ k. (each_append (λ (l : List KeyedWrite). Begins (of_key k l) (history k (map knowledge_of s.states))) v.knowledge.seen w.knowledge.seen (r.histories k seat v.knowledge av) (r.histories k other w.knowledge aw), (tt, tt)))
+          (λ k y g. let more = seen_both k v.knowledge w.knowledge both.knowledge refl in (
+            both.knowledge,
+            (change_parts knowledge_of together).come.0,
+            ⊎_elim (λ (q : v.knowledge ≡ y). let e = ap (λ (z : Knowledge). length (seen_of k z)) q in omega arith)
+                (λ (q : (w.knowledge ≡ y) ⊎ ⊥). ⊎_elim (λ (q : w.knowledge ≡ y). let e = ap (λ (z : Knowledge). length (seen_of k z)) q in omega arith) (λ (q : ⊥). absurd q) q) g,
+          ));
+      spent = together.every SpentIsSpent ((λ e. absurd (true≢false (sym e ∙ going))), ((λ _. refl), tt)) (λ j u _ at. r.spent j u at);
+      kept = subst (KeptNumbersStand same_spot (read m)) (sym same_words) r.kept;
+    }

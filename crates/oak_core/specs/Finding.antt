@@ -1,0 +1,52 @@
+-- What a step notes of the word that it found.
+use Rattle.std.specs.Prelude.{◌≡◌, ℕ, List, [], ◌∷◌, ◌++◌, Option, Some}
+use mathlib.Core.Option.{some}
+use lib.ListN.{get_elem?}
+use Rattle.oak_model.specs.Limits.{Sizes}
+use Rattle.arena_core.specs.Arena.{ArenaSpot, at_bits}
+use Rattle.arena_core.specs.HeldBlocks.{had_bits}
+use Rattle.header_core.specs.Headers.{HeaderSpot, at_pin}
+use Rattle.header_core.specs.HeaderHolds.{had_header}
+use Rattle.chunk_core.specs.Rooms.{RoomSpot, at_room_pin, at_latch}
+use Rattle.chunk_core.specs.RoomHolds.{had_room, had_latch}
+use Rattle.oak_core.specs.declared.states.Finding.{Finding}
+use Rattle.oak_core.specs.declared.states.PassState.{PassState}
+use Rattle.oak_core.specs.Memory.{Spot, at_given, in_arena, in_headers, in_rooms, index}
+
+abbrev pub had_in_arena : ArenaSpot → PassState → ℕ
+had_in_arena (at_bits c i) v = had_bits c i v.blocks
+had_in_arena _ v = 0
+
+abbrev pub had_in_headers : HeaderSpot → PassState → ℕ
+had_in_headers (at_pin h) v = had_header h v.headers
+had_in_headers _ v = 0
+
+abbrev pub had_in_rooms : RoomSpot → PassState → ℕ
+had_in_rooms (at_room_pin r) v = had_room r v.rooms
+had_in_rooms (at_latch r) v = had_latch r v.rooms
+had_in_rooms _ v = 0
+
+-- what the pass has at the word: of a word of bits those of its blocks; of a pin word or a latch 1 where it has it
+abbrev pub had : Spot → PassState → ℕ
+had at_given v = 0
+had (in_arena p) v = had_in_arena p v
+had (in_headers p) v = had_in_headers p v
+had (in_rooms p) v = had_in_rooms p v
+
+abbrev pub finding : Sizes → ℕ → Spot → Option ℕ → ℕ → PassState → Finding
+finding z call p found left v = record { call = call; word = index z p; found = found; left = left; had = had p v }
+
+-- the state, with more met
+abbrev pub grown : List Finding → PassState → PassState
+grown more v = record v { findings = record v.findings { met = v.findings.met ++ more } }
+
+abbrev pub noted : Finding → PassState → PassState
+noted f v = grown (f ∷ []) v
+
+-- one of the findings shows a number of the word that has P
+abbrev pub Shows : List Finding → ℕ → (ℕ → Type 0) → Type 0
+Shows met word P = (i : ℕ) × (f : Finding) × (n : ℕ) × (get_elem? met i ≡ some f) × (f.word ≡ word) × (f.found ≡ Some n) × P n
+
+-- the call appended findings, one of which shows a number of the word that has P
+abbrev pub FoundInCall : PassState → PassState → ℕ → (ℕ → Type 0) → Type 0
+FoundInCall v w word P = (more : List Finding) × (w.findings.met ≡ v.findings.met ++ more) × Shows more word P

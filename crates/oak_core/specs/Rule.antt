@@ -1,0 +1,51 @@
+-- The table's rule: what holds between any two atomic steps. It is a record of bundles of points, each over the words and the parts of the passes' states that it speaks of.
+use Rattle.std.specs.Prelude.{◌≡◌, ℕ, suc, ◌^◌, ◌<◌, ◌≤◌, List, map, length, slice_index, true}
+use Rattle.std.specs.Int.{bit_at}
+use Rattle.oak_model.specs.Limits.{Sizes, IsInLimits}
+use Rattle.oak_model.specs.Counts.{total, Every, Each, Begins}
+use Rattle.oak_model.specs.Kept.{KeptNumbersStand}
+use Rattle.oak_core.specs.declared.states.Findings.{Findings}
+use Rattle.oak_core.specs.declared.states.KeyedWrite.{KeyedWrite}
+use Rattle.oak_core.specs.declared.states.Knowledge.{Knowledge}
+use Rattle.oak_core.specs.declared.states.Numbers.{Numbers}
+use Rattle.oak_core.specs.declared.states.PassState.{PassState}
+use Rattle.oak_core.specs.Memory.{memory, read, same_spot, word_count}
+use Rattle.oak_core.specs.Finding.{Shows}
+use Rattle.oak_core.specs.PassState.{numbers_of, findings_of, knowledge_of, kept_of, has_number, is_parent, of_key, history, spent_state}
+use Rattle.oak_core.specs.TableState.{TableState}
+
+-- the words are as many as the layout says, and each is one of 64 bits
+pub record WordsStand (z : Sizes) (words : List ℕ) : Type 0 where
+  pub counted : length words ≡ word_count z
+  pub small : (i : ℕ) → slice_index words i < 2 ^ 64
+
+-- word 0: the numbers that the passes have all differ, and together are the given ones, which are the lowest; each but 0 was split off by a pass that has a smaller one
+pub record NumbersStand (z : Sizes) (given : ℕ) (ns : List Numbers) : Type 0 where
+  pub owned : (k : ℕ) → bit_at given k ≡ total (has_number k) ns
+  pub lowest : (k : ℕ) → bit_at given (suc k) ≡ 1 → bit_at given k ≡ 1
+  pub few : (k : ℕ) → z.passes ≤ k → bit_at given k ≡ 0
+  pub parents : (k : ℕ) → 0 < k → bit_at given k ≡ 1 → 0 < total (is_parent k) ns
+
+-- a number that a pass found given is given
+abbrev pub FoundStays : ℕ → Findings → Type 0
+FoundStays given fs = (k : ℕ) → Shows fs.met 0 (λ n. bit_at n k ≡ 1) → bit_at given k ≡ 1
+
+abbrev pub FindingsStand : ℕ → List Findings → Type 0
+FindingsStand given fs = Every (FoundStays given) fs
+
+-- all that a pass has seen of a key is the beginning of its history
+abbrev pub HistoriesStand : List Knowledge → Type 0
+HistoriesStand qs = (k : ℕ) → Every (λ (q : Knowledge). Each (λ (l : List KeyedWrite). Begins (of_key k l) (history k qs)) q.seen) qs
+
+-- of a pass that was joined into another nothing is left
+abbrev pub SpentIsSpent : PassState → Type 0
+SpentIsSpent v = v.numbers.spent ≡ true → v ≡ spent_state
+
+pub record Rule (z : Sizes) (s : TableState) : Type 0 where
+  pub sizes : IsInLimits z
+  pub words : WordsStand z s.words
+  pub numbers : NumbersStand z (memory z s.words).given (map numbers_of s.states)
+  pub findings : FindingsStand (memory z s.words).given (map findings_of s.states)
+  pub histories : HistoriesStand (map knowledge_of s.states)
+  pub spent : Every SpentIsSpent s.states
+  pub kept : KeptNumbersStand same_spot (read (memory z s.words)) (map kept_of s.states)

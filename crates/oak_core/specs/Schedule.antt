@@ -1,0 +1,76 @@
+-- Lists of events from an opening state.
+use Rattle.std.specs.Prelude.{◌≡◌, ℕ, ◌-◌, ◌%◌, ◌==◌, ◌&&◌, nat_le, nat_lt, cond, false, List, [], ◌∷◌, ◌++◌, slice_set, Some, ◌≢◌}
+use mathlib.Core.Option.{some}
+use lib.ListN.{get_elem?}
+use Rattle.pin_word.specs.PinWord.{packed}
+use Rattle.oak_model.specs.Limits.{Sizes}
+use Rattle.oak_model.specs.Counts.{rows}
+use Rattle.header_core.specs.declared.layout.TheConstants.{HEADER_WORDS}
+use Rattle.header_core.specs.declared.states.TheConstants as header
+use Rattle.chunk_core.specs.declared.states.TheConstants as room
+use Rattle.oak_core.specs.declared.states.PassState.{PassState}
+use Rattle.oak_core.specs.Memory.{headers_at, rooms_at, word_count}
+use Rattle.oak_core.specs.PassState.{HoldsNothing, first_state, left_state, right_state, both_state, spent_state}
+use Rattle.oak_core.specs.TableState.{TableState}
+use Rattle.oak_core.specs.Step.{Step, May, table_after}
+
+-- the number of word i at the start: 0 is given, each header is free at the generation g, and room 0 is open
+abbrev pub opening_number : Sizes → ℕ → ℕ → ℕ
+opening_number z g i =
+    cond (i == 0) 1
+    (cond (i == rooms_at z) (packed 0 room.OPEN 0)
+    (cond (nat_le (headers_at z) i && (nat_lt i (rooms_at z) && ((i - headers_at z) % HEADER_WORDS == 0))) (packed g header.FREE 0)
+    0))
+
+abbrev pub opening : Sizes → ℕ → TableState
+opening z g = record { words = rows 0 (word_count z) (opening_number z g); states = first_state ∷ [] }
+
+-- a step of a seat in a call, a split of a seat, or a join of another seat into one
+pub data Event : Type 0 where
+  steps : (seat call : ℕ) → Step → Event
+  splits : (seat : ℕ) → Event
+  joins : (seat other : ℕ) → Event
+
+pub record Steps (z : Sizes) (seat call : ℕ) (x : Step) (s t : TableState) : Type 0 where
+  pub state : PassState
+  pub here : get_elem? s.states seat ≡ some state
+  pub going : state.numbers.spent ≡ false
+  pub may : May z x state
+  pub after : t ≡ table_after z call x seat state s
+
+-- the pass has a number in hand
+pub record MaySplit (v : PassState) : Type 0 where
+  pub going : v.numbers.spent ≡ false
+  pub number : ℕ
+  pub hand : v.numbers.hand ≡ Some number
+
+pub record Splits (seat : ℕ) (s t : TableState) : Type 0 where
+  pub state : PassState
+  pub here : get_elem? s.states seat ≡ some state
+  pub may : MaySplit state
+  pub after : t ≡ record { words = s.words; states = slice_set s.states seat (left_state state) ++ right_state state ∷ [] }
+
+-- the pass that is joined holds nothing
+pub record MayJoin (w : PassState) : Type 0 where
+  pub idle : HoldsNothing w
+  pub going : w.numbers.spent ≡ false
+
+pub record Joins (seat other : ℕ) (s t : TableState) : Type 0 where
+  pub state : PassState
+  pub here : get_elem? s.states seat ≡ some state
+  pub taken : PassState
+  pub there : get_elem? s.states other ≡ some taken
+  pub apart : other ≢ seat
+  pub going : state.numbers.spent ≡ false
+  pub may : MayJoin taken
+  pub after : t ≡ record { words = s.words; states = slice_set (slice_set s.states seat (both_state state taken)) other spent_state }
+
+abbrev pub Goes : Sizes → Event → TableState → TableState → Type 0
+Goes z (steps seat call x) s t = Steps z seat call x s t
+Goes z (splits seat) s t = Splits seat s t
+Goes z (joins seat other) s t = Joins seat other s t
+
+-- the events lead from the one state to the other
+abbrev pub IsSchedule : Sizes → TableState → List Event → TableState → Type 0
+IsSchedule z s [] t = t ≡ s
+IsSchedule z s (e ∷ es) t = (m : TableState) × Goes z e s m × IsSchedule z m es t

@@ -1,0 +1,66 @@
+-- The kinds of atomic step of one pass. A step names its word, what becomes of that word, what the step asks of the pass, and the pass's state after it, which may be read off the whole state of the table.
+use Rattle.std.specs.Prelude.{◌≡◌, ℕ, ◌^◌, ◌<◌, ◌==◌, cond, false, [], ◌∷◌, ◌++◌, slice_index, slice_set, Some, None, bit_or}
+use Rattle.std.specs.Int.{bit_at}
+use mathlib.Core.Option.{some}
+use lib.ListN.{get_elem?}
+use Rattle.oak_model.specs.Limits.{Sizes}
+use Rattle.oak_core.specs.declared.states.Numbers.{Numbers}
+use Rattle.oak_core.specs.declared.states.PassState.{PassState}
+use Rattle.oak_core.specs.Memory.{Spot, at_given, index, IsInside}
+use Rattle.oak_core.specs.Finding.{finding, noted, Shows}
+use Rattle.oak_core.specs.TableState.{TableState}
+use Rattle.oak_core.specs.Rule.{Rule}
+
+pub data Step : Type 0 where
+  -- any word is loaded
+  load : Spot → Step
+  -- bit k of word 0 is set, to give the number k
+  give_number : ℕ → Step
+
+abbrev pub spot : Step → Spot
+spot (load p) = p
+spot (give_number k) = at_given
+
+-- what the word n becomes
+abbrev pub effect : Step → ℕ → ℕ
+effect (load p) n = n
+effect (give_number k) n = bit_or n (2 ^ k)
+
+-- the pass has no number in hand, and found all lower numbers given
+pub record MayGive (z : Sizes) (k : ℕ) (v : PassState) : Type 0 where
+  pub few : k < z.passes
+  pub hand : v.numbers.hand ≡ None
+  pub lower : (j : ℕ) → j < k → Shows v.findings.met 0 (λ n. bit_at n j ≡ 1)
+
+-- what the step asks of the pass
+abbrev pub May : Sizes → Step → PassState → Type 0
+May z (load p) v = IsInside z p
+May z (give_number k) v = MayGive z k v
+
+-- the number that the step finds
+abbrev pub found : Sizes → Step → TableState → ℕ
+found z x s = slice_index s.words (index z (spot x))
+
+-- where the bit k of n was clear, the number k is in hand
+abbrev pub numbered : ℕ → ℕ → Numbers → Numbers
+numbered n k a = record a { hand = cond (bit_at n k == 0) (Some k) a.hand; made = cond (bit_at n k == 0) (a.made ++ k ∷ []) a.made }
+
+-- the state of the pass after the step
+abbrev pub state_after : Sizes → ℕ → Step → TableState → PassState → PassState
+state_after z call (load p) s v = let n = found z (load p) s in noted (finding z call p (Some n) n v) v
+state_after z call (give_number k) s v = let n = found z (give_number k) s in record (noted (finding z call at_given (Some n) (bit_or n (2 ^ k)) v) v) { numbers = numbered n k v.numbers }
+
+-- the state of the table after the step of one seat
+abbrev pub table_after : Sizes → ℕ → Step → ℕ → PassState → TableState → TableState
+table_after z call x seat v s = record { words = slice_set s.words (index z (spot x)) (effect x (found z x s)); states = slice_set s.states seat (state_after z call x s v) }
+
+-- What a step tells its pass: at a moment at which the rule held, the word was n, and the state v became w.
+pub record Told (z : Sizes) (call : ℕ) (x : Step) (v : PassState) (n : ℕ) (w : PassState) : Type 0 where
+  pub table : TableState
+  pub seat : ℕ
+  pub rule : Rule z table
+  pub here : get_elem? table.states seat ≡ some v
+  pub going : v.numbers.spent ≡ false
+  pub may : May z x v
+  pub finds : found z x table ≡ n
+  pub after : w ≡ state_after z call x table v

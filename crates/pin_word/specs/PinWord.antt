@@ -1,0 +1,18 @@
+-- A pin word as a number: a generation of 32 bits, a state of 4 bits below it, and a count of 28 bits at its end.
+use Rattle.std.specs.Prelude.{ℕ, ◌+◌, ◌-◌, ◌*◌, ◌/◌, ◌%◌, ◌^◌}
+
+unfoldable pub packed : ℕ → ℕ → ℕ → ℕ
+packed generation state count = generation * 2 ^ 32 + state * 2 ^ 28 + count
+
+unfoldable pub generation_of : ℕ → ℕ
+generation_of word = word / 2 ^ 32
+
+unfoldable pub state_of : ℕ → ℕ
+state_of word = word / 2 ^ 28 % 16
+
+unfoldable pub count_of : ℕ → ℕ
+count_of word = word % 2 ^ 28
+
+-- what a fetch_add puts to a word in the state `from` so that the generation is raised by one, the state becomes `to`, and the count stays
+abbrev pub renewal : ℕ → ℕ → ℕ
+renewal from to = 2 ^ 32 + to * 2 ^ 28 - from * 2 ^ 28
