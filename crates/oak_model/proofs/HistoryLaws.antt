@@ -1,16 +1,16 @@
 -- A longer history keeps what was said of the places of a shorter one.
-use Rattle.std.proofs.Common.{◌≡◌, ℕ, zero, suc, ◌+◌, ◌-◌, ◌<◌, ◌≤◌, Bool, true, false, cond, leb, List, [], ◌∷◌, ◌++◌, length, take, Option, Some, None, refl, sym, ap, subst, ◌∙◌, append_assoc, arith, inl, inr}
-use Rattle.std.specs.Prelude.{fold, IsSomeAnd, IsSome, ⊤, MatchBool}
+use Rattle.std.proofs.Common.{◌≡◌, ℕ, zero, suc, ◌+◌, ◌-◌, ◌<◌, ◌≤◌, Bool, true, false, cond, leb, [], ◌∷◌, ◌++◌, length, Some, None, refl, sym, ap, subst, ◌∙◌, append_assoc, arith, inl, inr}
+use Rattle.std.specs.Prelude.{IsSome, ⊤, MatchBool}
 use Rattle.std.specs.List.{slice_get}
 use Rattle.std.proofs.lemmas.Bool.{cases_lt}
 use Rattle.std.proofs.lemmas.Bool.Decides.{nat_tests}
-use Rattle.std.proofs.lemmas.List.{append-nil, take_at, length-append, length_push, take-append-le}
+use Rattle.std.proofs.lemmas.List.{append-nil, take_at, length-append, take-append-le}
 use Rattle.std.proofs.lemmas.List.Sums.{fold-append}
 use Rattle.oak_model.specs.declared.writes.Write.{Write}
 use Rattle.oak_model.specs.declared.cells.CellCall.{CellCall}
 use Rattle.oak_model.specs.declared.cells.CellReply.{CellReply}
 use Rattle.oak_model.specs.State.{State}
-use Rattle.oak_model.specs.Cell.{reply_of, state_after, is_write, kind_of}
+use Rattle.oak_model.specs.Cell.{is_write}
 use Rattle.oak_model.specs.History.{History, last_state, state_at, place_of}
 use Rattle.oak_model.specs.Life.{IsLifeAt, EndsAt}
 use Rattle.oak_model.specs.Fits.{WriteFits, ReadFits, ReplyFits}
@@ -117,8 +117,10 @@ one_more h r d le some later = by (state_at h (suc r)) refl
   where
     here : (y : ℕ) → r ≤ y → y < suc r → IsSome (state_at h y)
     here y low high = let same : y ≡ r = omega arith in subst (λ (z : ℕ). IsSome (state_at h z)) (sym same) some
+
     from : (f : (g : ℕ) × EndsAt h (suc r) g) → (y : ℕ) → r ≤ y → y < f.0 → IsSome (state_at h y)
     from f y low high = elim (cases_lt r y) [ inl lt ↦ f.1.present y (omega arith) high | inr ge ↦ here y low (omega arith) ]
+
     by : (s : State) → state_at h (suc r) ≡ s → (g : ℕ) × EndsAt h r g
     by None none = (suc r, record { after = omega arith; last = omega arith; present = here; removed = none })
     by (Some b) some_next =

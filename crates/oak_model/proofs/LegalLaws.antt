@@ -1,5 +1,5 @@
 -- Histories whose stamps count up by one.
-use Rattle.std.proofs.Common.{◌≡◌, ℕ, suc, ◌+◌, ◌<◌, ◌≤◌, List, [], ◌∷◌, ◌++◌, length, Option, Some, None, refl, ap, arith, inl, inr}
+use Rattle.std.proofs.Common.{◌≡◌, ℕ, suc, ◌+◌, ◌≤◌, [], ◌∷◌, ◌++◌, length, None, arith, inl, inr}
 use Rattle.std.specs.Prelude.{fold, ⊤}
 use Rattle.std.proofs.lemmas.Bool.{cases_lt}
 use Rattle.oak_model.specs.declared.writes.Write.{Write}

@@ -1,6 +1,6 @@
 use crate::{
-    Answer, BadShape, CellCall, Class, Key, Name, RecipeKind, Shape, ShapeField, Value, answer_call,
-    apply_kind, class_of, cmp_keys, is_key, is_value,
+    Answer, BadShape, CellCall, Class, Key, Name, RecipeKind, Shape, ShapeField, Value,
+    answer_call, apply_kind, class_of, cmp_keys, is_key, is_value,
 };
 use std::cmp::Ordering;
 use std::test::Fail;

@@ -1,22 +1,19 @@
 -- A call on a key is replied to by one of its reply words.
-use Rattle.std.proofs.Common.{◌≡◌, ℕ, true, false, Bool, List, [], ◌∷◌, ◌++◌, Option, Some, None, refl, sym, ap, ◌∙◌, subst}
-use Rattle.std.specs.Prelude.{IsSome}
+use Rattle.std.proofs.Common.{◌≡◌, ℕ, true, false, Bool, List, [], ◌∷◌, ◌++◌, Some, None, refl, ap}
 use Rattle.oak_model.specs.declared.cells.CellCall.{CellCall}
 use Rattle.oak_model.specs.declared.cells.CellCall.TheVariants as asks
 use Rattle.oak_model.specs.declared.cells.CellReply.{CellReply}
 use Rattle.oak_model.specs.declared.cells.CellReply.TheVariants as words
-use Rattle.oak_model.specs.declared.replies.Wrote.{Wrote}
 use Rattle.oak_model.specs.declared.replies.Wrote.TheVariants as wrote
 use Rattle.oak_model.specs.declared.replies.Reply.{Reply}
 use Rattle.oak_model.specs.declared.replies.Reply.TheVariants as replies
 use Rattle.oak_model.specs.declared.recipes.RecipeKind.{RecipeKind}
 use Rattle.oak_model.specs.State.{State}
 use Rattle.oak_model.specs.Cell.{reply_of}
-use Rattle.oak_model.specs.History.{last_state, Histories}
 use Rattle.oak_script.specs.declared.scripts.Call.{Call}
-use Rattle.oak_script.specs.declared.scripts.Call.TheVariants.{Put, Get, PutNew, Compute, Upsert, Remove, Hold, Look, Scan, Back}
+use Rattle.oak_script.specs.declared.scripts.Call.TheVariants.{Put, Get, PutNew, Compute, Upsert, Remove}
 use Rattle.oak_script.specs.Text.{CanReply, CallsAnswered}
-use Rattle.oak_run.specs.Told.{Tells, is_held, is_full}
+use Rattle.oak_run.specs.Told.{Tells, is_held}
 
 -- the words of a cell's replies that a call on a key can have
 abbrev pub has_word : CellCall → CellReply → Bool

@@ -1,9 +1,9 @@
 -- What a call on a key does over the kept histories.
-use Rattle.std.proofs.Common.{◌≡◌, ℕ, zero, suc, ◌+◌, ◌-◌, ◌<◌, ◌≤◌, Bool, true, false, cond, List, [], ◌∷◌, ◌++◌, length, take, Option, Some, None, refl, sym, ap, subst, ◌∙◌, arith, inl, inr}
-use Rattle.std.specs.Prelude.{IsSome, MatchOption, unwrap_or}
+use Rattle.std.proofs.Common.{◌≡◌, ℕ, suc, ◌+◌, ◌-◌, Bool, true, false, cond, List, [], ◌∷◌, ◌++◌, length, Some, None, refl, sym, ap, subst, ◌∙◌, arith, inl, inr}
+use Rattle.std.specs.Prelude.{IsSome, MatchOption}
 use Rattle.std.specs.BTreeMap.{BTreeMap, get}
 use Rattle.std.proofs.lemmas.Bool.{cases_Bool, cases_lt}
-use Rattle.std.proofs.lemmas.List.{take_all, take-append-le, length_push}
+use Rattle.std.proofs.lemmas.List.{take_all, length_push}
 use Rattle.oak_model.specs.declared.writes.Write.{Write}
 use Rattle.oak_model.specs.declared.cells.CellCall.{CellCall}
 use Rattle.oak_model.specs.declared.cells.CellCall.TheVariants as asks
@@ -12,14 +12,13 @@ use Rattle.oak_model.specs.Key.{key_cmp, same_key}
 use Rattle.oak_model.specs.State.{State}
 use Rattle.oak_model.specs.Cell.{reply_of, state_after, is_write, is_new}
 use Rattle.oak_model.specs.History.{History, Histories, last_state, state_at}
-use Rattle.oak_model.specs.Life.{IsLifeAt}
 use Rattle.oak_model.proofs.KeyLaws.{same_is}
-use Rattle.oak_model.proofs.HistoryLaws.{Extends, last_state-push, state_at-extends, state_at-end}
+use Rattle.oak_model.proofs.HistoryLaws.{last_state-push, state_at-extends, state_at-end}
 use Rattle.oak_run.specs.declared.lasts.Last.{Last}
 use Rattle.oak_run.specs.Told.{Ask}
-use Rattle.oak_run.specs.Plain.{write_of, grown, number_of, after_ask}
+use Rattle.oak_run.specs.Plain.{write_of, grown, after_ask}
 use Rattle.oak_run.specs.Keeps.{IsBornAt, IsLast, KeepsLasts}
-use Rattle.oak_run.specs.Does.{CellDid, CellDoes}
+use Rattle.oak_run.specs.Does.{CellDoes}
 
 writes_with : (h : History) (cell : CellCall) (s : State) (b : Bool) → s ≡ last_state h → is_write (reply_of s cell) ≡ b → is_write (reply_of (last_state h) cell) ≡ b
 writes_with h cell s b e w = ap (λ (x : State). is_write (reply_of x cell)) (sym e) ∙ w

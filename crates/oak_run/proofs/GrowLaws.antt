@@ -1,13 +1,13 @@
 -- A thread's turns fit longer histories too.
-use Rattle.std.proofs.Common.{◌≡◌, ℕ, zero, suc, ◌+◌, ◌<◌, ◌≤◌, Bool, true, false, cond, List, [], ◌∷◌, ◌++◌, length, map, Option, Some, None, refl, sym, ap, subst, ◌∙◌, arith}
-use Rattle.std.specs.Prelude.{IsSomeAnd, IsSome, MatchBool, MatchOption, ⊤}
+use Rattle.std.proofs.Common.{◌≡◌, ℕ, suc, ◌≤◌, Bool, true, false, cond, List, [], ◌∷◌, length, Option, Some, None, refl, sym, ◌∙◌, arith}
+use Rattle.std.specs.Prelude.{IsSomeAnd, MatchBool, MatchOption, ⊤}
 use Rattle.std.specs.List.{AllByRecursion}
 use Rattle.oak_model.specs.declared.replies.Pair.{Pair}
 use Rattle.oak_model.specs.declared.replies.Reply.{Reply}
 use Rattle.oak_model.specs.declared.replies.Reply.TheVariants as replies
 use Rattle.oak_model.specs.State.{State}
 use Rattle.oak_model.specs.History.{History, Histories, place_of, state_at}
-use Rattle.oak_model.specs.Scan.{ScanFits, in_range, value_in}
+use Rattle.oak_model.specs.Scan.{in_range, value_in}
 use Rattle.oak_model.proofs.HistoryLaws.{Extends, length-extends, state_at-extends, reply_fits-extends, life-extends, ends-extends}
 use Rattle.oak_script.specs.declared.scripts.Call.{Call}
 use Rattle.oak_script.specs.declared.scripts.Call.TheVariants.{Put, Get, PutNew, Compute, Upsert, Remove, Hold, Look, Scan, Back}
@@ -53,6 +53,7 @@ answer-grows top h e caller n t g u f = by (ask_of t.call) u.key f
     choose : (a : Ask) (b : Bool) → reply_at t.reply ≤ top a.key → MatchBool b (PlacedNowhere t) (KeyAnswer h caller n a t) → MatchBool b (PlacedNowhere t) (KeyAnswer e caller n a t)
     choose a true le k = k
     choose a false le k = key_answer-grows top h e caller n a t g le k
+
     by : (o : Option Ask) → MatchOption o ⊤ (λ a. reply_at t.reply ≤ top a.key) → MatchOption o ⊤ (λ a. CellAnswer h caller n a t) → MatchOption o ⊤ (λ a. CellAnswer e caller n a t)
     by None le k = tt
     by (Some a) le k = choose a (is_full t.reply) le k

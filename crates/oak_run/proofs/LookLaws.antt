@@ -1,18 +1,18 @@
 -- Whether the life that was held is the present one.
-use Rattle.std.proofs.Common.{◌≡◌, ◌≢◌, ℕ, zero, suc, ◌+◌, ◌-◌, ◌<◌, ◌≤◌, Bool, true, false, cond, eqb, List, length, Option, Some, None, refl, sym, ap, subst, ◌∙◌, arith, inl, inr}
-use Rattle.std.specs.Prelude.{IsSome, IsSomeAnd}
+use Rattle.std.proofs.Common.{◌≡◌, ◌≢◌, ℕ, suc, ◌+◌, ◌-◌, ◌<◌, ◌≤◌, true, false, eqb, List, length, Some, None, refl, sym, ◌∙◌, arith, inl, inr}
+use Rattle.std.specs.Prelude.{IsSome}
 use Rattle.std.specs.BTreeMap.{BTreeMap}
 use Rattle.std.proofs.lemmas.Bool.{cases_Bool, cases_lt}
 use Rattle.std.proofs.lemmas.Bool.Decides.{nat_tests}
 use Rattle.oak_model.specs.State.{State}
 use Rattle.oak_model.specs.History.{History, Histories, last_state, state_at}
-use Rattle.oak_model.specs.Life.{IsLifeAt, EndsAt}
+use Rattle.oak_model.specs.Life.{EndsAt}
 use Rattle.oak_model.proofs.HistoryLaws.{Extends-self, state_at-end, first_absent}
 use Rattle.oak_run.specs.declared.lasts.Last.{Last}
 use Rattle.oak_run.specs.declared.lasts.Held.{Held}
 use Rattle.oak_run.specs.Views.{View}
 use Rattle.oak_run.specs.Keeps.{IsBornAt, KeepsLasts, IsViewOf}
-use Rattle.oak_run.specs.Does.{ShowsLast, LookDid, LookAtDoes, shown_reply}
+use Rattle.oak_run.specs.Does.{ShowsLast, LookAtDoes, shown_reply}
 
 none-some : (s : State) → IsSome s → s ≡ None → ⊥
 none-some None some e = absurd cc
@@ -42,9 +42,9 @@ behind h born held p now was other =
     elim (cases_lt p born) [
       | inl lt ↦ lt
       | inr ge ↦ absurd (elim (cases_lt born held) [
-          | inl earlier ↦ none-some (state_at h (held - 1)) (now.life.present (held - 1) (omega arith) (omega (arith, was.life.from, was.life.last))) was.absent
-          | inr later ↦ none-some (state_at h (born - 1)) (was.life.present (born - 1) (below later) (omega arith)) now.absent
-        ])
+        | inl earlier ↦ none-some (state_at h (held - 1)) (now.life.present (held - 1) (omega arith) (omega (arith, was.life.from, was.life.last))) was.absent
+        | inr later ↦ none-some (state_at h (born - 1)) (was.life.present (born - 1) (below later) (omega arith)) now.absent
+      ])
     ]
   where
     below : held ≤ born → held ≤ born - 1
@@ -86,6 +86,7 @@ look-present m v count born value counts states births h x keeps is =
   where
     is_equal : (a b : ℕ) → eqb a b ≡ true → a ≡ b
     is_equal a b e = grind (arith, nat_tests)
+
     is_other : (a b : ℕ) → eqb a b ≡ false → a ≢ b
     is_other a b e = grind (arith, nat_tests)
 

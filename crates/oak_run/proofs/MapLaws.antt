@@ -1,12 +1,11 @@
 -- The pairs of an ordered map of kept histories.
-use Rattle.std.proofs.Common.{◌≡◌, ℕ, suc, ◌+◌, ◌<◌, ◌≤◌, Bool, true, false, cond, List, [], ◌∷◌, ◌++◌, length, map, Option, Some, None, refl, sym, ap, subst, ◌∙◌, arith, inl, inr, append_assoc}
+use Rattle.std.proofs.Common.{◌≡◌, ℕ, Bool, true, false, cond, List, [], ◌∷◌, ◌++◌, length, Option, Some, None, refl, ap, subst, ◌∙◌, inl, inr}
 use Rattle.std.specs.Prelude.{MatchOption, reverse}
 use Rattle.std.specs.BTreeMap.{BTreeMap, get, is_at}
 use Rattle.std.specs.Map.{keys_of, lookup}
 use Rattle.std.specs.List.{AllByRecursion}
 use Rattle.std.specs.List.Sorted.{IsStrictlySortedBy}
 use Rattle.std.specs.Ordering.{is_eq, flip_args}
-use Rattle.std.specs.declared.cmp.Ordering.{Ordering}
 use Rattle.std.specs.declared.cmp.Ordering.TheVariants.{Less}
 use Rattle.std.proofs.lemmas.Bool.{cases_Bool}
 use Rattle.std.proofs.lemmas.List.{reverse-append}
@@ -18,8 +17,8 @@ use Rattle.oak_model.specs.History.{Histories, last_state}
 use Rattle.oak_model.specs.Scan.{in_range, value_in, pair_keys, IsRising, IsFalling}
 use Rattle.oak_model.proofs.KeyLaws.{same_is, same_itself}
 use Rattle.oak_run.specs.declared.lasts.Last.{Last}
-use Rattle.oak_run.specs.Keeps.{IsLast, KeepsLasts, pair_within, pairs_within}
-use Rattle.oak_run.specs.Does.{ShowsRange, RangeDoes}
+use Rattle.oak_run.specs.Keeps.{IsLast, pair_within, pairs_within}
+use Rattle.oak_run.specs.Does.{RangeDoes}
 use Rattle.oak_run.proofs.PushLaws.{all-push}
 
 abbrev Entries : Type 0

@@ -1,8 +1,6 @@
 -- A reply's place by the replies and by the history is the same.
-use Rattle.std.proofs.Common.{◌≡◌, ℕ, zero, suc, ◌+◌, Bool, true, false, cond, leb, ◌&&◌, List, [], ◌∷◌, ◌++◌, map, Option, Some, None, refl, sym, ap, subst, ◌∙◌, arith, inl, inr}
+use Rattle.std.proofs.Common.{◌≡◌, ℕ, suc, ◌+◌, Bool, true, false, cond, leb, ◌&&◌, List, [], ◌∷◌, ◌++◌, map, Some, None, refl, sym, ap, ◌∙◌, arith, inl, inr}
 use Rattle.std.specs.Prelude.{count_by, sum_by, option_to_list}
-use Rattle.std.specs.Option.{option_map, option_map_or}
-use Rattle.std.specs.List.Sorted.{IsPermutation}
 use Rattle.std.proofs.lemmas.Bool.{cases_Bool}
 use Rattle.std.proofs.lemmas.List.Sums.{sum_by-cons}
 use Rattle.std.proofs.lemmas.List.Recursion.{is_count_by}
@@ -17,23 +15,22 @@ use Rattle.oak_model.specs.History.{History, Histories, place_of}
 use Rattle.oak_model.proofs.KeyLaws.{same_is, same_itself}
 use Rattle.oak_script.specs.declared.scripts.Call.{Call}
 use Rattle.oak_script.specs.declared.scripts.Call.TheVariants.{Put, Get, PutNew, Compute, Upsert, Remove, Hold, Look, Scan, Back}
-use Rattle.oak_script.specs.Places.{key_of, stamp_of, stamp_of_wrote, is_call_on, stamps_in, stamps_along, stamps_of, written_upto}
-use Rattle.oak_run.specs.Told.{Ask, ask_of, reply_at, makes_write, wrote_writes, wrote_at}
+use Rattle.oak_script.specs.Places.{stamp_of, stamp_of_wrote, is_call_on, stamps_in, stamps_along, stamps_of, written_upto}
+use Rattle.oak_run.specs.Told.{ask_of, reply_at, makes_write, wrote_writes, wrote_at}
 use Rattle.oak_run.specs.Turn.{Turn}
 use Rattle.oak_run.specs.Answers.{Mark, mark_of, marks, all_marks, asks_for, writes_key}
 use Rattle.oak_run.specs.RunFits.{PlainFits, calls_of, replies_of}
 
 -- ---- the stamps that turns tell
 
-
 same_key-swap : (a b : List ℕ) → same_key a b ≡ same_key b a
 same_key-swap a b =
     elim (cases_Bool (same_key a b)) [
       | inl same ↦ same ∙ sym (rw (same_is a b same) (same_itself b))
       | inr other ↦ elim (cases_Bool (same_key b a)) [
-          | inl same ↦ absurd (both (same_key a b) other (rw (same_is b a same) (same_itself a)))
-          | inr apart ↦ other ∙ sym apart
-        ]
+        | inl same ↦ absurd (both (same_key a b) other (rw (same_is b a same) (same_itself a)))
+        | inr apart ↦ other ∙ sym apart
+      ]
     ]
   where
     both : (b : Bool) → b ≡ false → b ≡ true → ⊥

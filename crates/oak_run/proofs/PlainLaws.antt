@@ -1,26 +1,22 @@
 -- Histories that one caller makes call by call.
-use Rattle.std.proofs.Common.{◌≡◌, ℕ, zero, suc, ◌+◌, ◌-◌, ◌<◌, ◌≤◌, Bool, true, false, cond, ◌&&◌, ◌⊎◌, List, [], ◌∷◌, ◌++◌, length, map, take, Option, Some, None, refl, sym, ap, subst, ◌∙◌, arith, append_assoc, inl, inr}
-use Rattle.std.specs.Prelude.{unwrap_or, MatchBool, MatchOption, IsSomeAnd, ⊤}
-use Rattle.std.specs.Bool.{OnTrue}
+use Rattle.std.proofs.Common.{◌≡◌, ℕ, zero, suc, ◌-◌, ◌≤◌, true, false, cond, ◌⊎◌, List, [], ◌∷◌, ◌++◌, length, Option, Some, None, refl, sym, ap, ◌∙◌, arith, inl, inr}
+use Rattle.std.specs.Prelude.{unwrap_or}
 use Rattle.std.specs.List.{slice_get}
-use Rattle.std.proofs.lemmas.Bool.{cases_Bool, cases_lt}
-use Rattle.std.proofs.lemmas.List.{append-nil, take_at, length-append, length_push, map_push, take_all}
+use Rattle.std.proofs.lemmas.Bool.{cases_Bool}
+use Rattle.std.proofs.lemmas.List.{take_at, length_push, take_all}
 use Rattle.oak_model.specs.declared.writes.Write.{Write}
 use Rattle.oak_model.specs.declared.writes.Kind.TheVariants as kinds
 use Rattle.oak_model.specs.declared.cells.CellCall.{CellCall}
 use Rattle.oak_model.specs.declared.cells.CellCall.TheVariants as asks
-use Rattle.oak_model.specs.declared.cells.CellReply.{CellReply}
-use Rattle.oak_model.specs.declared.replies.Reply.{Reply}
 use Rattle.oak_model.specs.Key.{same_key}
 use Rattle.oak_model.specs.State.{State}
-use Rattle.oak_model.specs.Cell.{reply_of, state_after, is_write, kind_of}
-use Rattle.oak_model.specs.History.{History, Histories, last_state, state_at, place_of, FollowsCell, IsWriteOn, AreDistinctCalls}
+use Rattle.oak_model.specs.Cell.{reply_of, is_write, kind_of}
+use Rattle.oak_model.specs.History.{History, Histories, last_state, place_of, FollowsCell, IsWriteOn, AreDistinctCalls}
 use Rattle.oak_model.specs.Fits.{WriteFits, ReadFits, ReplyFits}
-use Rattle.oak_model.proofs.KeyLaws.{same_itself, same_is}
-use Rattle.oak_model.proofs.HistoryLaws.{Extends, Extends-self, StampsAbove, place_of-append, last_state-push, slice_get-mid, slice_get-front, length-extends}
-use Rattle.oak_model.proofs.LegalLaws.{IsDense, dense-push, place-dense, follows_cell-push}
+use Rattle.oak_model.proofs.KeyLaws.{same_is}
+use Rattle.oak_model.proofs.HistoryLaws.{Extends, Extends-self, place_of-append, last_state-push, slice_get-mid, length-extends}
+use Rattle.oak_model.proofs.LegalLaws.{IsDense, dense-push, follows_cell-push}
 use Rattle.oak_run.specs.Told.{Ask}
-use Rattle.oak_run.specs.Answers.{Mark, mark_of}
 use Rattle.oak_run.specs.Plain.{write_of, grown, number_of, after_ask}
 use Rattle.oak_run.proofs.GrowLaws.{Grows}
 

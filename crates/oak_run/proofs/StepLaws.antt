@@ -1,5 +1,5 @@
 -- One more call of a run over the kept histories.
-use Rattle.std.proofs.Common.{◌≡◌, ℕ, zero, suc, ◌+◌, ◌-◌, ◌<◌, ◌≤◌, Bool, true, false, cond, ◌&&◌, List, [], ◌∷◌, ◌++◌, length, map, Option, Some, None, refl, sym, ap, subst, ◌∙◌, arith, inl, inr}
+use Rattle.std.proofs.Common.{◌≡◌, ℕ, suc, ◌-◌, ◌≤◌, Bool, true, false, cond, ◌&&◌, List, [], ◌∷◌, ◌++◌, length, map, Option, Some, None, refl, sym, ap, subst, ◌∙◌, arith, inl, inr}
 use Rattle.std.specs.Prelude.{MatchOption, IsSome, IsSomeAnd}
 use Rattle.std.specs.BTreeMap.{BTreeMap, get}
 use Rattle.std.proofs.lemmas.Bool.{cases_Bool}
@@ -22,21 +22,21 @@ use Rattle.oak_script.specs.declared.scripts.Call.{Call}
 use Rattle.oak_script.specs.declared.scripts.Call.TheVariants.{Put, Get, PutNew, Compute, Upsert, Remove, Hold, Look, Scan, Back}
 use Rattle.oak_run.specs.declared.lasts.Last.{Last}
 use Rattle.oak_run.specs.declared.lasts.Held.{Held}
-use Rattle.oak_run.specs.Told.{Ask, ask_of, makes_write, Tells, is_held, is_full, reply_at}
+use Rattle.oak_run.specs.Told.{Ask, ask_of, Tells, is_held, is_full, reply_at}
 use Rattle.oak_run.specs.Turn.{Turn}
 use Rattle.oak_run.specs.Answers.{Mark, mark_of, marks, writes_key}
-use Rattle.oak_run.specs.Views.{View, Names, no_names, named, names_after}
+use Rattle.oak_run.specs.Views.{View, Names, no_names, names_after}
 use Rattle.oak_run.specs.RunFits.{NoneRefused}
 use Rattle.oak_run.specs.Plain.{write_of, grown, number_of, after_ask}
 use Rattle.oak_run.specs.Keeps.{KeepsLasts, KeepsHolds, IsViewOf, IsBornAt}
-use Rattle.oak_run.specs.Does.{CellDid, TellsWord, HoldDid, LookDid, ShowsRange, AskDoes, PairsDo, Does}
+use Rattle.oak_run.specs.Does.{CellDid, TellsWord, HoldDid, LookDid, AskDoes, PairsDo, Does}
 use Rattle.oak_script.specs.Text.{CanReply, CallsAnswered}
 use Rattle.oak_run.proofs.CanLaws.{has_word, reply-has_word, can-put, can-get, can-put_new, can-compute, can-upsert, can-remove, answered-push}
 use Rattle.oak_run.proofs.CellLaws.{keeps-read}
 use Rattle.oak_run.proofs.GrowLaws.{Grows}
 use Rattle.oak_run.proofs.PushLaws.{all-push, Goes, Joins, names_of, goes-push, marks-push}
 use Rattle.oak_run.proofs.PlainLaws.{IsPlain, lengths, lengths-after, grows-after, plain-after, length-grown}
-use Rattle.oak_run.proofs.TurnLaws.{ask_turn, joins-ask, Stays, look-stays, range_turn, range-fits, range-joins}
+use Rattle.oak_run.proofs.TurnLaws.{ask_turn, joins-ask, look-stays, range_turn, range-fits, range-joins}
 
 -- ---- what a run so far is
 
@@ -98,6 +98,7 @@ holds-grow m h e names x keeps a = by (get key_cmp m a) (names a) (keeps a)
     view : (v : Held) (o : Option View) → IsSomeAnd o (λ y. IsViewOf h v y) → IsSomeAnd o (λ y. IsViewOf e v y)
     view v None is = absurd is
     view v (Some y) is = record { key = is.key; born = born-extends (h y.key) (e y.key) v.born y.place (x y.key) is.born }
+
     by : (o : Option Held) (name : Option View) → MatchOption o (name ≡ None) (λ v. IsSomeAnd name (λ y. IsViewOf h v y)) → MatchOption o (name ≡ None) (λ v. IsSomeAnd name (λ y. IsViewOf e v y))
     by None name none = none
     by (Some v) name is = view v name is

@@ -1,10 +1,10 @@
 -- A thread's run from its first call to its last.
-use Rattle.std.proofs.Common.{◌≡◌, ℕ, zero, suc, ◌+◌, ◌<◌, ◌≤◌, ◌^◌, true, false, cond, List, [], ◌∷◌, ◌++◌, length, map, take, get_or, Option, Some, None, refl, sym, ap, subst, ◌∙◌, arith}
+use Rattle.std.proofs.Common.{◌≡◌, ℕ, zero, suc, ◌<◌, ◌≤◌, ◌^◌, List, [], ◌∷◌, length, map, get_or, Option, Some, None, refl, sym, ap, subst, ◌∙◌, arith}
 use Rattle.std.specs.Prelude.{MatchOption, IfSome}
 use Rattle.std.specs.BTreeMap.{BTreeMap, get}
-use Rattle.std.specs.List.{AllByRecursion, slice_get}
+use Rattle.std.specs.List.{AllByRecursion}
 use Rattle.std.specs.List.Sorted.{IsPermutation}
-use Rattle.std.proofs.lemmas.List.{append-nil, length-map, take_all}
+use Rattle.std.proofs.lemmas.List.{append-nil, length-map}
 use Rattle.std.proofs.lemmas.List.Sorted.{IsPermutation-refl}
 use Rattle.oak_model.specs.declared.replies.Pair.{Pair}
 use Rattle.oak_model.specs.declared.replies.Reply.{Reply}
@@ -21,11 +21,11 @@ use Rattle.oak_script.specs.Grammar.{CallFits, ArgumentFits}
 use Rattle.oak_run.specs.declared.lasts.Last.{Last}
 use Rattle.oak_run.specs.declared.lasts.Held.{Held}
 use Rattle.oak_run.specs.Turn.{Turn}
-use Rattle.oak_run.specs.Answers.{Mark, mark_of, marks, all_marks}
+use Rattle.oak_run.specs.Answers.{Mark, mark_of, marks}
 use Rattle.oak_run.specs.Plain.{unwritten}
-use Rattle.oak_run.specs.Keeps.{KeepsLasts, IsLast}
+use Rattle.oak_run.specs.Keeps.{IsLast}
 use Rattle.oak_run.specs.Does.{HasArguments, RangeDoes, ShowsRange}
-use Rattle.oak_run.specs.ThreadRuns.{ThreadRuns, RunsThread}
+use Rattle.oak_run.specs.ThreadRuns.{RunsThread}
 use Rattle.oak_run.specs.RunFits.{PlainFits}
 use Rattle.oak_run.proofs.StepLaws.{Running}
 
@@ -124,8 +124,7 @@ states-of h finals s q = s.reads q
 pub plain-fits : (lasts : BTreeMap (List ℕ) Last) (cs : List Call) (ys : List Reply) (finals : List Pair) → RunsThread lasts cs ys → RangeDoes lasts None None finals → IsRising finals → (h : Histories) × PlainFits h (cs ∷ []) (ys ∷ []) finals
 plain-fits lasts cs ys finals r does rising =
     let h = r.0 in
-    let t = r.1 in
-    (
+    let t = r.1 in (
       h,
       record {
         threads = t.turns ∷ [];

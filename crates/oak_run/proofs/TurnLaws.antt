@@ -1,45 +1,34 @@
 -- The turn of a call over the kept histories.
-use Rattle.std.proofs.Common.{◌≡◌, ℕ, zero, suc, ◌+◌, ◌<◌, ◌≤◌, Bool, true, false, cond, ◌&&◌, List, [], ◌∷◌, ◌++◌, length, map, Option, Some, None, refl, sym, ap, subst, ◌∙◌, arith, inl, inr}
-use Rattle.std.specs.Prelude.{MatchBool, MatchOption, IsSome, IsSomeAnd, ⊤}
+use Rattle.std.proofs.Common.{◌≡◌, ℕ, suc, ◌<◌, ◌≤◌, Bool, true, false, cond, List, [], ◌∷◌, length, Option, Some, None, refl, sym, ap, subst, ◌∙◌, arith, inl, inr}
 use Rattle.std.specs.Bool.{OnTrue}
-use Rattle.std.specs.Option.{option_map}
 use Rattle.std.specs.List.{AllByRecursion}
-use Rattle.std.specs.BTreeMap.{BTreeMap, get}
 use Rattle.std.proofs.lemmas.Bool.{cases_Bool}
-use Rattle.std.proofs.lemmas.List.{map_push}
 use Rattle.oak_model.specs.declared.cells.CellCall.{CellCall}
-use Rattle.oak_model.specs.declared.cells.CellCall.TheVariants as asks
 use Rattle.oak_model.specs.declared.cells.CellReply.{CellReply}
-use Rattle.oak_model.specs.declared.cells.CellReply.TheVariants as words
 use Rattle.oak_model.specs.declared.replies.Pair.{Pair}
-use Rattle.oak_model.specs.declared.replies.Wrote.{Wrote}
-use Rattle.oak_model.specs.declared.replies.Wrote.TheVariants as wrote
 use Rattle.oak_model.specs.declared.replies.Reply.{Reply}
 use Rattle.oak_model.specs.declared.replies.Reply.TheVariants as replies
-use Rattle.oak_model.specs.Key.{key_cmp, same_key}
+use Rattle.oak_model.specs.Key.{same_key}
 use Rattle.oak_model.specs.State.{State}
 use Rattle.oak_model.specs.Cell.{reply_of, is_write}
-use Rattle.oak_model.specs.History.{History, Histories, last_state, state_at, place_of}
+use Rattle.oak_model.specs.History.{History, Histories, last_state, place_of}
 use Rattle.oak_model.specs.Fits.{ReplyFits}
-use Rattle.oak_model.specs.Scan.{ScanFits, in_range, value_in}
+use Rattle.oak_model.specs.Scan.{in_range}
 use Rattle.oak_model.proofs.KeyLaws.{same_itself, same_is}
-use Rattle.oak_model.proofs.HistoryLaws.{Extends, Extends-self, state_at-end, life-extends, state_at-extends}
+use Rattle.oak_model.proofs.HistoryLaws.{Extends-self, state_at-end}
 use Rattle.oak_model.proofs.LegalLaws.{IsDense, place-dense}
 use Rattle.oak_script.specs.declared.scripts.Call.{Call}
 use Rattle.oak_script.specs.declared.scripts.Call.TheVariants.{Put, Get, PutNew, Compute, Upsert, Remove, Hold, Look, Scan, Back}
-use Rattle.oak_run.specs.declared.lasts.Last.{Last}
-use Rattle.oak_run.specs.declared.lasts.Held.{Held}
-use Rattle.oak_run.specs.Told.{Ask, ask_of, Tells, reply_at, is_full, makes_write}
-use Rattle.oak_run.specs.Turn.{Turn, PlacedAt, PlacedNowhere, only_at}
-use Rattle.oak_run.specs.Answers.{KeyAnswer, CellAnswer, AnswerFits, Mark, mark_of, writes_key}
-use Rattle.oak_run.specs.Views.{View, Names, ViewFits, Shows, IsGone, named, names_after, renamed, view_of}
+use Rattle.oak_run.specs.Told.{Ask, ask_of, Tells, reply_at, makes_write}
+use Rattle.oak_run.specs.Turn.{Turn, only_at}
+use Rattle.oak_run.specs.Answers.{KeyAnswer}
+use Rattle.oak_run.specs.Views.{View, Names, ViewFits, Shows}
 use Rattle.oak_run.specs.Scans.{ScanTurnFits, PairsFit, within_range}
-use Rattle.oak_run.specs.Plain.{write_of, grown, number_of, after_ask}
-use Rattle.oak_run.specs.Keeps.{KeepsLasts, KeepsHolds, IsViewOf, IsBornAt}
-use Rattle.oak_run.specs.Does.{CellDid, TellsWord, HoldDid, LookDid, ShowsLast, ShowsRange}
-use Rattle.oak_run.proofs.GrowLaws.{Grows, UpTo, ReplyUpTo}
-use Rattle.oak_run.proofs.PushLaws.{Joins, FloorsWithin}
-use Rattle.oak_run.proofs.PlainLaws.{lengths, length-grown, reply_fits-grown, grows-after, dense-after, IsPlain}
+use Rattle.oak_run.specs.Plain.{grown, number_of, after_ask}
+use Rattle.oak_run.specs.Does.{TellsWord, LookDid, ShowsLast, ShowsRange}
+use Rattle.oak_run.proofs.GrowLaws.{ReplyUpTo}
+use Rattle.oak_run.proofs.PushLaws.{Joins}
+use Rattle.oak_run.proofs.PlainLaws.{lengths, length-grown, reply_fits-grown, dense-after}
 
 -- ---- calls on a key look at no view and scan nothing
 
@@ -133,6 +122,7 @@ joins-ask h names n c a word at y dense is answer number says =
   where
     writes : makes_write y ≡ is_write (reply_of (last_state (h a.key)) a.cell)
     writes = says.writes ∙ ap is_write answer
+
     behind : (q : List ℕ) (r : ℕ) → only_at a.key (number_of (h a.key) a.cell) q ≡ Some r → (length (h q) ≤ r) × OnTrue (makes_write y) (length (h q) < r)
     behind q r place =
         let f = only-here a.key (number_of (h a.key) a.cell) q r place in

@@ -1,7 +1,6 @@
 -- Part one of a run that fits: each reply is the cell's at its place, and each write is one reply's.
-use Rattle.std.specs.Prelude.{◌≡◌, ℕ, suc, ◌&&◌, Bool, false, if◌then◌else◌, List, [], ◌∷◌, ◌++◌, Option, Some, None, MatchBool, MatchOption, ⊤}
+use Rattle.std.specs.Prelude.{ℕ, suc, ◌&&◌, Bool, false, if◌then◌else◌, List, [], ◌∷◌, ◌++◌, Option, Some, None, MatchBool, MatchOption, ⊤}
 use Rattle.oak_model.specs.declared.writes.Write.{Write}
-use Rattle.oak_model.specs.declared.cells.CellCall.{CellCall}
 use Rattle.oak_model.specs.declared.cells.CellReply.{CellReply}
 use Rattle.oak_model.specs.Key.{same_key}
 use Rattle.oak_model.specs.History.{Histories, place_of}

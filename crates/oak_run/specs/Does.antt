@@ -1,8 +1,7 @@
 -- What one call does over the kept histories, for all that they stand for.
-use Rattle.std.specs.Prelude.{◌≡◌, ℕ, suc, ◌==◌, Bool, true, false, if◌then◌else◌, List, length, Option, Some, None, IsSome, IsSomeAnd, ⊤}
+use Rattle.std.specs.Prelude.{◌≡◌, ℕ, ◌==◌, false, if◌then◌else◌, List, length, Option, Some, None, IsSome, IsSomeAnd, ⊤}
 use Rattle.std.specs.BTreeMap.{BTreeMap}
 use Rattle.std.specs.List.{AllByRecursion}
-use Rattle.oak_model.specs.declared.cells.CellCall.{CellCall}
 use Rattle.oak_model.specs.declared.cells.CellCall.TheVariants as asks
 use Rattle.oak_model.specs.declared.cells.CellReply.{CellReply}
 use Rattle.oak_model.specs.declared.replies.Pair.{Pair}
@@ -18,9 +17,8 @@ use Rattle.oak_script.specs.declared.scripts.Call.{Call}
 use Rattle.oak_script.specs.declared.scripts.Call.TheVariants.{Put, Get, PutNew, Compute, Upsert, Remove, Hold, Look, Scan, Back}
 use Rattle.oak_run.specs.declared.lasts.Last.{Last}
 use Rattle.oak_run.specs.declared.lasts.Held.{Held}
-use Rattle.oak_run.specs.Told.{Ask, ask_of, Tells, reply_at, is_full, is_held, makes_write}
-use Rattle.oak_run.specs.Turn.{Turn}
-use Rattle.oak_run.specs.Views.{View, Names, named, names_after}
+use Rattle.oak_run.specs.Told.{Ask, Tells, reply_at, is_full, is_held, makes_write}
+use Rattle.oak_run.specs.Views.{View, Names, named}
 use Rattle.oak_run.specs.Plain.{number_of, after_ask}
 use Rattle.oak_run.specs.Keeps.{KeepsLasts, KeepsHolds, IsViewOf}
 

@@ -1,5 +1,5 @@
 -- A run over a plain list of writes: one caller's calls, call by call. The stamp of a key's r-th write is r.
-use Rattle.std.specs.Prelude.{ℕ, suc, if◌then◌else◌, List, [], ◌∷◌, ◌++◌, length, unwrap_or, Option, Some, None}
+use Rattle.std.specs.Prelude.{ℕ, suc, if◌then◌else◌, [], ◌∷◌, ◌++◌, length, unwrap_or, Option, Some, None}
 use Rattle.oak_model.specs.declared.writes.Kind.TheVariants as kinds
 use Rattle.oak_model.specs.declared.writes.Write.{Write}
 use Rattle.oak_model.specs.declared.cells.CellCall.{CellCall}

@@ -1,5 +1,5 @@
 -- One call of a thread with its reply.
-use Rattle.std.specs.Prelude.{◌≡◌, ℕ, Bool, if◌then◌else◌, List, Option, Some, None}
+use Rattle.std.specs.Prelude.{◌≡◌, ℕ, if◌then◌else◌, List, Option, Some, None}
 use Rattle.oak_model.specs.declared.replies.Reply.{Reply}
 use Rattle.oak_model.specs.Key.{same_key}
 use Rattle.oak_script.specs.declared.scripts.Call.{Call}

@@ -1,5 +1,5 @@
 -- Part three of a run that fits: a look shows the life that its name's last hold found.
-use Rattle.std.specs.Prelude.{◌≡◌, ℕ, if◌then◌else◌, List, [], ◌∷◌, Option, Some, None, IsSomeAnd, fold, ⊤}
+use Rattle.std.specs.Prelude.{◌≡◌, ℕ, if◌then◌else◌, List, [], ◌∷◌, Option, Some, None, IsSomeAnd, ⊤}
 use Rattle.std.specs.Option.{option_map}
 use Rattle.oak_model.specs.declared.replies.Reply.{Reply}
 use Rattle.oak_model.specs.declared.replies.Reply.TheVariants as replies

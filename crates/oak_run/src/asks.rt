@@ -6,7 +6,9 @@ ghost use Rattle.oak_run.specs.Keeps.{AreFew};
 ghost use Rattle.oak_run.specs.Does.{CellDoes, SaysWord, AskDoes};
 
 use crate::lasts::{Last, Lasts, last_of};
-use oak_model::{CellCall, CellReply, Key, OutOfMemory, RecipeKind, Reply, Value, Wrote, answer_call};
+use oak_model::{
+    CellCall, CellReply, Key, OutOfMemory, RecipeKind, Reply, Value, Wrote, answer_call,
+};
 use std::alloc::Global;
 
 /// The cell's reply to a call on a key, and the number that goes with it.
@@ -48,12 +50,7 @@ fn born_at(reply: &CellReply, born: u64, at: u64) -> u64
 }
 
 /// The reply that tells a cell's reply to a call on a key.
-fn reply_with(
-    alloc: Global,
-    key: &Key,
-    word: CellReply,
-    at: u64,
-) -> Result<Reply, OutOfMemory>
+fn reply_with(alloc: Global, key: &Key, word: CellReply, at: u64) -> Result<Reply, OutOfMemory>
     ensures { IfOk result (λ y. SaysWord key.now word at y) }
 {
     match word {
@@ -85,12 +82,7 @@ pub fn ask(
     reply_with(alloc, key, word, at)
 }
 
-pub fn put(
-    alloc: Global,
-    lasts: &mut Lasts,
-    key: &Key,
-    value: &Value,
-) -> Result<Reply, OutOfMemory>
+pub fn put(alloc: Global, lasts: &mut Lasts, key: &Key, value: &Value) -> Result<Reply, OutOfMemory>
     requires { AreFew lasts.old }
     ensures { IfOk result (λ y. AskDoes lasts.old lasts.new (record { key = key.now; cell = Put value.now }) y) }
 {

@@ -27,12 +27,7 @@ pub fn hold(
 }
 
 /// Reads the life that a name stands for.
-pub fn look(
-    alloc: Global,
-    lasts: &Lasts,
-    holds: &Holds,
-    name: &Name,
-) -> Result<Reply, OutOfMemory>
+pub fn look(alloc: Global, lasts: &Lasts, holds: &Holds, name: &Name) -> Result<Reply, OutOfMemory>
     ensures { IfOk result (λ y. LookDoes lasts.now holds.now name.now y) }
 {
     match holds.get(name) {

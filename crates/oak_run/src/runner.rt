@@ -52,11 +52,7 @@ fn run_one(alloc: Global, calls: &[Call]) -> Result<Ran, OutOfMemory>
 }
 
 /// The replies to a thread's calls.
-fn run_thread(
-    alloc: Global,
-    lasts: &mut Lasts,
-    calls: &[Call],
-) -> Result<Vec<Reply>, OutOfMemory>
+fn run_thread(alloc: Global, lasts: &mut Lasts, calls: &[Call]) -> Result<Vec<Reply>, OutOfMemory>
     requires empty { lasts.old.entries ≡ [] }
     requires few { length calls.now ≤ GREATEST_CALLS }
     requires arguments { AllByRecursion HasArguments calls.now }

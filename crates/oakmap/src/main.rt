@@ -9,9 +9,8 @@ mod top;
 
 use outside::{StdSink, StdSource};
 pub use status::{GREATEST_INPUT, Status};
-use std::env;
-use std::io;
 use std::process::ExitCode;
+use std::{env, io};
 pub use top::{completeness, top};
 
 fn main(rt: HostRuntime) -> ExitCode {

@@ -7,8 +7,14 @@ use std::test::Fail;
 /// The rows of one thread: a script without its first two lines and its last, and the text of its run, with a
 /// slash for a line's end.
 const ROWS: [(&str, &str); 14] = [
-    ("put 6b31 7631/get 6b31", "t1.1 new @1/t1.2 = 7631 @1/map 1/6b31 7631"),
-    ("get 6b/remove 6b/compute 6b add 1", "t1.1 none @0/t1.2 none @0/t1.3 none @0/map 0"),
+    (
+        "put 6b31 7631/get 6b31",
+        "t1.1 new @1/t1.2 = 7631 @1/map 1/6b31 7631",
+    ),
+    (
+        "get 6b/remove 6b/compute 6b add 1",
+        "t1.1 none @0/t1.2 none @0/t1.3 none @0/map 0",
+    ),
     (
         "put 6b -/get 6b/scan - -",
         "t1.1 new @1/t1.2 = - @1/t1.3 pairs 1/+ 6b - @1/map 1/6b -",
@@ -136,8 +142,12 @@ fn takes_the_longest_key_and_value(rt: HostRuntime) -> Result<(), Fail> {
     for _ in 0..1_024 {
         value.push_str("62")?;
     }
-    let text = format!(in alloc; "oak 1/thread/put {key} {value}/get {key}/put {key} -/get {key}/end/")?;
-    let says = format!(in alloc; "t1.1 new @1/t1.2 = {value} @1/t1.3 over @2/t1.4 = - @2/map 1/{key} -")?;
+    let text = format!(in alloc;
+        "oak 1/thread/put {key} {value}/get {key}/put {key} -/get {key}/end/"
+    )?;
+    let says = format!(in alloc;
+        "t1.1 new @1/t1.2 = {value} @1/t1.3 over @2/t1.4 = - @2/map 1/{key} -"
+    )?;
     expect(&rt, alloc, text.as_str(), 0, says.as_str())?;
     let long = format!(in alloc; "oak 1/thread/put {key}61 -/end/")?;
     expect(&rt, alloc, long.as_str(), 3, "oakmap: line 3: key")

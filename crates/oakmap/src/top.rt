@@ -21,12 +21,7 @@ use std::alloc::{AllocError, Global};
 /// exactly where the input is no script or longer than 16,777,216 bytes; 4 and 5 only where the source,
 /// or the sink while the run's text was written, counted a fault; 6 where no memory was found. With 2,
 /// 3 and 4 one line says why.
-pub fn top<S: Source, K: Sink>(
-    alloc: Global,
-    words: &[String],
-    source: &mut S,
-    sink: &mut K,
-) -> u8
+pub fn top<S: Source, K: Sink>(alloc: Global, words: &[String], source: &mut S, sink: &mut K) -> u8
     ensures { (s : Status) × (result ≡ code_of s) × Ended s (is_run (map (λ w. string_bytes w) words.now))
         (record { left = S.left source.old; faults = S.faults source.old }) (record { left = S.left source.new; faults = S.faults source.new })
         (record { written = K.written sink.old; faults = K.faults sink.old }) (record { written = K.written sink.new; faults = K.faults sink.new }) }
@@ -34,12 +29,7 @@ pub fn top<S: Source, K: Sink>(
     run(alloc, words, source, sink).code()
 }
 
-fn run<S: Source, K: Sink>(
-    alloc: Global,
-    words: &[String],
-    source: &mut S,
-    sink: &mut K,
-) -> Status
+fn run<S: Source, K: Sink>(alloc: Global, words: &[String], source: &mut S, sink: &mut K) -> Status
     ensures { Ended result (is_run (map (λ w. string_bytes w) words.now))
         (record { left = S.left source.old; faults = S.faults source.old }) (record { left = S.left source.new; faults = S.faults source.new })
         (record { written = K.written sink.old; faults = K.faults sink.old }) (record { written = K.written sink.new; faults = K.faults sink.new }) }
@@ -141,5 +131,4 @@ pub fn completeness()
     ensures { (s : Status) (source source_after : Input) (sink sink_after : Output) (text : List ℕ) (script : Script)
         → Ended s true source source_after sink sink_after → source.left ≡ Some text → length text ≤ GREATEST_INPUT → Spells text script
         → Unrisen source.faults source_after.faults → Unrisen sink.faults sink_after.faults → (s ≡ Status.Done) ⊎ (s ≡ Status.NoMemory) }
-{
-}
+{}

@@ -1,4 +1,4 @@
-use Rattle.std.proofs.Common.{◌≡◌, ◌+◌, refl, true, false, arith, rules}
+use Rattle.std.proofs.Common.{◌≡◌, ◌+◌, refl, true, false, rules}
 use Rattle.std.specs.Option.{option_map}
 use Rattle.oak_model.specs.Cell.{is_write}
 use Rattle.oak_run.proofs.CellLaws.{does-read, does-write}

@@ -1,10 +1,8 @@
-use Rattle.std.proofs.Common.{◌≡◌, ◌+◌, ◌≤◌, ◌<◌, take, length, arith, sym, subst, List}
-use Rattle.std.proofs.lemmas.List.{take_more, take_all, length-take}
+use Rattle.std.proofs.Common.{◌≡◌, take, subst, List}
+use Rattle.std.proofs.lemmas.List.{take_more, take_all}
 use Rattle.oak_script.specs.declared.scripts.Call.{Call}
-use Rattle.oak_run.specs.Does.{HasArguments}
-use Rattle.oak_run.specs.ThreadRuns.{RunsThread}
 use Rattle.oak_run.proofs.StepLaws.{Running, step}
-use Rattle.oak_run.proofs.ThreadLaws.{running-start, running-end, running-few, all-at}
+use Rattle.oak_run.proofs.ThreadLaws.{running-start, running-end}
 use Rattle.oak_run.proofs.runner.run_thread.Goals as goal
 
 pub loop-call-init : goal.loop-call-init
