@@ -2,3 +2,4 @@ pub mod Counting
 pub mod Lists
 pub mod Changes
 pub mod KeptLaws
+pub mod RowLaws
