@@ -19,7 +19,7 @@ abbrev word_at : HeldBlock → ℕ → KeptWord ArenaSpot
 word_at h l = record { spot = at_bytes (class_number h.class) h.number l; number = get_or h.words l 0 }
 
 -- no word of bits is kept
-block_keeps-bits : (c i : ℕ) (h : HeldBlock) → keeps same_arena_spot (at_bits c i) (kept_of_block h) ≡ 0
+pub block_keeps-bits : (c i : ℕ) (h : HeldBlock) → keeps same_arena_spot (at_bits c i) (kept_of_block h) ≡ 0
 block_keeps-bits c i h = let m = rows_most (λ (w : KeptWord ArenaSpot). one_if (same_arena_spot w.spot (at_bits c i))) false 0 0 (block_words (class_number h.class)) (word_at h) (λ l. refl) in omega arith
 
 pub keeps_bits : (c i : ℕ) (hs : List HeldBlock) → keeps same_arena_spot (at_bits c i) (kept_of_blocks hs) ≡ 0
