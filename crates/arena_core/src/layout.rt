@@ -20,7 +20,7 @@ pub fn bits_below(shape: &Shape, class: usize) -> usize
 {
     let mut sum = 0;
     for r in 0..class {
-        sum += (shape.blocks[r] as usize + (WORD_BITS - 1)) / WORD_BITS;
+        sum += bit_words(shape, r);
     }
     sum
 }
@@ -46,4 +46,13 @@ pub fn arena_words(shape: &Shape) -> usize
     ensures small { result ≤ 33558528 }
 {
     bits_below(shape, CLASSES) + bytes_below(shape, CLASSES)
+}
+
+/// How many words hold the bits of a class.
+pub fn bit_words(shape: &Shape, class: usize) -> usize
+    requires { class < CLASSES }
+    ensures is { result ≡ bit_words shape.now class }
+    ensures small { result ≤ 1024 }
+{
+    (shape.blocks[class] as usize + (WORD_BITS - 1)) / WORD_BITS
 }

@@ -1,6 +1,6 @@
 //! Where the words of the rooms lie, counted from the first: the words of one room, with those of its
 //! entries, behind those of another.
-ghost use Rattle.std.specs.Prelude.{◌≡◌, ◌≤◌, ◌*◌};
+ghost use Rattle.std.specs.Prelude.{◌≡◌, ◌<◌, ◌≤◌, ◌*◌};
 ghost use Rattle.chunk_core.specs.Rooms.{room_width, room_words};
 
 use oak_model::{GREATEST_KEY, Shape};
@@ -28,4 +28,13 @@ pub fn room_words(shape: &Shape) -> usize
     ensures small { result ≤ 809984 }
 {
     shape.chunks as usize * room_width(shape)
+}
+
+/// How many rooms a table of the shape has.
+pub fn room_count(shape: &Shape) -> u32
+    ensures is { result ≡ shape.now.chunks }
+    ensures some { 0 < result }
+    ensures small { result ≤ 1024 }
+{
+    shape.chunks
 }

@@ -14,3 +14,11 @@ pub fn header_words(shape: &Shape) -> usize
 {
     HEADER_WORDS * shape.headers as usize
 }
+
+/// How many headers a table of the shape has.
+pub fn header_count(shape: &Shape) -> u32
+    ensures is { result ≡ shape.now.headers }
+    ensures small { result ≤ 65536 }
+{
+    shape.headers
+}

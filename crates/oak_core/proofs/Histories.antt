@@ -12,7 +12,7 @@ use Rattle.oak_core.specs.declared.states.Knowledge.{Knowledge}
 use Rattle.oak_core.specs.PassState.{of_key, seen_of, history}
 use Rattle.oak_core.specs.Rule.{HistoriesStand}
 
-each_of_every : {A : Type 0} (P : A → Type 0) (xs : List A) → Every P xs → Each P xs
+pub each_of_every : {A : Type 0} (P : A → Type 0) (xs : List A) → Every P xs → Each P xs
 each_of_every P [] h = tt
 each_of_every P (x ∷ xs) h = (h zero x refl, each_of_every P xs (λ j y e. h (suc j) y e))
 

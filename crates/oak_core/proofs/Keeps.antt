@@ -1,5 +1,5 @@
 -- Each kind of step keeps the rule.
-use Rattle.std.proofs.Common.{◌≡◌, ◌≢◌, ℕ, ◌+◌, ◌^◌, ◌<◌, ◌≤◌, cond, Bool, List, [], ◌∷◌, ◌++◌, map, length, get_or, set, sym, refl, ap, ◌∙◌, subst, arith, Some, length-set, get_or-set_other, get_or-set_same, pow_mono}
+use Rattle.std.proofs.Common.{false, true≢false, ◌≡◌, ◌≢◌, ℕ, ◌+◌, ◌^◌, ◌<◌, ◌≤◌, cond, Bool, List, [], ◌∷◌, ◌++◌, map, length, get_or, set, sym, refl, ap, ◌∙◌, subst, arith, Some, length-set, get_or-set_other, get_or-set_same, pow_mono}
 use Rattle.std.specs.Prelude.{bit_or}
 use Rattle.std.specs.Int.{bit_at}
 use Rattle.std.proofs.lemmas.Nat.{or_lt}
@@ -9,7 +9,7 @@ use native.Mathlib.Decide.{ℕ_discrete}
 use lib.ListN.{get_elem?}
 use lib.Seq.{set-get_or}
 use Rattle.oak_model.specs.Limits.{Sizes}
-use Rattle.oak_model.specs.Counts.{total, one_if}
+use Rattle.oak_model.specs.Counts.{Every, total, one_if}
 use Rattle.oak_model.specs.Kept.{KeptWord, keeps, KeptNumbersStand, renamed}
 use Rattle.oak_model.proofs.Lists.{at_map, map_set, map_set_same}
 use Rattle.oak_model.proofs.Counting.{total_append}
@@ -23,7 +23,7 @@ use Rattle.oak_core.specs.Memory.{Memory, Spot, at_given, in_arena, in_headers, 
 use Rattle.oak_core.specs.Finding.{finding}
 use Rattle.oak_core.specs.PassState.{numbers_of, findings_of, knowledge_of, kept_of}
 use Rattle.oak_core.specs.TableState.{TableState}
-use Rattle.oak_core.specs.Rule.{WordsStand, NumbersStand, FoundStays, FindingsStand, HistoriesStand, Rule}
+use Rattle.oak_core.specs.Rule.{WordsStand, NumbersStand, FoundStays, FindingsStand, HistoriesStand, SpentIsSpent, Rule}
 use Rattle.oak_core.specs.Step.{Step, load, give_number, spot, effect, MayGive, found, state_after, table_after}
 use Rattle.oak_core.proofs.Words.{read-write, first_word, index_below, memory_set, memory_read}
 use Rattle.oak_core.proofs.GivenNumbers.{number_given, bits_stay}
@@ -56,9 +56,17 @@ unfolding total
 all_unkept [] = refl
 all_unkept (v ∷ vs) = let a = given_unkept v in let b = all_unkept vs in omega arith
 
-module _ (z : Sizes) (s : TableState) (call seat : ℕ) (v : PassState) (r : Rule z s) (here : get_elem? s.states seat ≡ some v) where
+module _ (z : Sizes) (s : TableState) (call seat : ℕ) (v : PassState) (r : Rule z s) (here : get_elem? s.states seat ≡ some v) (going : v.numbers.spent ≡ false) where
   abbrev m : Memory
   m = memory z s.words
+
+  -- a step leaves its pass going
+  stays_going : (x : Step) → (state_after z call x s v).numbers.spent ≡ false
+  stays_going (load p) = going
+  stays_going (give_number k) = going
+
+  spent_stays : (x : Step) → Every SpentIsSpent (set s.states seat (state_after z call x s v))
+  spent_stays x = (stepped s.states seat v (state_after z call x s v) here).every SpentIsSpent ((λ e. absurd (true≢false (sym e ∙ stays_going x))), tt) (λ j u _ at. r.spent j u at)
 
   -- the rule after a step that changes its word, from the bundles over the memory and the parts of the states after it
   pub stepped_rule : (x : Step) → IsInside z (spot x) → effect x (found z x s) < 2 ^ 64 → let m' = write m (spot x) (effect x (found z x s)) in let after = set s.states seat (state_after z call x s v) in
@@ -71,6 +79,7 @@ module _ (z : Sizes) (s : TableState) (call seat : ℕ) (v : PassState) (r : Rul
         numbers = subst (λ (a : Memory). NumbersStand z a.given (map numbers_of after)) (sym law) numbers;
         findings = subst (λ (a : Memory). FindingsStand a.given (map findings_of after)) (sym law) findings;
         histories = histories;
+        spent = spent_stays x;
         kept = subst (λ (a : Memory). KeptNumbersStand same_spot (read a) (map kept_of after)) (sym law) kept;
       }
 
@@ -93,6 +102,7 @@ module _ (z : Sizes) (s : TableState) (call seat : ℕ) (v : PassState) (r : Rul
         numbers = subst (NumbersStand z m.given) (sym (map_set_same numbers_of s.states seat v w here refl)) r.numbers;
         findings = findings_stay p n w refl inside refl;
         histories = subst HistoriesStand (sym (map_set_same knowledge_of s.states seat v w here refl)) r.histories;
+        spent = spent_stays (load p);
         kept = subst (KeptNumbersStand same_spot (read m)) (sym (map_set_same kept_of s.states seat v w here refl)) r.kept;
       }
 
@@ -122,7 +132,7 @@ module _ (z : Sizes) (s : TableState) (call seat : ℕ) (v : PassState) (r : Rul
     at = at_map numbers_of s.states seat v here
 
     up : (j : ℕ) → bit_at n j ≡ 1 → bit_at x j ≡ 1
-    up = bits_stay z n k (map numbers_of s.states) seat v.numbers at stands may.few may.hand may.going lower
+    up = bits_stay z n k (map numbers_of s.states) seat v.numbers at stands may.few may.hand going lower
 
     small : x < 2 ^ 64
     small = or_lt 64 n (2 ^ k) (r.words.small (index z at_given)) (let p = r.sizes.passes_greatest in let f = may.few in let a : 2 ^ k ≤ 2 ^ 63 = pow_mono {i = k} {j = 63} (omega arith) in omega arith)
@@ -136,7 +146,7 @@ module _ (z : Sizes) (s : TableState) (call seat : ℕ) (v : PassState) (r : Rul
 
     pub give_keeps : Rule z (table_after z call (give_number k) seat v s)
     give_keeps = stepped_rule (give_number k) tt small
-        (subst (NumbersStand z x) (sym (map_set numbers_of s.states seat w)) (number_given z n k (map numbers_of s.states) seat v.numbers at stands may.few may.hand may.going lower))
+        (subst (NumbersStand z x) (sym (map_set numbers_of s.states seat w)) (number_given z n k (map numbers_of s.states) seat v.numbers at stands may.few may.hand going lower))
         findings_after
         (subst HistoriesStand (sym (map_set_same knowledge_of s.states seat v w here refl)) r.histories)
         (subst (KeptNumbersStand same_spot (read (write m at_given x))) (sym (map_set_same kept_of s.states seat v w here refl))

@@ -5,4 +5,8 @@ pub mod Found
 pub mod Keeps
 pub mod TwoSeats
 pub mod Opening
-pub mod Schedules
+pub mod EachEvent
+pub mod Allowed
+pub mod Splits
+pub mod Alone
+pub mod UsedWords

@@ -1,5 +1,5 @@
 -- A split and a join keep the rule.
-use Rattle.std.proofs.Common.{◌≡◌, ◌≢◌, ℕ, ◌+◌, ◌*◌, ◌≤◌, ◌⊎◌, cond, Bool, List, [], ◌∷◌, ◌++◌, map, length, set, sym, refl, ap, ◌∙◌, subst, arith, ⊎_elim, Option}
+use Rattle.std.proofs.Common.{false, true≢false, ◌≡◌, ◌≢◌, ℕ, ◌+◌, ◌*◌, ◌≤◌, ◌⊎◌, cond, Bool, List, [], ◌∷◌, ◌++◌, map, length, set, sym, refl, ap, ◌∙◌, subst, arith, ⊎_elim, Option}
 use Rattle.std.proofs.lemmas.List.{map-append}
 use mathlib.Core.Option.{some}
 use lib.ListN.{get_elem?}
@@ -19,7 +19,7 @@ use Rattle.oak_core.specs.declared.states.PassState.{PassState}
 use Rattle.oak_core.specs.Memory.{Memory, in_arena, in_headers, same_spot, read, memory}
 use Rattle.oak_core.specs.PassState.{numbers_of, findings_of, knowledge_of, kept_of, rooted, in_hand, has_number, is_parent, of_key, seen_of, history, number_in, left_state, right_state, joined_from, both_state, spent_state}
 use Rattle.oak_core.specs.TableState.{TableState}
-use Rattle.oak_core.specs.Rule.{FoundStays, Rule}
+use Rattle.oak_core.specs.Rule.{FoundStays, SpentIsSpent, Rule}
 use Rattle.oak_core.specs.Schedule.{MaySplit, MayJoin}
 use Rattle.oak_core.proofs.GivenNumbers.{numbers_frame}
 use Rattle.oak_core.proofs.Found.{none_found}
@@ -63,10 +63,11 @@ module _ (z : Sizes) (s : TableState) (seat : ℕ) (v : PassState) (r : Rule z s
       histories = histories_frame (change_parts knowledge_of apart) seat v.knowledge (at_map knowledge_of s.states seat v here) r.histories
           (λ k. let h = r.histories k seat v.knowledge (at_map knowledge_of s.states seat v here) in (h, (h, tt)))
           (λ k y g. (v.knowledge, (change_parts knowledge_of apart).come.0, ⊎_elim (λ (q : v.knowledge ≡ y). let e = ap (λ (z : Knowledge). length (seen_of k z)) q in omega arith) (λ (q : ⊥). absurd q) g));
+      spent = apart.every SpentIsSpent ((λ e. absurd (true≢false (sym e ∙ may.going))), ((λ e. absurd (true≢false (sym e))), tt)) (λ j u _ at. r.spent j u at);
       kept = subst (KeptNumbersStand same_spot (read m)) (sym same_kept) (kept_idle same_spot (read m) (map kept_of s.states) r.kept);
     }
 
-  module _ (other : ℕ) (w : PassState) (there : get_elem? s.states other ≡ some w) (ne : other ≢ seat) (may : MayJoin w) where
+  module _ (other : ℕ) (w : PassState) (there : get_elem? s.states other ≡ some w) (ne : other ≢ seat) (going : v.numbers.spent ≡ false) (may : MayJoin w) where
     abbrev both : PassState
     both = both_state v w
 
@@ -129,5 +130,6 @@ module _ (z : Sizes) (s : TableState) (seat : ℕ) (v : PassState) (r : Rule z s
             ⊎_elim (λ (q : v.knowledge ≡ y). let e = ap (λ (z : Knowledge). length (seen_of k z)) q in omega arith)
             (λ (q : (w.knowledge ≡ y) ⊎ ⊥). ⊎_elim (λ (q : w.knowledge ≡ y). let e = ap (λ (z : Knowledge). length (seen_of k z)) q in omega arith) (λ (q : ⊥). absurd q) q) g,
           ));
+      spent = together.every SpentIsSpent ((λ e. absurd (true≢false (sym e ∙ going))), ((λ _. refl), tt)) (λ j u _ at. r.spent j u at);
       kept = subst (KeptNumbersStand same_spot (read m)) (sym same_words) r.kept;
     }

@@ -7,6 +7,7 @@ use Rattle.oak_model.specs.Limits.{Sizes}
 use Rattle.oak_model.proofs.Counting.{test-cases}
 use Rattle.arena_core.proofs.ArenaWords.{same_arena_spot-is, same_arena_spot-self, read_arena-of, in_arena as arena_inside, arena_in, arena_below, arena_apart, arena_covers}
 use Rattle.header_core.proofs.HeaderWords.{same_header_spot-is, same_header_spot-self, read_header-of, in_headers as headers_inside, headers_in, headers_below, headers_apart, headers_cover}
+use Rattle.chunk_core.specs.Rooms.{at_room_pin, room_index, place_in_room}
 use Rattle.chunk_core.proofs.RoomWords.{same_room_spot-is, same_room_spot-self, read_room-of, in_rooms as rooms_inside, rooms_in, rooms_below, rooms_apart, rooms_cover}
 use Rattle.oak_core.specs.Memory.{Memory, Spot, at_given, in_arena, in_headers, in_rooms, same_spot, read, memory_of, write, headers_at, rooms_at, word_count, IsInside, is_inside, index, number_at, memory}
 
@@ -86,6 +87,15 @@ index_apart z (in_headers p) (in_rooms q) h g e = let a = headers_below z p h in
 index_apart z (in_rooms p) at_given h g e = absurd (omega arith)
 index_apart z (in_rooms p) (in_arena q) h g e = let a = arena_below z q g in absurd (omega arith)
 index_apart z (in_rooms p) (in_headers q) h g e = let a = headers_below z q g in absurd (omega arith)
+
+-- the first word of the rooms is the pin word of room 0
+pub rooms_begin : (z : Sizes) → 0 < z.chunks → rooms_at z < word_count z
+unfolding index room_index place_in_room
+rooms_begin z some_room = let b = index_below z (in_rooms (at_room_pin 0)) (some_room, omega arith) in omega arith
+
+pub index-rooms : (z : Sizes) → index z (in_rooms (at_room_pin 0)) ≡ rooms_at z
+unfolding index room_index place_in_room
+index-rooms z = omega arith
 
 -- each word of the table is some spot's
 pub index_covers : (z : Sizes) (i : ℕ) → i < word_count z → (p : Spot) × IsInside z p × (index z p ≡ i)

@@ -1,5 +1,5 @@
 -- The table's rule: what holds between any two atomic steps. It is a record of bundles of points, each over the words and the parts of the passes' states that it speaks of.
-use Rattle.std.specs.Prelude.{◌≡◌, ℕ, suc, ◌^◌, ◌<◌, ◌≤◌, List, map, length, slice_index}
+use Rattle.std.specs.Prelude.{◌≡◌, ℕ, suc, ◌^◌, ◌<◌, ◌≤◌, List, map, length, slice_index, true}
 use Rattle.std.specs.Int.{bit_at}
 use Rattle.oak_model.specs.Limits.{Sizes, IsInLimits}
 use Rattle.oak_model.specs.Counts.{total, Every, Each, Begins}
@@ -8,9 +8,10 @@ use Rattle.oak_core.specs.declared.states.Findings.{Findings}
 use Rattle.oak_core.specs.declared.states.KeyedWrite.{KeyedWrite}
 use Rattle.oak_core.specs.declared.states.Knowledge.{Knowledge}
 use Rattle.oak_core.specs.declared.states.Numbers.{Numbers}
+use Rattle.oak_core.specs.declared.states.PassState.{PassState}
 use Rattle.oak_core.specs.Memory.{memory, read, same_spot, word_count}
 use Rattle.oak_core.specs.Finding.{Shows}
-use Rattle.oak_core.specs.PassState.{numbers_of, findings_of, knowledge_of, kept_of, has_number, is_parent, of_key, history}
+use Rattle.oak_core.specs.PassState.{numbers_of, findings_of, knowledge_of, kept_of, has_number, is_parent, of_key, history, spent_state}
 use Rattle.oak_core.specs.TableState.{TableState}
 
 -- the words are as many as the layout says, and each is one of 64 bits
@@ -36,10 +37,15 @@ FindingsStand given fs = Every (FoundStays given) fs
 abbrev pub HistoriesStand : List Knowledge → Type 0
 HistoriesStand qs = (k : ℕ) → Every (λ (q : Knowledge). Each (λ (l : List KeyedWrite). Begins (of_key k l) (history k qs)) q.seen) qs
 
+-- of a pass that was joined into another nothing is left
+abbrev pub SpentIsSpent : PassState → Type 0
+SpentIsSpent v = v.numbers.spent ≡ true → v ≡ spent_state
+
 pub record Rule (z : Sizes) (s : TableState) : Type 0 where
   pub sizes : IsInLimits z
   pub words : WordsStand z s.words
   pub numbers : NumbersStand z (memory z s.words).given (map numbers_of s.states)
   pub findings : FindingsStand (memory z s.words).given (map findings_of s.states)
   pub histories : HistoriesStand (map knowledge_of s.states)
+  pub spent : Every SpentIsSpent s.states
   pub kept : KeptNumbersStand same_spot (read (memory z s.words)) (map kept_of s.states)

@@ -34,11 +34,13 @@ pub data Event : Type 0 where
 pub record Steps (z : Sizes) (seat call : ℕ) (x : Step) (s t : TableState) : Type 0 where
   pub state : PassState
   pub here : get_elem? s.states seat ≡ some state
+  pub going : state.numbers.spent ≡ false
   pub may : May z x state
   pub after : t ≡ table_after z call x seat state s
 
 -- the pass has a number in hand
 pub record MaySplit (v : PassState) : Type 0 where
+  pub going : v.numbers.spent ≡ false
   pub number : ℕ
   pub hand : v.numbers.hand ≡ Some number
 
@@ -59,6 +61,7 @@ pub record Joins (seat other : ℕ) (s t : TableState) : Type 0 where
   pub taken : PassState
   pub there : get_elem? s.states other ≡ some taken
   pub apart : other ≢ seat
+  pub going : state.numbers.spent ≡ false
   pub may : MayJoin taken
   pub after : t ≡ record { words = s.words; states = slice_set (slice_set s.states seat (both_state state taken)) other spent_state }
 

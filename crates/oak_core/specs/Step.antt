@@ -30,7 +30,6 @@ effect (give_number k) n = bit_or n (2 ^ k)
 pub record MayGive (z : Sizes) (k : ℕ) (v : PassState) : Type 0 where
   pub few : k < z.passes
   pub hand : v.numbers.hand ≡ None
-  pub going : v.numbers.spent ≡ false
   pub lower : (j : ℕ) → j < k → Shows v.findings.met 0 (λ n. bit_at n j ≡ 1)
 
 -- what the step asks of the pass
@@ -61,6 +60,7 @@ pub record Told (z : Sizes) (call : ℕ) (x : Step) (v : PassState) (n : ℕ) (w
   pub seat : ℕ
   pub rule : Rule z table
   pub here : get_elem? table.states seat ≡ some v
+  pub going : v.numbers.spent ≡ false
   pub may : May z x v
   pub finds : found z x table ≡ n
   pub after : w ≡ state_after z call x table v

@@ -1,6 +1,21 @@
 //! The table of words, its passes, and the rule that holds of both between any two atomic steps.
 #![tactic(auto)]
 
+mod atoms;
+pub mod closing;
+pub mod layout;
+pub mod loads;
+pub mod passes;
+pub mod schedules;
 pub mod states;
+pub mod table;
+mod usage;
+pub mod writing;
 
+pub use closing::Closed;
+pub use loads::load;
+pub use passes::SplitFault;
+pub use schedules::every_schedule;
 pub use states::{Finding, Findings, Full, Joined, KeyedWrite, Knowledge, Numbers, PassState};
+pub use table::{OakTable, Pass};
+pub use writing::Writing;

@@ -4,7 +4,11 @@ use mathlib.Core.Logic.{dite}
 use mathlib.Core.Option.{some, some-injective, some-ne-none}
 use native.Mathlib.Decide.{ℕ_discrete, dec_lt}
 use lib.ListN.{get_elem?}
-use Rattle.oak_model.specs.Counts.{one_at, total, below}
+use Rattle.oak_model.specs.Counts.{one_if, one_at, total, below}
+
+pub one_if_le : (b : Bool) → one_if b ≤ 1
+one_if_le true = omega arith
+one_if_le false = omega arith
 
 pub one_at-same : (a b : ℕ) → a ≡ b → one_at a b ≡ 1
 unfolding one_at
@@ -97,6 +101,12 @@ pub below_same : (f g : ℕ → ℕ) (n : ℕ) → ((k : ℕ) → k < n → f k 
 unfolding below
 below_same f g zero h = refl
 below_same f g (suc n) h = let a = h n (omega arith) in let t = below_same f g n (λ k l. h k (omega arith)) in omega arith
+
+-- where the sum is positive, some number counts
+pub below_some : (f : ℕ → ℕ) (n : ℕ) → 0 < below f n → (m : ℕ) × (m < n) × (0 < f m)
+unfolding below
+below_some f zero h = absurd (omega arith)
+below_some f (suc n) h = dite (dec_lt 0 (f n)) (λ l. (n, (omega arith), l)) (λ no. let t = below_some f n (omega arith) in let a = t.1 in (t.0, (omega arith), t.2))
 
 pub below_add : (f g : ℕ → ℕ) (n : ℕ) → below (λ k. f k + g k) n ≡ below f n + below g n
 unfolding below

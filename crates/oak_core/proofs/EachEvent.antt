@@ -1,5 +1,5 @@
 -- Each kind keeps the rule, so each schedule does.
-use Rattle.std.proofs.Common.{◌≡◌, ℕ, List, [], ◌∷◌, sym, subst}
+use Rattle.std.proofs.Common.{false, ◌≡◌, ℕ, List, [], ◌∷◌, sym, subst}
 use mathlib.Core.Option.{some}
 use lib.ListN.{get_elem?}
 use Rattle.oak_model.specs.Limits.{Sizes}
@@ -12,14 +12,14 @@ use Rattle.oak_core.proofs.Keeps.{load_keeps, give_keeps}
 use Rattle.oak_core.proofs.TwoSeats.{split_keeps, join_keeps}
 
 -- one clause for each kind
-pub rule_keeps : (z : Sizes) (s : TableState) (call seat : ℕ) (v : PassState) → Rule z s → get_elem? s.states seat ≡ some v → (x : Step) → May z x v → Rule z (table_after z call x seat v s)
-rule_keeps z s call seat v r here (load p) may = load_keeps z s call seat v r here p may
-rule_keeps z s call seat v r here (give_number k) may = give_keeps z s call seat v r here k may
+pub rule_keeps : (z : Sizes) (s : TableState) (call seat : ℕ) (v : PassState) → Rule z s → get_elem? s.states seat ≡ some v → v.numbers.spent ≡ false → (x : Step) → May z x v → Rule z (table_after z call x seat v s)
+rule_keeps z s call seat v r here going (load p) may = load_keeps z s call seat v r here going p may
+rule_keeps z s call seat v r here going (give_number k) may = give_keeps z s call seat v r here going k may
 
 pub event_keeps : (z : Sizes) (e : Event) (s t : TableState) → Goes z e s t → Rule z s → Rule z t
-event_keeps z (steps seat call x) s t g r = subst (Rule z) (sym g.after) (rule_keeps z s call seat g.state r g.here x g.may)
+event_keeps z (steps seat call x) s t g r = subst (Rule z) (sym g.after) (rule_keeps z s call seat g.state r g.here g.going x g.may)
 event_keeps z (splits seat) s t g r = subst (Rule z) (sym g.after) (split_keeps z s seat g.state r g.here g.may)
-event_keeps z (joins seat other) s t g r = subst (Rule z) (sym g.after) (join_keeps z s seat g.state r g.here other g.taken g.there g.apart g.may)
+event_keeps z (joins seat other) s t g r = subst (Rule z) (sym g.after) (join_keeps z s seat g.state r g.here other g.taken g.there g.apart g.going g.may)
 
 pub schedule_keeps : (z : Sizes) (es : List Event) (s t : TableState) → IsSchedule z s es t → Rule z s → Rule z t
 schedule_keeps z [] s t g r = subst (Rule z) (sym g) r

@@ -1,0 +1,58 @@
+-- What contracts see of a closed table.
+use Rattle.std.specs.Prelude.{◌≡◌, ℕ, ◌==◌, cond, List, [], ◌∷◌, ◌++◌, map}
+use Rattle.std.specs.Slots.{slots_items}
+use Rattle.oak_model.specs.Limits.{Sizes}
+use Rattle.oak_model.specs.KeyNumber.{key_number}
+use Rattle.oak_model.specs.History.{History, last_state}
+use Rattle.oak_model.specs.State.{State}
+use Rattle.oak_model.specs.declared.replies.Lack.{Lack}
+use Rattle.oak_core.specs.declared.closing.Closed.{Closed}
+use Rattle.oak_core.specs.declared.states.Finding.{Finding}
+use Rattle.oak_core.specs.declared.states.Full.{Full}
+use Rattle.oak_core.specs.declared.states.Joined.{Joined}
+use Rattle.oak_core.specs.declared.states.KeyedWrite.{KeyedWrite}
+use Rattle.oak_core.specs.declared.states.PassState.{PassState}
+use Rattle.oak_core.specs.PassState.{seen_of}
+
+abbrev pub closed_key : Closed → Sizes
+closed_key c = c.shape
+
+-- what the last pass has seen, done and taken over
+abbrev pub closed_state : Closed → PassState
+closed_state c = c.last.value.seat.me.0
+
+abbrev pub closed_words : Closed → List ℕ
+closed_words c = slots_items c.table.words
+
+-- the history of a key
+abbrev pub closed_history : Closed → List ℕ → History
+closed_history c k = map (λ (w : KeyedWrite). w.write) (seen_of (key_number k) (closed_state c).knowledge)
+
+-- what the key holds at the end
+abbrev pub closed_map : Closed → List ℕ → State
+closed_map c k = last_state (closed_history c k)
+
+-- the passes, as one list: the last, and those joined into it
+abbrev pub all_passes : PassState → List Joined
+all_passes v = record { number = v.numbers.number; mine = v.knowledge.mine; met = v.findings.met; fulls = v.findings.fulls } ∷ v.numbers.joined
+
+-- what the pass with the number met
+unfoldable pub met_by : ℕ → List Joined → List Finding
+met_by n [] = []
+met_by n (j ∷ js) = cond (j.number == n) j.met (met_by n js)
+
+abbrev pub closed_met : Closed → ℕ → List Finding
+closed_met c n = met_by n (all_passes (closed_state c))
+
+-- the refused calls, each with its pass's number
+pub record FullCall : Type 0 where
+  pub pass : ℕ
+  pub call : ℕ
+  pub lack : Lack
+
+unfoldable pub fulls_of : List Joined → List FullCall
+fulls_of [] = []
+fulls_of (j ∷ js) = map (λ (f : Full). record { pass = j.number; call = f.call; lack = f.lack }) j.fulls ++ fulls_of js
+
+abbrev pub closed_fulls : Closed → List FullCall
+closed_fulls c = fulls_of (all_passes (closed_state c))

@@ -1,0 +1,28 @@
+-- What contracts see of a table and of a pass.
+use Rattle.std.specs.Prelude.{◌≡◌, ℕ}
+use Rattle.oak_model.specs.Limits.{Sizes}
+use Rattle.oak_core.specs.declared.states.PassState.{PassState}
+use Rattle.oak_core.specs.declared.table.OakTable.{OakTable}
+use Rattle.oak_core.specs.declared.table.Pass.{Pass}
+
+-- the shape of the table
+abbrev pub key : OakTable → Sizes
+key t = t.table.shared.key
+
+-- what the pass has seen, done and holds
+abbrev pub state : Pass → PassState
+state p = p.seat.me.0
+
+-- the number of its present call
+abbrev pub call_of : Pass → ℕ
+call_of p = p.call
+
+-- the pass belongs to the table
+abbrev pub IsPassOf : OakTable → Pass → Type 0
+IsPassOf t p = p.seat.table_id ≡ t.table.shared.table_id
+
+-- it is the same pass, in the same call
+pub record Stays (p q : Pass) : Type 0 where
+  pub table : q.seat.table_id ≡ p.seat.table_id
+  pub seat : q.seat.id ≡ p.seat.id
+  pub call : q.call ≡ p.call

@@ -1,0 +1,52 @@
+-- What a load, a split, a join and a close tell.
+use Rattle.std.specs.Prelude.{◌≡◌, ◌≢◌, ℕ, ◌<◌, ◌≤◌, List, [], ◌∷◌, ◌++◌, map, length, Some}
+use Rattle.std.specs.Int.{bit_at}
+use mathlib.Core.Option.{some}
+use lib.ListN.{get_elem?}
+use Rattle.oak_model.specs.Limits.{Sizes}
+use Rattle.oak_core.specs.declared.states.Finding.{Finding}
+use Rattle.oak_core.specs.declared.states.PassState.{PassState}
+use Rattle.oak_core.specs.Memory.{Spot, index, IsInside}
+use Rattle.oak_core.specs.Finding.{finding, grown, Shows}
+use Rattle.oak_core.specs.PassState.{knowledge_of, seen_of, history, first_state, spent_state}
+use Rattle.oak_core.specs.TableState.{TableState}
+use Rattle.oak_core.specs.Rule.{Rule}
+use Rattle.oak_core.specs.Step.{load, Told}
+
+-- the word was loaded, in one step, and what was found is met
+pub record Loads (z : Sizes) (call word : ℕ) (v : PassState) (n : ℕ) (w : PassState) : Type 0 where
+  pub spot : Spot
+  pub inside : IsInside z spot
+  pub at : index z spot ≡ word
+  pub told : Told z call (load spot) v n w
+  pub met : w ≡ grown (finding z call spot (Some n) n v ∷ []) v
+
+-- the new pass x has the number, which was the least that no pass had at its step, and has seen what v has seen
+pub record SplitsOff (z : Sizes) (v w x : PassState) : Type 0 where
+  pub number : ℕ
+  pub few : number < z.passes
+  pub more : List Finding
+  pub old : w ≡ record (grown more v) { numbers = record v.numbers { made = v.numbers.made ++ number ∷ [] } }
+  pub new : x ≡ record first_state { numbers = record first_state.numbers { number = number }; knowledge = record { seen = v.knowledge.seen; mine = [] } }
+  pub least : Shows more 0 (λ n. (bit_at n number ≡ 0) × ((j : ℕ) → j < number → bit_at n j ≡ 1))
+
+-- all numbers were found given at one step
+pub record FindsAllGiven (z : Sizes) (v w : PassState) : Type 0 where
+  pub more : List Finding
+  pub after : w ≡ grown more v
+  pub given : Shows more 0 (λ n. (k : ℕ) → k < z.passes → bit_at n k ≡ 1)
+
+-- of each key the longer of what the two have seen
+pub record SeesLonger (v w both : PassState) (k : ℕ) : Type 0 where
+  pub other : length (seen_of k v.knowledge) ≤ length (seen_of k w.knowledge) → seen_of k both.knowledge ≡ seen_of k w.knowledge
+  pub own : length (seen_of k w.knowledge) < length (seen_of k v.knowledge) → seen_of k both.knowledge ≡ seen_of k v.knowledge
+
+-- at the last moment the rule holds, every other pass is spent, and the histories are what this one has seen
+pub record Ends (z : Sizes) (words : List ℕ) (v : PassState) : Type 0 where
+  pub table : TableState
+  pub rule : Rule z table
+  pub words_are : table.words ≡ words
+  pub seat : ℕ
+  pub here : get_elem? table.states seat ≡ some v
+  pub others : (j : ℕ) (u : PassState) → j ≢ seat → get_elem? table.states j ≡ some u → u ≡ spent_state
+  pub histories : (k : ℕ) → history k (map knowledge_of table.states) ≡ seen_of k v.knowledge

@@ -1,0 +1,57 @@
+//! One function for each operation on a word. What a step tells is picked by its caller, since a step
+//! on a word sees neither the call nor what the word is for.
+ghost use Rattle.std.specs.Prelude.{◌≡◌, ℕ, ◌<◌, bit_or};
+ghost use Rattle.atomic_table.specs.Table.{Allows};
+ghost use Rattle.oak_core.specs.declared.states.PassState.{PassState};
+ghost use Rattle.oak_core.specs.Running.{Holds, KeepsSeat};
+ghost use Rattle.oak_core.specs.Passes.{IsPassOf, Stays, state, key};
+
+use crate::states::PassState;
+use crate::table::{OakTable, Pass};
+use atomic_table::Play;
+use std::marker::{Brand, PhantomData};
+
+/// What a step tells its caller of the number found and of the state after it.
+pub(crate) trait Said {
+    ghost told: { ℕ → PassState → Type 0 };
+}
+
+impl Said for Brand {
+    ghost told = { λ _ _. Unit {0} };
+}
+
+struct Says<T> {
+    of: PhantomData<T>,
+}
+
+impl<T: Said> Play<(), PassState> for Says<T> {
+    ghost then = { λ _ before n after. T.told n after.0 × KeepsSeat before after };
+}
+
+pub(crate) fn load_said<T: Said>(table: &OakTable, pass: &mut Pass, word: usize) -> u64
+    requires own { IsPassOf table.now pass.old }
+    requires inside { word < table.now.table.shared.table_id.words }
+    requires rule { Allows (Holds (key table.now)) table.now.table.shared.table_id.slots pass.old.seat.id pass.old.seat.me word (λ n. n) (λ n m. T.told n m.0 × KeepsSeat pass.old.seat.me m) }
+    ensures own { Stays pass.old pass.new }
+    ensures told { T.told result (state pass.new) }
+{
+    table.table.shared.load::<Says<T>>(&mut pass.seat, word)
+}
+
+pub(crate) fn or_said<T: Said>(
+    table: &OakTable,
+    pass: &mut Pass,
+    word: usize,
+    bits: u64,
+) -> u64
+    requires own { IsPassOf table.now pass.old }
+    requires inside { word < table.now.table.shared.table_id.words }
+    requires rule { Allows (Holds (key table.now)) table.now.table.shared.table_id.slots pass.old.seat.id pass.old.seat.me word (λ n. bit_or n bits) (λ n m. T.told n m.0 × KeepsSeat pass.old.seat.me m) }
+    ensures own { Stays pass.old pass.new }
+    ensures told { T.told result (state pass.new) }
+{
+    table
+        .table
+        .shared
+        .fetch_or::<Says<T>>(&mut pass.seat, word, bits)
+}

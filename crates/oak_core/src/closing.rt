@@ -1,0 +1,60 @@
+//! A table that no pass steps on any more.
+ghost use Rattle.std.specs.Prelude.{◌≡◌, ℕ, ◌<◌, length};
+ghost use Rattle.std.specs.Slots.{slots_len, IsFull};
+ghost use Rattle.oak_core.specs.Memory.{word_count};
+
+use crate::table::{OakTable, Pass};
+use oak_model::Shape;
+use std::alloc::Global;
+use std::snapshot::Snapshot;
+
+/// A closed table: its words, and what its last pass has seen, done and taken over from the others.
+pub struct Closed {
+    pub(crate) table: atomic_table::Closed<(), Global>,
+    pub(crate) shape: Shape,
+    pub(crate) last: Snapshot<Pass>,
+    ghost full: { IsFull table.words },
+    ghost counted: { slots_len table.words ≡ word_count shape },
+    ghost bare: { slots_len table.slots ≡ 0 },
+}
+
+impl Drop for Closed {
+    fn drop(self) {
+        let Closed {
+            table,
+            shape: _,
+            last: _,
+        } = self;
+        table.free();
+    }
+}
+
+impl OakTable {
+    ghost use Rattle.oak_core.specs.PassState.{HoldsNothing, IsAlone};
+    ghost use Rattle.oak_core.specs.Passes.{IsPassOf, state, key};
+    ghost use Rattle.oak_core.specs.Closing.{closed_key, closed_state, closed_words};
+    ghost use Rattle.oak_core.specs.Splitting.{Ends};
+
+    /// Closes the table with its last pass: every other was joined into it, or into one that was.
+    pub fn close(self, pass: Pass) -> Closed
+        requires own { IsPassOf self pass }
+        requires alone { IsAlone (state pass) }
+        requires idle { HoldsNothing (state pass) }
+        ensures key { closed_key result ≡ key self }
+        ensures state { closed_state result ≡ state pass }
+        ensures ends { Ends (key self) (closed_words result) (state pass) }
+    {
+        let OakTable { table, shape } = self;
+        let last = Snapshot::of(&pass);
+        let Pass {
+            seat,
+            call: _,
+            scratch: _,
+        } = pass;
+        Closed {
+            table: table.close_with(seat),
+            shape,
+            last,
+        }
+    }
+}

@@ -1,0 +1,164 @@
+//! Passes are made, given their calls, split, joined, and at last closed with their table.
+ghost use Rattle.std.specs.Prelude.{◌≡◌, ℕ, ◌<◌, IfOk, IfErr, MatchBool};
+ghost use Rattle.std.specs.Int.{bit_at};
+ghost use Rattle.oak_core.specs.PassState.{HoldsNothing, left_state, right_state, both_state, first_state};
+ghost use Rattle.oak_core.specs.Schedule.{MaySplit};
+ghost use Rattle.oak_core.specs.Step.{MayGive, Told, give_number};
+ghost use Rattle.oak_core.specs.Passes.{IsPassOf, Stays, state, key, call_of};
+ghost use Rattle.oak_core.specs.Splitting.{SplitsOff, FindsAllGiven, SeesLonger};
+
+use crate::atoms::or_said;
+use crate::layout::{rooms_at, word_count};
+use crate::states::PassState;
+use crate::table::{OakTable, Pass};
+use crate::writing::Writing;
+use atomic_table::{Join, Split, Table};
+use chunk_core::OPEN;
+use oak_model::{OutOfMemory, Shape};
+use pin_word::pack;
+use std::alloc::Global;
+use std::marker::Brand;
+use thiserror::Error;
+
+/// Why a pass was not split.
+#[derive(Clone, Copy, Debug, PartialEq, Eq, Error)]
+pub enum SplitFault {
+    /// The shape allows `made` passes, and so many were made.
+    #[error("all {made} passes were made")]
+    Limit { made: u32 },
+    #[error("out of memory")]
+    OutOfMemory,
+}
+
+/// How the state of a pass is cut in two by a split.
+pub struct Cut;
+
+impl Split<PassState> for Cut {
+    ghost left = { left_state };
+
+    ghost right = { right_state };
+}
+
+/// How the states of two passes become one by a join.
+pub struct Glue;
+
+impl Join<PassState> for Glue {
+    ghost use Rattle.oak_core.specs.PassState.{spent_state};
+
+    ghost both = { both_state };
+
+    ghost spent = { spent_state };
+}
+
+fn is_set(word: u64, bit: u32) -> bool
+    requires { bit < 64 }
+    ensures { MatchBool result (bit_at word bit ≡ 1) (bit_at word bit ≡ 0) }
+{
+    word >> bit & 1 == 1
+}
+
+impl OakTable {
+    /// A table of this shape with its first pass, which has the number 0: an empty map, in which room 0
+    /// covers every key.
+    pub fn create(alloc: Global, shape: &Shape) -> Result<(OakTable, Pass), OutOfMemory>
+        ensures key { IfOk result (λ t. key t.0 ≡ shape.now) }
+        ensures own { IfOk result (λ t. IsPassOf t.0 t.1) }
+        ensures first { IfOk result (λ t. (state t.1 ≡ first_state) × (call_of t.1 ≡ 0)) }
+    {
+        // Reading a field shows that the sizes are within their limits.
+        let _passes = shape.passes;
+        let shape = *shape;
+        let mut words = vec![in alloc; 0u64; word_count(&shape)]?;
+        words[0] = 1;
+        words[rooms_at(&shape)] = pack(0, OPEN, 0);
+        let scratch = Writing::make(alloc)?;
+        let (table, seat) = Table::of_words(alloc, words.as_slice(), &shape)?;
+        let table = OakTable { table, shape };
+        let pass = Pass {
+            seat,
+            call: 0,
+            scratch,
+        };
+        Ok((table, pass))
+    }
+}
+
+impl Pass {
+    /// Names the present call of the pass's caller.
+    pub fn turn(&mut self, call: u32)
+        requires { call_of self.old < call }
+        ensures call { call_of self.new ≡ call }
+        ensures same { (self.new.seat.table_id ≡ self.old.seat.table_id) × (self.new.seat.id ≡ self.old.seat.id) × (state self.new ≡ state self.old) }
+    {
+        self.call = call;
+    }
+
+    /// Sets the bit of a number in word 0, which gives the number where it was clear.
+    fn give_number(&mut self, table: &OakTable, number: u32) -> u64
+        requires own { IsPassOf table.now self.old }
+        requires small { number < 64 }
+        requires may { MayGive (key table.now) number (state self.old) }
+        ensures own { Stays self.old self.new }
+        ensures told { Told (key table.now) (call_of self.old) (give_number number) (state self.old) result (state self.new) }
+    {
+        or_said::<Brand>(table, self, 0, 1 << number)
+    }
+
+    /// The part of a split that takes the number in hand.
+    fn cut(&mut self, table: &OakTable, scratch: Writing) -> Pass
+        requires own { IsPassOf table.now self.old }
+        requires may { MaySplit (state self.old) }
+        ensures own { Stays self.old self.new }
+        ensures new { IsPassOf table.now result × (call_of result ≡ 0) }
+        ensures cut { (state self.new ≡ left_state (state self.old)) × (state result ≡ right_state (state self.old)) }
+    {
+        let seat = table.table.shared.split_seat::<Cut>(&mut self.seat);
+        Pass {
+            seat,
+            call: 0,
+            scratch,
+        }
+    }
+
+    /// Splits off a pass for another caller, with the least number that no pass has. It has seen what
+    /// this one has seen. `Limit` comes exactly where all numbers of the shape were found given. All
+    /// memory is taken before the number.
+    pub fn split(&mut self, alloc: Global, table: &OakTable) -> Result<Pass, SplitFault>
+        requires own { IsPassOf table.now self.old }
+        requires idle { HoldsNothing (state self.old) }
+        ensures own { Stays self.old self.new }
+        ensures new { IfOk result (λ p. IsPassOf table.now p × (call_of p ≡ 0)) }
+        ensures split { IfOk result (λ p. SplitsOff (key table.now) (state self.old) (state self.new) (state p)) }
+        ensures limit { (made : ℕ) → result ≡ Err (SplitFault.Limit made) → (made ≡ (key table.now).passes) × FindsAllGiven (key table.now) (state self.old) (state self.new) }
+        ensures memory { result ≡ Err SplitFault.OutOfMemory → state self.new ≡ state self.old }
+    {
+        let Ok(scratch) = Writing::make(alloc) else {
+            return Err(SplitFault::OutOfMemory);
+        };
+        let passes = table.passes();
+        for number in 0..passes {
+            let found = self.give_number(table, number);
+            if !is_set(found, number) {
+                return Ok(self.cut(table, scratch));
+            }
+        }
+        Err(SplitFault::Limit { made: passes })
+    }
+
+    /// Takes in another pass: of each key the longer of what the two have seen is seen, and what the
+    /// other wrote, met and noted is kept under its number.
+    pub fn join(&mut self, table: &OakTable, other: Pass)
+        requires own { IsPassOf table.now self.old × IsPassOf table.now other }
+        requires idle { HoldsNothing (state self.old) × HoldsNothing (state other) }
+        ensures own { Stays self.old self.new }
+        ensures joined { state self.new ≡ both_state (state self.old) (state other) }
+        ensures seen { (k : ℕ) → SeesLonger (state self.old) (state other) (state self.new) k }
+    {
+        let Pass {
+            seat,
+            call: _,
+            scratch: _,
+        } = other;
+        table.table.shared.join_seat::<Glue>(&mut self.seat, seat);
+    }
+}

@@ -1,0 +1,55 @@
+//! The table, and the passes that step on it.
+ghost use Rattle.std.specs.Prelude.{◌≡◌, [], false};
+ghost use Rattle.oak_core.specs.Memory.{word_count};
+
+use crate::states::PassState;
+use crate::writing::Writing;
+use atomic_table::{Seat, Table, TableRule};
+use oak_model::Shape;
+use std::alloc::Global;
+
+/// The rule under which the words stand: that of the definitions, for every state of the running table.
+pub struct OakRule;
+
+impl TableRule<(), PassState, Shape> for OakRule {
+    ghost use Rattle.oak_core.specs.Running.{Holds};
+    ghost use Rattle.oak_core.specs.PassState.{first_state};
+
+    ghost holds = { Holds };
+
+    ghost first = { λ _. first_state };
+}
+
+/// A table of words, shared by its passes.
+pub struct OakTable {
+    pub(crate) table: Table<(), PassState, Shape, OakRule, Global>,
+    pub(crate) shape: Shape,
+    ghost shape_is: { shape ≡ table.shared.key },
+    ghost counted: { table.shared.table_id.words ≡ word_count shape },
+    ghost bare: { table.shared.table_id.slots ≡ 0 },
+}
+
+/// A caller's token for a table. It is spent by [`Pass::join`] or [`OakTable::close`], and can't be
+/// dropped.
+pub struct Pass {
+    pub(crate) seat: Seat<(), PassState>,
+    pub(crate) call: u32,
+    pub(crate) scratch: Writing,
+    ghost idle: { seat.me.1 ≡ [] },
+    ghost going: { seat.me.0.numbers.spent ≡ false },
+}
+
+impl OakTable {
+    ghost use Rattle.std.specs.Prelude.{◌<◌, ◌≤◌};
+    ghost use Rattle.oak_model.specs.declared.limits.TheConstants.{GREATEST_PASSES};
+    ghost use Rattle.oak_core.specs.Passes.{key};
+
+    /// How many passes the table may have.
+    pub fn passes(&self) -> u32
+        ensures is { result ≡ (key self.now).passes }
+        ensures some { 0 < result }
+        ensures few { result ≤ GREATEST_PASSES }
+    {
+        self.shape.passes
+    }
+}

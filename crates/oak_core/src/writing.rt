@@ -1,0 +1,64 @@
+ghost use Rattle.std.specs.Prelude.{◌≡◌, ◌<◌, ◌↔◌, IsTrue, [], IfOk, slice_index, slice_set, length};
+
+use oak_model::{GREATEST_VALUE, OutOfMemory};
+use std::alloc::Global;
+use std::marker::Model;
+
+/// A scratch for the bytes of one value, which a pass has since it was made: a list of at most
+/// [`GREATEST_VALUE`] bytes.
+#[derive(Debug, Drop)]
+pub struct Writing {
+    bytes: Vec<u8>,
+    len: usize,
+}
+
+impl Model for Writing {
+    ghost use Rattle.std.specs.Prelude.{List, ℕ, take, ◌≡◌, ◌≤◌, length};
+    ghost use Rattle.oak_model.specs.declared.limits.TheConstants.{GREATEST_VALUE};
+
+    ghost Value = { List ℕ };
+
+    ghost view = { λ w. take w.len w.bytes.items };
+
+    ghost invariant = { λ w. (length w.bytes.items ≡ GREATEST_VALUE) × (w.len ≤ GREATEST_VALUE) };
+}
+
+impl Writing {
+    /// An empty one.
+    pub(crate) fn make(alloc: Global) -> Result<Writing, OutOfMemory>
+        ensures { IfOk result (λ w. w ≡ []) }
+    {
+        let bytes = vec![in alloc; 0u8; GREATEST_VALUE]?;
+        Ok(Writing { bytes, len: 0 })
+    }
+
+    /// How many bytes it has.
+    pub fn len(&self) -> usize
+        ensures { result ≡ length self.now }
+    {
+        self.len
+    }
+
+    /// Whether it has no byte.
+    pub fn is_empty(&self) -> bool
+        ensures { IsTrue result ↔ (self.now ≡ []) }
+    {
+        self.len == 0
+    }
+
+    /// Byte `i`.
+    pub fn byte(&self, i: usize) -> u8
+        requires { i < length self.now }
+        ensures { result ≡ slice_index self.now i }
+    {
+        self.bytes[i]
+    }
+
+    /// Byte `i` becomes `b`.
+    pub fn set(&mut self, i: usize, b: u8)
+        requires { i < length self.old }
+        ensures { self.new ≡ slice_set self.old i b }
+    {
+        self.bytes[i] = b;
+    }
+}
