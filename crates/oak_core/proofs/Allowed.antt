@@ -1,29 +1,27 @@
 -- The steps, splits and joins of the running table are those of the definitions.
-use Rattle.std.proofs.Common.{arith, shl_exact, ◌*◌, ◌%◌, ◌≡◌, ◌≢◌, ℕ, ◌<◌, ◌^◌, false, List, [], ◌∷◌, sym, refl, ap, ◌∙◌, subst, Some}
+use Rattle.std.proofs.Common.{arith, shl_exact, ◌*◌, ◌%◌, ◌≡◌, ℕ, ◌<◌, ◌^◌, false, [], ◌∷◌, sym, refl, ap, ◌∙◌, subst, Some}
 use Rattle.std.specs.Prelude.{bit_or}
 use Rattle.std.specs.Int.{bit_at}
 use Rattle.std.proofs.lemmas.Nat.Bits.{bit_at-pow_same, bit_at-pow_other}
 use mathlib.Core.Logic.{dite}
-use mathlib.Core.Option.{some}
 use native.Mathlib.Decide.{ℕ_discrete}
-use lib.ListN.{get_elem?}
-use Rattle.atomic_table.specs.Table.{State, Me, keeps, Allows, Splits, Joins}
+use Rattle.atomic_table.specs.Table.{Me, keeps, Allows, Splits, Joins}
 use Rattle.oak_model.specs.Limits.{Sizes}
 use Rattle.oak_model.proofs.Lists.{set_else}
 use Rattle.oak_core.specs.declared.states.PassState.{PassState}
-use Rattle.oak_core.specs.Memory.{Spot, at_given, index, IsInside, word_count}
+use Rattle.oak_core.specs.Memory.{index, word_count}
 use Rattle.oak_core.specs.Finding.{finding, grown}
 use Rattle.oak_core.specs.PassState.{left_state, right_state, both_state, spent_state}
 use Rattle.oak_core.specs.Running.{table_of, Holds, KeepsSeat}
 use Rattle.oak_core.specs.Schedule.{MaySplit, MayJoin}
 use Rattle.oak_core.specs.Splitting.{Loads}
-use Rattle.oak_core.specs.Step.{Step, load, give_number, spot, effect, May, MayGive, state_after, Told}
+use Rattle.oak_core.specs.Step.{Step, load, give_number, on_arena, spot, effect, May, MayGive, state_after, Told}
 use Rattle.oak_core.specs.TableState.{TableState}
 use Rattle.oak_core.proofs.EachEvent.{rule_keeps}
 use Rattle.oak_core.proofs.TwoSeats.{split_keeps, join_keeps}
 use Rattle.oak_core.proofs.Words.{first_word, index_covers}
 
-same_power : (k j : ℕ) → 2 ^ k ≡ 2 ^ j → k ≡ j
+pub same_power : (k j : ℕ) → 2 ^ k ≡ 2 ^ j → k ≡ j
 same_power k j e = dite (ℕ_discrete k j) (λ q. q) (λ ne. let a = bit_at-pow_same k in let b = bit_at-pow_other j k ne in let c = ap (λ (n : ℕ). bit_at n k) e in absurd (omega arith))
 
 pub one_shifted : (k : ℕ) → k < 64 → 1 * 2 ^ k % 2 ^ 64 ≡ 2 ^ k
@@ -32,6 +30,7 @@ one_shifted k lt = let e : 1 * 2 ^ k % 2 ^ 64 ≡ 1 * 2 ^ k = shl_exact {a = 1} 
 stays_going : (z : Sizes) (call : ℕ) (x : Step) (s : TableState) (v : PassState) → (state_after z call x s v).numbers.spent ≡ v.numbers.spent
 stays_going z call (load p) s v = refl
 stays_going z call (give_number k) s v = refl
+stays_going z call (on_arena a) s v = refl
 
 module _ (z : Sizes) (call : ℕ) (slots id : ℕ) (me : Me (Unit {0}) PassState) (going : me.0.numbers.spent ≡ false) where
   -- a step that may be taken, with what its caller makes of what it tells

@@ -1,5 +1,5 @@
 -- A pass that is alone: every other is spent, and the histories are what it has seen.
-use Rattle.std.proofs.Common.{◌≡◌, ◌≢◌, ℕ, zero, suc, ◌+◌, ◌*◌, ◌<◌, ◌≤◌, Bool, true, false, cond, List, [], ◌∷◌, ◌++◌, map, length, sym, refl, ap, ◌∙◌, subst, arith}
+use Rattle.std.proofs.Common.{◌≡◌, ◌≢◌, ℕ, zero, suc, ◌*◌, ◌<◌, Bool, true, false, cond, List, map, sym, refl, ap, ◌∙◌, subst, arith}
 use Rattle.std.specs.Int.{bit_at}
 use Rattle.std.proofs.lemmas.Nat.Bits.{bit_at-lt}
 use mathlib.Core.Option.{some, some-injective}
@@ -9,9 +9,8 @@ use lib.ListN.{get_elem?}
 use Rattle.oak_model.specs.Limits.{Sizes}
 use Rattle.oak_model.specs.Counts.{one_at, total, below, Begins, longest}
 use Rattle.oak_model.proofs.Counting.{one_at-same, total_at, total_two, total_some, below_some}
-use Rattle.oak_model.proofs.Lists.{at_map, at_unmap, begins_self, begins_whole, longest_begins, longest_le, each_map_list}
+use Rattle.oak_model.proofs.Lists.{at_map, at_unmap, begins_self, begins_whole, longest_begins, longest_le}
 use Rattle.oak_core.specs.declared.states.KeyedWrite.{KeyedWrite}
-use Rattle.oak_core.specs.declared.states.Knowledge.{Knowledge}
 use Rattle.oak_core.specs.declared.states.Numbers.{Numbers}
 use Rattle.oak_core.specs.declared.states.PassState.{PassState}
 use Rattle.oak_core.specs.Memory.{memory}

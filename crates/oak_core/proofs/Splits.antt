@@ -1,5 +1,5 @@
 -- What the calls on passes tell: a search for a free number, and what two passes have seen together.
-use Rattle.std.proofs.Common.{◌≡◌, ◌≢◌, ℕ, zero, suc, ◌+◌, ◌^◌, ◌<◌, ◌≤◌, Bool, cond, List, [], ◌∷◌, ◌++◌, length, get_or, sym, refl, ap, ◌∙◌, subst, arith, append_assoc, append-nil, eq-eqb, ne_eqb, Some, None}
+use Rattle.std.proofs.Common.{◌≡◌, ℕ, suc, ◌+◌, ◌^◌, ◌<◌, Bool, cond, List, [], ◌∷◌, ◌++◌, length, sym, refl, ap, ◌∙◌, subst, arith, append_assoc, append-nil, eq-eqb, ne_eqb, Some, None}
 use Rattle.std.specs.Prelude.{bit_or}
 use Rattle.std.specs.Int.{bit_at}
 use mathlib.Core.Option.{some}
@@ -9,12 +9,10 @@ use lib.ListN.{get_elem?}
 use Rattle.oak_model.specs.Limits.{Sizes}
 use Rattle.oak_model.proofs.Lists.{at_map}
 use Rattle.oak_core.specs.declared.states.Finding.{Finding}
-use Rattle.oak_core.specs.declared.states.Numbers.{Numbers}
 use Rattle.oak_core.specs.declared.states.PassState.{PassState}
-use Rattle.oak_core.specs.Memory.{at_given, index, memory}
+use Rattle.oak_core.specs.Memory.{at_given}
 use Rattle.oak_core.specs.Finding.{finding, grown, noted, Shows}
-use Rattle.oak_core.specs.PassState.{findings_of, both_state, left_state, right_state, HoldsNothing}
-use Rattle.oak_core.specs.Schedule.{MaySplit}
+use Rattle.oak_core.specs.PassState.{findings_of, both_state, left_state, right_state}
 use Rattle.oak_core.specs.Splitting.{SplitsOff, FindsAllGiven, SeesLonger}
 use Rattle.oak_core.specs.Step.{give_number, numbered, MayGive, Told}
 use Rattle.oak_core.proofs.Found.{shows_last}

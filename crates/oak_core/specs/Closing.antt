@@ -1,5 +1,5 @@
 -- What contracts see of a closed table.
-use Rattle.std.specs.Prelude.{◌≡◌, ℕ, ◌==◌, cond, List, [], ◌∷◌, ◌++◌, map}
+use Rattle.std.specs.Prelude.{ℕ, ◌==◌, cond, List, [], ◌∷◌, ◌++◌, map}
 use Rattle.std.specs.Slots.{slots_items}
 use Rattle.oak_model.specs.Limits.{Sizes}
 use Rattle.oak_model.specs.KeyNumber.{key_number}

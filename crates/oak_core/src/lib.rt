@@ -8,6 +8,7 @@ pub mod loads;
 pub mod passes;
 pub mod schedules;
 pub mod states;
+pub mod steps;
 pub mod table;
 mod usage;
 pub mod writing;

@@ -8,5 +8,4 @@ ghost use Rattle.oak_core.specs.Schedule.{Event, IsSchedule, opening};
 /// of the events so far. It speaks of every shape and of every opening generation below the last one.
 pub fn every_schedule()
     ensures { (z : Sizes) → IsInLimits z → (g : ℕ) → g < 2 ^ 32 - 1 → (events : List Event) (s : TableState) → IsSchedule z (opening z g) events s → Rule z s }
-{
-}
+{}

@@ -1,4 +1,4 @@
-use Rattle.std.proofs.Common.{rules, arith, length-set, ◌∙◌, ◌≡◌, ◌<◌, ℕ, List, slice_index, length, refl}
+use Rattle.std.proofs.Common.{arith, length-set, ◌∙◌, ◌≡◌, ◌<◌, ℕ, List, slice_index, length}
 use Rattle.oak_model.specs.declared.limits.TheConstants.{CLASSES}
 use Rattle.oak_model.specs.Limits.{Sizes}
 use Rattle.oak_core.specs.Memory.{memory}

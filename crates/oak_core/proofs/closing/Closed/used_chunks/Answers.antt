@@ -1,4 +1,4 @@
-use Rattle.std.proofs.Common.{refl, sym, subst, arith, ap, ◌∙◌, ◌≡◌, ◌<◌, ◌+◌, ◌*◌, ◌≤◌, ℕ, List, Bool, slice_index}
+use Rattle.std.proofs.Common.{refl, sym, subst, arith, ap, ◌∙◌, ◌≡◌, ◌<◌, ◌+◌, ◌*◌, ℕ, List, slice_index}
 use Rattle.oak_model.specs.Limits.{Sizes}
 use Rattle.oak_model.specs.Counts.{below, one_if}
 use Rattle.oak_model.proofs.Counting.{one_if_le}
