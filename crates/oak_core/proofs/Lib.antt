@@ -11,6 +11,7 @@ pub mod KeepsArena
 pub mod EachEvent
 pub mod Allowed
 pub mod ArenaNames
+pub mod ArenaPlaces
 pub mod Splits
 pub mod Alone
 pub mod UsedWords

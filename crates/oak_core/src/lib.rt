@@ -2,6 +2,7 @@
 #![tactic(auto)]
 
 mod atoms;
+pub mod blocks;
 pub mod closing;
 pub mod layout;
 pub mod loads;
@@ -13,6 +14,7 @@ pub mod table;
 mod usage;
 pub mod writing;
 
+pub use blocks::Block;
 pub use closing::Closed;
 pub use loads::load;
 pub use passes::SplitFault;
