@@ -15,3 +15,4 @@ pub mod ArenaPlaces
 pub mod Splits
 pub mod Alone
 pub mod UsedWords
+pub mod Frames

@@ -1,5 +1,5 @@
 -- What the calls on passes tell: a search for a free number, and what two passes have seen together.
-use Rattle.std.proofs.Common.{◌≡◌, ℕ, suc, ◌+◌, ◌^◌, ◌<◌, Bool, cond, List, [], ◌∷◌, ◌++◌, length, sym, refl, ap, ◌∙◌, subst, arith, append_assoc, append-nil, eq-eqb, ne_eqb, Some, None}
+use Rattle.std.proofs.Common.{map, ◌≡◌, ℕ, suc, ◌+◌, ◌^◌, ◌<◌, Bool, cond, List, [], ◌∷◌, ◌++◌, length, sym, refl, ap, ◌∙◌, subst, arith, append_assoc, append-nil, eq-eqb, ne_eqb, Some, None}
 use Rattle.std.specs.Prelude.{bit_or}
 use Rattle.std.specs.Int.{bit_at}
 use mathlib.Core.Option.{some}
@@ -8,12 +8,13 @@ use native.Mathlib.Decide.{ℕ_discrete}
 use lib.ListN.{get_elem?}
 use Rattle.oak_model.specs.Limits.{Sizes}
 use Rattle.oak_model.proofs.Lists.{at_map}
+use Rattle.oak_model.proofs.Counting.{total_at}
 use Rattle.oak_core.specs.declared.states.Finding.{Finding}
 use Rattle.oak_core.specs.declared.states.PassState.{PassState}
-use Rattle.oak_core.specs.Memory.{at_given}
+use Rattle.oak_core.specs.Memory.{at_given, memory}
 use Rattle.oak_core.specs.Finding.{finding, grown, noted, Shows}
-use Rattle.oak_core.specs.PassState.{findings_of, both_state, left_state, right_state}
-use Rattle.oak_core.specs.Splitting.{SplitsOff, FindsAllGiven, SeesLonger}
+use Rattle.oak_core.specs.PassState.{has_number, numbers_of, findings_of, both_state, left_state, right_state}
+use Rattle.oak_core.specs.Splitting.{IsGrown, SplitsOff, FindsAllGiven, SeesLonger}
 use Rattle.oak_core.specs.Step.{give_number, numbered, MayGive, Told}
 use Rattle.oak_core.proofs.Found.{shows_last}
 use Rattle.oak_core.proofs.Histories.{seen_later, seen_first}
@@ -56,6 +57,15 @@ module _ (z : Sizes) (call k : ℕ) (v w x : PassState) (n : ℕ) (t : Tried k v
   lower_given j lt = let given = told.rule.findings told.seat w.findings (at_map findings_of told.table.states told.seat w told.here) j (told.may.lower j lt) in
       ap (λ (g : ℕ). bit_at g j) (sym told.finds ∙ sym (memory_read z told.table.words at_given tt)) ∙ given
 
+  given_is : (memory z told.table.words).given ≡ n
+  given_is = memory_read z told.table.words at_given tt ∙ told.finds
+
+  -- a number that is free is none of the pass's
+  none_of_own : bit_at n k ≡ 0 → has_number k v.numbers ≡ 0
+  none_of_own e = let o = told.rule.numbers.owned k in let b : bit_at (memory z told.table.words).given k ≡ 0 = ap (λ (g : ℕ). bit_at g k) given_is ∙ e in
+      let a = total_at (has_number k) (map numbers_of told.table.states) told.seat w.numbers (at_map numbers_of told.table.states told.seat w told.here) in
+      let same : has_number k w.numbers ≡ has_number k v.numbers = ap (λ (y : PassState). has_number k y.numbers) t.after in omega arith
+
   abbrev met_now : Finding
   met_now = finding z call at_given (Some n) (bit_or n (2 ^ k)) w
 
@@ -87,9 +97,16 @@ module _ (z : Sizes) (call k : ℕ) (v w x : PassState) (n : ℕ) (t : Tried k v
       more = t.more ++ met_now ∷ [];
       old = is_left ∙ (ap left_state now_in_hand ∙ ap (λ (o : _). record (grown (t.more ++ met_now ∷ []) v) { numbers = record v.numbers { hand = o; made = v.numbers.made ++ k ∷ [] } }) (sym hand));
       new = is_right ∙ ap right_state now_in_hand;
+      unowned = none_of_own e;
       least = shows_last t.more met_now 0 n (λ n. (bit_at n k ≡ 0) × ((j : ℕ) → j < k → bit_at n j ≡ 1)) (first_word z) refl (e, lower_given);
     }
 
 -- all were tried
 pub all_given : (z : Sizes) (v w : PassState) → 0 < z.passes → Tried z.passes v w → FindsAllGiven z v w
 all_given z v w some_pass t = record { more = t.more; after = t.after; given = t.given some_pass }
+
+pub tried_grown : (i : ℕ) (v w : PassState) → Tried i v w → IsGrown v w
+tried_grown i v w t = record { more = t.more; after = t.after }
+
+pub grown_same : (v : PassState) → IsGrown v v
+grown_same v = tried_grown 0 v v (none_tried v)

@@ -30,3 +30,10 @@ pub record Stays (p q : Pass) : Type 0 where
   pub table : q.seat.table_id ≡ p.seat.table_id
   pub seat : q.seat.id ≡ p.seat.id
   pub call : q.call ≡ p.call
+
+-- it is the same pass with all that it has seen, done and holds, in another call
+pub record Turns (p q : Pass) (next : ℕ) : Type 0 where
+  pub table : q.seat.table_id ≡ p.seat.table_id
+  pub seat : q.seat.id ≡ p.seat.id
+  pub call : q.call ≡ next
+  pub state : q.seat.me ≡ p.seat.me

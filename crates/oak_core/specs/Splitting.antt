@@ -8,7 +8,7 @@ use Rattle.oak_core.specs.declared.states.Finding.{Finding}
 use Rattle.oak_core.specs.declared.states.PassState.{PassState}
 use Rattle.oak_core.specs.Memory.{Spot, index, IsInside}
 use Rattle.oak_core.specs.Finding.{finding, grown, Shows}
-use Rattle.oak_core.specs.PassState.{knowledge_of, seen_of, history, first_state, spent_state}
+use Rattle.oak_core.specs.PassState.{has_number, knowledge_of, seen_of, history, first_state, spent_state}
 use Rattle.oak_core.specs.TableState.{TableState}
 use Rattle.oak_core.specs.Rule.{Rule}
 use Rattle.oak_core.specs.Step.{load, Told}
@@ -21,13 +21,19 @@ pub record Loads (z : Sizes) (call word : ℕ) (v : PassState) (n : ℕ) (w : Pa
   pub told : Told z call (load spot) v n w
   pub met : w ≡ grown (finding z call spot (Some n) n v ∷ []) v
 
--- the new pass x has the number, which was the least that no pass had at its step, and has seen what v has seen
+-- the pass met more, and is else as it was
+pub record IsGrown (v w : PassState) : Type 0 where
+  pub more : List Finding
+  pub after : w ≡ grown more v
+
+-- the new pass x has the number, which was the least that no pass had at its step, so none of v's, and has seen what v has seen
 pub record SplitsOff (z : Sizes) (v w x : PassState) : Type 0 where
   pub number : ℕ
   pub few : number < z.passes
   pub more : List Finding
   pub old : w ≡ record (grown more v) { numbers = record v.numbers { made = v.numbers.made ++ number ∷ [] } }
   pub new : x ≡ record first_state { numbers = record first_state.numbers { number = number }; knowledge = record { seen = v.knowledge.seen; mine = [] } }
+  pub unowned : has_number number v.numbers ≡ 0
   pub least : Shows more 0 (λ n. (bit_at n number ≡ 0) × ((j : ℕ) → j < number → bit_at n j ≡ 1))
 
 -- all numbers were found given at one step

@@ -12,6 +12,8 @@ pub mod states;
 pub mod steps;
 pub mod table;
 mod usage;
+#[cfg(test)]
+mod tests;
 pub mod writing;
 
 pub use blocks::Block;

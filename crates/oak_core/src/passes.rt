@@ -4,8 +4,8 @@ ghost use Rattle.std.specs.Int.{bit_at};
 ghost use Rattle.oak_core.specs.PassState.{HoldsNothing, left_state, right_state, both_state, first_state};
 ghost use Rattle.oak_core.specs.Schedule.{MaySplit};
 ghost use Rattle.oak_core.specs.Step.{MayGive, Told, give_number};
-ghost use Rattle.oak_core.specs.Passes.{IsPassOf, Stays, state, key, call_of};
-ghost use Rattle.oak_core.specs.Splitting.{SplitsOff, FindsAllGiven, SeesLonger};
+ghost use Rattle.oak_core.specs.Passes.{IsPassOf, Stays, Turns, state, key, call_of};
+ghost use Rattle.oak_core.specs.Splitting.{IsGrown, SplitsOff, FindsAllGiven, SeesLonger};
 
 use crate::atoms::or_said;
 use crate::layout::{rooms_at, word_count};
@@ -88,8 +88,7 @@ impl Pass {
     /// Names the present call of the pass's caller.
     pub fn turn(&mut self, call: u32)
         requires { call_of self.old < call }
-        ensures call { call_of self.new ≡ call }
-        ensures same { (self.new.seat.table_id ≡ self.old.seat.table_id) × (self.new.seat.id ≡ self.old.seat.id) × (state self.new ≡ state self.old) }
+        ensures { Turns self.old self.new call }
     {
         self.call = call;
     }
@@ -131,6 +130,7 @@ impl Pass {
         ensures own { Stays self.old self.new }
         ensures new { IfOk result (λ p. IsPassOf table.now p × (call_of p ≡ 0)) }
         ensures split { IfOk result (λ p. SplitsOff (key table.now) (state self.old) (state self.new) (state p)) }
+        ensures refused { IfErr result (λ _. IsGrown (state self.old) (state self.new)) }
         ensures limit { (made : ℕ) → result ≡ Err (SplitFault.Limit made) → (made ≡ (key table.now).passes) × FindsAllGiven (key table.now) (state self.old) (state self.new) }
         ensures memory { result ≡ Err SplitFault.OutOfMemory → state self.new ≡ state self.old }
     {

@@ -1,0 +1,130 @@
+ghost use Rattle.std.specs.Prelude.{◌≡◌, ◌<◌};
+ghost use Rattle.std.specs.Thread.{IsSync};
+ghost use Rattle.oak_core.specs.Memory.{word_count};
+ghost use Rattle.oak_core.specs.PassState.{HoldsNothing, IsAlone, first_state};
+ghost use Rattle.oak_core.specs.Passes.{IsPassOf, Stays, state, key};
+ghost use Rattle.oak_core.specs.Splitting.{IsGrown};
+
+use crate::{OakTable, Pass, SplitFault, Writing, load};
+use oak_model::{BadShape, Shape, ShapeField, Usage};
+use std::alloc::Global;
+use std::process::Abort;
+use std::test::Fail;
+use std::thread::{Threads, join_mut};
+
+/// Takes a pass of number 1.
+fn has_number_one(_other: &Pass)
+    requires { (state _other.now).numbers.number ≡ 1 }
+{
+}
+
+/// A pass of a shape of two, of which both were made.
+fn split_no_more(rt: &impl Abort, alloc: Global, table: &OakTable, pass: &mut Pass)
+    requires own { IsPassOf table.now pass.old }
+    requires idle { HoldsNothing (state pass.old) }
+    ensures own { Stays pass.old pass.new }
+    ensures same { IsGrown (state pass.old) (state pass.new) }
+{
+    match pass.split(alloc, table) {
+        Ok(third) => {
+            pass.join(table, third);
+            assert!(rt; false);
+            return;
+        }
+        Err(fault) => {
+            assert!(rt; fault == SplitFault::Limit { made: 2 });
+            return;
+        }
+    }
+}
+
+/// The first pass of a shape of two is split once, and no further.
+fn split_twice(rt: &impl Abort, alloc: Global, table: &OakTable, pass: &mut Pass)
+    requires own { IsPassOf table.now pass.old }
+    requires two { (key table.now).passes ≡ 2 }
+    requires first { state pass.old ≡ first_state }
+    ensures own { Stays pass.old pass.new }
+    ensures idle { HoldsNothing (state pass.new) }
+    ensures alone { IsAlone (state pass.new) }
+{
+    let Ok(other) = pass.split(alloc, table) else {
+        assert!(rt; false);
+        return;
+    };
+    has_number_one(&other);
+    split_no_more(rt, alloc, table, pass);
+    pass.join(table, other);
+}
+
+#[test]
+fn a_shape_of_two_passes(rt: HostRuntime) -> Result<(), Fail> {
+    let bad = BadShape {
+        field: ShapeField::Entries,
+        value: 3,
+    };
+    assert!(rt; Shape::make(2, 4, 3, 16, [2, 0, 0, 0]) == Err(bad));
+    let shape = Shape::make(2, 4, 4, 16, [2, 0, 0, 0])?;
+    let (table, mut pass) = OakTable::create(rt.alloc(), &shape)?;
+    split_twice(&rt, rt.alloc(), &table, &mut pass);
+    let closed = table.close(pass);
+    let unused = Usage {
+        blocks: [0, 0, 0, 0],
+        headers: 0,
+        chunks: 1,
+    };
+    assert!(rt; closed.usage() == unused);
+    Ok(())
+}
+
+fn look(table: &OakTable, pass: &mut Pass)
+    requires own { IsPassOf table.now pass.old }
+    ensures own { Stays pass.old pass.new }
+    ensures numbers { (state pass.new).numbers ≡ (state pass.old).numbers }
+    ensures idle { HoldsNothing (state pass.old) → HoldsNothing (state pass.new) }
+{
+    load(table, pass, 0);
+}
+
+/// Two passes load a word in two threads.
+fn look_together<R: Threads + Sync>(rt: &R, table: &OakTable, a: &mut Pass, b: &mut Pass)
+    requires own { IsPassOf table.now a.old × IsPassOf table.now b.old }
+    ensures own { Stays a.old a.new × Stays b.old b.new }
+    ensures numbers { ((state a.new).numbers ≡ (state a.old).numbers) × ((state b.new).numbers ≡ (state b.old).numbers) }
+    ensures idle { (HoldsNothing (state a.old) → HoldsNothing (state a.new)) × (HoldsNothing (state b.old) → HoldsNothing (state b.new)) }
+{
+    join_mut(rt, &mut || look(table, a), &mut || look(table, b));
+}
+
+fn split_and_join<R: Threads + Sync>(rt: &R, alloc: Global, table: &OakTable, pass: &mut Pass)
+    requires own { IsPassOf table.now pass.old }
+    requires idle { HoldsNothing (state pass.old) }
+    requires alone { IsAlone (state pass.old) }
+    ensures own { Stays pass.old pass.new }
+    ensures idle { HoldsNothing (state pass.new) }
+    ensures alone { IsAlone (state pass.new) }
+{
+    let Ok(mut other) = pass.split(alloc, table) else {
+        return;
+    };
+    look_together(rt, table, pass, &mut other);
+    pass.join(table, other);
+}
+
+#[test]
+fn two_passes_in_two_threads(rt: HostRuntime) -> Result<(), Fail> {
+    let shape = Shape::make(3, 1, 4, 1, [1, 1, 1, 1])?;
+    let (table, mut pass) = OakTable::create(rt.alloc(), &shape)?;
+    pass.turn(1);
+    split_and_join(&rt, rt.alloc(), &table, &mut pass);
+    let usage = table.close(pass).usage();
+    assert_eq!(rt; usage.chunks, 1);
+    Ok(())
+}
+
+#[test]
+fn a_scratch(rt: HostRuntime) -> Result<(), Fail> {
+    let scratch = Writing::make(rt.alloc())?;
+    assert!(rt; scratch.is_empty());
+    assert_eq!(rt; scratch.len(), 0);
+    Ok(())
+}
