@@ -17,7 +17,7 @@ state p = p.seat.me.0
 abbrev pub call_of : Pass → ℕ
 call_of p = p.call
 
--- the word of bits of each class at which its last search for a block of that class ended
+-- the block of each class at which its next search for one begins
 abbrev pub searches : Pass → List ℕ
 searches p = p.searches
 

@@ -54,18 +54,18 @@ impl OakTable {
 }
 
 impl Pass {
-    /// The word of bits at which the pass's last search for a block of the class ended.
+    /// The block at which the pass's next search for one of the class begins.
     pub fn search(&self, class: Class) -> u32
         ensures { result ≡ slice_index (searches self.now) (class_number class) }
     {
         self.searches[class.number()]
     }
 
-    /// Sets the word of bits at which the pass's next search for a block of the class begins.
-    pub fn search_from(&mut self, class: Class, word: u32)
-        ensures search { searches self.new ≡ slice_set (searches self.old) (class_number class) word }
+    /// Sets the block at which the pass's next search for one of the class begins.
+    pub fn search_from(&mut self, class: Class, block: u32)
+        ensures search { searches self.new ≡ slice_set (searches self.old) (class_number class) block }
         ensures same { (self.new.seat.table_id ≡ self.old.seat.table_id) × (self.new.seat.id ≡ self.old.seat.id) × (state self.new ≡ state self.old) × (call_of self.new ≡ call_of self.old) }
     {
-        self.searches[class.number()] = word;
+        self.searches[class.number()] = block;
     }
 }
