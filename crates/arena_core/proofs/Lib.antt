@@ -1,2 +1,6 @@
 pub mod ArenaWords
 pub mod ArenaSizes
+pub mod HeldLists
+pub mod OwnedBlocks
+pub mod ArenaSteps
+pub mod KeptBlocks

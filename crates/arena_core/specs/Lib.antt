@@ -1,2 +1,4 @@
 pub mod Arena
 pub mod HeldBlocks
+pub mod Blocks
+pub mod ArenaStep

@@ -1,10 +1,11 @@
 //! Where the words of the arena lie, counted from its first word on: the bits of each class, and behind
 //! them the bytes of each class.
 ghost use Rattle.std.specs.Prelude.{◌≡◌, ◌<◌, ◌≤◌, ◌*◌, slice_index};
+ghost use Rattle.oak_model.specs.Class.{class_number};
 ghost use Rattle.oak_model.specs.Counts.{below};
 ghost use Rattle.arena_core.specs.Arena.{bit_words, byte_words, block_words, arena_words};
 
-use oak_model::{CLASS_GROWTH, CLASSES, LEAST_BLOCK, Shape};
+use oak_model::{CLASS_GROWTH, CLASSES, Class, LEAST_BLOCK, Shape};
 
 /// The bytes of a word.
 pub const WORD: usize = 8;
@@ -55,4 +56,12 @@ pub fn bit_words(shape: &Shape, class: usize) -> usize
     ensures small { result ≤ 1024 }
 {
     (shape.blocks[class] as usize + (WORD_BITS - 1)) / WORD_BITS
+}
+
+/// The words of a block.
+pub fn block_words(class: Class) -> usize
+    ensures is { result ≡ block_words (class_number class) }
+    ensures small { result ≤ 128 }
+{
+    class.bytes() / WORD
 }

@@ -15,13 +15,14 @@ use Rattle.oak_core.specs.PassState.{left_state, right_state, both_state, spent_
 use Rattle.oak_core.specs.Running.{table_of, Holds, KeepsSeat}
 use Rattle.oak_core.specs.Schedule.{MaySplit, MayJoin}
 use Rattle.oak_core.specs.Splitting.{Loads}
-use Rattle.oak_core.specs.Step.{Step, load, give_number, spot, effect, May, MayGive, state_after, Told}
+use Rattle.oak_core.specs.Step.{Step, load, give_number, on_arena, spot, effect, May, MayGive, state_after, Told}
+use Rattle.oak_core.specs.TableState.{TableState}
 use Rattle.oak_core.proofs.EachEvent.{rule_keeps}
 use Rattle.oak_core.proofs.Keeps.{going_after}
 use Rattle.oak_core.proofs.TwoSeats.{split_keeps, join_keeps}
 use Rattle.oak_core.proofs.Words.{first_word, index_covers}
 
-same_power : (k j : ℕ) → 2 ^ k ≡ 2 ^ j → k ≡ j
+pub same_power : (k j : ℕ) → 2 ^ k ≡ 2 ^ j → k ≡ j
 same_power k j e = dite (ℕ_discrete k j) (λ q. q) (λ ne. let a = bit_at-pow_same k in let b = bit_at-pow_other j k ne in let c = ap (λ (n : ℕ). bit_at n k) e in absurd (omega arith))
 
 pub one_shifted : (k : ℕ) → k < 64 → 1 * 2 ^ k % 2 ^ 64 ≡ 2 ^ k

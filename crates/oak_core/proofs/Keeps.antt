@@ -15,6 +15,7 @@ use Rattle.oak_model.proofs.Lists.{at_map, map_set, map_set_same}
 use Rattle.oak_model.proofs.Counting.{total_append}
 use Rattle.oak_model.proofs.Changes.{stepped}
 use Rattle.oak_model.proofs.KeptLaws.{kept_unkept}
+use Rattle.arena_core.specs.Blocks.{BlocksAreOwned}
 use Rattle.arena_core.specs.HeldBlocks.{kept_of_blocks}
 use Rattle.header_core.specs.HeaderHolds.{kept_of_headers}
 use Rattle.oak_core.specs.declared.states.Finding.{Finding}
@@ -22,10 +23,10 @@ use Rattle.oak_core.specs.declared.states.Findings.{Findings}
 use Rattle.oak_core.specs.declared.states.PassState.{PassState}
 use Rattle.oak_core.specs.Memory.{Memory, Spot, at_given, in_arena, in_headers, same_spot, read, write, memory, index, IsInside, word_count}
 use Rattle.oak_core.specs.Finding.{finding}
-use Rattle.oak_core.specs.PassState.{numbers_of, findings_of, knowledge_of, kept_of}
+use Rattle.oak_core.specs.PassState.{blocks_of, numbers_of, findings_of, knowledge_of, kept_of}
 use Rattle.oak_core.specs.TableState.{TableState}
-use Rattle.oak_core.specs.Rule.{WordsStand, NumbersStand, FoundStays, FindingsStand, HistoriesStand, SpentIsSpent, Rule}
-use Rattle.oak_core.specs.Step.{Step, load, give_number, spot, effect, MayGive, found, state_after, table_after}
+use Rattle.oak_core.specs.Rule.{WordsStand, NumbersStand, FoundStays, FindingsStand, HistoriesStand, SpentIsSpent, other_owners, Rule}
+use Rattle.oak_core.specs.Step.{Step, load, give_number, on_arena, spot, effect, MayGive, found, state_after, table_after}
 use Rattle.oak_core.proofs.Words.{read-write, first_word, index_apart, index_below, memory_set, memory_read}
 use Rattle.oak_core.proofs.GivenNumbers.{number_given, bits_stay}
 use Rattle.oak_core.proofs.Found.{found_on, found_more}
@@ -61,6 +62,7 @@ all_unkept (v ∷ vs) = let a = given_unkept v in let b = all_unkept vs in omega
 pub going_after : (z : Sizes) (call : ℕ) (x : Step) (s : TableState) (v : PassState) → (state_after z call x s v).numbers.spent ≡ v.numbers.spent
 going_after z call (load p) s v = refl
 going_after z call (give_number k) s v = refl
+going_after z call (on_arena a) s v = refl
 
 module _ (z : Sizes) (s : TableState) (call seat : ℕ) (v : PassState) (r : Rule z s) (here : get_elem? s.states seat ≡ some v) (going : v.numbers.spent ≡ false) where
   abbrev m : Memory
@@ -71,9 +73,9 @@ module _ (z : Sizes) (s : TableState) (call seat : ℕ) (v : PassState) (r : Rul
 
   -- the rule after a step that changes its word, from the bundles over the memory and the parts of the states after it
   pub stepped_rule : (x : Step) → IsInside z (spot x) → effect x (found z x s) < 2 ^ 64 → let m' = write m (spot x) (effect x (found z x s)) in let after = set s.states seat (state_after z call x s v) in
-      NumbersStand z m'.given (map numbers_of after) → FindingsStand m'.given (map findings_of after) → HistoriesStand (map knowledge_of after) → KeptNumbersStand same_spot (read m') (map kept_of after)
+      NumbersStand z m'.given (map numbers_of after) → FindingsStand m'.given (map findings_of after) → HistoriesStand (map knowledge_of after) → BlocksAreOwned z m'.arena.bits other_owners (map blocks_of after) → KeptNumbersStand same_spot (read m') (map kept_of after)
       → Rule z (table_after z call x seat v s)
-  stepped_rule x inside small numbers findings histories kept =
+  stepped_rule x inside small numbers findings histories blocks kept =
       let y : ℕ = effect x (found z x s) in let after : List PassState = set s.states seat (state_after z call x s v) in let law = memory_set z s.words (spot x) y r.words.counted inside in record {
         sizes = r.sizes;
         words = words_put z s.words (index z (spot x)) y (index_below z (spot x) inside) small r.words;
@@ -81,6 +83,7 @@ module _ (z : Sizes) (s : TableState) (call seat : ℕ) (v : PassState) (r : Rul
         findings = subst (λ (a : Memory). FindingsStand a.given (map findings_of after)) (sym law) findings;
         histories = histories;
         spent = spent_stays x;
+        blocks = subst (λ (a : Memory). BlocksAreOwned z a.arena.bits other_owners (map blocks_of after)) (sym law) blocks;
         kept = subst (λ (a : Memory). KeptNumbersStand same_spot (read a) (map kept_of after)) (sym law) kept;
       }
 
@@ -96,13 +99,13 @@ module _ (z : Sizes) (s : TableState) (call seat : ℕ) (v : PassState) (r : Rul
 
   -- a step that stores to a word other than word 0, and leaves the numbers of its pass and what it knows, owes the bundles of the holds alone
   pub elsewhere_rule : (x : Step) (f : Finding) → IsInside z (spot x) → effect x (found z x s) < 2 ^ 64 → same_spot at_given (spot x) ≡ false → let w = state_after z call x s v in f.word ≡ index z (spot x) → w.findings.met ≡ v.findings.met ++ f ∷ []
-      → w.numbers ≡ v.numbers → w.knowledge ≡ v.knowledge → KeptNumbersStand same_spot (read (write m (spot x) (effect x (found z x s)))) (map kept_of (set s.states seat w)) → Rule z (table_after z call x seat v s)
-  elsewhere_rule x f inside small other at grew numbers knowledge kept =
+      → w.numbers ≡ v.numbers → w.knowledge ≡ v.knowledge → BlocksAreOwned z (write m (spot x) (effect x (found z x s))).arena.bits other_owners (map blocks_of (set s.states seat w)) → KeptNumbersStand same_spot (read (write m (spot x) (effect x (found z x s)))) (map kept_of (set s.states seat w)) → Rule z (table_after z call x seat v s)
+  elsewhere_rule x f inside small other at grew numbers knowledge blocks kept =
       let w : PassState = state_after z call x s v in let y : ℕ = effect x (found z x s) in let same : (write m (spot x) y).given ≡ m.given = ap (λ (b : Bool). cond b y m.given) other in
       stepped_rule x inside small
       (subst (λ (g : ℕ). NumbersStand z g (map numbers_of (set s.states seat w))) (sym same) (subst (NumbersStand z m.given) (sym (map_set_same numbers_of s.states seat v w here numbers)) r.numbers))
       (subst (λ (g : ℕ). FindingsStand g (map findings_of (set s.states seat w))) (sym same) (findings_elsewhere (spot x) f w inside other at grew))
-      (subst HistoriesStand (sym (map_set_same knowledge_of s.states seat v w here knowledge)) r.histories) kept
+      (subst HistoriesStand (sym (map_set_same knowledge_of s.states seat v w here knowledge)) r.histories) blocks kept
 
   -- one more finding at a word that stays, in a state whose other parts stay
   findings_stay : (p : Spot) (n : ℕ) (w : PassState) → w.findings.met ≡ v.findings.met ++ finding z call p (Some n) n v ∷ [] → IsInside z p → n ≡ get_or s.words (index z p) 0
@@ -126,6 +129,7 @@ module _ (z : Sizes) (s : TableState) (call seat : ℕ) (v : PassState) (r : Rul
         findings = findings_stay p n w refl inside refl;
         histories = subst HistoriesStand (sym (map_set_same knowledge_of s.states seat v w here refl)) r.histories;
         spent = spent_stays (load p);
+        blocks = subst (BlocksAreOwned z m.arena.bits other_owners) (sym (map_set_same blocks_of s.states seat v w here refl)) r.blocks;
         kept = subst (KeptNumbersStand same_spot (read m)) (sym (map_set_same kept_of s.states seat v w here refl)) r.kept;
       }
 
@@ -174,5 +178,6 @@ module _ (z : Sizes) (s : TableState) (call seat : ℕ) (v : PassState) (r : Rul
         (subst (NumbersStand z x) (sym (map_set numbers_of s.states seat w)) (number_given z n k (map numbers_of s.states) seat v.numbers at stands may.few may.hand going lower))
         findings_after
         (subst HistoriesStand (sym (map_set_same knowledge_of s.states seat v w here refl)) r.histories)
+        (subst (BlocksAreOwned z m.arena.bits other_owners) (sym (map_set_same blocks_of s.states seat v w here refl)) r.blocks)
         (subst (KeptNumbersStand same_spot (read (write m at_given x))) (sym (map_set_same kept_of s.states seat v w here refl))
         (kept_unkept same_spot (read m) (read (write m at_given x)) at_given x (λ q. read-write m at_given q x) (map kept_of s.states) (all_unkept s.states) r.kept))

@@ -5,8 +5,13 @@ pub mod Found
 pub mod Keeps
 pub mod TwoSeats
 pub mod Opening
+pub mod OpeningBlocks
+pub mod KeptInArena
+pub mod KeepsArena
 pub mod EachEvent
 pub mod Allowed
+pub mod ArenaNames
+pub mod ArenaPlaces
 pub mod Splits
 pub mod Alone
 pub mod UsedWords

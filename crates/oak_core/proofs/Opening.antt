@@ -19,6 +19,7 @@ use Rattle.oak_core.specs.Rule.{WordsStand, NumbersStand, FoundStays, SpentIsSpe
 use Rattle.oak_core.specs.Schedule.{opening_number, opening}
 use Rattle.oak_core.proofs.Words.{first_word, memory_read}
 use Rattle.oak_core.proofs.Found.{none_found}
+use Rattle.oak_core.proofs.OpeningBlocks.{opening_blocks}
 
 either_small : (b : Bool) (x y : ℕ) → x < 2 ^ 64 → y < 2 ^ 64 → cond b x y < 2 ^ 64
 either_small true x y h k = h
@@ -74,6 +75,7 @@ module _ (z : Sizes) (g : ℕ) (is : IsInLimits z) (lt : g < 2 ^ 32) where
     findings = every_one (FoundStays (memory z (opening z g).words).given) first_state.findings (none_found (memory z (opening z g).words).given first_state.findings refl);
     histories = λ k. every_one _ first_state.knowledge tt;
     spent = every_one SpentIsSpent first_state (λ e. absurd (true≢false (sym e)));
+    blocks = opening_blocks z g;
     kept = opening_kept;
   }
 

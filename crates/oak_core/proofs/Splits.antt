@@ -29,7 +29,7 @@ sees_longer v w x k e = subst (λ (y : PassState). SeesLonger v w y k) (sym e) r
 grown-more : (v : PassState) (more : List Finding) (f : Finding) → grown (f ∷ []) (grown more v) ≡ grown (more ++ f ∷ []) v
 grown-more v more f = ap (λ (l : List Finding). record v { findings = record v.findings { met = l } }) (append_assoc v.findings.met more (f ∷ []))
 
-at_behind : {A : Type 0} (xs ys : List A) (i : ℕ) (a : A) → get_elem? ys i ≡ some a → get_elem? (xs ++ ys) (length xs + i) ≡ some a
+pub at_behind : {A : Type 0} (xs ys : List A) (i : ℕ) (a : A) → get_elem? ys i ≡ some a → get_elem? (xs ++ ys) (length xs + i) ≡ some a
 at_behind [] ys i a e = ap (get_elem? ys) (let z : 0 + i ≡ i = omega arith in z) ∙ e
 at_behind (x ∷ xs) ys i a e = ap (get_elem? (x ∷ (xs ++ ys))) (let z : suc (length xs) + i ≡ suc (length xs + i) = omega arith in z) ∙ at_behind xs ys i a e
 

@@ -10,20 +10,31 @@ use Rattle.oak_model.proofs.Lists.{at_map, map_set_same, set_else, each_append}
 use Rattle.oak_model.proofs.Counting.{total_append, below_add, below_same}
 use Rattle.oak_model.proofs.Changes.{Change, divided, joined, change_parts}
 use Rattle.oak_model.proofs.KeptLaws.{kept_idle}
-use Rattle.arena_core.specs.HeldBlocks.{kept_of_blocks}
+use Rattle.arena_core.specs.declared.blocks.HeldBlocks.{HeldBlocks}
+use Rattle.arena_core.specs.Blocks.{holds}
+use Rattle.arena_core.specs.HeldBlocks.{no_blocks, kept_of_blocks}
+use Rattle.arena_core.proofs.OwnedBlocks.{blocks_frame}
 use Rattle.header_core.specs.HeaderHolds.{kept_of_headers}
 use Rattle.oak_core.specs.declared.states.Joined.{Joined}
 use Rattle.oak_core.specs.declared.states.KeyedWrite.{KeyedWrite}
 use Rattle.oak_core.specs.declared.states.Knowledge.{Knowledge}
 use Rattle.oak_core.specs.declared.states.PassState.{PassState}
 use Rattle.oak_core.specs.Memory.{Memory, in_arena, in_headers, same_spot, read, memory}
-use Rattle.oak_core.specs.PassState.{numbers_of, findings_of, knowledge_of, kept_of, rooted, in_hand, has_number, is_parent, of_key, seen_of, history, number_in, left_state, right_state, joined_from, both_state, spent_state}
+use Rattle.oak_core.specs.PassState.{blocks_of, numbers_of, findings_of, knowledge_of, kept_of, rooted, in_hand, has_number, is_parent, of_key, seen_of, history, number_in, left_state, right_state, joined_from, both_state, spent_state}
 use Rattle.oak_core.specs.TableState.{TableState}
-use Rattle.oak_core.specs.Rule.{FoundStays, SpentIsSpent, Rule}
+use Rattle.oak_core.specs.Rule.{FoundStays, SpentIsSpent, other_owners, Rule}
 use Rattle.oak_core.specs.Schedule.{MaySplit, MayJoin}
 use Rattle.oak_core.proofs.GivenNumbers.{numbers_frame}
 use Rattle.oak_core.proofs.Found.{none_found}
 use Rattle.oak_core.proofs.Histories.{histories_frame, seen_both}
+
+-- a pass that holds nothing owns no block
+level : (c b : ℕ) (a : HeldBlocks) → total (holds c b) (a ∷ no_blocks ∷ []) + 0 ≡ total (holds c b) (a ∷ []) + 0
+unfolding total
+level c b a = omega arith
+
+level-both : (c b : ℕ) (a e : HeldBlocks) → e ≡ no_blocks → total (holds c b) (a ∷ no_blocks ∷ []) + 0 ≡ total (holds c b) (a ∷ e ∷ []) + 0
+level-both c b a e is = ap (λ (h : HeldBlocks). total (holds c b) (a ∷ h ∷ []) + 0) (sym is)
 
 module _ (z : Sizes) (s : TableState) (seat : ℕ) (v : PassState) (r : Rule z s) (here : get_elem? s.states seat ≡ some v) where
   abbrev m : Memory
@@ -63,6 +74,7 @@ module _ (z : Sizes) (s : TableState) (seat : ℕ) (v : PassState) (r : Rule z s
       histories = histories_frame (change_parts knowledge_of apart) seat v.knowledge (at_map knowledge_of s.states seat v here) r.histories
           (λ k. let h = r.histories k seat v.knowledge (at_map knowledge_of s.states seat v here) in (h, (h, tt)))
           (λ k y g. (v.knowledge, (change_parts knowledge_of apart).come.0, ⊎_elim (λ (q : v.knowledge ≡ y). let e = ap (λ (z : Knowledge). length (seen_of k z)) q in omega arith) (λ (q : ⊥). absurd q) g));
+      blocks = blocks_frame z m.arena.bits other_owners other_owners (change_parts blocks_of apart) r.blocks (r.blocks.whole seat v.blocks (at_map blocks_of s.states seat v here), (tt, tt)) (λ c b. level c b v.blocks);
       spent = apart.every SpentIsSpent ((λ e. absurd (true≢false (sym e ∙ may.going))), ((λ e. absurd (true≢false (sym e))), tt)) (λ j u _ at. r.spent j u at);
       kept = subst (KeptNumbersStand same_spot (read m)) (sym same_kept) (kept_idle same_spot (read m) (map kept_of s.states) r.kept);
     }
@@ -130,6 +142,7 @@ module _ (z : Sizes) (s : TableState) (seat : ℕ) (v : PassState) (r : Rule z s
             ⊎_elim (λ (q : v.knowledge ≡ y). let e = ap (λ (z : Knowledge). length (seen_of k z)) q in omega arith)
                 (λ (q : (w.knowledge ≡ y) ⊎ ⊥). ⊎_elim (λ (q : w.knowledge ≡ y). let e = ap (λ (z : Knowledge). length (seen_of k z)) q in omega arith) (λ (q : ⊥). absurd q) q) g,
           ));
+      blocks = blocks_frame z m.arena.bits other_owners other_owners (change_parts blocks_of together) r.blocks (r.blocks.whole seat v.blocks (at_map blocks_of s.states seat v here), (tt, tt)) (λ c b. level-both c b v.blocks w.blocks may.idle.blocks);
       spent = together.every SpentIsSpent ((λ e. absurd (true≢false (sym e ∙ going))), ((λ _. refl), tt)) (λ j u _ at. r.spent j u at);
       kept = subst (KeptNumbersStand same_spot (read m)) (sym same_words) r.kept;
     }

@@ -3,6 +3,7 @@ use Rattle.std.specs.Prelude.{◌≡◌, ℕ, ◌+◌, ◌*◌, ◌<◌, ◌==�
 use Rattle.oak_model.specs.Counts.{one_at, total, below, Begins, longest}
 use Rattle.oak_model.specs.KeyNumber.{key_number}
 use Rattle.oak_model.specs.Kept.{KeptWord, renamed}
+use Rattle.arena_core.specs.declared.blocks.HeldBlocks.{HeldBlocks}
 use Rattle.arena_core.specs.HeldBlocks.{no_blocks, kept_of_blocks}
 use Rattle.header_core.specs.HeaderHolds.{no_headers, kept_of_headers}
 use Rattle.chunk_core.specs.RoomHolds.{no_rooms}
@@ -13,6 +14,9 @@ use Rattle.oak_core.specs.declared.states.Joined.{Joined}
 use Rattle.oak_core.specs.declared.states.Numbers.{Numbers}
 use Rattle.oak_core.specs.declared.states.PassState.{PassState}
 use Rattle.oak_core.specs.Memory.{Spot, in_arena, in_headers}
+
+abbrev pub blocks_of : PassState → HeldBlocks
+blocks_of v = v.blocks
 
 abbrev pub numbers_of : PassState → Numbers
 numbers_of v = v.numbers

@@ -1,5 +1,5 @@
 -- What contracts see of a table and of a pass.
-use Rattle.std.specs.Prelude.{◌≡◌, ℕ}
+use Rattle.std.specs.Prelude.{◌≡◌, ℕ, List}
 use Rattle.oak_model.specs.Limits.{Sizes}
 use Rattle.oak_core.specs.declared.states.PassState.{PassState}
 use Rattle.oak_core.specs.declared.table.OakTable.{OakTable}
@@ -16,6 +16,10 @@ state p = p.seat.me.0
 -- the number of its present call
 abbrev pub call_of : Pass → ℕ
 call_of p = p.call
+
+-- the block of each class at which its next search for one begins
+abbrev pub searches : Pass → List ℕ
+searches p = p.searches
 
 -- the pass belongs to the table
 abbrev pub IsPassOf : OakTable → Pass → Type 0

@@ -4,6 +4,7 @@ use Rattle.std.specs.Int.{bit_at}
 use Rattle.oak_model.specs.Limits.{Sizes, IsInLimits}
 use Rattle.oak_model.specs.Counts.{total, Every, Each, Begins}
 use Rattle.oak_model.specs.Kept.{KeptNumbersStand}
+use Rattle.arena_core.specs.Blocks.{BlocksAreOwned}
 use Rattle.oak_core.specs.declared.states.Findings.{Findings}
 use Rattle.oak_core.specs.declared.states.KeyedWrite.{KeyedWrite}
 use Rattle.oak_core.specs.declared.states.Knowledge.{Knowledge}
@@ -11,7 +12,7 @@ use Rattle.oak_core.specs.declared.states.Numbers.{Numbers}
 use Rattle.oak_core.specs.declared.states.PassState.{PassState}
 use Rattle.oak_core.specs.Memory.{memory, read, same_spot, word_count}
 use Rattle.oak_core.specs.Finding.{Shows}
-use Rattle.oak_core.specs.PassState.{numbers_of, findings_of, knowledge_of, kept_of, has_number, is_parent, of_key, history, spent_state}
+use Rattle.oak_core.specs.PassState.{blocks_of, numbers_of, findings_of, knowledge_of, kept_of, has_number, is_parent, of_key, history, spent_state}
 use Rattle.oak_core.specs.TableState.{TableState}
 
 -- the words are as many as the layout says, and each is one of 64 bits
@@ -41,6 +42,10 @@ HistoriesStand qs = (k : ℕ) → Every (λ (q : Knowledge). Each (λ (l : List 
 abbrev pub SpentIsSpent : PassState → Type 0
 SpentIsSpent v = v.numbers.spent ≡ true → v ≡ spent_state
 
+-- how many owners a block has beside the passes that hold it
+abbrev pub other_owners : ℕ → ℕ → ℕ
+other_owners c b = 0
+
 pub record Rule (z : Sizes) (s : TableState) : Type 0 where
   pub sizes : IsInLimits z
   pub words : WordsStand z s.words
@@ -48,4 +53,5 @@ pub record Rule (z : Sizes) (s : TableState) : Type 0 where
   pub findings : FindingsStand (memory z s.words).given (map findings_of s.states)
   pub histories : HistoriesStand (map knowledge_of s.states)
   pub spent : Every SpentIsSpent s.states
+  pub blocks : BlocksAreOwned z (memory z s.words).arena.bits other_owners (map blocks_of s.states)
   pub kept : KeptNumbersStand same_spot (read (memory z s.words)) (map kept_of s.states)

@@ -6,7 +6,8 @@ use lib.ListN.{get_elem?}
 use Rattle.oak_model.specs.Limits.{Sizes}
 use Rattle.oak_core.specs.declared.states.Numbers.{Numbers}
 use Rattle.oak_core.specs.declared.states.PassState.{PassState}
-use Rattle.oak_core.specs.Memory.{Spot, at_given, index, IsInside}
+use Rattle.arena_core.specs.ArenaStep.{ArenaStep, arena_spot, arena_effect, arena_found, MayArena, blocks_after}
+use Rattle.oak_core.specs.Memory.{Spot, at_given, in_arena, index, IsInside, memory}
 use Rattle.oak_core.specs.Finding.{finding, noted, Shows}
 use Rattle.oak_core.specs.TableState.{TableState}
 use Rattle.oak_core.specs.Rule.{Rule}
@@ -16,15 +17,19 @@ pub data Step : Type 0 where
   load : Spot → Step
   -- bit k of word 0 is set, to give the number k
   give_number : ℕ → Step
+  -- a step on a word of the arena
+  on_arena : ArenaStep → Step
 
 abbrev pub spot : Step → Spot
 spot (load p) = p
 spot (give_number k) = at_given
+spot (on_arena a) = in_arena (arena_spot a)
 
 -- what the word n becomes
 abbrev pub effect : Step → ℕ → ℕ
 effect (load p) n = n
 effect (give_number k) n = bit_or n (2 ^ k)
+effect (on_arena a) n = arena_effect a n
 
 -- the pass has no number in hand, and found all lower numbers given
 pub record MayGive (z : Sizes) (k : ℕ) (v : PassState) : Type 0 where
@@ -36,6 +41,7 @@ pub record MayGive (z : Sizes) (k : ℕ) (v : PassState) : Type 0 where
 abbrev pub May : Sizes → Step → PassState → Type 0
 May z (load p) v = IsInside z p
 May z (give_number k) v = MayGive z k v
+May z (on_arena a) v = MayArena z a v.blocks
 
 -- the number that the step finds
 abbrev pub found : Sizes → Step → TableState → ℕ
@@ -49,6 +55,9 @@ numbered n k a = record a { hand = cond (bit_at n k == 0) (Some k) a.hand; made 
 abbrev pub state_after : Sizes → ℕ → Step → TableState → PassState → PassState
 state_after z call (load p) s v = let n = found z (load p) s in noted (finding z call p (Some n) n v) v
 state_after z call (give_number k) s v = let n = found z (give_number k) s in record (noted (finding z call at_given (Some n) (bit_or n (2 ^ k)) v) v) { numbers = numbered n k v.numbers }
+state_after z call (on_arena a) s v =
+    let n = found z (on_arena a) s in
+    record (noted (finding z call (in_arena (arena_spot a)) (arena_found a n) (arena_effect a n) v) v) { blocks = blocks_after (memory z s.words).arena.bytes a n v.blocks }
 
 -- the state of the table after the step of one seat
 abbrev pub table_after : Sizes → ℕ → Step → ℕ → PassState → TableState → TableState

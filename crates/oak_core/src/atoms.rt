@@ -1,6 +1,6 @@
 //! One function for each operation on a word. What a step tells is picked by its caller, since a step
 //! on a word sees neither the call nor what the word is for.
-ghost use Rattle.std.specs.Prelude.{◌≡◌, ℕ, ◌<◌, bit_or};
+ghost use Rattle.std.specs.Prelude.{◌≡◌, ℕ, ◌<◌, bit_and, bit_or};
 ghost use Rattle.atomic_table.specs.Table.{Allows};
 ghost use Rattle.oak_core.specs.declared.states.PassState.{PassState};
 ghost use Rattle.oak_core.specs.Running.{Holds, KeepsSeat};
@@ -49,4 +49,30 @@ pub(crate) fn or_said<T: Said>(table: &OakTable, pass: &mut Pass, word: usize, b
         .table
         .shared
         .fetch_or::<Says<T>>(&mut pass.seat, word, bits)
+}
+
+pub(crate) fn and_said<T: Said>(table: &OakTable, pass: &mut Pass, word: usize, bits: u64) -> u64
+    requires own { IsPassOf table.now pass.old }
+    requires inside { word < table.now.table.shared.table_id.words }
+    requires rule { Allows (Holds (key table.now)) table.now.table.shared.table_id.slots pass.old.seat.id pass.old.seat.me word (λ n. bit_and n bits) (λ n m. T.told n m.0 × KeepsSeat pass.old.seat.me m) }
+    ensures own { Stays pass.old pass.new }
+    ensures told { T.told result (state pass.new) }
+{
+    table
+        .table
+        .shared
+        .fetch_and::<Says<T>>(&mut pass.seat, word, bits)
+}
+
+pub(crate) fn store_said<T: Said>(table: &OakTable, pass: &mut Pass, word: usize, value: u64)
+    requires own { IsPassOf table.now pass.old }
+    requires inside { word < table.now.table.shared.table_id.words }
+    requires rule { Allows (Holds (key table.now)) table.now.table.shared.table_id.slots pass.old.seat.id pass.old.seat.me word (λ _. value) (λ _ m. T.told value m.0 × KeepsSeat pass.old.seat.me m) }
+    ensures own { Stays pass.old pass.new }
+    ensures told { T.told value (state pass.new) }
+{
+    table
+        .table
+        .shared
+        .store::<Says<T>>(&mut pass.seat, word, value);
 }

@@ -50,6 +50,7 @@ impl OakTable {
             seat,
             call: _,
             scratch: _,
+            searches: _,
         } = pass;
         Closed {
             table: table.close_with(seat),

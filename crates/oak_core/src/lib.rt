@@ -2,18 +2,21 @@
 #![tactic(auto)]
 
 mod atoms;
+pub mod blocks;
 pub mod closing;
 pub mod layout;
 pub mod loads;
 pub mod passes;
 pub mod schedules;
 pub mod states;
+pub mod steps;
 pub mod table;
 #[cfg(test)]
 mod tests;
 mod usage;
 pub mod writing;
 
+pub use blocks::Block;
 pub use closing::Closed;
 pub use loads::load;
 pub use passes::SplitFault;

@@ -14,7 +14,7 @@ use crate::table::{OakTable, Pass};
 use crate::writing::Writing;
 use atomic_table::{Join, Split, Table};
 use chunk_core::OPEN;
-use oak_model::{OutOfMemory, Shape};
+use oak_model::{CLASSES, OutOfMemory, Shape};
 use pin_word::pack;
 use std::alloc::Global;
 use std::marker::Brand;
@@ -78,6 +78,7 @@ impl OakTable {
             seat,
             call: 0,
             scratch,
+            searches: [0; CLASSES],
         };
         Ok((table, pass))
     }
@@ -116,6 +117,7 @@ impl Pass {
             seat,
             call: 0,
             scratch,
+            searches: [0; CLASSES],
         }
     }
 
@@ -158,6 +160,7 @@ impl Pass {
             seat,
             call: _,
             scratch: _,
+            searches: _,
         } = other;
         table.table.shared.join_seat::<Glue>(&mut self.seat, seat);
     }

@@ -5,7 +5,7 @@ ghost use Rattle.oak_core.specs.Memory.{word_count};
 use crate::states::PassState;
 use crate::writing::Writing;
 use atomic_table::{Seat, Table, TableRule};
-use oak_model::Shape;
+use oak_model::{CLASSES, Shape};
 use std::alloc::Global;
 
 /// The rule under which the words stand: that of the definitions, for every state of the running table.
@@ -35,6 +35,7 @@ pub struct Pass {
     pub(crate) seat: Seat<(), PassState>,
     pub(crate) call: u32,
     pub(crate) scratch: Writing,
+    pub(crate) searches: [u32; CLASSES],
     ghost idle: { seat.me.1 ≡ [] },
     ghost going: { seat.me.0.numbers.spent ≡ false },
 }
@@ -42,7 +43,18 @@ pub struct Pass {
 impl OakTable {
     ghost use Rattle.std.specs.Prelude.{◌<◌, ◌≤◌};
     ghost use Rattle.oak_model.specs.declared.limits.TheConstants.{GREATEST_PASSES};
+    ghost use Rattle.oak_model.specs.Limits.{IsInLimits};
     ghost use Rattle.oak_core.specs.Passes.{key};
+
+    /// The sizes of the table, which are within their limits.
+    pub(crate) fn sizes(&self) -> &Shape
+        ensures is { result.now ≡ key self.now }
+        ensures limits { IsInLimits result.now }
+    {
+        // Reading a field shows that they are.
+        let _passes = self.shape.passes;
+        &self.shape
+    }
 
     /// How many passes the table may have.
     pub fn passes(&self) -> u32

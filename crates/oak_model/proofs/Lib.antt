@@ -5,3 +5,4 @@ pub mod Counting
 pub mod Lists
 pub mod Changes
 pub mod KeptLaws
+pub mod RowLaws

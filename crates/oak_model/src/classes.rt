@@ -1,5 +1,6 @@
-ghost use Rattle.std.specs.Prelude.{◌≡◌};
-ghost use Rattle.oak_model.specs.Class.{class_bytes, class_of};
+ghost use Rattle.std.specs.Prelude.{◌≡◌, ◌<◌};
+ghost use Rattle.oak_model.specs.declared.limits.TheConstants.{CLASSES};
+ghost use Rattle.oak_model.specs.Class.{class_bytes, class_number, class_of};
 
 /// A class of blocks, named by the bytes of its blocks.
 #[derive(Clone, Copy, Debug, PartialEq, Eq)]
@@ -28,6 +29,19 @@ pub fn class_of(n: usize) -> Option<Class>
 }
 
 impl Class {
+    /// The place of the class among the classes, from the least to the greatest.
+    pub fn number(self) -> usize
+        ensures is { result ≡ class_number self }
+        ensures below { result < CLASSES }
+    {
+        match self {
+            Class::B16 => 0,
+            Class::B64 => 1,
+            Class::B256 => 2,
+            Class::B1024 => 3,
+        }
+    }
+
     /// The bytes of a block.
     pub fn bytes(self) -> usize
         ensures { result ≡ class_bytes self }

@@ -1,0 +1,111 @@
+-- What a word of bits tells that was loaded, or of which a bit was set.
+use Rattle.std.proofs.Common.{◌≡◌, ℕ, ◌/◌, ◌%◌, ◌<◌, Bool, cond, eqb, [], ◌∷◌, map, sym, refl, ap, ◌∙◌, subst, arith, Some, eq-eqb, ne_eqb}
+use Rattle.std.specs.Prelude.{bit_or}
+use Rattle.std.specs.Int.{bit_at}
+use mathlib.Core.Logic.{dite}
+use mathlib.Core.Option.{some, some-injective}
+use native.Mathlib.Decide.{ℕ_discrete}
+use lib.ListN.{get_elem?}
+use Rattle.oak_model.specs.declared.classes.Class.{Class}
+use Rattle.oak_model.specs.Class.{class_number}
+use Rattle.oak_model.specs.Limits.{Sizes}
+use Rattle.oak_model.specs.Counts.{total}
+use Rattle.oak_model.proofs.Counting.{total_some, total_at}
+use Rattle.oak_model.proofs.Lists.{at_map, at_unmap}
+use Rattle.arena_core.specs.declared.blocks.HeldBlocks.{HeldBlocks}
+use Rattle.arena_core.specs.Arena.{at_bits, blocks, bit_words}
+use Rattle.arena_core.specs.HeldBlocks.{no_blocks}
+use Rattle.arena_core.specs.Blocks.{holds, block_from}
+use Rattle.arena_core.specs.ArenaStep.{bit_of}
+use Rattle.arena_core.proofs.ArenaSteps.{none_owns}
+use Rattle.oak_core.specs.declared.states.Finding.{Finding}
+use Rattle.oak_core.specs.declared.states.PassState.{PassState}
+use Rattle.oak_core.specs.Memory.{Spot, in_arena, index, read, memory}
+use Rattle.oak_core.specs.Finding.{finding, noted, had}
+use Rattle.oak_core.specs.PassState.{blocks_of, IsAlone, spent_state}
+use Rattle.oak_core.specs.Rule.{other_owners, Rule}
+use Rattle.oak_core.specs.TableState.{TableState}
+use Rattle.oak_core.specs.ArenaCalls.{Sets}
+use Rattle.oak_core.specs.Splitting.{Loads}
+use Rattle.oak_core.proofs.Alone.{others_are}
+use Rattle.oak_core.proofs.ArenaNames.{bit_inside}
+use Rattle.oak_core.proofs.KeepsArena.{class_below}
+use Rattle.oak_core.proofs.Words.{index_apart, memory_read}
+use Rattle.arena_ops.specs.Looking.{bit_spot, FoundSet, Looked}
+use Rattle.arena_ops.specs.Taking.{Takes}
+
+none_held : (c b : ℕ) (a : HeldBlocks) → a ≡ no_blocks → holds c b a ≡ 0
+unfolding total
+none_held c b a e = ap (holds c b) e
+
+-- a pass that is alone holds each block whose bit is set
+alone_owner : (z : Sizes) (s : TableState) → Rule z s → (seat : ℕ) (v : PassState) → get_elem? s.states seat ≡ some v → (c b : ℕ) → IsAlone v
+    → bit_at ((memory z s.words).arena.bits c (b / 64)) (b % 64) ≡ 1 → 0 < holds c b v.blocks
+alone_owner z s r seat v here c b alone set =
+    let o = r.blocks.owned c b in let t = total_some (holds c b) (map blocks_of s.states) (omega arith) in let u = at_unmap blocks_of s.states t.0 t.1 t.2 in
+    dite (ℕ_discrete t.0 seat)
+    (λ q. let same : u.0 ≡ v = some-injective u.0 v (sym u.1 ∙ (ap (get_elem? s.states) q ∙ here)) in subst (λ (a : HeldBlocks). 0 < holds c b a) (sym u.2 ∙ ap blocks_of same) t.3)
+    (λ ne. let gone : u.0 ≡ spent_state = others_are z s r seat v here alone t.0 u.0 ne u.1 in let h = none_held c b t.1 (sym u.2 ∙ ap blocks_of gone) in let p = t.3 in absurd (omega arith))
+
+module _ (z : Sizes) (call : ℕ) (c : Class) (v : PassState) where
+  -- one finding at a word of bits
+  found_here : (i n : ℕ) (p : Spot) (left : ℕ) → p ≡ in_arena (at_bits (class_number c) i) → (b : ℕ) → b / 64 ≡ i → bit_at n (b % 64) ≡ 1 → FoundSet z call c b v (finding z call p (Some n) left v ∷ [])
+  found_here i n p left is b at set = let same : p ≡ bit_spot c b = is ∙ ap (λ (k : ℕ). in_arena (at_bits (class_number c) k)) (sym at) in record {
+    place = 0;
+    finding = finding z call p (Some n) left v;
+    there = refl;
+    call_is = refl;
+    word_is = ap (index z) same;
+    number = n;
+    found_is = refl;
+    set = set;
+    had_is = ap (λ (q : Spot). had q v) same;
+  }
+
+  pub loaded : (i word n : ℕ) (w : PassState) → i < bit_words z (class_number c) → word ≡ index z (in_arena (at_bits (class_number c) i)) → Loads z call word v n w
+      → Looked z call c v w (λ b. (b / 64 ≡ i) × (bit_at n (b % 64) ≡ 1))
+  loaded i word n w li is l = let same : l.spot ≡ in_arena (at_bits (class_number c) i) = index_apart z l.spot (in_arena (at_bits (class_number c) i)) l.inside (class_below c, li) (l.at ∙ is) in
+      let t = l.told in let word_is : read (memory z t.table.words) l.spot ≡ n = memory_read z t.table.words l.spot l.inside ∙ t.finds in record {
+        more = finding z call l.spot (Some n) n v ∷ [];
+        after = l.met;
+        set = λ b lb p. found_here i n l.spot n same b p.0 p.1;
+        own = λ a b lb p. alone_owner z t.table t.rule t.seat v t.here (class_number c) b a
+            (ap (λ (k : ℕ). bit_at ((memory z t.table.words).arena.bits (class_number c) k) (b % 64)) p.0
+            ∙ (ap (λ (q : Spot). bit_at (read (memory z t.table.words) q) (b % 64)) (sym same) ∙ (ap (λ (m : ℕ). bit_at m (b % 64)) word_is ∙ p.1)));
+      }
+
+  module _ (block n : ℕ) (w : PassState) (lb : block < blocks z (class_number c)) (t : Sets z call c block v n w) where
+    abbrev met_now : Finding
+    met_now = finding z call (bit_spot c block) (Some n) (bit_or n (bit_of block)) v
+
+    abbrev with_test : Bool → PassState
+    with_test test = record (noted met_now v) { blocks = record v.blocks { held = cond test (block_from (memory z t.table.words).arena.bytes c block ∷ v.blocks.held) v.blocks.held } }
+
+    after_is : w ≡ with_test (eqb (bit_at n (block % 64)) 0)
+    after_is = t.after ∙ ap (λ (k : ℕ). record (noted (finding z call (bit_spot c block) (Some k) (bit_or k (bit_of block)) v) v) {
+      blocks = record v.blocks { held = cond (eqb (bit_at k (block % 64)) 0) (block_from (memory z t.table.words).arena.bytes c block ∷ v.blocks.held) v.blocks.held };
+    }) t.finds
+
+    word_is : (memory z t.table.words).arena.bits (class_number c) (block / 64) ≡ n
+    word_is = memory_read z t.table.words (bit_spot c block) (bit_inside z c block lb) ∙ t.finds
+
+    pub set_before : bit_at n (block % 64) ≡ 1 → Looked z call c v w (λ b. (b / 64 ≡ block / 64) × (bit_at n (b % 64) ≡ 1))
+    set_before e = record {
+      more = met_now ∷ [];
+      after = after_is ∙ ap with_test (ne_eqb (bit_at n (block % 64)) 0 (λ q. omega arith));
+      set = λ b l p. found_here (block / 64) n (bit_spot c block) (bit_or n (bit_of block)) refl b p.0 p.1;
+      own = λ a b l p. alone_owner z t.table t.rule t.seat v t.here (class_number c) b a
+          (ap (λ (k : ℕ). bit_at ((memory z t.table.words).arena.bits (class_number c) k) (b % 64)) p.0 ∙ (ap (λ (m : ℕ). bit_at m (b % 64)) word_is ∙ p.1));
+    }
+
+    pub now_taken : bit_at n (block % 64) ≡ 0 → Takes z c block v w
+    now_taken e = let none = none_owns z (memory z t.table.words).arena other_owners (map blocks_of t.table.states) t.seat v.blocks (at_map blocks_of t.table.states t.seat v t.here) t.rule.blocks (class_number c) block
+        (ap (λ (m : ℕ). bit_at m (block % 64)) word_is ∙ e) in let n0 = none.0 in let n1 = none.1 in record {
+          inside = lb;
+          table = t.table;
+          rule = t.rule;
+          free = omega arith;
+          unheld = let h = total_at (holds (class_number c) block) (map blocks_of t.table.states) t.seat v.blocks (at_map blocks_of t.table.states t.seat v t.here) in omega arith;
+          more = met_now ∷ [];
+          after = after_is ∙ ap with_test (eq-eqb (bit_at n (block % 64)) 0 e);
+        }

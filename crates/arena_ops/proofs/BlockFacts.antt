@@ -1,0 +1,66 @@
+-- What the calls that give a block back or write it did.
+use Rattle.std.proofs.Common.{◌≡◌, ℕ, ◌-◌, ◌%◌, ◌^◌, ◌<◌, Bool, cond, [], ◌∷◌, sym, ap, ◌∙◌, Some, None}
+use Rattle.std.specs.Prelude.{bit_and}
+use Rattle.std.specs.Int.{bit_at}
+use mathlib.Core.Option.{some}
+use Rattle.oak_model.specs.declared.classes.Class.{Class}
+use Rattle.oak_model.specs.Class.{class_number}
+use Rattle.oak_model.specs.Limits.{Sizes}
+use Rattle.oak_model.proofs.Lists.{set_there}
+use Rattle.arena_core.specs.Arena.{at_bytes, blocks, block_words}
+use Rattle.arena_core.specs.ArenaStep.{clear_bit, store_word, bit_of}
+use Rattle.arena_core.proofs.ArenaSteps.{clear_there}
+use Rattle.oak_core.specs.declared.states.PassState.{PassState}
+use Rattle.oak_core.specs.Memory.{Memory, in_arena, read, memory}
+use Rattle.oak_core.specs.Finding.{finding}
+use Rattle.oak_core.specs.Rule.{Rule}
+use Rattle.oak_core.specs.Step.{Step, on_arena, effect, found, state_after, table_after}
+use Rattle.oak_core.specs.TableState.{TableState}
+use Rattle.oak_core.specs.ArenaCalls.{Clears, Writes}
+use Rattle.oak_core.proofs.ArenaNames.{bit_inside}
+use Rattle.oak_core.proofs.EachEvent.{rule_keeps}
+use Rattle.oak_core.proofs.KeepsArena.{class_below}
+use Rattle.oak_core.proofs.Words.{same_spot-self, read-write, memory_set}
+use Rattle.arena_ops.specs.Looking.{bit_spot}
+use Rattle.arena_ops.specs.Taking.{Gives, Stores}
+
+module _ (z : Sizes) (call : ℕ) (c : Class) (b : ℕ) (v : PassState) (lb : b < blocks z (class_number c)) where
+  module _ (n : ℕ) (w : PassState) (t : Clears z call c b v n w) where
+    abbrev x : Step
+    x = on_arena (clear_bit c b)
+
+    abbrev after : TableState
+    after = table_after z call x t.seat v t.table
+
+    rule_after : Rule z after
+    rule_after = rule_keeps z t.table call t.seat v t.rule t.here t.going x t.may
+
+    word_after : read (memory z after.words) (bit_spot c b) ≡ effect x (found z x t.table)
+    word_after = let y : ℕ = effect x (found z x t.table) in ap (λ (m : Memory). read m (bit_spot c b)) (memory_set z t.table.words (bit_spot c b) y t.rule.words.counted (bit_inside z c b lb))
+        ∙ (read-write (memory z t.table.words) (bit_spot c b) (bit_spot c b) y ∙ ap (λ (s : Bool). cond s y (read (memory z t.table.words) (bit_spot c b))) (same_spot-self (bit_spot c b)))
+
+    pub gives : Gives z c b v w
+    gives = record {
+      more = finding z call (bit_spot c b) (Some (found z x t.table)) (bit_and (found z x t.table) (2 ^ 64 - 1 - bit_of b)) v ∷ [];
+      after = t.after;
+      table = after;
+      rule = rule_after;
+      seat = t.seat;
+      here = set_there t.table.states t.seat v (state_after z call x t.table v) t.here ∙ ap some (sym t.after);
+      free = sym (rule_after.blocks.owned (class_number c) b) ∙ (ap (λ (m : ℕ). bit_at m (b % 64)) word_after ∙ clear_there (found z x t.table) b);
+    }
+
+  module _ (k y : ℕ) (w : PassState) (lk : k < block_words (class_number c)) (written : Writes z call c b k y v w) where
+    pub stores : Stores z c b k y v w
+    stores = let t = written.1 in let x : Step = on_arena (store_word c b k y) in record {
+      more = finding z call (in_arena (at_bytes (class_number c) b k)) None y v ∷ [];
+      after = t.after;
+      found = t.table;
+      left = table_after z call x t.seat v t.table;
+      rule_found = t.rule;
+      rule_left = rule_keeps z t.table call t.seat v t.rule t.here t.going x t.may;
+      seat = t.seat;
+      before_here = t.here;
+      after_here = set_there t.table.states t.seat v (state_after z call x t.table v) t.here ∙ ap some (sym t.after);
+      alone = memory_set z t.table.words (in_arena (at_bytes (class_number c) b k)) y t.rule.words.counted (class_below c, lb, lk);
+    }

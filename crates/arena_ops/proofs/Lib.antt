@@ -1,0 +1,5 @@
+pub mod LookLaws
+pub mod MaskFacts
+pub mod BitFacts
+pub mod SearchLaws
+pub mod BlockFacts

@@ -1,0 +1,16 @@
+use Rattle.std.proofs.Common.{◌≡◌, ◌/◌, ◌∙◌, ℕ, subst}
+use Rattle.oak_core.specs.Passes.{state, key, call_of}
+use Rattle.arena_ops.specs.Looking.{Looked}
+use Rattle.arena_ops.proofs.SearchLaws.{next_word}
+use Rattle.arena_ops.proofs.searching.take_between.Goals as goal
+
+pub loop-i-preserved : goal.loop-i-preserved
+loop-i-preserved c = record {
+  stays = record {
+    table = c.take_in_word.ensures.own.table ∙ c.loop-i.invariant.stays.table;
+    seat = c.take_in_word.ensures.own.seat ∙ c.loop-i.invariant.stays.seat;
+    call = c.take_in_word.ensures.own.call ∙ c.loop-i.invariant.stays.call;
+  };
+  looked = next_word (key c.args.table.now) (call_of c.args.pass.now) c.args.class (state c.args.pass.now) c.args.from c.loop-i.i (state c.loop-i.pass) (state c.take_in_word.new.pass) c.loop-i.invariant.looked
+      (subst (λ (k : ℕ). Looked (key c.args.table.now) k c.args.class (state c.loop-i.pass) (state c.take_in_word.new.pass) (λ b. b / 64 ≡ c.loop-i.i)) c.loop-i.invariant.stays.call c.in_default.ensures.none);
+}
