@@ -3,5 +3,7 @@
 
 pub mod blocks;
 pub mod layout;
+#[cfg(test)]
+mod tests;
 
 pub use blocks::{HeldBlock, HeldBlocks};

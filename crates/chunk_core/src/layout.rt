@@ -27,7 +27,7 @@ pub fn room_words(shape: &Shape) -> usize
     ensures is { result ≡ room_words shape.now }
     ensures small { result ≤ 809984 }
 {
-    shape.chunks as usize * room_width(shape)
+    room_count(shape) as usize * room_width(shape)
 }
 
 /// How many rooms a table of the shape has.

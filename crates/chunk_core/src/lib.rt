@@ -4,6 +4,8 @@
 pub mod holds;
 pub mod layout;
 pub mod states;
+#[cfg(test)]
+mod tests;
 
 pub use holds::{HeldRoom, PinnedRoom, RoomHolds};
 pub use states::{FREE, FROZEN, HELD, OPEN};

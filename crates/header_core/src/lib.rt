@@ -4,6 +4,8 @@
 pub mod holds;
 pub mod layout;
 pub mod states;
+#[cfg(test)]
+mod tests;
 
 pub use holds::{HeaderHolds, HeldHeader, PinnedHeader};
 pub use states::{DEAD, FREE, LIVE, LOCKED, OWNED, RETIRED};

@@ -15,9 +15,9 @@ use Rattle.oak_core.specs.PassState.{left_state, right_state, both_state, spent_
 use Rattle.oak_core.specs.Running.{table_of, Holds, KeepsSeat}
 use Rattle.oak_core.specs.Schedule.{MaySplit, MayJoin}
 use Rattle.oak_core.specs.Splitting.{Loads}
-use Rattle.oak_core.specs.Step.{Step, load, give_number, on_arena, spot, effect, May, MayGive, state_after, Told}
-use Rattle.oak_core.specs.TableState.{TableState}
+use Rattle.oak_core.specs.Step.{Step, load, give_number, spot, effect, May, MayGive, state_after, Told}
 use Rattle.oak_core.proofs.EachEvent.{rule_keeps}
+use Rattle.oak_core.proofs.Keeps.{going_after}
 use Rattle.oak_core.proofs.TwoSeats.{split_keeps, join_keeps}
 use Rattle.oak_core.proofs.Words.{first_word, index_covers}
 
@@ -26,11 +26,6 @@ same_power k j e = dite (ℕ_discrete k j) (λ q. q) (λ ne. let a = bit_at-pow_
 
 pub one_shifted : (k : ℕ) → k < 64 → 1 * 2 ^ k % 2 ^ 64 ≡ 2 ^ k
 one_shifted k lt = let e : 1 * 2 ^ k % 2 ^ 64 ≡ 1 * 2 ^ k = shl_exact {a = 1} 1 k 64 (omega arith) (omega arith) in let x : ℕ = 2 ^ k in e ∙ (let r : 1 * x ≡ x = omega arith in r)
-
-stays_going : (z : Sizes) (call : ℕ) (x : Step) (s : TableState) (v : PassState) → (state_after z call x s v).numbers.spent ≡ v.numbers.spent
-stays_going z call (load p) s v = refl
-stays_going z call (give_number k) s v = refl
-stays_going z call (on_arena a) s v = refl
 
 module _ (z : Sizes) (call : ℕ) (slots id : ℕ) (me : Me (Unit {0}) PassState) (going : me.0.numbers.spent ≡ false) where
   -- a step that may be taken, with what its caller makes of what it tells
@@ -41,7 +36,7 @@ module _ (z : Sizes) (call : ℕ) (slots id : ℕ) (me : Me (Unit {0}) PassState
     keeps,
     tt,
     rule_keeps z (table_of s) call id me.0 r here going x may,
-    (tells _ _ (record { table = table_of s; seat = id; rule = r; here = here; going = going; may = may; finds = refl; after = refl }), record { slots = refl; going = stays_going z call x (table_of s) me.0 }),
+    (tells _ _ (record { table = table_of s; seat = id; rule = r; here = here; going = going; may = may; finds = refl; after = refl }), record { slots = refl; going = going_after z call x (table_of s) me.0 }),
   )
 
   -- the same where the word and what becomes of it are given otherwise

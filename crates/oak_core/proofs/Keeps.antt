@@ -18,6 +18,7 @@ use Rattle.oak_model.proofs.KeptLaws.{kept_unkept}
 use Rattle.arena_core.specs.Blocks.{BlocksAreOwned}
 use Rattle.arena_core.specs.HeldBlocks.{kept_of_blocks}
 use Rattle.header_core.specs.HeaderHolds.{kept_of_headers}
+use Rattle.oak_core.specs.declared.states.Finding.{Finding}
 use Rattle.oak_core.specs.declared.states.Findings.{Findings}
 use Rattle.oak_core.specs.declared.states.PassState.{PassState}
 use Rattle.oak_core.specs.Memory.{Memory, Spot, at_given, in_arena, in_headers, same_spot, read, write, memory, index, IsInside, word_count}
@@ -26,7 +27,7 @@ use Rattle.oak_core.specs.PassState.{blocks_of, numbers_of, findings_of, knowled
 use Rattle.oak_core.specs.TableState.{TableState}
 use Rattle.oak_core.specs.Rule.{WordsStand, NumbersStand, FoundStays, FindingsStand, HistoriesStand, SpentIsSpent, other_owners, Rule}
 use Rattle.oak_core.specs.Step.{Step, load, give_number, on_arena, spot, effect, MayGive, found, state_after, table_after}
-use Rattle.oak_core.proofs.Words.{read-write, first_word, index_below, memory_set, memory_read}
+use Rattle.oak_core.proofs.Words.{read-write, first_word, index_apart, index_below, memory_set, memory_read}
 use Rattle.oak_core.proofs.GivenNumbers.{number_given, bits_stay}
 use Rattle.oak_core.proofs.Found.{found_on, found_more}
 
@@ -57,18 +58,18 @@ unfolding total
 all_unkept [] = refl
 all_unkept (v ∷ vs) = let a = given_unkept v in let b = all_unkept vs in omega arith
 
+-- a step leaves its pass going
+pub going_after : (z : Sizes) (call : ℕ) (x : Step) (s : TableState) (v : PassState) → (state_after z call x s v).numbers.spent ≡ v.numbers.spent
+going_after z call (load p) s v = refl
+going_after z call (give_number k) s v = refl
+going_after z call (on_arena a) s v = refl
+
 module _ (z : Sizes) (s : TableState) (call seat : ℕ) (v : PassState) (r : Rule z s) (here : get_elem? s.states seat ≡ some v) (going : v.numbers.spent ≡ false) where
   abbrev m : Memory
   m = memory z s.words
 
-  -- a step leaves its pass going
-  stays_going : (x : Step) → (state_after z call x s v).numbers.spent ≡ false
-  stays_going (load p) = going
-  stays_going (give_number k) = going
-  stays_going (on_arena a) = going
-
   spent_stays : (x : Step) → Every SpentIsSpent (set s.states seat (state_after z call x s v))
-  spent_stays x = (stepped s.states seat v (state_after z call x s v) here).every SpentIsSpent ((λ e. absurd (true≢false (sym e ∙ stays_going x))), tt) (λ j u _ at. r.spent j u at)
+  spent_stays x = (stepped s.states seat v (state_after z call x s v) here).every SpentIsSpent ((λ e. absurd (true≢false (sym e ∙ (going_after z call x s v ∙ going)))), tt) (λ j u _ at. r.spent j u at)
 
   -- the rule after a step that changes its word, from the bundles over the memory and the parts of the states after it
   pub stepped_rule : (x : Step) → IsInside z (spot x) → effect x (found z x s) < 2 ^ 64 → let m' = write m (spot x) (effect x (found z x s)) in let after = set s.states seat (state_after z call x s v) in
@@ -85,6 +86,27 @@ module _ (z : Sizes) (s : TableState) (call seat : ℕ) (v : PassState) (r : Rul
         blocks = subst (λ (a : Memory). BlocksAreOwned z a.arena.bits other_owners (map blocks_of after)) (sym law) blocks;
         kept = subst (λ (a : Memory). KeptNumbersStand same_spot (read a) (map kept_of after)) (sym law) kept;
       }
+
+  -- one more finding, at a word other than word 0
+  findings_elsewhere : (p : Spot) (f : Finding) (w : PassState) → IsInside z p → same_spot at_given p ≡ false → f.word ≡ index z p → w.findings.met ≡ v.findings.met ++ f ∷ [] → FindingsStand m.given (map findings_of (set s.states seat w))
+  findings_elsewhere p f w inside other at grew = subst (FindingsStand m.given) (sym (map_set findings_of s.states seat w))
+      ((stepped (map findings_of s.states) seat v.findings w.findings (at_map findings_of s.states seat v here)).every (FoundStays m.given) (
+        found_more m.given v.findings w.findings f grew (λ zero_word n e k set_bit. absurd (true≢false (sym (ap (same_spot at_given) (index_apart z p at_given inside tt (sym at ∙ (zero_word ∙ sym (first_word z))))) ∙ other)))
+            (r.findings seat v.findings (at_map findings_of s.states seat v here)),
+        tt,
+      )
+      (λ j x _ e. r.findings j x e))
+
+  -- a step that stores to a word other than word 0, and leaves the numbers of its pass and what it knows, owes the bundles of the holds alone
+  pub elsewhere_rule : (x : Step) (f : Finding) → IsInside z (spot x) → effect x (found z x s) < 2 ^ 64 → same_spot at_given (spot x) ≡ false → let w = state_after z call x s v in f.word ≡ index z (spot x) → w.findings.met ≡ v.findings.met ++ f ∷ []
+      → w.numbers ≡ v.numbers → w.knowledge ≡ v.knowledge → BlocksAreOwned z (write m (spot x) (effect x (found z x s))).arena.bits other_owners (map blocks_of (set s.states seat w))
+      → KeptNumbersStand same_spot (read (write m (spot x) (effect x (found z x s)))) (map kept_of (set s.states seat w)) → Rule z (table_after z call x seat v s)
+  elsewhere_rule x f inside small other at grew numbers knowledge blocks kept =
+      let w : PassState = state_after z call x s v in let y : ℕ = effect x (found z x s) in let same : (write m (spot x) y).given ≡ m.given = ap (λ (b : Bool). cond b y m.given) other in
+      stepped_rule x inside small
+      (subst (λ (g : ℕ). NumbersStand z g (map numbers_of (set s.states seat w))) (sym same) (subst (NumbersStand z m.given) (sym (map_set_same numbers_of s.states seat v w here numbers)) r.numbers))
+      (subst (λ (g : ℕ). FindingsStand g (map findings_of (set s.states seat w))) (sym same) (findings_elsewhere (spot x) f w inside other at grew))
+      (subst HistoriesStand (sym (map_set_same knowledge_of s.states seat v w here knowledge)) r.histories) blocks kept
 
   -- one more finding at a word that stays, in a state whose other parts stay
   findings_stay : (p : Spot) (n : ℕ) (w : PassState) → w.findings.met ≡ v.findings.met ++ finding z call p (Some n) n v ∷ [] → IsInside z p → n ≡ get_or s.words (index z p) 0

@@ -11,9 +11,9 @@ pub mod schedules;
 pub mod states;
 pub mod steps;
 pub mod table;
-mod usage;
 #[cfg(test)]
 mod tests;
+mod usage;
 pub mod writing;
 
 pub use blocks::Block;

@@ -15,8 +15,7 @@ use std::thread::{Threads, join_mut};
 /// Takes a pass of number 1.
 fn has_number_one(_other: &Pass)
     requires { (state _other.now).numbers.number ≡ 1 }
-{
-}
+{}
 
 /// A pass of a shape of two, of which both were made.
 fn split_no_more(rt: &impl Abort, alloc: Global, table: &OakTable, pass: &mut Pass)
