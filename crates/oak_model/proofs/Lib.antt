@@ -1,3 +1,6 @@
+pub mod KeyLaws
+pub mod HistoryLaws
+pub mod LegalLaws
 pub mod Counting
 pub mod Lists
 pub mod Changes

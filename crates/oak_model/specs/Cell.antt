@@ -49,6 +49,16 @@ is_write Removed = true
 is_write Absent = false
 is_write (Holds b) = false
 
+-- the reply of a write that inserts
+abbrev pub is_new : CellReply → Bool
+is_new New = true
+is_new Over = false
+is_new Kept = false
+is_new Done = false
+is_new Removed = false
+is_new Absent = false
+is_new (Holds b) = false
+
 -- the kind of the write that a call makes where it makes one
 abbrev pub kind_of : CellCall → Option Kind
 kind_of Get = None

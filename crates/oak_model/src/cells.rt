@@ -42,6 +42,30 @@ pub enum CellReply {
     Holds(Value),
 }
 
+impl CellReply {
+    ghost use Rattle.oak_model.specs.Cell.{is_write, is_new};
+
+    /// Whether it is the reply of a write.
+    pub fn is_write(&self) -> bool
+        ensures { result ≡ is_write self.now }
+    {
+        match self {
+            CellReply::New | CellReply::Over | CellReply::Done | CellReply::Removed => true,
+            CellReply::Kept | CellReply::Absent | CellReply::Holds(_) => false,
+        }
+    }
+
+    /// Whether it is the reply of a write that inserts.
+    pub fn is_new(&self) -> bool
+        ensures { result ≡ is_new self.now }
+    {
+        match self {
+            CellReply::New => true,
+            _ => false,
+        }
+    }
+}
+
 /// A cell's reply, and its state behind the call.
 #[derive(Debug, Drop)]
 pub struct Answer {

@@ -13,6 +13,8 @@ mod names;
 mod recipes;
 mod replies;
 mod shapes;
+#[cfg(test)]
+mod tests;
 mod values;
 mod writes;
 

@@ -1,0 +1,12 @@
+pub mod OkLaws
+pub mod GrowLaws
+pub mod PushLaws
+pub mod PlainLaws
+pub mod CellLaws
+pub mod LookLaws
+pub mod MapLaws
+pub mod TurnLaws
+pub mod CanLaws
+pub mod StepLaws
+pub mod ThreadLaws
+pub mod PlaceLaws

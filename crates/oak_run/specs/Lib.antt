@@ -1,0 +1,11 @@
+pub mod Told
+pub mod Turn
+pub mod Answers
+pub mod Order
+pub mod Views
+pub mod Scans
+pub mod RunFits
+pub mod Plain
+pub mod ThreadRuns
+pub mod Keeps
+pub mod Does

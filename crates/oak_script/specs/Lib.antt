@@ -1,0 +1,13 @@
+pub mod Lines
+pub mod Words
+pub mod Grammar
+pub mod Places
+pub mod Stamps
+pub mod Text
+pub mod Numbers
+pub mod Forms
+pub mod Faults
+pub mod Stops
+pub mod Reading
+pub mod Answers
+pub mod Told

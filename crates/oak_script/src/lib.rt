@@ -1,0 +1,29 @@
+//! Scripts as text, and the text of a run.
+#![tactic(auto)]
+
+mod call_lines;
+mod calls;
+mod faults;
+mod forms;
+mod laws;
+mod limits;
+mod lines;
+mod numbers;
+mod places;
+mod reader;
+mod recipes;
+mod scripts;
+mod stages;
+mod stops;
+#[cfg(test)]
+mod tests;
+mod text;
+mod verbs;
+mod words;
+
+pub use faults::{NoScript, ScriptFault, What};
+pub use laws::script_or_fault;
+pub use limits::{GREATEST_CALLS, GREATEST_SCANS, GREATEST_SCRIPT_NAME, GREATEST_THREADS};
+pub use reader::read_script;
+pub use scripts::{Call, Script, Threads};
+pub use text::print_run;

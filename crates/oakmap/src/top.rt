@@ -1,0 +1,134 @@
+ghost use Rattle.std.specs.Prelude.{◌≡◌, ◌≤◌, ◌⊎◌, ℕ, List, map, length, IfOk, Some, true};
+ghost use Rattle.std.specs.String.{string_bytes};
+ghost use Rattle.std.specs.Io.KnownBytes.{Keeps};
+ghost use Rattle.oak_script.specs.declared.scripts.Script.{Script};
+ghost use Rattle.oak_script.specs.Faults.{IsFirstFault};
+ghost use Rattle.oak_script.specs.Grammar.{IsScript, Spells};
+ghost use Rattle.oakmap.specs.declared.status.Status.{Status};
+ghost use Rattle.oakmap.specs.Messages.{script_fault_line};
+ghost use Rattle.oakmap.specs.RunOf.{PrintsRun};
+ghost use Rattle.oakmap.specs.Ended.{Input, Output, Unrisen, Ended, Answered, Says, code_of, is_run};
+
+use crate::status::{GREATEST_INPUT, Status};
+use oak_model::OutOfMemory;
+use oak_run::run_script;
+use oak_script::{NoScript, Script, ScriptFault, print_run, read_script};
+use outside::{ReadStop, Sink, Source, read_whole, write_whole};
+use std::alloc::{AllocError, Global};
+
+/// Runs the command that the words name, and answers the status of the process: 0 where the text of a
+/// run of the script that came was written; 2 exactly where the words are not the one word `run`; 3
+/// exactly where the input is no script or longer than 16,777,216 bytes; 4 and 5 only where the source,
+/// or the sink while the run's text was written, counted a fault; 6 where no memory was found. With 2,
+/// 3 and 4 one line says why.
+pub fn top<S: Source, K: Sink>(alloc: Global, words: &[String], source: &mut S, sink: &mut K) -> u8
+    ensures { (s : Status) × (result ≡ code_of s) × Ended s (is_run (map (λ w. string_bytes w) words.now))
+        (record { left = S.left source.old; faults = S.faults source.old }) (record { left = S.left source.new; faults = S.faults source.new })
+        (record { written = K.written sink.old; faults = K.faults sink.old }) (record { written = K.written sink.new; faults = K.faults sink.new }) }
+{
+    run(alloc, words, source, sink).code()
+}
+
+fn run<S: Source, K: Sink>(alloc: Global, words: &[String], source: &mut S, sink: &mut K) -> Status
+    ensures { Ended result (is_run (map (λ w. string_bytes w) words.now))
+        (record { left = S.left source.old; faults = S.faults source.old }) (record { left = S.left source.new; faults = S.faults source.new })
+        (record { written = K.written sink.old; faults = K.faults sink.old }) (record { written = K.written sink.new; faults = K.faults sink.new }) }
+{
+    if !is_run(words) {
+        say(sink, b"oakmap: usage: oakmap run\n");
+        return Status::Usage;
+    }
+    let text = match read_whole(alloc, source, GREATEST_INPUT) {
+        Ok(text) => text,
+        Err(ReadStop::Failed) => {
+            say(sink, b"oakmap: read fault\n");
+            return Status::ReadFault;
+        }
+        Err(ReadStop::TooLong) => {
+            say(sink, b"oakmap: input is longer than 16777216 bytes\n");
+            return Status::NoScript;
+        }
+        Err(ReadStop::OutOfMemory) => return Status::NoMemory,
+    };
+    answer(alloc, &text, sink)
+}
+
+/// Whether the words are the one word `run`.
+fn is_run(words: &[String]) -> bool
+    ensures { result ≡ is_run (map (λ w. string_bytes w) words.now) }
+{
+    match words {
+        [word] => word.as_bytes() == b"run".as_slice(),
+        _ => false,
+    }
+}
+
+/// Says one line; that the sink fails changes no status.
+fn say<K: Sink>(sink: &mut K, line: &[u8])
+    ensures { Says (record { written = K.written sink.old; faults = K.faults sink.old }) (record { written = K.written sink.new; faults = K.faults sink.new }) line.now }
+{
+    let _said = write_whole(sink, line);
+}
+
+/// Answers an input that was read to its end.
+fn answer<K: Sink>(alloc: Global, text: &[u8], sink: &mut K) -> Status
+    ensures { Answered result text.now (record { written = K.written sink.old; faults = K.faults sink.old }) (record { written = K.written sink.new; faults = K.faults sink.new }) }
+{
+    match read_script(alloc, text) {
+        Ok(script) => put_run(alloc, &script, sink),
+        Err(NoScript::Fault(fault)) => refuse(alloc, fault, sink),
+        Err(NoScript::OutOfMemory) => Status::NoMemory,
+    }
+}
+
+/// Tells the first fault of a text that is no script.
+fn refuse<K: Sink>(alloc: Global, fault: ScriptFault, sink: &mut K) -> Status
+    ensures { (input : List ℕ) → IsFirstFault input fault → Answered result input (record { written = K.written sink.old; faults = K.faults sink.old }) (record { written = K.written sink.new; faults = K.faults sink.new }) }
+{
+    match fault_text(alloc, fault) {
+        Ok(text) => {
+            say(sink, text.as_bytes());
+            Status::NoScript
+        }
+        Err(_) => Status::NoMemory,
+    }
+}
+
+fn fault_text(alloc: Global, fault: ScriptFault) -> Result<String, AllocError>
+    ensures { IfOk result (λ s. string_bytes s ≡ script_fault_line fault.line fault.what) }
+{
+    let line = fault.line;
+    let what = fault.what.text();
+    format!(in alloc; "oakmap: line {line}: {what}\n")
+}
+
+/// Runs a script, and writes the text of the run.
+fn put_run<K: Sink>(alloc: Global, script: &Script, sink: &mut K) -> Status
+    requires { IsScript script.now }
+    ensures { (input : List ℕ) → Spells input script.now → Answered result input (record { written = K.written sink.old; faults = K.faults sink.old }) (record { written = K.written sink.new; faults = K.faults sink.new }) }
+{
+    let text = match run_text(alloc, script) {
+        Ok(text) => text,
+        Err(_) => return Status::NoMemory,
+    };
+    match write_whole(sink, &text) {
+        Ok(()) => Status::Done,
+        Err(_) => Status::WriteFault,
+    }
+}
+
+/// The text of a run of the script.
+fn run_text(alloc: Global, script: &Script) -> Result<Vec<u8>, OutOfMemory>
+    requires { IsScript script.now }
+    ensures { IfOk result (λ v. PrintsRun script.now.threads v.items) }
+{
+    let ran = run_script(alloc, script)?;
+    print_run(alloc, script, &ran.replies, &ran.finals)
+}
+
+/// A script that comes without a fault is run, unless memory runs out.
+pub fn completeness()
+    ensures { (s : Status) (source source_after : Input) (sink sink_after : Output) (text : List ℕ) (script : Script)
+        → Ended s true source source_after sink sink_after → source.left ≡ Some text → length text ≤ GREATEST_INPUT → Spells text script
+        → Unrisen source.faults source_after.faults → Unrisen sink.faults sink_after.faults → (s ≡ Status.Done) ⊎ (s ≡ Status.NoMemory) }
+{}

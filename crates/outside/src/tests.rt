@@ -1,0 +1,112 @@
+use crate::{
+    Failed, MemorySink, MemorySource, ReadStop, Sink, Source, SureSource, read_whole, write_whole,
+};
+use std::test::Fail;
+
+#[test]
+fn a_memory_source_fails_at_the_listed_reads(rt: HostRuntime) -> Result<(), Fail> {
+    let bytes = b"abcde".to_vec(rt.alloc())?;
+    let mut source = MemorySource::make(bytes, [2, 5].to_vec(rt.alloc())?);
+    let mut piece = [b'.'; 3];
+    let want = [
+        (Ok(3), b"abc"),
+        (Err(Failed), b"abc"),
+        (Ok(2), b"dec"),
+        (Ok(0), b"dec"),
+        (Err(Failed), b"dec"),
+        (Ok(0), b"dec"),
+    ];
+    for (answer, bytes) in want {
+        assert_eq!(rt; source.read(&mut piece), answer);
+        assert!(rt; piece == *bytes);
+    }
+    Ok(())
+}
+
+#[test]
+fn a_sure_source_gives_its_bytes(rt: HostRuntime) -> Result<(), Fail> {
+    let mut source = SureSource::make(b"abcd".to_vec(rt.alloc())?);
+    let mut piece = [b'.'; 3];
+    for (count, bytes) in [(3, b"abc"), (1, b"dbc"), (0, b"dbc")] {
+        assert_eq!(rt; source.read(&mut piece), Ok(count));
+        assert!(rt; piece == *bytes);
+    }
+    Ok(())
+}
+
+#[test]
+fn a_memory_sink_fails_at_the_listed_writes_and_when_full(rt: HostRuntime) -> Result<(), Fail> {
+    let room = b"......".to_vec(rt.alloc())?;
+    let mut sink = MemorySink::make(room, [2, 6].to_vec(rt.alloc())?);
+    let want = [
+        ("abc", Ok(3), "abc"),
+        ("de", Err(Failed), "abc"),
+        ("de", Ok(2), "abcde"),
+        ("fgh", Ok(1), "abcdef"),
+        ("g", Err(Failed), "abcdef"),
+        ("", Err(Failed), "abcdef"),
+        ("", Ok(0), "abcdef"),
+    ];
+    for (piece, answer, written) in want {
+        assert_eq!(rt; sink.write(piece.as_bytes()), answer);
+        assert_eq!(rt; sink.written(), written.as_bytes());
+    }
+    Ok(())
+}
+
+#[test]
+fn a_source_is_read_to_its_end_or_past_the_limit(rt: HostRuntime) -> Result<(), Fail> {
+    let want = [
+        (0, 5, Ok("abcde")),
+        (0, 6, Ok("abcde")),
+        (0, usize::MAX, Ok("abcde")),
+        (0, 4, Err(ReadStop::TooLong)),
+        (0, 0, Err(ReadStop::TooLong)),
+        (1, 5, Err(ReadStop::Failed)),
+        // the first read gives all bytes, and the second fails at the end
+        (2, 5, Err(ReadStop::Failed)),
+        // the first read gives a byte too many, so the second is not met
+        (2, 4, Err(ReadStop::TooLong)),
+    ];
+    for (fails, most, answer) in want {
+        let bytes = b"abcde".to_vec(rt.alloc())?;
+        let mut source = MemorySource::make(bytes, [fails].to_vec(rt.alloc())?);
+        let got = read_whole(rt.alloc(), &mut source, most);
+        match &got {
+            Ok(all) => assert!(rt; answer.is_ok_and(|text| text.as_bytes() == all.as_slice())),
+            Err(stop) => assert_eq!(rt; answer, Err(*stop)),
+        }
+    }
+    Ok(())
+}
+
+#[test]
+fn a_long_source_is_read_in_pieces(rt: HostRuntime) -> Result<(), Fail> {
+    let bytes = vec![in rt.alloc(); 7u8; 20_000]?;
+    let mut source = MemorySource::make(bytes.clone()?, [4].to_vec(rt.alloc())?);
+    let stop = read_whole(rt.alloc(), &mut source, 20_000).err();
+    assert_eq!(rt; stop, Some(ReadStop::Failed));
+
+    let mut source = SureSource::make(bytes.clone()?);
+    let all = read_whole(rt.alloc(), &mut source, 20_000).ok();
+    assert_eq!(rt; all, Some(bytes));
+    Ok(())
+}
+
+#[test]
+fn bytes_are_written_whole_or_in_part(rt: HostRuntime) -> Result<(), Fail> {
+    let want = [
+        (0, "abcde", Ok(()), "abcde"),
+        (0, "abcdef", Err(Failed), "abcde"),
+        (1, "abc", Err(Failed), ""),
+        // no bytes take no write, so none fails
+        (1, "", Ok(()), ""),
+    ];
+    for (fails, text, answer, written) in want {
+        let room = b".....".to_vec(rt.alloc())?;
+        let mut sink = MemorySink::make(room, [fails].to_vec(rt.alloc())?);
+        assert_eq!(rt; write_whole(&mut sink, text.as_bytes()), answer);
+        assert_eq!(rt; sink.written(), written.as_bytes());
+    }
+    Ok(())
+}
