@@ -29,15 +29,15 @@ stack_same z c f g (suc i) (h ∷ hs) same s = let e : f i ≡ g i = same i (ome
   stack_same z c f g i hs (λ k lt. same k (omega arith)) s.3,
 )
 
-module _ (z : Sizes) (c : Class) (f : ℕ → ℕ) (i : ℕ) (v w : PassState) where
-  pub stack_more : IsStack z c f i v.blocks.held → Takes z c (f i) v w → IsStack z c f (suc i) w.blocks.held
-  stack_more s t = subst (λ (y : PassState). IsStack z c f (suc i) y.blocks.held) (sym t.after) (t.inside, is_block-true (class_number c) (f i) (block_from (memory z t.table.words).arena.bytes c (f i)) refl refl, t.unheld, s)
+module _ (z : Sizes) (call : ℕ) (c : Class) (f : ℕ → ℕ) (i : ℕ) (v w : PassState) where
+  pub stack_more : IsStack z c f i v.blocks.held → Takes z call c (f i) v w → IsStack z c f (suc i) w.blocks.held
+  stack_more s t = subst (λ (y : PassState). IsStack z c f (suc i) y.blocks.held) (sym t.after) (t.inside, is_block-true (class_number c) (f i) (block_from (memory z t.told.table.words).arena.bytes c (f i)) refl refl, t.unheld, s)
 
   stack_rest : (hs : List HeldBlock) → IsStack z c f (suc i) hs → IsStack z c f i (without (class_number c) (f i) hs)
   stack_rest [] s = absurd s
   stack_rest (h ∷ hs) s = subst (IsStack z c f i) (sym (without_first (class_number c) (f i) h hs s.1 s.2)) s.3
 
-  pub stack_less : IsStack z c f (suc i) v.blocks.held → Gives z c (f i) v w → IsStack z c f i w.blocks.held
+  pub stack_less : IsStack z c f (suc i) v.blocks.held → Gives z call c (f i) v w → IsStack z c f i w.blocks.held
   stack_less s g = subst (λ (y : PassState). IsStack z c f i y.blocks.held) (sym g.after) (stack_rest v.blocks.held s)
 
 -- the last one is held
@@ -63,23 +63,23 @@ stack_empty z c f a s = λ i. record { held = s i }
 pub rest_of_grown : (v w x : PassState) → KeepsRest v w → KeepsRest w x → KeepsRest v x
 rest_of_grown v w x a b = record { numbers = b.numbers ∙ a.numbers; headers = b.headers ∙ a.headers; rooms = b.rooms ∙ a.rooms }
 
-module _ (z : Sizes) (c : Class) (b : ℕ) (v w : PassState) where
-  pub rest_taken : Takes z c b v w → KeepsRest v w
+module _ (z : Sizes) (call : ℕ) (c : Class) (b : ℕ) (v w : PassState) where
+  pub rest_taken : Takes z call c b v w → KeepsRest v w
   rest_taken t = record { numbers = λ i. (t.after i).numbers; headers = λ i. (t.after i).headers; rooms = λ i. (t.after i).rooms }
 
-  pub rest_given : Gives z c b v w → KeepsRest v w
+  pub rest_given : Gives z call c b v w → KeepsRest v w
   rest_given t = record { numbers = λ i. (t.after i).numbers; headers = λ i. (t.after i).headers; rooms = λ i. (t.after i).rooms }
 
-  pub rest_stored : (k x : ℕ) → Stores z c b k x v w → KeepsRest v w
+  pub rest_stored : (k x : ℕ) → Stores z call c b k x v w → KeepsRest v w
   rest_stored k x t = record { numbers = λ i. (t.after i).numbers; headers = λ i. (t.after i).headers; rooms = λ i. (t.after i).rooms }
 
 -- the number of a block that was taken is noted in its place
-pub stack_put : (z : Sizes) (c : Class) (ns : List ℕ) (i n : ℕ) (v w : PassState) → i < length ns → IsStack z c (λ k. get_or ns k 0) i v.blocks.held → Takes z c n v w → IsStack z c (λ k. get_or (set ns i n) k 0) (suc i) w.blocks.held
-stack_put z c ns i n v w lt s t = let f : ℕ → ℕ = λ k. get_or (set ns i n) k 0 in let here : f i ≡ n = get_or-set_same ns i n 0 lt in
-    stack_more z c f i v w (stack_same z c (λ k. get_or ns k 0) f i v.blocks.held (λ k l. sym (get_or-set_other ns i k n 0 (λ e. omega arith))) s) (subst (λ (m : ℕ). Takes z c m v w) (sym here) t)
+pub stack_put : (z : Sizes) (call : ℕ) (c : Class) (ns : List ℕ) (i n : ℕ) (v w : PassState) → i < length ns → IsStack z c (λ k. get_or ns k 0) i v.blocks.held → Takes z call c n v w → IsStack z c (λ k. get_or (set ns i n) k 0) (suc i) w.blocks.held
+stack_put z call c ns i n v w lt s t = let f : ℕ → ℕ = λ k. get_or (set ns i n) k 0 in let here : f i ≡ n = get_or-set_same ns i n 0 lt in
+    stack_more z call c f i v w (stack_same z c (λ k. get_or ns k 0) f i v.blocks.held (λ k l. sym (get_or-set_other ns i k n 0 (λ e. omega arith))) s) (subst (λ (m : ℕ). Takes z call c m v w) (sym here) t)
 
-pub stack_stored : (z : Sizes) (c : Class) (f : ℕ → ℕ) (i b k x : ℕ) (v w : PassState) → IsStack z c f i v.blocks.held → Stores z c b k x v w → IsStack z c f i w.blocks.held
-stack_stored z c f i b k x v w s t = subst (λ (y : PassState). IsStack z c f i y.blocks.held) (sym t.after) (stack_written z c f (class_number c) b k x i v.blocks.held s)
+pub stack_stored : (z : Sizes) (call : ℕ) (c : Class) (f : ℕ → ℕ) (i b k x : ℕ) (v w : PassState) → IsStack z c f i v.blocks.held → Stores z call c b k x v w → IsStack z c f i w.blocks.held
+stack_stored z call c f i b k x v w s t = subst (λ (y : PassState). IsStack z c f i y.blocks.held) (sym t.after) (stack_written z c f (class_number c) b k x i v.blocks.held s)
 
 -- the first pass is alone as long as it has no other number
 pub alone_rest : (v w : PassState) → v ≡ first_state → KeepsRest v w → IsAlone w
