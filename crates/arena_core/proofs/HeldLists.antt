@@ -1,5 +1,5 @@
 -- Lists of held blocks, from which one is taken out, or of which one is written.
-use Rattle.std.proofs.Common.{◌≡◌, ℕ, ◌+◌, true, false, cond, List, [], ◌∷◌, length, set, sym, refl, ap, ◌∙◌, arith, eqb-true, eq-eqb, length-set}
+use Rattle.std.proofs.Common.{◌≡◌, ℕ, ◌+◌, Bool, true, false, cond, List, [], ◌∷◌, length, set, sym, refl, ap, ◌∙◌, arith, eqb-true, eq-eqb, length-set}
 use Rattle.oak_model.specs.Counts.{one_if, total, Each}
 use Rattle.oak_model.specs.Class.{class_number}
 use Rattle.oak_model.proofs.Counting.{both_true, true_both, test-cases, total_map}
@@ -45,3 +45,14 @@ whole_rewritten c b k x (h ∷ hs) w = (
   (elim (is_block c b h) as (λ t. length (cond t (set h.words k x) h.words) ≡ length h.words) [ true ↦ length-set h.words k x | false ↦ refl ]) ∙ w.0,
   whole_rewritten c b k x hs w.1,
 )
+
+-- a block that is not held is not missed
+pub without_same : (c b : ℕ) (hs : List HeldBlock) → total (here c b) hs ≡ 0 → without c b hs ≡ hs
+unfolding total
+without_same c b [] e = refl
+without_same c b (h ∷ hs) e = test-cases (is_block c b h) (λ t. one_if t + total (here c b) hs ≡ 0 → cond t (without c b hs) (h ∷ without c b hs) ≡ h ∷ hs)
+    (λ _ z. absurd (omega arith)) (λ _ z. ap (λ (l : List HeldBlock). h ∷ l) (without_same c b hs (omega arith))) e
+
+-- and one that is held once, in front, leaves the others
+pub without_first : (c b : ℕ) (h : HeldBlock) (hs : List HeldBlock) → is_block c b h ≡ true → total (here c b) hs ≡ 0 → without c b (h ∷ hs) ≡ hs
+without_first c b h hs is e = ap (λ (t : Bool). cond t (without c b hs) (h ∷ without c b hs)) is ∙ without_same c b hs e

@@ -1,5 +1,5 @@
 -- What a word of bits tells that was loaded, or of which a bit was set.
-use Rattle.std.proofs.Common.{◌≡◌, ℕ, ◌/◌, ◌%◌, ◌<◌, Bool, cond, eqb, [], ◌∷◌, map, sym, refl, ap, ◌∙◌, subst, arith, Some, eq-eqb, ne_eqb}
+use Rattle.std.proofs.Common.{◌≡◌, ℕ, ◌/◌, ◌%◌, ◌<◌, Bool, cond, eqb, List, [], ◌∷◌, map, sym, refl, ap, ◌∙◌, subst, arith, Some, eq-eqb, ne_eqb, append-nil}
 use Rattle.std.specs.Prelude.{bit_or}
 use Rattle.std.specs.Int.{bit_at}
 use mathlib.Core.Logic.{dite}
@@ -21,7 +21,7 @@ use Rattle.arena_core.proofs.ArenaSteps.{none_owns}
 use Rattle.oak_core.specs.declared.states.Finding.{Finding}
 use Rattle.oak_core.specs.declared.states.PassState.{PassState}
 use Rattle.oak_core.specs.Memory.{Spot, in_arena, index, read, memory}
-use Rattle.oak_core.specs.Finding.{finding, noted, had}
+use Rattle.oak_core.specs.Finding.{finding, noted, had, grown}
 use Rattle.oak_core.specs.PassState.{blocks_of, IsAlone, spent_state}
 use Rattle.oak_core.specs.Rule.{other_owners, Rule}
 use Rattle.oak_core.specs.TableState.{TableState}
@@ -31,6 +31,7 @@ use Rattle.oak_core.proofs.Alone.{others_are}
 use Rattle.oak_core.proofs.ArenaNames.{bit_inside}
 use Rattle.oak_core.proofs.KeepsArena.{class_below}
 use Rattle.oak_core.proofs.Words.{index_apart, memory_read}
+use Rattle.arena_ops.proofs.LookLaws.{told_of}
 use Rattle.arena_ops.specs.Looking.{bit_spot, FoundSet, Looked}
 use Rattle.arena_ops.specs.Taking.{Takes}
 
@@ -98,12 +99,20 @@ module _ (z : Sizes) (call : ℕ) (c : Class) (v : PassState) where
           (ap (λ (k : ℕ). bit_at ((memory z t.table.words).arena.bits (class_number c) k) (b % 64)) p.0 ∙ (ap (λ (m : ℕ). bit_at m (b % 64)) word_is ∙ p.1));
     }
 
-    pub now_taken : bit_at n (block % 64) ≡ 0 → Takes z c block v w
+    same : v ≡ grown [] v
+    same = ap (λ (l : List Finding). record v { findings = record v.findings { met = l } }) (sym (append-nil v.findings.met))
+
+    abbrev told_first : Sets z call c block (grown [] v) n w
+    told_first = told_of z call c block v (grown [] v) same n w t
+
+    pub now_taken : bit_at n (block % 64) ≡ 0 → Takes z call c block v w
     now_taken e = let none = none_owns z (memory z t.table.words).arena other_owners (map blocks_of t.table.states) t.seat v.blocks (at_map blocks_of t.table.states t.seat v t.here) t.rule.blocks (class_number c) block
         (ap (λ (m : ℕ). bit_at m (block % 64)) word_is ∙ e) in let n0 = none.0 in let n1 = none.1 in record {
           inside = lb;
-          table = t.table;
-          rule = t.rule;
+          before = [];
+          number = n;
+          clear = e;
+          told = told_first;
           free = omega arith;
           unheld = let h = total_at (holds (class_number c) block) (map blocks_of t.table.states) t.seat v.blocks (at_map blocks_of t.table.states t.seat v t.here) in omega arith;
           more = met_now ∷ [];

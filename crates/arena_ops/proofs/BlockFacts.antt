@@ -39,28 +39,26 @@ module _ (z : Sizes) (call : ℕ) (c : Class) (b : ℕ) (v : PassState) (lb : b 
     word_after = let y : ℕ = effect x (found z x t.table) in ap (λ (m : Memory). read m (bit_spot c b)) (memory_set z t.table.words (bit_spot c b) y t.rule.words.counted (bit_inside z c b lb))
         ∙ (read-write (memory z t.table.words) (bit_spot c b) (bit_spot c b) y ∙ ap (λ (s : Bool). cond s y (read (memory z t.table.words) (bit_spot c b))) (same_spot-self (bit_spot c b)))
 
-    pub gives : Gives z c b v w
+    pub gives : Gives z call c b v w
     gives = record {
+      number = n;
+      told = t;
       more = finding z call (bit_spot c b) (Some (found z x t.table)) (bit_and (found z x t.table) (2 ^ 64 - 1 - bit_of b)) v ∷ [];
       after = t.after;
       table = after;
       rule = rule_after;
-      seat = t.seat;
       here = set_there t.table.states t.seat v (state_after z call x t.table v) t.here ∙ ap some (sym t.after);
       free = sym (rule_after.blocks.owned (class_number c) b) ∙ (ap (λ (m : ℕ). bit_at m (b % 64)) word_after ∙ clear_there (found z x t.table) b);
     }
 
   module _ (k y : ℕ) (w : PassState) (lk : k < block_words (class_number c)) (written : Writes z call c b k y v w) where
-    pub stores : Stores z c b k y v w
+    pub stores : Stores z call c b k y v w
     stores = let t = written.1 in let x : Step = on_arena (store_word c b k y) in record {
+      told = written;
       more = finding z call (in_arena (at_bytes (class_number c) b k)) None y v ∷ [];
       after = t.after;
-      found = t.table;
-      left = table_after z call x t.seat v t.table;
-      rule_found = t.rule;
-      rule_left = rule_keeps z t.table call t.seat v t.rule t.here t.going x t.may;
-      seat = t.seat;
-      before_here = t.here;
-      after_here = set_there t.table.states t.seat v (state_after z call x t.table v) t.here ∙ ap some (sym t.after);
+      table = table_after z call x t.seat v t.table;
+      rule = rule_keeps z t.table call t.seat v t.rule t.here t.going x t.may;
+      here = set_there t.table.states t.seat v (state_after z call x t.table v) t.here ∙ ap some (sym t.after);
       alone = memory_set z t.table.words (in_arena (at_bytes (class_number c) b k)) y t.rule.words.counted (class_below c, lb, lk);
     }

@@ -3,3 +3,4 @@ pub mod MaskFacts
 pub mod BitFacts
 pub mod SearchLaws
 pub mod BlockFacts
+pub mod StackLaws

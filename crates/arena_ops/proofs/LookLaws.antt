@@ -1,5 +1,6 @@
 -- Searches for a block, one behind the other.
 use Rattle.std.proofs.Common.{◌≡◌, ℕ, ◌+◌, ◌<◌, ◌⊎◌, List, [], ◌∷◌, ◌++◌, length, sym, ap, ◌∙◌, subst, ⊎_elim, append_assoc, append-nil}
+use mathlib.Core.Option.{some}
 use Rattle.oak_model.specs.declared.classes.Class.{Class}
 use Rattle.oak_model.specs.Class.{class_number}
 use Rattle.oak_model.specs.Limits.{Sizes}
@@ -11,6 +12,9 @@ use Rattle.oak_core.specs.declared.states.PassState.{PassState}
 use Rattle.oak_core.specs.Memory.{memory}
 use Rattle.oak_core.specs.Finding.{had, grown}
 use Rattle.oak_core.specs.PassState.{IsAlone}
+use Rattle.arena_core.specs.ArenaStep.{take_bit, MayArena}
+use Rattle.oak_core.specs.ArenaCalls.{Sets}
+use Rattle.oak_core.specs.Step.{on_arena, state_after}
 use Rattle.oak_core.proofs.Splits.{at_behind}
 use Rattle.arena_ops.specs.Looking.{bit_spot, FoundSet, Looked}
 use Rattle.arena_ops.specs.Taking.{Takes}
@@ -20,6 +24,19 @@ grown_twice v first second = ap (λ (l : List Finding). record v { findings = re
 
 alone_still : (v : PassState) (more : List Finding) → IsAlone v → IsAlone (grown more v)
 alone_still v more a = record { first = a.first; others = a.others }
+
+-- a step of the same state
+abbrev pub told_of : (z : Sizes) (call : ℕ) (c : Class) (b : ℕ) (v v' : PassState) → v ≡ v' → (n : ℕ) (w : PassState) → Sets z call c b v n w → Sets z call c b v' n w
+told_of z call c b v v' same n w t = record {
+  table = t.table;
+  seat = t.seat;
+  rule = t.rule;
+  here = t.here ∙ ap some same;
+  going = ap (λ (y : PassState). y.numbers.spent) (sym same) ∙ t.going;
+  may = subst (λ (y : PassState). MayArena z (take_bit c b) y.blocks) same t.may;
+  finds = t.finds;
+  after = t.after ∙ ap (state_after z call (on_arena (take_bit c b)) t.table) same;
+}
 
 module _ (z : Sizes) (call : ℕ) (c : Class) where
   -- nothing was looked at
@@ -70,15 +87,24 @@ module _ (z : Sizes) (call : ℕ) (c : Class) where
   }
 
   -- a block is taken behind what was looked at
-  pub takes_behind : (b : ℕ) (v w x : PassState) (P : ℕ → Type 0) → Looked z call c v w P → Takes z c b w x → Takes z c b v x
-  takes_behind b v w x P l t = record {
-    inside = t.inside;
-    table = t.table;
-    rule = t.rule;
-    free = t.free;
-    unheld = subst (λ (y : PassState). holds (class_number c) b y.blocks ≡ 0) l.after t.unheld;
-    more = l.more ++ t.more;
-    after = t.after
-        ∙ (ap (λ (y : PassState). record (grown t.more y) { blocks = record y.blocks { held = block_from (memory z t.table.words).arena.bytes c b ∷ y.blocks.held } }) l.after
-        ∙ ap (λ (y : PassState). record y { blocks = record v.blocks { held = block_from (memory z t.table.words).arena.bytes c b ∷ v.blocks.held } }) (grown_twice v l.more t.more));
-  }
+  module _ (b : ℕ) (v w x : PassState) (P : ℕ → Type 0) (l : Looked z call c v w P) (t : Takes z call c b w x) where
+    same : grown t.before w ≡ grown (l.more ++ t.before) v
+    same = ap (grown t.before) l.after ∙ grown_twice v l.more t.before
+
+    abbrev told_there : Sets z call c b (grown (l.more ++ t.before) v) t.number x
+    told_there = told_of z call c b (grown t.before w) (grown (l.more ++ t.before) v) same t.number x t.told
+
+    pub takes_behind : Takes z call c b v x
+    takes_behind = record {
+      inside = t.inside;
+      before = l.more ++ t.before;
+      number = t.number;
+      clear = t.clear;
+      told = told_there;
+      free = t.free;
+      unheld = subst (λ (y : PassState). holds (class_number c) b y.blocks ≡ 0) l.after t.unheld;
+      more = l.more ++ t.more;
+      after = t.after
+          ∙ (ap (λ (y : PassState). record (grown t.more y) { blocks = record y.blocks { held = block_from (memory z t.told.table.words).arena.bytes c b ∷ y.blocks.held } }) l.after
+          ∙ ap (λ (y : PassState). record y { blocks = record v.blocks { held = block_from (memory z t.told.table.words).arena.bytes c b ∷ v.blocks.held } }) (grown_twice v l.more t.more));
+    }

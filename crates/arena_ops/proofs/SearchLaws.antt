@@ -1,5 +1,5 @@
 -- A search through the bits of a word, and through the words of a class.
-use Rattle.std.proofs.Common.{◌≡◌, ℕ, ◌+◌, ◌-◌, ◌*◌, ◌/◌, ◌%◌, ◌^◌, ◌<◌, ◌≤◌, ◌⊎◌, sym, ◌∙◌, arith, inl, inr, Option, Some, None, IfNone}
+use Rattle.std.proofs.Common.{◌≡◌, ℕ, ◌+◌, ◌-◌, ◌*◌, ◌/◌, ◌%◌, ◌^◌, ◌<◌, ◌≤◌, ◌⊎◌, sym, ◌∙◌, subst, arith, inl, inr, Option, Some, None, IfNone, IfSome}
 use Rattle.std.specs.Prelude.{bit_and}
 use Rattle.std.specs.Int.{bit_at}
 use Rattle.std.proofs.lemmas.Nat.Bits.{bit_at-lt, bit_at-zero}
@@ -11,13 +11,25 @@ use Rattle.oak_model.specs.Limits.{Sizes}
 use Rattle.arena_core.specs.Arena.{blocks, bit_words}
 use Rattle.oak_core.specs.declared.states.PassState.{PassState}
 use Rattle.arena_ops.specs.Looking.{Looked}
-use Rattle.arena_ops.specs.Taking.{FindsNone}
+use Rattle.arena_ops.specs.Taking.{FindsNone, Takes}
 use Rattle.arena_ops.proofs.MaskFacts.{not_left}
 use Rattle.arena_ops.proofs.LookLaws.{looked_only, looked_both}
 
 pub if_none : {A : Type 0} (o : Option A) (P Q : Type 0) → (P → Q) → IfNone o P → IfNone o Q
 if_none None P Q f p = f p
 if_none (Some a) P Q f p = tt
+
+pub if_some : {A : Type 0} (o : Option A) (P Q : A → Type 0) → ((a : A) → P a → Q a) → IfSome o P → IfSome o Q
+if_some None P Q f p = tt
+if_some (Some a) P Q f p = f a p
+
+-- what was done is of the call
+module _ (z : Sizes) (first now : ℕ) (c : Class) (v w : PassState) (same : now ≡ first) where
+  pub looked_in : (P : ℕ → Type 0) → Looked z now c v w P → Looked z first c v w P
+  looked_in P l = subst (λ (k : ℕ). Looked z k c v w P) same l
+
+  pub takes_in : (b : ℕ) → Takes z now c b v w → Takes z first c b v w
+  takes_in b t = subst (λ (k : ℕ). Takes z k c b v w) same t
 
 module _ (z : Sizes) (call : ℕ) (c : Class) (v : PassState) where
   -- the bits of word i that are found set are those that the mask has lost

@@ -1,5 +1,6 @@
 -- What the calls on blocks do.
-use Rattle.std.specs.Prelude.{◌≡◌, ℕ, ◌+◌, ◌<◌, List, ◌∷◌, map}
+use Rattle.std.specs.Prelude.{◌≡◌, ℕ, ◌+◌, ◌%◌, ◌<◌, List, ◌∷◌, map}
+use Rattle.std.specs.Int.{bit_at}
 use mathlib.Core.Option.{some}
 use lib.ListN.{get_elem?}
 use Rattle.oak_model.specs.declared.classes.Class.{Class}
@@ -13,6 +14,7 @@ use Rattle.oak_core.specs.declared.states.PassState.{PassState}
 use Rattle.oak_core.specs.Memory.{in_arena, memory, write}
 use Rattle.oak_core.specs.Finding.{grown}
 use Rattle.oak_core.specs.PassState.{blocks_of}
+use Rattle.oak_core.specs.ArenaCalls.{Sets, Clears, Writes}
 use Rattle.oak_core.specs.Rule.{other_owners, Rule}
 use Rattle.oak_core.specs.TableState.{TableState}
 use Rattle.arena_ops.specs.Looking.{Looked}
@@ -21,15 +23,17 @@ use Rattle.arena_ops.specs.Looking.{Looked}
 abbrev pub owners : Class → ℕ → TableState → ℕ
 owners c b s = total (holds (class_number c) b) (map blocks_of s.states) + other_owners (class_number c) b
 
--- At a moment of the call no owner had the block. The pass holds it now, with the words that it had then, and else only met more.
-pub record Takes (z : Sizes) (c : Class) (b : ℕ) (v w : PassState) : Type 0 where
+-- The step that set the bit of the block, after others that only met more, found it clear. No owner had the block at that moment. The pass holds it now, with the words that it had then, and else only met more.
+pub record Takes (z : Sizes) (call : ℕ) (c : Class) (b : ℕ) (v w : PassState) : Type 0 where
   pub inside : b < blocks z (class_number c)
-  pub table : TableState
-  pub rule : Rule z table
-  pub free : owners c b table ≡ 0
+  pub before : List Finding
+  pub number : ℕ
+  pub clear : bit_at number (b % 64) ≡ 0
+  pub told : Sets z call c b (grown before v) number w
+  pub free : owners c b told.table ≡ 0
   pub unheld : holds (class_number c) b v.blocks ≡ 0
   pub more : List Finding
-  pub after : w ≡ record (grown more v) { blocks = record v.blocks { held = block_from (memory z table.words).arena.bytes c b ∷ v.blocks.held } }
+  pub after : w ≡ record (grown more v) { blocks = record v.blocks { held = block_from (memory z told.table.words).arena.bytes c b ∷ v.blocks.held } }
 
 -- the pass only met more, and the bit of each block of the class was found set
 abbrev pub FindsNone : Sizes → ℕ → Class → PassState → PassState → Type 0
@@ -40,24 +44,22 @@ abbrev pub HoldsAll : Sizes → Class → PassState → Type 0
 HoldsAll z c v = (b : ℕ) → b < blocks z (class_number c) → 0 < holds (class_number c) b v.blocks
 
 -- The pass holds the block no more, and else only met more. After the step no owner has it.
-pub record Gives (z : Sizes) (c : Class) (b : ℕ) (v w : PassState) : Type 0 where
+pub record Gives (z : Sizes) (call : ℕ) (c : Class) (b : ℕ) (v w : PassState) : Type 0 where
+  pub number : ℕ
+  pub told : Clears z call c b v number w
   pub more : List Finding
   pub after : w ≡ record (grown more v) { blocks = record v.blocks { held = without (class_number c) b v.blocks.held } }
   pub table : TableState
   pub rule : Rule z table
-  pub seat : ℕ
-  pub here : get_elem? table.states seat ≡ some w
+  pub here : get_elem? table.states told.seat ≡ some w
   pub free : owners c b table ≡ 0
 
 -- Word k of the block is x, for the pass and in the table, of which the step changed that word alone.
-pub record Stores (z : Sizes) (c : Class) (b k x : ℕ) (v w : PassState) : Type 0 where
+pub record Stores (z : Sizes) (call : ℕ) (c : Class) (b k x : ℕ) (v w : PassState) : Type 0 where
+  pub told : Writes z call c b k x v w
   pub more : List Finding
   pub after : w ≡ record (grown more v) { blocks = record v.blocks { held = rewritten (class_number c) b k x v.blocks.held } }
-  pub found : TableState
-  pub left : TableState
-  pub rule_found : Rule z found
-  pub rule_left : Rule z left
-  pub seat : ℕ
-  pub before_here : get_elem? found.states seat ≡ some v
-  pub after_here : get_elem? left.states seat ≡ some w
-  pub alone : memory z left.words ≡ write (memory z found.words) (in_arena (at_bytes (class_number c) b k)) x
+  pub table : TableState
+  pub rule : Rule z table
+  pub here : get_elem? table.states told.1.seat ≡ some w
+  pub alone : memory z table.words ≡ write (memory z told.1.table.words) (in_arena (at_bytes (class_number c) b k)) x

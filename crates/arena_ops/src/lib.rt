@@ -3,5 +3,7 @@
 
 mod searching;
 mod taking;
+#[cfg(test)]
+mod tests;
 
 pub use taking::{NoBlock, give, store, take};

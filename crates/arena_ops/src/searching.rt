@@ -52,7 +52,7 @@ fn take_one(table: &OakTable, pass: &mut Pass, class: Class, block: u32) -> bool
     requires own { IsPassOf table.now pass.old }
     requires inside { block < blocks (key table.now) (class_number class) }
     ensures own { Stays pass.old pass.new }
-    ensures taken { result ≡ true → Takes (key table.now) class block (state pass.old) (state pass.new) }
+    ensures taken { result ≡ true → Takes (key table.now) (call_of pass.old) class block (state pass.old) (state pass.new) }
     ensures set { result ≡ false → Looked (key table.now) (call_of pass.old) class (state pass.old) (state pass.new) (λ b. b ≡ block) }
 {
     let found = set_bit(table, pass, class, block);
@@ -63,7 +63,7 @@ fn take_one(table: &OakTable, pass: &mut Pass, class: Class, block: u32) -> bool
 fn take_next(table: &OakTable, pass: &mut Pass, class: Class) -> Option<u32>
     requires own { IsPassOf table.now pass.old }
     ensures own { Stays pass.old pass.new }
-    ensures taken { IfSome result (λ b. Takes (key table.now) class b (state pass.old) (state pass.new)) }
+    ensures taken { IfSome result (λ b. Takes (key table.now) (call_of pass.old) class b (state pass.old) (state pass.new)) }
     ensures none { IfNone result (Looked (key table.now) (call_of pass.old) class (state pass.old) (state pass.new) (λ b. ⊥)) }
 {
     let next = pass.search(class);
@@ -82,7 +82,7 @@ fn take_in_word(table: &OakTable, pass: &mut Pass, class: Class, i: u32) -> Opti
     requires own { IsPassOf table.now pass.old }
     requires inside { i < bit_words (key table.now) (class_number class) }
     ensures own { Stays pass.old pass.new }
-    ensures taken { IfSome result (λ b. Takes (key table.now) class b (state pass.old) (state pass.new)) }
+    ensures taken { IfSome result (λ b. Takes (key table.now) (call_of pass.old) class b (state pass.old) (state pass.new)) }
     ensures none { IfNone result (Looked (key table.now) (call_of pass.old) class (state pass.old) (state pass.new) (λ b. b / BITS ≡ i)) }
 {
     let word = table.bits_at(class, i);
@@ -103,7 +103,7 @@ fn take_between(table: &OakTable, pass: &mut Pass, class: Class, from: u32, to: 
     requires own { IsPassOf table.now pass.old }
     requires inside { to ≤ bit_words (key table.now) (class_number class) }
     ensures own { Stays pass.old pass.new }
-    ensures taken { IfSome result (λ b. Takes (key table.now) class b (state pass.old) (state pass.new)) }
+    ensures taken { IfSome result (λ b. Takes (key table.now) (call_of pass.old) class b (state pass.old) (state pass.new)) }
     ensures none { IfNone result (Looked (key table.now) (call_of pass.old) class (state pass.old) (state pass.new) (λ b. (from ≤ b / BITS) × (b / BITS < to))) }
 {
     for i in from..to {
@@ -119,7 +119,7 @@ fn take_between(table: &OakTable, pass: &mut Pass, class: Class, from: u32, to: 
 pub(crate) fn search(table: &OakTable, pass: &mut Pass, class: Class) -> Option<u32>
     requires own { IsPassOf table.now pass.old }
     ensures own { Stays pass.old pass.new }
-    ensures taken { IfSome result (λ b. Takes (key table.now) class b (state pass.old) (state pass.new)) }
+    ensures taken { IfSome result (λ b. Takes (key table.now) (call_of pass.old) class b (state pass.old) (state pass.new)) }
     ensures none { IfNone result (FindsNone (key table.now) (call_of pass.old) class (state pass.old) (state pass.new)) }
 {
     let words = table.bit_words(class);

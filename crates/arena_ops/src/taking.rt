@@ -23,7 +23,7 @@ pub struct NoBlock(pub Class);
 pub fn take(table: &OakTable, pass: &mut Pass, class: Class) -> Result<Block, NoBlock>
     requires own { IsPassOf table.now pass.old }
     ensures own { Stays pass.old pass.new }
-    ensures taken { IfOk result (λ b. (b.class ≡ class) × Takes (key table.now) class b.number (state pass.old) (state pass.new)) }
+    ensures taken { IfOk result (λ b. (b.class ≡ class) × Takes (key table.now) (call_of pass.old) class b.number (state pass.old) (state pass.new)) }
     ensures none { IfErr result (λ e. (e.0 ≡ class) × FindsNone (key table.now) (call_of pass.old) class (state pass.old) (state pass.new)) }
     ensures alone { OnErr result (IsAlone (state pass.old) → HoldsAll (key table.now) class (state pass.old)) }
 {
@@ -41,7 +41,7 @@ pub fn give(table: &OakTable, pass: &mut Pass, block: Block)
     requires own { IsPassOf table.now pass.old }
     requires held { HoldsBlock (key table.now) (class_number block.class) block.number (state pass.old).blocks }
     ensures own { Stays pass.old pass.new }
-    ensures given { Gives (key table.now) block.class block.number (state pass.old) (state pass.new) }
+    ensures given { Gives (key table.now) (call_of pass.old) block.class block.number (state pass.old) (state pass.new) }
 {
     let Block { class, number } = block;
     let word = table.bits_at(class, number / 64);
@@ -54,7 +54,7 @@ pub fn store(table: &OakTable, pass: &mut Pass, block: &Block, word: u32, value:
     requires held { HoldsBlock (key table.now) (class_number block.now.class) block.now.number (state pass.old).blocks }
     requires inside { word < block_words (class_number block.now.class) }
     ensures own { Stays pass.old pass.new }
-    ensures stored { Stores (key table.now) block.now.class block.now.number word value (state pass.old) (state pass.new) }
+    ensures stored { Stores (key table.now) (call_of pass.old) block.now.class block.now.number word value (state pass.old) (state pass.new) }
 {
     let place = table.bytes_at(block.class, block.number, word);
     store_word(table, pass, place, value);

@@ -15,8 +15,7 @@ use Rattle.oak_core.specs.PassState.{left_state, right_state, both_state, spent_
 use Rattle.oak_core.specs.Running.{table_of, Holds, KeepsSeat}
 use Rattle.oak_core.specs.Schedule.{MaySplit, MayJoin}
 use Rattle.oak_core.specs.Splitting.{Loads}
-use Rattle.oak_core.specs.Step.{Step, load, give_number, on_arena, spot, effect, May, MayGive, state_after, Told}
-use Rattle.oak_core.specs.TableState.{TableState}
+use Rattle.oak_core.specs.Step.{Step, load, give_number, spot, effect, May, MayGive, state_after, Told}
 use Rattle.oak_core.proofs.EachEvent.{rule_keeps}
 use Rattle.oak_core.proofs.Keeps.{going_after}
 use Rattle.oak_core.proofs.TwoSeats.{split_keeps, join_keeps}

@@ -99,7 +99,8 @@ module _ (z : Sizes) (s : TableState) (call seat : ℕ) (v : PassState) (r : Rul
 
   -- a step that stores to a word other than word 0, and leaves the numbers of its pass and what it knows, owes the bundles of the holds alone
   pub elsewhere_rule : (x : Step) (f : Finding) → IsInside z (spot x) → effect x (found z x s) < 2 ^ 64 → same_spot at_given (spot x) ≡ false → let w = state_after z call x s v in f.word ≡ index z (spot x) → w.findings.met ≡ v.findings.met ++ f ∷ []
-      → w.numbers ≡ v.numbers → w.knowledge ≡ v.knowledge → BlocksAreOwned z (write m (spot x) (effect x (found z x s))).arena.bits other_owners (map blocks_of (set s.states seat w)) → KeptNumbersStand same_spot (read (write m (spot x) (effect x (found z x s)))) (map kept_of (set s.states seat w)) → Rule z (table_after z call x seat v s)
+      → w.numbers ≡ v.numbers → w.knowledge ≡ v.knowledge → BlocksAreOwned z (write m (spot x) (effect x (found z x s))).arena.bits other_owners (map blocks_of (set s.states seat w))
+      → KeptNumbersStand same_spot (read (write m (spot x) (effect x (found z x s)))) (map kept_of (set s.states seat w)) → Rule z (table_after z call x seat v s)
   elsewhere_rule x f inside small other at grew numbers knowledge blocks kept =
       let w : PassState = state_after z call x s v in let y : ℕ = effect x (found z x s) in let same : (write m (spot x) y).given ≡ m.given = ap (λ (b : Bool). cond b y m.given) other in
       stepped_rule x inside small

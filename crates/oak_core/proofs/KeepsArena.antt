@@ -9,23 +9,21 @@ use Rattle.oak_model.specs.declared.classes.Class.TheVariants.{B16, B64, B256, B
 use Rattle.oak_model.specs.Limits.{Sizes}
 use Rattle.oak_model.specs.Class.{class_number}
 use Rattle.oak_model.specs.Kept.{KeptNumbersStand}
-use Rattle.oak_model.proofs.Lists.{at_map, map_set, map_set_same}
-use Rattle.oak_model.proofs.Changes.{stepped}
+use Rattle.oak_model.proofs.Lists.{at_map, map_set}
 use Rattle.arena_core.specs.declared.blocks.HeldBlocks.{HeldBlocks}
-use Rattle.arena_core.specs.Arena.{ArenaSpot, read_arena, IsInArena, blocks}
+use Rattle.arena_core.specs.Arena.{read_arena, IsInArena, blocks}
 use Rattle.arena_core.specs.Blocks.{BlocksAreOwned}
 use Rattle.arena_core.specs.ArenaStep.{ArenaStep, take_bit, clear_bit, store_word, arena_spot, bit_of, arena_effect, arena_found, MayArena, blocks_after, put_arena}
 use Rattle.arena_core.proofs.ArenaSteps.{bit_of_below, arena_owned}
 use Rattle.oak_core.specs.declared.states.PassState.{PassState}
 use Rattle.oak_core.specs.Memory.{Memory, Spot, in_arena, same_spot, read, write, memory, index, IsInside}
 use Rattle.oak_core.specs.Finding.{finding}
-use Rattle.oak_core.specs.PassState.{blocks_of, numbers_of, findings_of, knowledge_of, kept_of}
+use Rattle.oak_core.specs.PassState.{blocks_of, kept_of}
 use Rattle.oak_core.specs.TableState.{TableState}
-use Rattle.oak_core.specs.Rule.{NumbersStand, FoundStays, FindingsStand, HistoriesStand, other_owners, Rule}
+use Rattle.oak_core.specs.Rule.{other_owners, Rule}
 use Rattle.oak_core.specs.Step.{on_arena, state_after, table_after}
 use Rattle.oak_core.proofs.Words.{memory_read}
-use Rattle.oak_core.proofs.Found.{found_more}
-use Rattle.oak_core.proofs.Keeps.{stepped_rule}
+use Rattle.oak_core.proofs.Keeps.{elsewhere_rule}
 use Rattle.oak_core.proofs.KeptInArena.{kept_with, arena_kept}
 
 pub class_below : (c : Class) → class_number c < CLASSES
@@ -43,11 +41,6 @@ arena_small : (z : Sizes) (x : ArenaStep) (a : HeldBlocks) (n : ℕ) → MayAren
 arena_small z (take_bit c b) a n may lt = or_lt 64 n (bit_of b) lt (bit_of_below b)
 arena_small z (clear_bit c b) a n may lt = let h = and_le_l n (2 ^ 64 - 1 - bit_of b) in omega arith
 arena_small z (store_word c b k x) a n may lt = may.small
-
--- words of the arena are not word 0
-arena_later : (z : Sizes) (p : ArenaSpot) → 0 < index z (in_arena p)
-unfolding index
-arena_later z p = omega arith
 
 module _ (z : Sizes) (s : TableState) (call seat : ℕ) (v : PassState) (r : Rule z s) (here : get_elem? s.states seat ≡ some v) (going : v.numbers.spent ≡ false) (x : ArenaStep) (may : MayArena z x v.blocks) where
   abbrev m : Memory
@@ -81,19 +74,5 @@ module _ (z : Sizes) (s : TableState) (call seat : ℕ) (v : PassState) (r : Rul
       (subst (λ (i : ℕ). KeptNumbersStand same_spot (read (write m p (arena_effect x i))) (set (map kept_of s.states) seat (kept_with (blocks_after m.arena.bytes x i v.blocks) v))) read_is
       (arena_kept z m s.states seat v here r.blocks r.kept x may))
 
-  findings_after : FindingsStand m.given (map findings_of (set s.states seat w))
-  findings_after = subst (FindingsStand m.given) (sym (map_set findings_of s.states seat w))
-      ((stepped (map findings_of s.states) seat v.findings w.findings (at_map findings_of s.states seat v here)).every (FoundStays m.given) (
-        found_more m.given v.findings w.findings (finding z call p (arena_found x n) y v) refl (λ zero_word. let l = arena_later z (arena_spot x) in absurd (omega arith))
-            (r.findings seat v.findings (at_map findings_of s.states seat v here)),
-        tt,
-      )
-      (λ j fs _ e. r.findings j fs e))
-
   pub arena_keeps : Rule z (table_after z call (on_arena x) seat v s)
-  arena_keeps = stepped_rule z s call seat v r here going (on_arena x) inside (arena_small z x v.blocks n may (r.words.small (index z p)))
-      (subst (NumbersStand z m.given) (sym (map_set_same numbers_of s.states seat v w here refl)) r.numbers)
-      findings_after
-      (subst HistoriesStand (sym (map_set_same knowledge_of s.states seat v w here refl)) r.histories)
-      owned_after
-      kept_after
+  arena_keeps = elsewhere_rule z s call seat v r here going (on_arena x) (finding z call p (arena_found x n) y v) inside (arena_small z x v.blocks n may (r.words.small (index z p))) refl refl refl refl refl owned_after kept_after

@@ -1,7 +1,7 @@
-use Rattle.std.proofs.Common.{◌≡◌, ◌/◌, ◌∙◌, ℕ, subst}
+use Rattle.std.proofs.Common.{◌≡◌, ◌≤◌, ◌<◌, ◌/◌, ◌∙◌}
 use Rattle.oak_core.specs.Passes.{state, key, call_of}
-use Rattle.arena_ops.specs.Looking.{Looked}
-use Rattle.arena_ops.proofs.SearchLaws.{next_word}
+use Rattle.arena_ops.proofs.LookLaws.{takes_behind}
+use Rattle.arena_ops.proofs.SearchLaws.{looked_in, takes_in, next_word}
 use Rattle.arena_ops.proofs.searching.take_between.Goals as goal
 
 pub loop-i-preserved : goal.loop-i-preserved
@@ -12,5 +12,9 @@ loop-i-preserved c = record {
     call = c.take_in_word.ensures.own.call ∙ c.loop-i.invariant.stays.call;
   };
   looked = next_word (key c.args.table.now) (call_of c.args.pass.now) c.args.class (state c.args.pass.now) c.args.from c.loop-i.i (state c.loop-i.pass) (state c.take_in_word.new.pass) c.loop-i.invariant.looked
-      (subst (λ (k : ℕ). Looked (key c.args.table.now) k c.args.class (state c.loop-i.pass) (state c.take_in_word.new.pass) (λ b. b / 64 ≡ c.loop-i.i)) c.loop-i.invariant.stays.call c.in_default.ensures.none);
+      (looked_in (key c.args.table.now) (call_of c.args.pass.now) (call_of c.loop-i.pass) c.args.class (state c.loop-i.pass) (state c.take_in_word.new.pass) c.loop-i.invariant.stays.call (λ b. b / 64 ≡ c.loop-i.i) c.in_default.ensures.none);
 }
+
+pub returns-in-Some-clause-taken : goal.returns-in-Some-clause-taken
+returns-in-Some-clause-taken c = takes_behind (key c.args.table.now) (call_of c.args.pass.now) c.args.class c.in-Some.block (state c.args.pass.now) (state c.loop-i.pass) (state c.take_in_word.new.pass) (λ b. (c.args.from ≤ b / 64) × (b / 64 < c.loop-i.i)) c.loop-i.invariant.looked
+    (takes_in (key c.args.table.now) (call_of c.args.pass.now) (call_of c.loop-i.pass) c.args.class (state c.loop-i.pass) (state c.take_in_word.new.pass) c.loop-i.invariant.stays.call c.in-Some.block c.in-Some.ensures.taken)
