@@ -120,7 +120,7 @@ number_at-set z ws p x wide h q = let wide' : index z p < length ws = let b = in
     (λ i _. number_at-in z (set ws (index z p) x) q i ∙ (get_or-set_other ws (index z p) (index z q) x 0 (λ e. true≢false (sym (ap (λ (r : Spot). same_spot r p) (index_apart z q p (inside_is z q i) h e) ∙ same_spot-self p) ∙ f)) ∙ sym (number_at-in z ws q i)))
     (λ o _. number_at-out z (set ws (index z p) x) q o ∙ sym (number_at-out z ws q o)) refl) refl
 
--- the law that ties the words and the memory
+-- the law that ties the words and the memory together
 pub memory_set : (z : Sizes) (ws : List ℕ) (p : Spot) (x : ℕ) → length ws ≡ word_count z → IsInside z p → memory z (set ws (index z p) x) ≡ write (memory z ws) p x
 memory_set z ws p x wide h = ap memory_of (fun_ext (λ q. number_at-set z ws p x wide h q ∙ ap (λ (n : ℕ). cond (same_spot q p) x n) (sym (read-of (number_at z ws) q))))
 
