@@ -16,6 +16,8 @@ pub use top::{completeness, top};
 fn main(rt: HostRuntime) -> ExitCode {
     let words = match words_of(&rt) {
         Ok(words) => words,
+        // A word that is not UTF-8 is none that the program takes.
+        Err(error) if error.kind() == io::ErrorKind::InvalidData => Vec::new(rt.alloc()),
         Err(_) => return ExitCode::from(Status::NoMemory.code()),
     };
     let mut source = StdSource::make(rt.stdin());
