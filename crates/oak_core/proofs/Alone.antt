@@ -1,25 +1,26 @@
 -- A pass that is alone: every other is spent, and the histories are what it has seen.
-use Rattle.std.proofs.Common.{◌+◌, [], ◌∷◌, ◌++◌, None, ◌≡◌, ◌≢◌, ℕ, zero, suc, ◌*◌, ◌<◌, Bool, true, false, cond, List, map, sym, refl, ap, ◌∙◌, subst, arith}
+use Rattle.std.proofs.Common.{[], ◌∷◌, ◌≡◌, ◌≢◌, ℕ, zero, suc, ◌*◌, ◌<◌, Bool, true, false, cond, List, map, sym, refl, ap, ◌∙◌, subst, arith}
 use Rattle.std.specs.Int.{bit_at}
 use Rattle.std.proofs.lemmas.Nat.Bits.{bit_at-lt}
 use mathlib.Core.Option.{some, some-injective}
 use mathlib.Core.Logic.{dite}
-use native.Mathlib.Decide.{ℕ_discrete, dec_lt}
+use native.Mathlib.Decide.{ℕ_discrete}
 use lib.ListN.{get_elem?}
 use Rattle.oak_model.specs.Limits.{Sizes}
 use Rattle.oak_model.specs.Counts.{one_at, total, below, Begins, longest}
-use Rattle.oak_model.proofs.Counting.{one_at-same, one_at-true, total_append, total_at, total_two, total_some, below_some}
+use Rattle.oak_model.proofs.Counting.{one_at-same, total_at, total_two, total_some, below_some}
 use Rattle.oak_model.proofs.Lists.{at_map, at_unmap, begins_self, begins_whole, longest_begins, longest_le}
-use Rattle.oak_core.specs.declared.states.Joined.{Joined}
 use Rattle.oak_core.specs.declared.states.KeyedWrite.{KeyedWrite}
 use Rattle.oak_core.specs.declared.states.Numbers.{Numbers}
 use Rattle.oak_core.specs.declared.states.PassState.{PassState}
 use Rattle.oak_core.specs.Memory.{memory}
-use Rattle.oak_core.specs.PassState.{first_state, both_state, joined_from, numbers_of, knowledge_of, rooted, has_number, is_parent, IsAlone, seen_of, history, spent_state}
+use Rattle.oak_core.specs.PassState.{first_state, both_state, numbers_of, knowledge_of, rooted, has_number, is_parent, IsAlone, seen_of, history, spent_state}
 use Rattle.oak_core.specs.TableState.{TableState}
 use Rattle.oak_core.specs.Rule.{Rule}
 use Rattle.oak_core.specs.Splitting.{SplitsOff, Ends}
+use Rattle.oak_core.specs.Owing.{Owes}
 use Rattle.oak_core.proofs.Histories.{each_of_every}
+use Rattle.oak_core.proofs.Owing.{alone_owing, owing_alone, split_rooted, split_owes, new_owes, new_rooted, both_rooted, join_one}
 
 product_some : (a b : ℕ) → 0 < a * b → (0 < a) × (0 < b)
 product_some a b h = (dec a b h, dec b a (subst (λ (n : ℕ). 0 < n) (grind arith) h))
@@ -88,33 +89,15 @@ module _ (z : Sizes) (s : TableState) (r : Rule z s) (seat : ℕ) (v : PassState
 
 -- A pass that was alone, that was split once, and into which what was split off is joined, is alone again. What the two met and learned between is of no matter.
 pub alone_again : (z : Sizes) (v w x w' x' : PassState) → IsAlone v → SplitsOff z v w x → w'.numbers ≡ w.numbers → x'.numbers ≡ x.numbers → IsAlone (both_state w' x')
-unfolding total
-alone_again z v w x w' x' alone off same_w same_x = record {
-  first = let a = alone.first in let r = roots 0 in omega arith;
-  others = λ k h. let m = made k in let r = roots k in dite (dec_lt 0 (total (λ (i : ℕ). one_at i k) v.numbers.made))
-      (λ l. let a = alone.others k l in omega arith)
-      (λ no. let is_k : off.number ≡ k = one_at-true off.number k (omega arith) in let own = one_at-same off.number k is_k in let t = taken k in omega arith);
-}
-  where
-    w_is : w'.numbers ≡ record v.numbers { made = v.numbers.made ++ off.number ∷ [] }
-    w_is = same_w ∙ (λ i. (off.old i).numbers)
-
-    x_is : x'.numbers ≡ record { number = off.number; spent = false; hand = None; made = []; joined = [] }
-    x_is = same_x ∙ (λ i. (off.new i).numbers)
-
-    -- the numbers of the one taken in
-    taken : (k : ℕ) → total (λ (j : Joined). one_at j.number k) (joined_from x' ∷ x'.numbers.joined) ≡ one_at off.number k + 0
-    taken k = (λ i. one_at (x_is i).number k + total (λ (j : Joined). one_at j.number k) (x_is i).joined)
-
-    roots : (k : ℕ) → rooted k (both_state w' x').numbers ≡ rooted k v.numbers + total (λ (j : Joined). one_at j.number k) (joined_from x' ∷ x'.numbers.joined)
-    roots k = (λ i. cond (w_is i).spent 0 (one_at (w_is i).number k) + total (λ (j : Joined). one_at j.number k) ((w_is i).joined ++ joined_from x' ∷ x'.numbers.joined))
-        ∙ (let a = total_append (λ (j : Joined). one_at j.number k) v.numbers.joined (joined_from x' ∷ x'.numbers.joined) in
-        let c : ℕ = cond v.numbers.spent 0 (one_at v.numbers.number k) in let f : ℕ = total (λ (j : Joined). one_at j.number k) v.numbers.joined in let g : ℕ = total (λ (j : Joined). one_at j.number k) (joined_from x' ∷ x'.numbers.joined) in
-        let b : ℕ = total (λ (j : Joined). one_at j.number k) (v.numbers.joined ++ joined_from x' ∷ x'.numbers.joined) in let a' : b ≡ f + g = a in let h : c + b ≡ (c + f) + g = omega arith in h)
-
-    made : (k : ℕ) → total (λ (i : ℕ). one_at i k) (both_state w' x').numbers.made ≡ total (λ (i : ℕ). one_at i k) v.numbers.made + (one_at off.number k + 0)
-    made k = (λ i. total (λ (n : ℕ). one_at n k) ((w_is i).made ++ (x_is i).made)) ∙ (total_append (λ (n : ℕ). one_at n k) (v.numbers.made ++ off.number ∷ []) [] ∙ (let a = total_append (λ (n : ℕ). one_at n k) v.numbers.made (off.number ∷ []) in
-        let b : ℕ = total (λ (n : ℕ). one_at n k) (v.numbers.made ++ off.number ∷ []) in let c : ℕ = total (λ (n : ℕ). one_at n k) v.numbers.made in let o : ℕ = one_at off.number k in let a' : b ≡ c + (o + 0) = a in let h : b + 0 ≡ c + (o + 0) = omega arith in h))
+alone_again z v w x w' x' alone off same_w same_x =
+    let owes = subst (Owes (off.number ∷ [])) (sym same_w) (split_owes z v w x off [] (owing_alone v alone)) in
+    let its = subst (Owes []) (sym same_x) (new_owes z v w x off) in
+    let has = subst (λ (a : Numbers). 0 < rooted off.number a) (sym same_x) (new_rooted z v w x off) in
+    let live : x'.numbers.spent ≡ false = (λ i. (same_x i).spent) ∙ (λ i. (off.new i).numbers.spent) in
+    let both = both_rooted w' x' live 0 in
+    let stays : rooted 0 w'.numbers ≡ rooted 0 v.numbers = ap (rooted 0) same_w ∙ split_rooted z v w x off 0 in
+    let a = alone.first in
+    alone_owing (both_state w' x') (omega arith) (join_one w' x' live off.number [] owes its has)
 
 -- the first pass is alone
 pub first_alone : IsAlone first_state

@@ -13,6 +13,7 @@ pub mod Allowed
 pub mod ArenaNames
 pub mod ArenaPlaces
 pub mod Splits
+pub mod Owing
 pub mod Alone
 pub mod UsedWords
 pub mod Frames

@@ -6,3 +6,4 @@ pub mod Lists
 pub mod Changes
 pub mod KeptLaws
 pub mod RowLaws
+pub mod NumberLaws
