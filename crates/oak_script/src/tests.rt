@@ -34,6 +34,7 @@ fn tells_the_first_fault(rt: HostRuntime) -> Result<(), Fail> {
     let faulty = [
         ("", 1, What::Head),
         ("oak 1", 2, What::NoEnd),
+        ("oak 1\r", 1, What::Head),
         ("oak 1\r\nthread\nend\n", 1, What::Head),
         ("oak 1\nend\n", 2, What::Word),
         ("oak 1\nthread x\nend\n", 2, What::Word),
