@@ -1,21 +1,24 @@
 -- The steps, splits and joins of the running table are those of the definitions.
-use Rattle.std.proofs.Common.{arith, shl_exact, ◌*◌, ◌%◌, ◌≡◌, ℕ, ◌<◌, ◌^◌, false, [], ◌∷◌, sym, refl, ap, ◌∙◌, subst, Some}
+use Rattle.std.proofs.Common.{arith, shl_exact, ◌*◌, ◌%◌, ◌≡◌, ℕ, ◌<◌, ◌^◌, false, [], ◌∷◌, length, sym, refl, ap, ◌∙◌, subst, Some}
 use Rattle.std.specs.Prelude.{bit_or}
 use Rattle.std.specs.Int.{bit_at}
 use Rattle.std.proofs.lemmas.Nat.Bits.{bit_at-pow_same, bit_at-pow_other}
 use mathlib.Core.Logic.{dite}
 use native.Mathlib.Decide.{ℕ_discrete}
 use Rattle.atomic_table.specs.Table.{Me, keeps, Allows, Splits, Joins}
+use Rattle.oak_model.specs.declared.replies.Lack.{Lack}
 use Rattle.oak_model.specs.Limits.{Sizes}
 use Rattle.oak_model.proofs.Lists.{set_else}
 use Rattle.oak_core.specs.declared.states.PassState.{PassState}
-use Rattle.oak_core.specs.Memory.{index, word_count}
+use Rattle.oak_core.specs.Memory.{at_given, index, word_count}
 use Rattle.oak_core.specs.Finding.{finding, grown}
+use Rattle.oak_core.specs.Lack.{Lacks, full_state}
+use Rattle.oak_core.specs.Noting.{Notes}
 use Rattle.oak_core.specs.PassState.{left_state, right_state, both_state, spent_state}
 use Rattle.oak_core.specs.Running.{table_of, Holds, KeepsSeat}
 use Rattle.oak_core.specs.Schedule.{MaySplit, MayJoin}
 use Rattle.oak_core.specs.Splitting.{Loads}
-use Rattle.oak_core.specs.Step.{Step, load, give_number, spot, effect, May, MayGive, state_after, Told}
+use Rattle.oak_core.specs.Step.{Step, load, give_number, note_full, spot, effect, May, MayGive, state_after, Told}
 use Rattle.oak_core.proofs.EachEvent.{rule_keeps}
 use Rattle.oak_core.proofs.Keeps.{going_after}
 use Rattle.oak_core.proofs.TwoSeats.{split_keeps, join_keeps}
@@ -29,7 +32,7 @@ one_shifted k lt = let e : 1 * 2 ^ k % 2 ^ 64 ≡ 1 * 2 ^ k = shl_exact {a = 1} 
 
 module _ (z : Sizes) (call : ℕ) (slots id : ℕ) (me : Me (Unit {0}) PassState) (going : me.0.numbers.spent ≡ false) where
   -- a step that may be taken, with what its caller makes of what it tells
-  pub allows : (x : Step) (told : ℕ → PassState → Type 0) → May z x me.0 → ((n : ℕ) (w : PassState) → Told z call x me.0 n w → told n w)
+  pub allows : (x : Step) (told : ℕ → PassState → Type 0) → May z call x me.0 → ((n : ℕ) (w : PassState) → Told z call x me.0 n w → told n w)
       → Allows (Holds z) slots id me (index z (spot x)) (effect x) (λ n m. told n m.0 × KeepsSeat me m)
   allows x told may tells s r _ here _ = (
     state_after z call x (table_of s) me.0,
@@ -40,7 +43,7 @@ module _ (z : Sizes) (call : ℕ) (slots id : ℕ) (me : Me (Unit {0}) PassState
   )
 
   -- the same where the word and what becomes of it are given otherwise
-  pub allows_at : (x : Step) (told : ℕ → PassState → Type 0) (word : ℕ) (f : ℕ → ℕ) → index z (spot x) ≡ word → effect x ≡ f → May z x me.0 → ((n : ℕ) (w : PassState) → Told z call x me.0 n w → told n w)
+  pub allows_at : (x : Step) (told : ℕ → PassState → Type 0) (word : ℕ) (f : ℕ → ℕ) → index z (spot x) ≡ word → effect x ≡ f → May z call x me.0 → ((n : ℕ) (w : PassState) → Told z call x me.0 n w → told n w)
       → Allows (Holds z) slots id me word f (λ n m. told n m.0 × KeepsSeat me m)
   allows_at x told word f is_word is_f may tells = subst (λ (p : ℕ × (ℕ → ℕ)). Allows (Holds z) slots id me p.0 p.1 (λ n m. told n m.0 × KeepsSeat me m)) (λ i. (is_word i, is_f i)) (allows x told may tells)
 
@@ -52,6 +55,11 @@ module _ (z : Sizes) (call : ℕ) (slots id : ℕ) (me : Me (Unit {0}) PassState
   pub allows_give : (k bits : ℕ) → bits ≡ 2 ^ k → MayGive z k me.0 → Allows (Holds z) slots id me 0 (λ n. bit_or n bits) (λ n m. ((j : ℕ) → bits ≡ 2 ^ j → Told z call (give_number j) me.0 n m.0) × KeepsSeat me m)
   allows_give k bits e may = allows_at (give_number k) (λ n w. (j : ℕ) → bits ≡ 2 ^ j → Told z call (give_number j) me.0 n w) 0 (λ n. bit_or n bits) (first_word z) (λ i n. bit_or n (sym e i)) may
       (λ n w told j q. subst (λ (i : ℕ). Told z call (give_number i) me.0 n w) (same_power k j (sym e ∙ q)) told)
+
+  -- the call is noted with what it lacks
+  pub allows_note : (lack : Lack) (began : ℕ) → Lacks z call lack began (length me.0.findings.met) me.0.findings → Allows (Holds z) slots id me 0 (λ n. n) (λ n m. Notes z call lack me.0 m.0 × KeepsSeat me m)
+  allows_note lack began may = allows_at (note_full lack began) (λ n w. Notes z call lack me.0 w) 0 (λ n. n) (first_word z) refl may
+      (λ n w told. record { began = began; number = n; told = told; after = told.after ∙ ap (λ (k : ℕ). full_state call lack (finding z call at_given (Some k) k me.0) me.0) told.finds })
 
 pub splits : (z : Sizes) (id : ℕ) (v : PassState) → MaySplit v → Splits (Holds z) id v (left_state v) (right_state v)
 splits z id v may s r here = split_keeps z (table_of s) id v r here may

@@ -6,17 +6,19 @@ use Rattle.oak_model.specs.Limits.{Sizes}
 use Rattle.oak_core.specs.declared.states.PassState.{PassState}
 use Rattle.oak_core.specs.TableState.{TableState}
 use Rattle.oak_core.specs.Rule.{Rule}
-use Rattle.oak_core.specs.Step.{Step, load, give_number, on_arena, May, table_after}
+use Rattle.oak_core.specs.Step.{Step, load, give_number, on_arena, note_full, May, table_after}
 use Rattle.oak_core.specs.Schedule.{Event, steps, splits, joins, Goes, IsSchedule}
 use Rattle.oak_core.proofs.Keeps.{load_keeps, give_keeps}
 use Rattle.oak_core.proofs.KeepsArena.{arena_keeps}
+use Rattle.oak_core.proofs.KeepsNotes.{note_keeps}
 use Rattle.oak_core.proofs.TwoSeats.{split_keeps, join_keeps}
 
 -- one clause for each kind
-pub rule_keeps : (z : Sizes) (s : TableState) (call seat : ℕ) (v : PassState) → Rule z s → get_elem? s.states seat ≡ some v → v.numbers.spent ≡ false → (x : Step) → May z x v → Rule z (table_after z call x seat v s)
+pub rule_keeps : (z : Sizes) (s : TableState) (call seat : ℕ) (v : PassState) → Rule z s → get_elem? s.states seat ≡ some v → v.numbers.spent ≡ false → (x : Step) → May z call x v → Rule z (table_after z call x seat v s)
 rule_keeps z s call seat v r here going (load p) may = load_keeps z s call seat v r here going p may
 rule_keeps z s call seat v r here going (give_number k) may = give_keeps z s call seat v r here going k may
 rule_keeps z s call seat v r here going (on_arena a) may = arena_keeps z s call seat v r here going a may
+rule_keeps z s call seat v r here going (note_full lack began) may = note_keeps z s call seat v r here going lack began may
 
 pub event_keeps : (z : Sizes) (e : Event) (s t : TableState) → Goes z e s t → Rule z s → Rule z t
 event_keeps z (steps seat call x) s t g r = subst (Rule z) (sym g.after) (rule_keeps z s call seat g.state r g.here g.going x g.may)

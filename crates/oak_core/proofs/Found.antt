@@ -1,13 +1,15 @@
 -- Findings: what is met is kept, and a number that was found given stays so.
-use Rattle.std.proofs.Common.{◌≡◌, ℕ, List, [], ◌∷◌, ◌++◌, Option, sym, ap, ◌∙◌, subst, ⊎_elim, Some}
+use Rattle.std.proofs.Common.{◌≡◌, ℕ, List, [], ◌∷◌, ◌++◌, Option, sym, ap, ◌∙◌, subst, ⊎_elim, Some, refl}
 use Rattle.std.specs.Int.{bit_at}
 use mathlib.Core.Option.{some, some-ne-none}
 use lib.ListN.{get_elem?}
+use Rattle.oak_model.specs.Limits.{Sizes}
 use Rattle.oak_model.proofs.Lists.{at_longer, at_last, at_snoc}
 use Rattle.oak_core.specs.declared.states.Finding.{Finding}
 use Rattle.oak_core.specs.declared.states.Findings.{Findings}
 use Rattle.oak_core.specs.Finding.{Shows}
-use Rattle.oak_core.specs.Rule.{FoundStays}
+use Rattle.oak_core.specs.PassState.{no_findings}
+use Rattle.oak_core.specs.Rule.{FoundStays, FindingsHold}
 
 pub shows_longer : (met more : List Finding) (word : ℕ) (P : ℕ → Type 0) → Shows met word P → Shows (met ++ more) word P
 shows_longer met more word P s = (s.0, s.1, s.2, at_longer met more s.0 s.1 s.3, s.4, s.5, s.6)
@@ -25,5 +27,9 @@ found_more g fs fs' f grew right r k s = ⊎_elim (λ (t : get_elem? fs.met s.0 
     (λ (t : f ≡ s.1). right (ap (λ (x : Finding). x.word) t ∙ s.4) s.2 (ap (λ (x : Finding). x.found) t ∙ s.5) k s.6)
     (at_snoc fs.met f s.1 s.0 (subst (λ (l : List Finding). get_elem? l s.0 ≡ some s.1) grew s.3))
 
-pub none_found : (g : ℕ) (fs : Findings) → fs.met ≡ [] → FoundStays g fs
+none_found : (g : ℕ) (fs : Findings) → fs.met ≡ [] → FoundStays g fs
 none_found g fs e k s = absurd (some-ne-none s.1 (sym (subst (λ (l : List Finding). get_elem? l s.0 ≡ some s.1) e s.3)))
+
+-- where nothing was met, nothing was found and no call was noted
+pub none_met : (z : Sizes) (g : ℕ) → FindingsHold z g no_findings
+none_met z g = record { found = none_found g no_findings refl; noted = tt }

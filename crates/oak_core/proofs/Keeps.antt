@@ -9,7 +9,7 @@ use native.Mathlib.Decide.{ℕ_discrete}
 use lib.ListN.{get_elem?}
 use lib.Seq.{set-get_or}
 use Rattle.oak_model.specs.Limits.{Sizes}
-use Rattle.oak_model.specs.Counts.{Every, total, one_if}
+use Rattle.oak_model.specs.Counts.{Every, Each, total, one_if}
 use Rattle.oak_model.specs.Kept.{KeptWord, keeps, KeptNumbersStand, renamed}
 use Rattle.oak_model.proofs.Lists.{at_map, map_set, map_set_same}
 use Rattle.oak_model.proofs.Counting.{total_append}
@@ -20,16 +20,19 @@ use Rattle.arena_core.specs.HeldBlocks.{kept_of_blocks}
 use Rattle.header_core.specs.HeaderHolds.{kept_of_headers}
 use Rattle.oak_core.specs.declared.states.Finding.{Finding}
 use Rattle.oak_core.specs.declared.states.Findings.{Findings}
+use Rattle.oak_core.specs.declared.states.Joined.{Joined}
 use Rattle.oak_core.specs.declared.states.PassState.{PassState}
 use Rattle.oak_core.specs.Memory.{Memory, Spot, at_given, in_arena, in_headers, same_spot, read, write, memory, index, IsInside, word_count}
 use Rattle.oak_core.specs.Finding.{finding}
+use Rattle.oak_core.specs.Lack.{FullsStand}
 use Rattle.oak_core.specs.PassState.{blocks_of, numbers_of, findings_of, knowledge_of, kept_of}
 use Rattle.oak_core.specs.TableState.{TableState}
-use Rattle.oak_core.specs.Rule.{WordsStand, NumbersStand, FoundStays, FindingsStand, HistoriesStand, SpentIsSpent, other_owners, Rule}
-use Rattle.oak_core.specs.Step.{Step, load, give_number, on_arena, spot, effect, MayGive, found, state_after, table_after}
+use Rattle.oak_core.specs.Rule.{WordsStand, NumbersStand, FoundStays, FindingsStand, HistoriesStand, SpentIsSpent, JoinedStand, FindingsHold, other_owners, Rule}
+use Rattle.oak_core.specs.Step.{Step, load, give_number, on_arena, note_full, spot, effect, MayGive, found, state_after, table_after}
 use Rattle.oak_core.proofs.Words.{read-write, first_word, index_apart, index_below, memory_set, memory_read}
 use Rattle.oak_core.proofs.GivenNumbers.{number_given, bits_stay}
 use Rattle.oak_core.proofs.Found.{found_on, found_more}
+use Rattle.oak_core.proofs.Lacked.{fulls_met}
 
 same_number : (n k : ℕ) → Some n ≡ Some k → n ≡ k
 same_number n k e = cc
@@ -53,7 +56,7 @@ given_unkept v = total_append (λ (w : KeptWord Spot). one_if (same_spot w.spot 
     none f e [] = refl
     none f e (w ∷ ws) = let t = none f e ws in let u : one_if (same_spot (f w.spot) at_given) ≡ 0 = ap one_if (e w.spot) in omega arith
 
-all_unkept : (vs : List PassState) → total (keeps same_spot at_given) (map kept_of vs) ≡ 0
+pub all_unkept : (vs : List PassState) → total (keeps same_spot at_given) (map kept_of vs) ≡ 0
 unfolding total
 all_unkept [] = refl
 all_unkept (v ∷ vs) = let a = given_unkept v in let b = all_unkept vs in omega arith
@@ -63,6 +66,14 @@ pub going_after : (z : Sizes) (call : ℕ) (x : Step) (s : TableState) (v : Pass
 going_after z call (load p) s v = refl
 going_after z call (give_number k) s v = refl
 going_after z call (on_arena a) s v = refl
+going_after z call (note_full lack began) s v = refl
+
+-- and takes no other in
+joined_after : (z : Sizes) (call : ℕ) (x : Step) (s : TableState) (v : PassState) → (state_after z call x s v).numbers.joined ≡ v.numbers.joined
+joined_after z call (load p) s v = refl
+joined_after z call (give_number k) s v = refl
+joined_after z call (on_arena a) s v = refl
+joined_after z call (note_full lack began) s v = refl
 
 module _ (z : Sizes) (s : TableState) (call seat : ℕ) (v : PassState) (r : Rule z s) (here : get_elem? s.states seat ≡ some v) (going : v.numbers.spent ≡ false) where
   abbrev m : Memory
@@ -71,16 +82,21 @@ module _ (z : Sizes) (s : TableState) (call seat : ℕ) (v : PassState) (r : Rul
   spent_stays : (x : Step) → Every SpentIsSpent (set s.states seat (state_after z call x s v))
   spent_stays x = (stepped s.states seat v (state_after z call x s v) here).every SpentIsSpent ((λ e. absurd (true≢false (sym e ∙ (going_after z call x s v ∙ going)))), tt) (λ j u _ at. r.spent j u at)
 
+  joined_stays : (x : Step) → Every (JoinedStand z) (set s.states seat (state_after z call x s v))
+  joined_stays x = (stepped s.states seat v (state_after z call x s v) here).every (JoinedStand z) (subst (λ (js : List Joined). Each (λ (j : Joined). FullsStand z j.findings) js) (sym (joined_after z call x s v)) (r.joined seat v here), tt)
+      (λ j u _ at. r.joined j u at)
+
   -- the rule after a step that changes its word, from the bundles over the memory and the parts of the states after it
   pub stepped_rule : (x : Step) → IsInside z (spot x) → effect x (found z x s) < 2 ^ 64 → let m' = write m (spot x) (effect x (found z x s)) in let after = set s.states seat (state_after z call x s v) in
-      NumbersStand z m'.given (map numbers_of after) → FindingsStand m'.given (map findings_of after) → HistoriesStand (map knowledge_of after) → BlocksAreOwned z m'.arena.bits other_owners (map blocks_of after) → KeptNumbersStand same_spot (read m') (map kept_of after)
+      NumbersStand z m'.given (map numbers_of after) → FindingsStand z m'.given (map findings_of after) → HistoriesStand (map knowledge_of after) → BlocksAreOwned z m'.arena.bits other_owners (map blocks_of after) → KeptNumbersStand same_spot (read m') (map kept_of after)
       → Rule z (table_after z call x seat v s)
   stepped_rule x inside small numbers findings histories blocks kept =
       let y : ℕ = effect x (found z x s) in let after : List PassState = set s.states seat (state_after z call x s v) in let law = memory_set z s.words (spot x) y r.words.counted inside in record {
         sizes = r.sizes;
         words = words_put z s.words (index z (spot x)) y (index_below z (spot x) inside) small r.words;
         numbers = subst (λ (a : Memory). NumbersStand z a.given (map numbers_of after)) (sym law) numbers;
-        findings = subst (λ (a : Memory). FindingsStand a.given (map findings_of after)) (sym law) findings;
+        findings = subst (λ (a : Memory). FindingsStand z a.given (map findings_of after)) (sym law) findings;
+        joined = joined_stays x;
         histories = histories;
         spent = spent_stays x;
         blocks = subst (λ (a : Memory). BlocksAreOwned z a.arena.bits other_owners (map blocks_of after)) (sym law) blocks;
@@ -88,35 +104,40 @@ module _ (z : Sizes) (s : TableState) (call seat : ℕ) (v : PassState) (r : Rul
       }
 
   -- one more finding, at a word other than word 0
-  findings_elsewhere : (p : Spot) (f : Finding) (w : PassState) → IsInside z p → same_spot at_given p ≡ false → f.word ≡ index z p → w.findings.met ≡ v.findings.met ++ f ∷ [] → FindingsStand m.given (map findings_of (set s.states seat w))
-  findings_elsewhere p f w inside other at grew = subst (FindingsStand m.given) (sym (map_set findings_of s.states seat w))
-      ((stepped (map findings_of s.states) seat v.findings w.findings (at_map findings_of s.states seat v here)).every (FoundStays m.given) (
-        found_more m.given v.findings w.findings f grew (λ zero_word n e k set_bit. absurd (true≢false (sym (ap (same_spot at_given) (index_apart z p at_given inside tt (sym at ∙ (zero_word ∙ sym (first_word z))))) ∙ other)))
-            (r.findings seat v.findings (at_map findings_of s.states seat v here)),
+  findings_elsewhere : (p : Spot) (f : Finding) (w : PassState) → IsInside z p → same_spot at_given p ≡ false → f.word ≡ index z p → w.findings ≡ record v.findings { met = v.findings.met ++ f ∷ [] } → FindingsStand z m.given (map findings_of (set s.states seat w))
+  findings_elsewhere p f w inside other at grew = let mine = r.findings seat v.findings (at_map findings_of s.states seat v here) in subst (FindingsStand z m.given) (sym (map_set findings_of s.states seat w))
+      ((stepped (map findings_of s.states) seat v.findings w.findings (at_map findings_of s.states seat v here)).every (FindingsHold z m.given) (
+        record {
+          found = found_more m.given v.findings w.findings f (λ i. (grew i).met) (λ zero_word n e k set_bit. absurd (true≢false (sym (ap (same_spot at_given) (index_apart z p at_given inside tt (sym at ∙ (zero_word ∙ sym (first_word z))))) ∙ other))) mine.found;
+          noted = fulls_met z v.findings w.findings f grew mine.noted;
+        },
         tt,
       )
       (λ j x _ e. r.findings j x e))
 
   -- a step that stores to a word other than word 0, and leaves the numbers of its pass and what it knows, owes the bundles of the holds alone
-  pub elsewhere_rule : (x : Step) (f : Finding) → IsInside z (spot x) → effect x (found z x s) < 2 ^ 64 → same_spot at_given (spot x) ≡ false → let w = state_after z call x s v in f.word ≡ index z (spot x) → w.findings.met ≡ v.findings.met ++ f ∷ []
+  pub elsewhere_rule : (x : Step) (f : Finding) → IsInside z (spot x) → effect x (found z x s) < 2 ^ 64 → same_spot at_given (spot x) ≡ false → let w = state_after z call x s v in f.word ≡ index z (spot x) → w.findings ≡ record v.findings { met = v.findings.met ++ f ∷ [] }
       → w.numbers ≡ v.numbers → w.knowledge ≡ v.knowledge → BlocksAreOwned z (write m (spot x) (effect x (found z x s))).arena.bits other_owners (map blocks_of (set s.states seat w))
       → KeptNumbersStand same_spot (read (write m (spot x) (effect x (found z x s)))) (map kept_of (set s.states seat w)) → Rule z (table_after z call x seat v s)
   elsewhere_rule x f inside small other at grew numbers knowledge blocks kept =
       let w : PassState = state_after z call x s v in let y : ℕ = effect x (found z x s) in let same : (write m (spot x) y).given ≡ m.given = ap (λ (b : Bool). cond b y m.given) other in
       stepped_rule x inside small
       (subst (λ (g : ℕ). NumbersStand z g (map numbers_of (set s.states seat w))) (sym same) (subst (NumbersStand z m.given) (sym (map_set_same numbers_of s.states seat v w here numbers)) r.numbers))
-      (subst (λ (g : ℕ). FindingsStand g (map findings_of (set s.states seat w))) (sym same) (findings_elsewhere (spot x) f w inside other at grew))
+      (subst (λ (g : ℕ). FindingsStand z g (map findings_of (set s.states seat w))) (sym same) (findings_elsewhere (spot x) f w inside other at grew))
       (subst HistoriesStand (sym (map_set_same knowledge_of s.states seat v w here knowledge)) r.histories) blocks kept
 
   -- one more finding at a word that stays, in a state whose other parts stay
-  findings_stay : (p : Spot) (n : ℕ) (w : PassState) → w.findings.met ≡ v.findings.met ++ finding z call p (Some n) n v ∷ [] → IsInside z p → n ≡ get_or s.words (index z p) 0
-      → FindingsStand m.given (map findings_of (set s.states seat w))
-  findings_stay p n w grew inside is = subst (FindingsStand m.given) (sym (map_set findings_of s.states seat w))
-      ((stepped (map findings_of s.states) seat v.findings w.findings (at_map findings_of s.states seat v here)).every (FoundStays m.given) (
-        found_more m.given v.findings w.findings (finding z call p (Some n) n v) grew
-            (λ zero_word k e b set_bit. let same : m.given ≡ n = memory_read z s.words at_given tt ∙ (ap (λ (i : ℕ). get_or s.words i 0) (first_word z ∙ sym zero_word) ∙ sym is) in
-            ap (λ (x : ℕ). bit_at x b) (same ∙ same_number n k e) ∙ set_bit)
-            (r.findings seat v.findings (at_map findings_of s.states seat v here)),
+  pub findings_stay : (p : Spot) (n : ℕ) (w : PassState) → w.findings.met ≡ v.findings.met ++ finding z call p (Some n) n v ∷ [] → FullsStand z w.findings → IsInside z p → n ≡ get_or s.words (index z p) 0
+      → FindingsStand z m.given (map findings_of (set s.states seat w))
+  findings_stay p n w grew noted inside is = subst (FindingsStand z m.given) (sym (map_set findings_of s.states seat w))
+      ((stepped (map findings_of s.states) seat v.findings w.findings (at_map findings_of s.states seat v here)).every (FindingsHold z m.given) (
+        record {
+          found = found_more m.given v.findings w.findings (finding z call p (Some n) n v) grew
+              (λ zero_word k e b set_bit. let same : m.given ≡ n = memory_read z s.words at_given tt ∙ (ap (λ (i : ℕ). get_or s.words i 0) (first_word z ∙ sym zero_word) ∙ sym is) in
+              ap (λ (x : ℕ). bit_at x b) (same ∙ same_number n k e) ∙ set_bit)
+              (r.findings seat v.findings (at_map findings_of s.states seat v here)).found;
+          noted = noted;
+        },
         tt,
       )
       (λ j x _ e. r.findings j x e))
@@ -127,7 +148,8 @@ module _ (z : Sizes) (s : TableState) (call seat : ℕ) (v : PassState) (r : Rul
         sizes = r.sizes;
         words = r.words;
         numbers = subst (NumbersStand z m.given) (sym (map_set_same numbers_of s.states seat v w here refl)) r.numbers;
-        findings = findings_stay p n w refl inside refl;
+        findings = findings_stay p n w refl (fulls_met z v.findings w.findings (finding z call p (Some n) n v) refl (r.findings seat v.findings (at_map findings_of s.states seat v here)).noted) inside refl;
+        joined = joined_stays (load p);
         histories = subst HistoriesStand (sym (map_set_same knowledge_of s.states seat v w here refl)) r.histories;
         spent = spent_stays (load p);
         blocks = subst (BlocksAreOwned z m.arena.bits other_owners) (sym (map_set_same blocks_of s.states seat v w here refl)) r.blocks;
@@ -151,7 +173,7 @@ module _ (z : Sizes) (s : TableState) (call seat : ℕ) (v : PassState) (r : Rul
     stands = subst (λ (g : ℕ). NumbersStand z g (map numbers_of s.states)) given_is r.numbers
 
     still_found : (fs : Findings) (j : ℕ) → get_elem? (map findings_of s.states) j ≡ some fs → FoundStays n fs
-    still_found fs j e = subst (λ (g : ℕ). FoundStays g fs) given_is (r.findings j fs e)
+    still_found fs j e = subst (λ (g : ℕ). FoundStays g fs) given_is (r.findings j fs e).found
 
     lower : (j : ℕ) → j < k → bit_at n j ≡ 1
     lower j lt = still_found v.findings seat (at_map findings_of s.states seat v here) j (may.lower j lt)
@@ -165,14 +187,17 @@ module _ (z : Sizes) (s : TableState) (call seat : ℕ) (v : PassState) (r : Rul
     small : x < 2 ^ 64
     small = or_lt 64 n (2 ^ k) (r.words.small (index z at_given)) (let p = r.sizes.passes_greatest in let f = may.few in let a : 2 ^ k ≤ 2 ^ 63 = pow_mono {i = k} {j = 63} (omega arith) in omega arith)
 
-    findings_after : FindingsStand x (map findings_of (set s.states seat w))
-    findings_after = subst (FindingsStand x) (sym (map_set findings_of s.states seat w))
-        ((stepped (map findings_of s.states) seat v.findings w.findings (at_map findings_of s.states seat v here)).every (FoundStays x) (
-          found_more x v.findings w.findings (finding z call at_given (Some n) x v) refl (λ _ j e b set_bit. up b (ap (λ (i : ℕ). bit_at i b) (same_number n j e) ∙ set_bit))
-              (found_on n x v.findings up (still_found v.findings seat (at_map findings_of s.states seat v here))),
+    findings_after : FindingsStand z x (map findings_of (set s.states seat w))
+    findings_after = subst (FindingsStand z x) (sym (map_set findings_of s.states seat w))
+        ((stepped (map findings_of s.states) seat v.findings w.findings (at_map findings_of s.states seat v here)).every (FindingsHold z x) (
+          record {
+            found = found_more x v.findings w.findings (finding z call at_given (Some n) x v) refl (λ _ j e b set_bit. up b (ap (λ (i : ℕ). bit_at i b) (same_number n j e) ∙ set_bit))
+                (found_on n x v.findings up (still_found v.findings seat (at_map findings_of s.states seat v here)));
+            noted = fulls_met z v.findings w.findings (finding z call at_given (Some n) x v) refl (r.findings seat v.findings (at_map findings_of s.states seat v here)).noted;
+          },
           tt,
         )
-        (λ j fs _ e. found_on n x fs up (still_found fs j e)))
+        (λ j fs _ e. record { found = found_on n x fs up (still_found fs j e); noted = (r.findings j fs e).noted }))
 
     pub give_keeps : Rule z (table_after z call (give_number k) seat v s)
     give_keeps = stepped_rule (give_number k) tt small

@@ -2,12 +2,14 @@ pub mod Words
 pub mod GivenNumbers
 pub mod Histories
 pub mod Found
+pub mod Lacked
 pub mod Keeps
 pub mod TwoSeats
 pub mod Opening
 pub mod OpeningBlocks
 pub mod KeptInArena
 pub mod KeepsArena
+pub mod KeepsNotes
 pub mod EachEvent
 pub mod Allowed
 pub mod ArenaNames
@@ -15,5 +17,6 @@ pub mod ArenaPlaces
 pub mod Splits
 pub mod Owing
 pub mod Alone
+pub mod ClosedFulls
 pub mod UsedWords
 pub mod Frames

@@ -15,10 +15,10 @@ use Rattle.header_core.specs.HeaderHolds.{kept_of_headers}
 use Rattle.header_core.specs.declared.layout.TheConstants.{HEADER_WORDS}
 use Rattle.oak_core.specs.Memory.{at_given, same_spot, read, memory, headers_at, rooms_at, word_count}
 use Rattle.oak_core.specs.PassState.{first_state, kept_of}
-use Rattle.oak_core.specs.Rule.{WordsStand, NumbersStand, FoundStays, SpentIsSpent, Rule}
+use Rattle.oak_core.specs.Rule.{WordsStand, NumbersStand, FindingsHold, SpentIsSpent, JoinedStand, Rule}
 use Rattle.oak_core.specs.Schedule.{opening_number, opening}
 use Rattle.oak_core.proofs.Words.{first_word, memory_read}
-use Rattle.oak_core.proofs.Found.{none_found}
+use Rattle.oak_core.proofs.Found.{none_met}
 use Rattle.oak_core.proofs.OpeningBlocks.{opening_blocks}
 
 either_small : (b : Bool) (x y : ℕ) → x < 2 ^ 64 → y < 2 ^ 64 → cond b x y < 2 ^ 64
@@ -72,7 +72,8 @@ module _ (z : Sizes) (g : ℕ) (is : IsInLimits z) (lt : g < 2 ^ 32) where
     sizes = is;
     words = opening_words;
     numbers = subst (λ (n : ℕ). NumbersStand z n (first_state.numbers ∷ [])) (sym first_given) opening_numbers;
-    findings = every_one (FoundStays (memory z (opening z g).words).given) first_state.findings (none_found (memory z (opening z g).words).given first_state.findings refl);
+    findings = every_one (FindingsHold z (memory z (opening z g).words).given) first_state.findings (none_met z (memory z (opening z g).words).given);
+    joined = every_one (JoinedStand z) first_state tt;
     histories = λ k. every_one _ first_state.knowledge tt;
     spent = every_one SpentIsSpent first_state (λ e. absurd (true≢false (sym e)));
     blocks = opening_blocks z g;

@@ -54,7 +54,7 @@ may_give z i v w few hand t = record {
 module _ (z : Sizes) (call k : ℕ) (v w x : PassState) (n : ℕ) (t : Tried k v w) (told : Told z call (give_number k) w n x) where
   -- the lower numbers are given
   lower_given : (j : ℕ) → j < k → bit_at n j ≡ 1
-  lower_given j lt = let given = told.rule.findings told.seat w.findings (at_map findings_of told.table.states told.seat w told.here) j (told.may.lower j lt) in
+  lower_given j lt = let given = (told.rule.findings told.seat w.findings (at_map findings_of told.table.states told.seat w told.here)).found j (told.may.lower j lt) in
       ap (λ (g : ℕ). bit_at g j) (sym told.finds ∙ sym (memory_read z told.table.words at_given tt)) ∙ given
 
   given_is : (memory z told.table.words).given ≡ n

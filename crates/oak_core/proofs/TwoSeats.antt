@@ -21,11 +21,12 @@ use Rattle.oak_core.specs.declared.states.Knowledge.{Knowledge}
 use Rattle.oak_core.specs.declared.states.PassState.{PassState}
 use Rattle.oak_core.specs.Memory.{Memory, in_arena, in_headers, same_spot, read, memory}
 use Rattle.oak_core.specs.PassState.{blocks_of, numbers_of, findings_of, knowledge_of, kept_of, rooted, in_hand, has_number, is_parent, of_key, seen_of, history, number_in, left_state, right_state, joined_from, both_state, spent_state}
+use Rattle.oak_core.specs.Lack.{FullsStand}
 use Rattle.oak_core.specs.TableState.{TableState}
-use Rattle.oak_core.specs.Rule.{FoundStays, SpentIsSpent, other_owners, Rule}
+use Rattle.oak_core.specs.Rule.{FindingsHold, SpentIsSpent, JoinedStand, other_owners, Rule}
 use Rattle.oak_core.specs.Schedule.{MaySplit, MayJoin}
 use Rattle.oak_core.proofs.GivenNumbers.{numbers_frame}
-use Rattle.oak_core.proofs.Found.{none_found}
+use Rattle.oak_core.proofs.Found.{none_met}
 use Rattle.oak_core.proofs.Histories.{histories_frame, seen_both}
 
 -- a pass that holds nothing owns no block
@@ -70,7 +71,8 @@ module _ (z : Sizes) (s : TableState) (seat : ℕ) (v : PassState) (r : Rule z s
       sizes = r.sizes;
       words = r.words;
       numbers = numbers_frame z m.given (change_parts numbers_of apart) same_numbers more_parents r.numbers;
-      findings = (change_parts findings_of apart).every (FoundStays m.given) (r.findings seat v.findings (at_map findings_of s.states seat v here), (none_found m.given right.findings refl, tt)) (λ j x _ e. r.findings j x e);
+      findings = (change_parts findings_of apart).every (FindingsHold z m.given) (r.findings seat v.findings (at_map findings_of s.states seat v here), (none_met z m.given, tt)) (λ j x _ e. r.findings j x e);
+      joined = apart.every (JoinedStand z) (r.joined seat v here, (tt, tt)) (λ j u _ at. r.joined j u at);
       histories = histories_frame (change_parts knowledge_of apart) seat v.knowledge (at_map knowledge_of s.states seat v here) r.histories
           (λ k. let h = r.histories k seat v.knowledge (at_map knowledge_of s.states seat v here) in (h, (h, tt)))
           (λ k y g. (v.knowledge, (change_parts knowledge_of apart).come.0, ⊎_elim (λ (q : v.knowledge ≡ y). let e = ap (λ (z : Knowledge). length (seen_of k z)) q in omega arith) (λ (q : ⊥). absurd q) g));
@@ -133,7 +135,10 @@ module _ (z : Sizes) (s : TableState) (seat : ℕ) (v : PassState) (r : Rule z s
       sizes = r.sizes;
       words = r.words;
       numbers = numbers_frame z m.given (change_parts numbers_of together) same_all more_all r.numbers;
-      findings = (change_parts findings_of together).every (FoundStays m.given) (r.findings seat v.findings (at_map findings_of s.states seat v here), (none_found m.given spent_state.findings refl, tt)) (λ j x _ e. r.findings j x e);
+      findings = (change_parts findings_of together).every (FindingsHold z m.given) (r.findings seat v.findings (at_map findings_of s.states seat v here), (none_met z m.given, tt)) (λ j x _ e. r.findings j x e);
+      joined = together.every (JoinedStand z)
+          (each_append (λ (j : Joined). FullsStand z j.findings) v.numbers.joined (joined_from w ∷ w.numbers.joined) (r.joined seat v here) ((r.findings other w.findings (at_map findings_of s.states other w there)).noted, r.joined other w there), (tt, tt))
+          (λ j u _ at. r.joined j u at);
       histories = histories_frame (change_parts knowledge_of together) seat v.knowledge av r.histories
           (λ k. (each_append (λ (l : List KeyedWrite). Begins (of_key k l) (history k (map knowledge_of s.states))) v.knowledge.seen w.knowledge.seen (r.histories k seat v.knowledge av) (r.histories k other w.knowledge aw), (tt, tt)))
           (λ k y g. let more = seen_both k v.knowledge w.knowledge both.knowledge refl in (

@@ -1,6 +1,7 @@
 -- What contracts see of a closed table.
 use Rattle.std.specs.Prelude.{ℕ, ◌==◌, cond, List, [], ◌∷◌, ◌++◌, map}
 use Rattle.std.specs.Slots.{slots_items}
+use Rattle.oak_model.specs.Counts.{Each}
 use Rattle.oak_model.specs.Limits.{Sizes}
 use Rattle.oak_model.specs.KeyNumber.{key_number}
 use Rattle.oak_model.specs.History.{History, last_state}
@@ -8,11 +9,13 @@ use Rattle.oak_model.specs.State.{State}
 use Rattle.oak_model.specs.declared.replies.Lack.{Lack}
 use Rattle.oak_core.specs.declared.closing.Closed.{Closed}
 use Rattle.oak_core.specs.declared.states.Finding.{Finding}
+use Rattle.oak_core.specs.declared.states.Findings.{Findings}
 use Rattle.oak_core.specs.declared.states.Full.{Full}
 use Rattle.oak_core.specs.declared.states.Joined.{Joined}
 use Rattle.oak_core.specs.declared.states.KeyedWrite.{KeyedWrite}
 use Rattle.oak_core.specs.declared.states.PassState.{PassState}
-use Rattle.oak_core.specs.PassState.{seen_of}
+use Rattle.oak_core.specs.Lack.{Lacked}
+use Rattle.oak_core.specs.PassState.{seen_of, no_findings, joined_from}
 
 abbrev pub closed_key : Closed → Sizes
 closed_key c = c.shape
@@ -34,15 +37,18 @@ closed_map c k = last_state (closed_history c k)
 
 -- the passes, as one list: the last, and those joined into it
 abbrev pub all_passes : PassState → List Joined
-all_passes v = record { number = v.numbers.number; mine = v.knowledge.mine; met = v.findings.met; fulls = v.findings.fulls } ∷ v.numbers.joined
+all_passes v = joined_from v ∷ v.numbers.joined
 
--- what the pass with the number met
-unfoldable pub met_by : ℕ → List Joined → List Finding
-met_by n [] = []
-met_by n (j ∷ js) = cond (j.number == n) j.met (met_by n js)
+-- what the pass with the number met, noted and swept
+unfoldable pub findings_by : ℕ → List Joined → Findings
+findings_by n [] = no_findings
+findings_by n (j ∷ js) = cond (j.number == n) j.findings (findings_by n js)
+
+abbrev pub closed_findings : Closed → ℕ → Findings
+closed_findings c n = findings_by n (all_passes (closed_state c))
 
 abbrev pub closed_met : Closed → ℕ → List Finding
-closed_met c n = met_by n (all_passes (closed_state c))
+closed_met c n = (closed_findings c n).met
 
 -- the refused calls, each with its pass's number
 pub record FullCall : Type 0 where
@@ -52,7 +58,14 @@ pub record FullCall : Type 0 where
 
 unfoldable pub fulls_of : List Joined → List FullCall
 fulls_of [] = []
-fulls_of (j ∷ js) = map (λ (f : Full). record { pass = j.number; call = f.call; lack = f.lack }) j.fulls ++ fulls_of js
+fulls_of (j ∷ js) = map (λ (f : Full). record { pass = j.number; call = f.call; lack = f.lack }) j.findings.fulls ++ fulls_of js
 
 abbrev pub closed_fulls : Closed → List FullCall
 closed_fulls c = fulls_of (all_passes (closed_state c))
+
+-- what the call lacked was found in it, by its pass
+abbrev pub FullFound : Sizes → List Joined → FullCall → Type 0
+FullFound z js f = Lacked z f.call f.lack (findings_by f.pass js)
+
+abbrev pub FullsFound : Sizes → PassState → Type 0
+FullsFound z v = Each (FullFound z (all_passes v)) (fulls_of (all_passes v))

@@ -79,11 +79,14 @@ pub record HoldsNothing (v : PassState) : Type 0 where
   pub headers : v.headers ≡ no_headers
   pub rooms : v.rooms ≡ no_rooms
 
+abbrev pub no_findings : Findings
+no_findings = record { met = []; fulls = []; swept = [] }
+
 -- the state of the pass that a table is made with
 abbrev pub first_state : PassState
 first_state = record {
   numbers = record { number = 0; spent = false; hand = None; made = []; joined = [] };
-  findings = record { met = []; fulls = [] };
+  findings = no_findings;
   knowledge = record { seen = []; mine = [] };
   blocks = no_blocks;
   headers = no_headers;
@@ -105,7 +108,7 @@ right_state v = record first_state { numbers = record first_state.numbers { numb
 -- a join: of each key the longer is seen; what the other wrote, met and noted is kept under its number
 
 abbrev pub joined_from : PassState → Joined
-joined_from w = record { number = w.numbers.number; mine = w.knowledge.mine; met = w.findings.met; fulls = w.findings.fulls }
+joined_from w = record { number = w.numbers.number; mine = w.knowledge.mine; findings = w.findings }
 
 abbrev pub both_state : PassState → PassState → PassState
 both_state v w = record v {

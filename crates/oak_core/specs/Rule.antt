@@ -6,12 +6,14 @@ use Rattle.oak_model.specs.Counts.{total, Every, Each, Begins}
 use Rattle.oak_model.specs.Kept.{KeptNumbersStand}
 use Rattle.arena_core.specs.Blocks.{BlocksAreOwned}
 use Rattle.oak_core.specs.declared.states.Findings.{Findings}
+use Rattle.oak_core.specs.declared.states.Joined.{Joined}
 use Rattle.oak_core.specs.declared.states.KeyedWrite.{KeyedWrite}
 use Rattle.oak_core.specs.declared.states.Knowledge.{Knowledge}
 use Rattle.oak_core.specs.declared.states.Numbers.{Numbers}
 use Rattle.oak_core.specs.declared.states.PassState.{PassState}
 use Rattle.oak_core.specs.Memory.{memory, read, same_spot, word_count}
 use Rattle.oak_core.specs.Finding.{Shows}
+use Rattle.oak_core.specs.Lack.{FullsStand}
 use Rattle.oak_core.specs.PassState.{blocks_of, numbers_of, findings_of, knowledge_of, kept_of, has_number, is_parent, of_key, history, spent_state}
 use Rattle.oak_core.specs.TableState.{TableState}
 
@@ -31,8 +33,17 @@ pub record NumbersStand (z : Sizes) (given : ℕ) (ns : List Numbers) : Type 0 w
 abbrev pub FoundStays : ℕ → Findings → Type 0
 FoundStays given fs = (k : ℕ) → Shows fs.met 0 (λ n. bit_at n k ≡ 1) → bit_at given k ≡ 1
 
-abbrev pub FindingsStand : ℕ → List Findings → Type 0
-FindingsStand given fs = Every (FoundStays given) fs
+-- and it had the findings for each call that it noted as refused
+pub record FindingsHold (z : Sizes) (given : ℕ) (fs : Findings) : Type 0 where
+  pub found : FoundStays given fs
+  pub noted : FullsStand z fs
+
+abbrev pub FindingsStand : Sizes → ℕ → List Findings → Type 0
+FindingsStand z given fs = Every (FindingsHold z given) fs
+
+-- so had each pass that was joined into it
+abbrev pub JoinedStand : Sizes → PassState → Type 0
+JoinedStand z v = Each (λ (j : Joined). FullsStand z j.findings) v.numbers.joined
 
 -- all that a pass has seen of a key is the beginning of its history
 abbrev pub HistoriesStand : List Knowledge → Type 0
@@ -50,7 +61,8 @@ pub record Rule (z : Sizes) (s : TableState) : Type 0 where
   pub sizes : IsInLimits z
   pub words : WordsStand z s.words
   pub numbers : NumbersStand z (memory z s.words).given (map numbers_of s.states)
-  pub findings : FindingsStand (memory z s.words).given (map findings_of s.states)
+  pub findings : FindingsStand z (memory z s.words).given (map findings_of s.states)
+  pub joined : Every (JoinedStand z) s.states
   pub histories : HistoriesStand (map knowledge_of s.states)
   pub spent : Every SpentIsSpent s.states
   pub blocks : BlocksAreOwned z (memory z s.words).arena.bits other_owners (map blocks_of s.states)

@@ -35,7 +35,7 @@ pub record Steps (z : Sizes) (seat call : ℕ) (x : Step) (s t : TableState) : T
   pub state : PassState
   pub here : get_elem? s.states seat ≡ some state
   pub going : state.numbers.spent ≡ false
-  pub may : May z x state
+  pub may : May z call x state
   pub after : t ≡ table_after z call x seat state s
 
 -- the pass has a number in hand

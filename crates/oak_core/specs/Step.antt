@@ -1,14 +1,16 @@
 -- The kinds of atomic step of one pass. A step names its word, what becomes of that word, what the step asks of the pass, and the pass's state after it, which may be read off the whole state of the table.
-use Rattle.std.specs.Prelude.{◌≡◌, ℕ, ◌^◌, ◌<◌, ◌==◌, cond, false, [], ◌∷◌, ◌++◌, slice_index, slice_set, Some, None, bit_or}
+use Rattle.std.specs.Prelude.{◌≡◌, ℕ, ◌^◌, ◌<◌, ◌==◌, cond, false, [], ◌∷◌, ◌++◌, length, slice_index, slice_set, Some, None, bit_or}
 use Rattle.std.specs.Int.{bit_at}
 use mathlib.Core.Option.{some}
 use lib.ListN.{get_elem?}
+use Rattle.oak_model.specs.declared.replies.Lack.{Lack}
 use Rattle.oak_model.specs.Limits.{Sizes}
 use Rattle.oak_core.specs.declared.states.Numbers.{Numbers}
 use Rattle.oak_core.specs.declared.states.PassState.{PassState}
 use Rattle.arena_core.specs.ArenaStep.{ArenaStep, arena_spot, arena_effect, arena_found, MayArena, blocks_after}
 use Rattle.oak_core.specs.Memory.{Spot, at_given, in_arena, index, IsInside, memory}
 use Rattle.oak_core.specs.Finding.{finding, noted, Shows}
+use Rattle.oak_core.specs.Lack.{Lacks, full_state}
 use Rattle.oak_core.specs.TableState.{TableState}
 use Rattle.oak_core.specs.Rule.{Rule}
 
@@ -19,17 +21,21 @@ pub data Step : Type 0 where
   give_number : ℕ → Step
   -- a step on a word of the arena
   on_arena : ArenaStep → Step
+  -- word 0 is loaded, and the call is noted as one that lacks something; it began where so many findings were met
+  note_full : Lack → ℕ → Step
 
 abbrev pub spot : Step → Spot
 spot (load p) = p
 spot (give_number k) = at_given
 spot (on_arena a) = in_arena (arena_spot a)
+spot (note_full lack began) = at_given
 
 -- what the word n becomes
 abbrev pub effect : Step → ℕ → ℕ
 effect (load p) n = n
 effect (give_number k) n = bit_or n (2 ^ k)
 effect (on_arena a) n = arena_effect a n
+effect (note_full lack began) n = n
 
 -- the pass has no number in hand, and found all lower numbers given
 pub record MayGive (z : Sizes) (k : ℕ) (v : PassState) : Type 0 where
@@ -37,11 +43,12 @@ pub record MayGive (z : Sizes) (k : ℕ) (v : PassState) : Type 0 where
   pub hand : v.numbers.hand ≡ None
   pub lower : (j : ℕ) → j < k → Shows v.findings.met 0 (λ n. bit_at n j ≡ 1)
 
--- what the step asks of the pass
-abbrev pub May : Sizes → Step → PassState → Type 0
-May z (load p) v = IsInside z p
-May z (give_number k) v = MayGive z k v
-May z (on_arena a) v = MayArena z a v.blocks
+-- what the step asks of the pass in its present call
+abbrev pub May : Sizes → ℕ → Step → PassState → Type 0
+May z call (load p) v = IsInside z p
+May z call (give_number k) v = MayGive z k v
+May z call (on_arena a) v = MayArena z a v.blocks
+May z call (note_full lack began) v = Lacks z call lack began (length v.findings.met) v.findings
 
 -- the number that the step finds
 abbrev pub found : Sizes → Step → TableState → ℕ
@@ -58,6 +65,7 @@ state_after z call (give_number k) s v = let n = found z (give_number k) s in re
 state_after z call (on_arena a) s v =
     let n = found z (on_arena a) s in
     record (noted (finding z call (in_arena (arena_spot a)) (arena_found a n) (arena_effect a n) v) v) { blocks = blocks_after (memory z s.words).arena.bytes a n v.blocks }
+state_after z call (note_full lack began) s v = let n = found z (note_full lack began) s in full_state call lack (finding z call at_given (Some n) n v) v
 
 -- the state of the table after the step of one seat
 abbrev pub table_after : Sizes → ℕ → Step → ℕ → PassState → TableState → TableState
@@ -70,6 +78,6 @@ pub record Told (z : Sizes) (call : ℕ) (x : Step) (v : PassState) (n : ℕ) (w
   pub rule : Rule z table
   pub here : get_elem? table.states seat ≡ some v
   pub going : v.numbers.spent ≡ false
-  pub may : May z x v
+  pub may : May z call x v
   pub finds : found z x table ≡ n
   pub after : w ≡ state_after z call x table v

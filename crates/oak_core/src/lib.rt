@@ -6,6 +6,7 @@ pub mod blocks;
 pub mod closing;
 pub mod layout;
 pub mod loads;
+pub mod notes;
 pub mod passes;
 pub mod schedules;
 pub mod states;
@@ -21,6 +22,8 @@ pub use closing::Closed;
 pub use loads::load;
 pub use passes::SplitFault;
 pub use schedules::every_schedule;
-pub use states::{Finding, Findings, Full, Joined, KeyedWrite, Knowledge, Numbers, PassState};
+pub use states::{
+    Finding, Findings, Full, Joined, KeyedWrite, Knowledge, Numbers, PassState, Swept,
+};
 pub use table::{OakTable, Pass};
 pub use writing::Writing;

@@ -23,10 +23,20 @@ pub struct Full {
     pub lack: Lack,
 }
 
-/// What the pass met, in order, and the calls that it noted as refused.
+/// A range of keys that the pass opened with every entry linked and with a value, and how many
+/// findings it had met before the step that opened it. The low bound belongs to the range, the high
+/// one does not; none is the end of all keys.
+pub struct Swept {
+    pub low: LinkedList<u8>,
+    pub high: Option<LinkedList<u8>>,
+    pub met: usize,
+}
+
+/// What the pass met, in order, the calls that it noted as refused, and the ranges that it swept.
 pub struct Findings {
     pub met: LinkedList<Finding>,
     pub fulls: LinkedList<Full>,
+    pub swept: LinkedList<Swept>,
 }
 
 /// A write with its key, and the value word that names the life that it is of.
@@ -47,8 +57,7 @@ pub struct Knowledge {
 pub struct Joined {
     pub number: u32,
     pub mine: LinkedList<KeyedWrite>,
-    pub met: LinkedList<Finding>,
-    pub fulls: LinkedList<Full>,
+    pub findings: Findings,
 }
 
 /// The pass's own number, the number in hand between a step on word 0 and a split, the numbers that it

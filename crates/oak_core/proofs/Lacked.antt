@@ -1,0 +1,73 @@
+-- What a call lacks is shown by what was met, and by all that is met and swept further on.
+use Rattle.std.proofs.Common.{◌≡◌, ℕ, zero, suc, ◌<◌, List, [], ◌∷◌, ◌++◌, length, sym, refl, subst, arith, ⊎_elim, inl, inr}
+use mathlib.Core.Option.{some}
+use lib.ListN.{get_elem?}
+use Rattle.oak_model.specs.declared.replies.Lack.{Lack}
+use Rattle.oak_model.specs.declared.replies.Lack.TheVariants.{Block, Header, Room}
+use Rattle.oak_model.specs.Counts.{Each, Begins}
+use Rattle.oak_model.specs.Limits.{Sizes}
+use Rattle.oak_model.proofs.Lists.{at_longer, each_append, each_map, begins_self, begins_length}
+use Rattle.oak_core.specs.declared.states.Finding.{Finding}
+use Rattle.oak_core.specs.declared.states.Findings.{Findings}
+use Rattle.oak_core.specs.declared.states.Full.{Full}
+use Rattle.oak_core.specs.declared.states.PassState.{PassState}
+use Rattle.oak_core.specs.declared.states.Swept.{Swept}
+use Rattle.oak_core.specs.Lack.{FoundBehind, FoundTaken, FoundRenewed, LackFound, Lacks, Lacked, FullsStand, full_state}
+
+at_shorter : {A : Type 0} (l m : List A) (i : ℕ) (a : A) → i < length l → get_elem? (l ++ m) i ≡ some a → get_elem? l i ≡ some a
+at_shorter [] m i a lt e = absurd (omega arith)
+at_shorter (x ∷ xs) m zero a lt e = e
+at_shorter (x ∷ xs) m (suc i) a lt e = at_shorter xs m i a (omega arith) e
+
+module _ (z : Sizes) (behind ended : ℕ) (met more : List Finding) where
+  abbrev found_longer : (word : ℕ) (P : ℕ → ℕ → Type 0) → FoundBehind behind ended met word P → FoundBehind behind ended (met ++ more) word P
+  found_longer word P f = record {
+    place = f.place;
+    from = f.from;
+    to = f.to;
+    finding = f.finding;
+    there = at_longer met more f.place f.finding f.there;
+    word_is = f.word_is;
+    number = f.number;
+    found_is = f.found_is;
+    shows = f.shows;
+  }
+
+  lack_longer : (lack : Lack) → LackFound z behind ended met lack → LackFound z behind ended (met ++ more) lack
+  lack_longer (Block c) h = λ b lt. found_longer _ _ (h b lt)
+  lack_longer Header h = λ k lt. ⊎_elim (λ (t : FoundTaken z behind ended met k). inl (found_longer _ _ t))
+      (λ (t : FoundRenewed z behind ended met k). inr (record { one = found_longer _ _ t.one; other = found_longer _ _ t.other; apart = t.apart })) (h k lt)
+  lack_longer Room h = absurd h
+
+-- it stays so when more is met and swept
+pub lacks_longer : (z : Sizes) (call : ℕ) (lack : Lack) (began ended : ℕ) (fs fs' : Findings) → Begins fs.met fs'.met → Begins fs.swept fs'.swept → Lacks z call lack began ended fs → Lacks z call lack began ended fs'
+lacks_longer z call lack began ended fs fs' m s l = record {
+  behind = l.behind;
+  from = l.from;
+  to = l.to;
+  met = let n = begins_length fs.met fs'.met m in let k = l.met in omega arith;
+  of_call = λ i f b e at. l.of_call i f b e (at_shorter fs.met m.0 i f (let k = l.met in omega arith) (subst (λ (x : List Finding). get_elem? x i ≡ some f) m.1 at));
+  covered = λ k is. let c = l.covered k is in record {
+    place = c.place;
+    range = c.range;
+    there = subst (λ (x : List Swept). get_elem? x c.place ≡ some c.range) (sym s.1) (at_longer fs.swept s.0 c.place c.range c.there);
+    from = c.from;
+    to = c.to;
+    inside = c.inside;
+  };
+  found = subst (λ (x : List Finding). LackFound z l.behind ended x lack) (sym m.1) (lack_longer z l.behind ended fs.met m.0 lack l.found);
+}
+
+each_longer : (z : Sizes) (fs fs' : Findings) → Begins fs.met fs'.met → Begins fs.swept fs'.swept → (ns : List Full) → Each (λ (n : Full). Lacked z n.call n.lack fs) ns → Each (λ (n : Full). Lacked z n.call n.lack fs') ns
+each_longer z fs fs' m s ns h = each_map (λ (n : Full). Lacked z n.call n.lack fs) (λ (n : Full). Lacked z n.call n.lack fs') ns (λ n q. (q.0, q.1, lacks_longer z n.call n.lack q.0 q.1 fs fs' m s q.2)) h
+
+-- one more finding
+pub fulls_met : (z : Sizes) (fs fs' : Findings) (f : Finding) → fs' ≡ record fs { met = fs.met ++ f ∷ [] } → FullsStand z fs → FullsStand z fs'
+fulls_met z fs fs' f e h = subst (FullsStand z) (sym e) (each_longer z fs (record fs { met = fs.met ++ f ∷ [] }) (f ∷ [], refl) (begins_self fs.swept) fs.fulls h)
+
+-- one more finding, and a call noted that lacks what was found before
+pub fulls_noted : (z : Sizes) (call : ℕ) (lack : Lack) (began : ℕ) (f : Finding) (v : PassState) → Lacks z call lack began (length v.findings.met) v.findings → FullsStand z v.findings → FullsStand z (full_state call lack f v).findings
+fulls_noted z call lack began f v l h = let fs : Findings = (full_state call lack f v).findings in
+    each_append (λ (n : Full). Lacked z n.call n.lack fs) v.findings.fulls (record { call = call; lack = lack } ∷ [])
+    (each_longer z v.findings fs (f ∷ [], refl) (begins_self v.findings.swept) v.findings.fulls h)
+    ((began, length v.findings.met, lacks_longer z call lack began (length v.findings.met) v.findings fs (f ∷ [], refl) (begins_self v.findings.swept) l), tt)
