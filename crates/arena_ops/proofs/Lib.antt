@@ -4,3 +4,4 @@ pub mod BitFacts
 pub mod SearchLaws
 pub mod BlockFacts
 pub mod StackLaws
+pub mod LackedBlocks

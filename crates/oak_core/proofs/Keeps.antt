@@ -68,7 +68,7 @@ going_after z call (give_number k) s v = refl
 going_after z call (on_arena a) s v = refl
 going_after z call (note_full lack began) s v = refl
 
--- and takes no other in
+-- a step takes no other pass in
 joined_after : (z : Sizes) (call : ℕ) (x : Step) (s : TableState) (v : PassState) → (state_after z call x s v).numbers.joined ≡ v.numbers.joined
 joined_after z call (load p) s v = refl
 joined_after z call (give_number k) s v = refl

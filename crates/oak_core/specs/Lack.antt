@@ -52,11 +52,11 @@ pub record FoundBehind (behind ended : ℕ) (met : List Finding) (word : ℕ) (P
   pub found_is : finding.found ≡ Some number
   pub shows : P number finding.had
 
--- The bit of the block was found set, and the pass did not hold the block.
+-- The bit of the block was found set, and the pass did not hold the block. What a call did itself is no cause, and a call of the map begins with no block held, so the pass must have had nothing of the bit.
 abbrev pub FoundSet : Sizes → ℕ → ℕ → List Finding → Class → ℕ → Type 0
 FoundSet z behind ended met c b = FoundBehind behind ended met (index z (in_arena (at_bits (class_number c) (b / 64)))) (λ n had. (bit_at n (b % 64) ≡ 1) × (bit_at had (b % 64) ≡ 0))
 
--- the header was found not free, and the pass had no pin there and did not hold it
+-- the header was found not free, and the pass had no pin there and did not hold it, for the same reason
 abbrev pub FoundTaken : Sizes → ℕ → ℕ → List Finding → ℕ → Type 0
 FoundTaken z behind ended met h = FoundBehind behind ended met (index z (in_headers (at_pin h))) (λ n had. (is_free n ≡ false) × (had ≡ 0))
 
@@ -66,13 +66,13 @@ pub record FoundRenewed (z : Sizes) (behind ended : ℕ) (met : List Finding) (h
   pub other : FoundBehind behind ended met (index z (in_headers (at_pin h))) (λ _ _. Unit {0})
   pub apart : generation_of one.number ≢ generation_of other.number
 
--- What is lacking was found with nothing free: each block of the class, or each header. A call may not be noted as one that lacks a room so far: the chunk that was held alone with every entry in use is part of that, and no step holds one.
+-- What is lacking was found with nothing free: each block of the class, or each header. No call may be noted as one that lacks a room so far: that it held the chunk alone, with a value in every entry, is part of that, and no step holds a chunk yet.
 abbrev pub LackFound : Sizes → ℕ → ℕ → List Finding → Lack → Type 0
 LackFound z behind ended met (Block c) = (b : ℕ) → b < blocks z (class_number c) → FoundSet z behind ended met c b
 LackFound z behind ended met Header = (h : ℕ) → h < z.headers → FoundTaken z behind ended met h ⊎ FoundRenewed z behind ended met h
 LackFound z behind ended met Room = ⊥
 
--- The findings from the place `began` on and before `ended` are the call's. Ranges that were swept in them cover every key, and behind these what the call lacks was found with nothing free.
+-- The findings from the place `began` on and before `ended` are the call's. Ranges that it swept before `behind` cover every key, and from there on it found nothing free of what it lacks.
 pub record Lacks (z : Sizes) (call : ℕ) (lack : Lack) (began ended : ℕ) (fs : Findings) : Type 0 where
   pub behind : ℕ
   pub from : began ≤ behind
@@ -82,7 +82,7 @@ pub record Lacks (z : Sizes) (call : ℕ) (lack : Lack) (began ended : ℕ) (fs 
   pub covered : (k : List ℕ) → IsKey k → KeySwept began behind fs.swept k
   pub found : LackFound z behind ended fs.met lack
 
--- a part of what the pass met shows it
+-- a part of what the pass met shows that the call lacked it
 abbrev pub Lacked : Sizes → ℕ → Lack → Findings → Type 0
 Lacked z call lack fs = (began : ℕ) × (ended : ℕ) × Lacks z call lack began ended fs
 

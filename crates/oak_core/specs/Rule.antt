@@ -33,7 +33,7 @@ pub record NumbersStand (z : Sizes) (given : ℕ) (ns : List Numbers) : Type 0 w
 abbrev pub FoundStays : ℕ → Findings → Type 0
 FoundStays given fs = (k : ℕ) → Shows fs.met 0 (λ n. bit_at n k ≡ 1) → bit_at given k ≡ 1
 
--- and it had the findings for each call that it noted as refused
+-- so it is, and the pass had the findings for each call that it noted as refused
 pub record FindingsHold (z : Sizes) (given : ℕ) (fs : Findings) : Type 0 where
   pub found : FoundStays given fs
   pub noted : FullsStand z fs
@@ -41,7 +41,7 @@ pub record FindingsHold (z : Sizes) (given : ℕ) (fs : Findings) : Type 0 where
 abbrev pub FindingsStand : Sizes → ℕ → List Findings → Type 0
 FindingsStand z given fs = Every (FindingsHold z given) fs
 
--- so had each pass that was joined into it
+-- each pass that was joined into this one had the findings for the calls that it noted
 abbrev pub JoinedStand : Sizes → PassState → Type 0
 JoinedStand z v = Each (λ (j : Joined). FullsStand z j.findings) v.numbers.joined
 
