@@ -12,12 +12,19 @@ use Rattle.oak_model.proofs.Lists.{at_map, each_append, each_map, each_map_list}
 use Rattle.oak_core.specs.declared.states.Full.{Full}
 use Rattle.oak_core.specs.declared.states.Joined.{Joined}
 use Rattle.oak_core.specs.declared.states.PassState.{PassState}
-use Rattle.oak_core.specs.Closing.{all_passes, findings_by, FullCall, fulls_of, FullFound, FullsFound}
+use Rattle.oak_core.specs.Closing.{all_passes, findings_by, FullCall, fulls_of}
 use Rattle.oak_core.specs.Lack.{Lacked, FullsStand}
 use Rattle.oak_core.specs.Memory.{memory}
 use Rattle.oak_core.specs.PassState.{numbers_of, findings_of, has_number}
 use Rattle.oak_core.specs.Rule.{Rule}
 use Rattle.oak_core.specs.TableState.{TableState}
+
+abbrev FullFound : Sizes → List Joined → FullCall → Type 0
+FullFound z js f = Lacked z f.call f.lack (findings_by f.pass js)
+
+-- what each noted call lacked was found in it, by its pass
+abbrev pub FullsFound : Sizes → PassState → Type 0
+FullsFound z v = Each (FullFound z (all_passes v)) (fulls_of (all_passes v))
 
 -- of passes whose numbers differ, each is the one with its number
 found_by : (js : List Joined) (i : ℕ) (j : Joined) → total (λ (q : Joined). one_at q.number j.number) js ≤ 1 → get_elem? js i ≡ some j → findings_by j.number js ≡ j.findings

@@ -63,9 +63,6 @@ fulls_of (j ∷ js) = map (λ (f : Full). record { pass = j.number; call = f.cal
 abbrev pub closed_fulls : Closed → List FullCall
 closed_fulls c = fulls_of (all_passes (closed_state c))
 
--- what the call lacked was found in it, by its pass
-abbrev pub FullFound : Sizes → List Joined → FullCall → Type 0
-FullFound z js f = Lacked z f.call f.lack (findings_by f.pass js)
-
-abbrev pub FullsFound : Sizes → PassState → Type 0
-FullsFound z v = Each (FullFound z (all_passes v)) (fulls_of (all_passes v))
+-- each lacked what it names, by what its pass found in it
+abbrev pub FullsLacked : Closed → Type 0
+FullsLacked c = Each (λ (f : FullCall). Lacked (closed_key c) f.call f.lack (closed_findings c f.pass)) (closed_fulls c)

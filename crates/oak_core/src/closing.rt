@@ -32,7 +32,7 @@ impl Drop for Closed {
 impl OakTable {
     ghost use Rattle.oak_core.specs.PassState.{HoldsNothing, IsAlone};
     ghost use Rattle.oak_core.specs.Passes.{IsPassOf, state, key};
-    ghost use Rattle.oak_core.specs.Closing.{closed_key, closed_state, closed_words, FullsFound};
+    ghost use Rattle.oak_core.specs.Closing.{closed_key, closed_state, closed_words, FullsLacked};
     ghost use Rattle.oak_core.specs.Splitting.{Ends};
 
     /// Closes the table with its last pass: every other was joined into it, or into one that was.
@@ -43,7 +43,7 @@ impl OakTable {
         ensures key { closed_key result ≡ key self }
         ensures state { closed_state result ≡ state pass }
         ensures ends { Ends (key self) (closed_words result) (state pass) }
-        ensures noted { FullsFound (closed_key result) (closed_state result) }
+        ensures noted { FullsLacked result }
     {
         let OakTable { table, shape } = self;
         let last = Snapshot::of(&pass);

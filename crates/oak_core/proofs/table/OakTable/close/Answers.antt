@@ -1,10 +1,9 @@
 use Rattle.std.proofs.Common.{rules, ◌≡◌, sym, subst}
 use Rattle.oak_model.specs.Limits.{Sizes}
-use Rattle.oak_core.specs.Closing.{FullsFound}
 use Rattle.oak_core.specs.Passes.{state, key}
 use Rattle.oak_core.specs.Running.{table_of}
 use Rattle.oak_core.proofs.Alone.{ends}
-use Rattle.oak_core.proofs.ClosedFulls.{all_found}
+use Rattle.oak_core.proofs.ClosedFulls.{FullsFound, all_found}
 use Rattle.oak_core.proofs.table.OakTable.close.Goals as goal
 
 pub returns-clause-ends : goal.returns-clause-ends
