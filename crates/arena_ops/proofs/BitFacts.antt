@@ -69,6 +69,7 @@ module _ (z : Sizes) (call : ℕ) (c : Class) (v : PassState) where
       let t = l.told in let word_is : read (memory z t.table.words) l.spot ≡ n = memory_read z t.table.words l.spot l.inside ∙ t.finds in record {
         more = finding z call l.spot (Some n) n v ∷ [];
         after = l.met;
+        calls = (refl, tt);
         set = λ b lb p. found_here i n l.spot n same b p.0 p.1;
         own = λ a b lb p. alone_owner z t.table t.rule t.seat v t.here (class_number c) b a
             (ap (λ (k : ℕ). bit_at ((memory z t.table.words).arena.bits (class_number c) k) (b % 64)) p.0
@@ -93,6 +94,7 @@ module _ (z : Sizes) (call : ℕ) (c : Class) (v : PassState) where
     pub set_before : bit_at n (block % 64) ≡ 1 → Looked z call c v w (λ b. (b / 64 ≡ block / 64) × (bit_at n (b % 64) ≡ 1))
     set_before e = record {
       more = met_now ∷ [];
+      calls = (refl, tt);
       after = after_is ∙ ap with_test (ne_eqb (bit_at n (block % 64)) 0 (λ q. omega arith));
       set = λ b l p. found_here (block / 64) n (bit_spot c block) (bit_or n (bit_of block)) refl b p.0 p.1;
       own = λ a b l p. alone_owner z t.table t.rule t.seat v t.here (class_number c) b a
@@ -116,5 +118,6 @@ module _ (z : Sizes) (call : ℕ) (c : Class) (v : PassState) where
           free = omega arith;
           unheld = let h = total_at (holds (class_number c) block) (map blocks_of t.table.states) t.seat v.blocks (at_map blocks_of t.table.states t.seat v t.here) in omega arith;
           more = met_now ∷ [];
+          calls = (refl, tt);
           after = after_is ∙ ap with_test (eq-eqb (bit_at n (block % 64)) 0 e);
         }

@@ -4,7 +4,7 @@ use mathlib.Core.Option.{some}
 use Rattle.oak_model.specs.declared.classes.Class.{Class}
 use Rattle.oak_model.specs.Class.{class_number}
 use Rattle.oak_model.specs.Limits.{Sizes}
-use Rattle.oak_model.proofs.Lists.{at_longer}
+use Rattle.oak_model.proofs.Lists.{at_longer, each_append}
 use Rattle.arena_core.specs.Arena.{blocks}
 use Rattle.arena_core.specs.Blocks.{holds, block_from}
 use Rattle.oak_core.specs.declared.states.Finding.{Finding}
@@ -44,12 +44,13 @@ module _ (z : Sizes) (call : ℕ) (c : Class) where
   looked_none v P empty = record {
     more = [];
     after = ap (λ (l : List Finding). record v { findings = record v.findings { met = l } }) (sym (append-nil v.findings.met));
+    calls = tt;
     set = λ b lb p. absurd (empty b p);
     own = λ a b lb p. absurd (empty b p);
   }
 
   pub looked_only : (v w : PassState) (P Q : ℕ → Type 0) → ((b : ℕ) → b < blocks z (class_number c) → Q b → P b) → Looked z call c v w P → Looked z call c v w Q
-  looked_only v w P Q only l = record { more = l.more; after = l.after; set = λ b lb q. l.set b lb (only b lb q); own = λ a b lb q. l.own a b lb (only b lb q) }
+  looked_only v w P Q only l = record { more = l.more; after = l.after; calls = l.calls; set = λ b lb q. l.set b lb (only b lb q); own = λ a b lb q. l.own a b lb (only b lb q) }
 
   set_first : (b : ℕ) (v : PassState) (first second : List Finding) → FoundSet z call c b v first → FoundSet z call c b v (first ++ second)
   set_first b v first second f = record {
@@ -81,6 +82,7 @@ module _ (z : Sizes) (call : ℕ) (c : Class) where
   looked_both v w x P Q l k = record {
     more = l.more ++ k.more;
     after = k.after ∙ (ap (grown k.more) l.after ∙ grown_twice v l.more k.more);
+    calls = each_append (λ (f : Finding). f.call ≡ call) l.more k.more l.calls k.calls;
     set = λ b lb. ⊎_elim (λ (p : P b). set_first b v l.more k.more (l.set b lb p)) (λ (q : Q b). set_later b v w l.more k.more l.after (k.set b lb q));
     own = λ a b lb. ⊎_elim (λ (p : P b). l.own a b lb p)
         (λ (q : Q b). subst (λ (y : PassState). 0 < holds (class_number c) b y.blocks) l.after (k.own (subst IsAlone (sym l.after) (alone_still v l.more a)) b lb q));
@@ -104,6 +106,7 @@ module _ (z : Sizes) (call : ℕ) (c : Class) where
       free = t.free;
       unheld = subst (λ (y : PassState). holds (class_number c) b y.blocks ≡ 0) l.after t.unheld;
       more = l.more ++ t.more;
+      calls = each_append (λ (f : Finding). f.call ≡ call) l.more t.more l.calls t.calls;
       after = t.after
           ∙ (ap (λ (y : PassState). record (grown t.more y) { blocks = record y.blocks { held = block_from (memory z t.told.table.words).arena.bytes c b ∷ y.blocks.held } }) l.after
           ∙ ap (λ (y : PassState). record y { blocks = record v.blocks { held = block_from (memory z t.told.table.words).arena.bytes c b ∷ v.blocks.held } }) (grown_twice v l.more t.more));

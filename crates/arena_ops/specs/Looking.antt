@@ -5,6 +5,7 @@ use mathlib.Core.Option.{some}
 use lib.ListN.{get_elem?}
 use Rattle.oak_model.specs.declared.classes.Class.{Class}
 use Rattle.oak_model.specs.Class.{class_number}
+use Rattle.oak_model.specs.Counts.{Each}
 use Rattle.oak_model.specs.Limits.{Sizes}
 use Rattle.arena_core.specs.Arena.{at_bits, blocks}
 use Rattle.arena_core.specs.Blocks.{holds}
@@ -30,9 +31,10 @@ pub record FoundSet (z : Sizes) (call : ℕ) (c : Class) (b : ℕ) (v : PassStat
   pub set : bit_at number (b % 64) ≡ 1
   pub had_is : finding.had ≡ had (bit_spot c b) v
 
--- The pass only met more, and of each block of the class with P the bit was found set. A pass that is alone holds these blocks itself.
+-- The pass only met more, all in the call, and of each block of the class with P the bit was found set. A pass that is alone holds these blocks itself.
 pub record Looked (z : Sizes) (call : ℕ) (c : Class) (v w : PassState) (P : ℕ → Type 0) : Type 0 where
   pub more : List Finding
   pub after : w ≡ grown more v
+  pub calls : Each (λ (f : Finding). f.call ≡ call) more
   pub set : (b : ℕ) → b < blocks z (class_number c) → P b → FoundSet z call c b v more
   pub own : IsAlone v → (b : ℕ) → b < blocks z (class_number c) → P b → 0 < holds (class_number c) b v.blocks

@@ -6,7 +6,7 @@ use lib.ListN.{get_elem?}
 use Rattle.oak_model.specs.declared.classes.Class.{Class}
 use Rattle.oak_model.specs.Class.{class_number}
 use Rattle.oak_model.specs.Limits.{Sizes}
-use Rattle.oak_model.specs.Counts.{total}
+use Rattle.oak_model.specs.Counts.{total, Each}
 use Rattle.arena_core.specs.Arena.{at_bytes, blocks}
 use Rattle.arena_core.specs.Blocks.{holds, block_from, without, rewritten}
 use Rattle.oak_core.specs.declared.states.Finding.{Finding}
@@ -23,7 +23,7 @@ use Rattle.arena_ops.specs.Looking.{Looked}
 abbrev pub owners : Class → ℕ → TableState → ℕ
 owners c b s = total (holds (class_number c) b) (map blocks_of s.states) + other_owners (class_number c) b
 
--- The step that set the bit of the block, after others that only met more, found it clear. No owner had the block at that moment. The pass holds it now, with the words that it had then, and else only met more.
+-- The step that set the bit of the block, after others that only met more, found it clear. No owner had the block at that moment. The pass holds it now, with the words that it had then, and else only met more, all in the call.
 pub record Takes (z : Sizes) (call : ℕ) (c : Class) (b : ℕ) (v w : PassState) : Type 0 where
   pub inside : b < blocks z (class_number c)
   pub before : List Finding
@@ -33,6 +33,7 @@ pub record Takes (z : Sizes) (call : ℕ) (c : Class) (b : ℕ) (v w : PassState
   pub free : owners c b told.table ≡ 0
   pub unheld : holds (class_number c) b v.blocks ≡ 0
   pub more : List Finding
+  pub calls : Each (λ (f : Finding). f.call ≡ call) more
   pub after : w ≡ record (grown more v) { blocks = record v.blocks { held = block_from (memory z told.table.words).arena.bytes c b ∷ v.blocks.held } }
 
 -- the pass only met more, and the bit of each block of the class was found set

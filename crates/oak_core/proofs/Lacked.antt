@@ -14,7 +14,7 @@ use Rattle.oak_core.specs.declared.states.PassState.{PassState}
 use Rattle.oak_core.specs.declared.states.Swept.{Swept}
 use Rattle.oak_core.specs.Lack.{FoundBehind, FoundTaken, FoundRenewed, LackFound, Lacks, Lacked, FullsStand, full_state}
 
-at_shorter : {A : Type 0} (l m : List A) (i : ℕ) (a : A) → i < length l → get_elem? (l ++ m) i ≡ some a → get_elem? l i ≡ some a
+pub at_shorter : {A : Type 0} (l m : List A) (i : ℕ) (a : A) → i < length l → get_elem? (l ++ m) i ≡ some a → get_elem? l i ≡ some a
 at_shorter [] m i a lt e = absurd (omega arith)
 at_shorter (x ∷ xs) m zero a lt e = e
 at_shorter (x ∷ xs) m (suc i) a lt e = at_shorter xs m i a (omega arith) e
