@@ -23,6 +23,7 @@ fn is_set(word: u64, bit: u32) -> bool
 }
 
 /// The bits of word `i` that are those of blocks, of which there are `count`.
+#[tactic(auto, using(crate::proofs::MaskFacts::low_bit, crate::proofs::MaskFacts::high_bit, crate::proofs::MaskFacts::all_bits))]
 fn bits_of_blocks(count: u32, i: u32) -> u64
     requires { i * BITS < count }
     ensures blocks { (k : ℕ) → k < BITS → i * BITS + k < count → bit_at result k ≡ 1 }
