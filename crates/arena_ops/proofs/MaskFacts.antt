@@ -33,6 +33,9 @@ low_bit left k lt lk = ap (λ (n : ℕ). bit_at n k) (ones_is left lt) ∙ bit_a
 pub high_bit : (left k : ℕ) → left < 64 → left ≤ k → bit_at (1 * 2 ^ left % 2 ^ 64 - 1) k ≡ 0
 high_bit left k lt lk = ap (λ (n : ℕ). bit_at n k) (ones_is left lt) ∙ bit_at_ones_above left k lk
 
+pub all_bits : (k : ℕ) → k < 64 → bit_at 18446744073709551615 k ≡ 1
+all_bits k lk = bit_at_ones 64 k lk
+
 -- the lowest bit of a number that is not 0
 pub lowest : (n : ℕ) → (n ≡ 0 → ⊥) → n < 2 ^ 64 → (trailing_zeros w64 n < 64) × (bit_at n (trailing_zeros w64 n) ≡ 1)
 lowest n some_bit small = let t = bit_at-trailing_zeros w64 n (omega arith) small in (t.0, t.1)

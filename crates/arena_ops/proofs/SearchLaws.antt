@@ -54,8 +54,8 @@ module _ (z : Sizes) (call : ℕ) (c : Class) (v : PassState) where
       (looked_both z call c v w x (λ b. (from ≤ b / 64) × (b / 64 < i)) (λ b. b / 64 ≡ i) l k)
 
   -- round once
-  pub all_round : (first words : ℕ) (w x y : PassState) → words ≡ bit_words z (class_number c) → Looked z call c v w (λ b. ⊥) → Looked z call c w x (λ b. (first ≤ b / 64) × (b / 64 < words))
+  pub all_round : (first words : ℕ) (w x y : PassState) (P : ℕ → Type 0) → words ≡ bit_words z (class_number c) → Looked z call c v w P → Looked z call c w x (λ b. (first ≤ b / 64) × (b / 64 < words))
       → Looked z call c x y (λ b. (0 ≤ b / 64) × (b / 64 < first)) → FindsNone z call c v y
-  all_round first words w x y all l k m = looked_only z call c v y (λ b. (⊥ ⊎ ((first ≤ b / 64) × (b / 64 < words))) ⊎ ((0 ≤ b / 64) × (b / 64 < first))) (λ b. Unit {0})
+  all_round first words w x y P all l k m = looked_only z call c v y (λ b. (P b ⊎ ((first ≤ b / 64) × (b / 64 < words))) ⊎ ((0 ≤ b / 64) × (b / 64 < first))) (λ b. Unit {0})
       (λ b lb p. dite (dec_lt (b / 64) first) (λ lt. inr (omega arith, lt)) (λ no. inl (inr (omega arith, omega arith))))
-      (looked_both z call c v x y (λ b. ⊥ ⊎ ((first ≤ b / 64) × (b / 64 < words))) (λ b. (0 ≤ b / 64) × (b / 64 < first)) (looked_both z call c v w x (λ b. ⊥) (λ b. (first ≤ b / 64) × (b / 64 < words)) l k) m)
+      (looked_both z call c v x y (λ b. P b ⊎ ((first ≤ b / 64) × (b / 64 < words))) (λ b. (0 ≤ b / 64) × (b / 64 < first)) (looked_both z call c v w x P (λ b. (first ≤ b / 64) × (b / 64 < words)) l k) m)

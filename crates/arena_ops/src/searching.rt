@@ -1,10 +1,10 @@
 //! The search for a block whose bit is clear.
-ghost use Rattle.std.specs.Prelude.{◌≡◌, ◌≤◌, ◌<◌, ◌+◌, ◌*◌, ◌/◌, ◌%◌, ℕ, true, false, MatchBool, IfSome, IfNone};
+ghost use Rattle.std.specs.Prelude.{◌≡◌, ◌≤◌, ◌<◌, ◌+◌, ◌*◌, ◌/◌, ◌%◌, ℕ, true, false, MatchBool, IfSome, IfNone, slice_index};
 ghost use Rattle.std.specs.Int.{bit_at};
 ghost use Rattle.oak_model.specs.Class.{class_number};
 ghost use Rattle.arena_core.specs.Arena.{blocks, bit_words};
 ghost use Rattle.oak_core.specs.ArenaCalls.{Sets};
-ghost use Rattle.oak_core.specs.Passes.{IsPassOf, Stays, state, key, call_of};
+ghost use Rattle.oak_core.specs.Passes.{IsPassOf, Stays, state, key, call_of, searches};
 ghost use Rattle.arena_ops.specs.Looking.{Looked};
 ghost use Rattle.arena_ops.specs.Taking.{Takes, FindsNone};
 
@@ -23,6 +23,7 @@ fn is_set(word: u64, bit: u32) -> bool
 }
 
 /// The bits of word `i` that are those of blocks, of which there are `count`.
+#[tactic(auto, using(crate::proofs::MaskFacts::low_bit, crate::proofs::MaskFacts::high_bit, crate::proofs::MaskFacts::all_bits))]
 fn bits_of_blocks(count: u32, i: u32) -> u64
     requires { i * BITS < count }
     ensures blocks { (k : ℕ) → k < BITS → i * BITS + k < count → bit_at result k ≡ 1 }
@@ -64,7 +65,8 @@ fn take_next(table: &OakTable, pass: &mut Pass, class: Class) -> Option<u32>
     requires own { IsPassOf table.now pass.old }
     ensures own { Stays pass.old pass.new }
     ensures taken { IfSome result (λ b. Takes (key table.now) (call_of pass.old) class b (state pass.old) (state pass.new)) }
-    ensures none { IfNone result (Looked (key table.now) (call_of pass.old) class (state pass.old) (state pass.new) (λ b. ⊥)) }
+    ensures here { IfSome result (λ b. b ≡ slice_index (searches pass.old) (class_number class)) }
+    ensures none { IfNone result (Looked (key table.now) (call_of pass.old) class (state pass.old) (state pass.new) (λ b. b ≡ slice_index (searches pass.old) (class_number class))) }
 {
     let next = pass.search(class);
     if next >= table.blocks(class) {
@@ -83,6 +85,7 @@ fn take_in_word(table: &OakTable, pass: &mut Pass, class: Class, i: u32) -> Opti
     requires inside { i < bit_words (key table.now) (class_number class) }
     ensures own { Stays pass.old pass.new }
     ensures taken { IfSome result (λ b. Takes (key table.now) (call_of pass.old) class b (state pass.old) (state pass.new)) }
+    ensures here { IfSome result (λ b. b / BITS ≡ i) }
     ensures none { IfNone result (Looked (key table.now) (call_of pass.old) class (state pass.old) (state pass.new) (λ b. b / BITS ≡ i)) }
 {
     let word = table.bits_at(class, i);
@@ -104,6 +107,7 @@ fn take_between(table: &OakTable, pass: &mut Pass, class: Class, from: u32, to: 
     requires inside { to ≤ bit_words (key table.now) (class_number class) }
     ensures own { Stays pass.old pass.new }
     ensures taken { IfSome result (λ b. Takes (key table.now) (call_of pass.old) class b (state pass.old) (state pass.new)) }
+    ensures here { IfSome result (λ b. (from ≤ b / BITS) × (b / BITS < to)) }
     ensures none { IfNone result (Looked (key table.now) (call_of pass.old) class (state pass.old) (state pass.new) (λ b. (from ≤ b / BITS) × (b / BITS < to))) }
 {
     for i in from..to {
