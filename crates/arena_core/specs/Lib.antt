@@ -1,4 +1,5 @@
 pub mod Arena
 pub mod HeldBlocks
+pub mod Place
 pub mod Blocks
 pub mod ArenaStep

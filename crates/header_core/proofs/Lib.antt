@@ -1,1 +1,11 @@
 pub mod HeaderWords
+pub mod HeldHeaders
+pub mod HeldChanges
+pub mod HeaderFacts
+pub mod KeptHeaders
+pub mod HeaderLaws
+pub mod PinWordChanges
+pub mod HeaderPins
+pub mod HeaderStores
+pub mod HeaderStates
+pub mod HeaderSteps

@@ -1,7 +1,10 @@
 -- What a pass holds of headers.
-use Rattle.std.specs.Prelude.{ℕ, ◌+◌, nat_lt, List, [], ◌∷◌, Option, Some, None}
+use Rattle.std.specs.Prelude.{ℕ, ◌+◌, ◌*◌, ◌<◌, ◌==◌, nat_lt, cond, List, [], ◌∷◌, Option, Some, None}
 use Rattle.oak_model.specs.Counts.{one_if, one_at, total}
 use Rattle.oak_model.specs.Kept.{KeptWord}
+use Rattle.header_core.specs.declared.states.TheConstants.{OWNED, LIVE}
+use Rattle.header_core.specs.declared.holds.HeldAs.{HeldAs}
+use Rattle.header_core.specs.declared.holds.HeldAs.TheVariants.{Owned, Fresh}
 use Rattle.header_core.specs.declared.holds.HeldHeader.{HeldHeader}
 use Rattle.header_core.specs.declared.holds.PinnedHeader.{PinnedHeader}
 use Rattle.header_core.specs.declared.holds.HeaderHolds.{HeaderHolds}
@@ -14,9 +17,40 @@ abbrev pub pins_of : ℕ → Option PinnedHeader → ℕ
 pins_of h None = 0
 pins_of h (Some p) = one_at p.header h
 
+-- how many pins the pass has on the header
+abbrev pub pins_on : ℕ → HeaderHolds → ℕ
+pins_on h a = pins_of h a.pin
+
+-- the state in which a header is that is held so
+abbrev pub held_state : HeldAs → ℕ
+held_state Owned = OWNED
+held_state Fresh = LIVE
+
+-- how often the pass holds the header in the state
+abbrev pub in_state : ℕ → ℕ → HeaderHolds → ℕ
+in_state h s a = total (λ (r : HeldHeader). one_at r.header h * one_at (held_state r.held_as) s) a.held
+
 -- 1 where the pass has a pin on the header, or holds it
 abbrev pub had_header : ℕ → HeaderHolds → ℕ
-had_header h a = one_if (nat_lt 0 (pins_of h a.pin + total (λ (r : HeldHeader). one_at r.header h) a.held))
+had_header h a = one_if (nat_lt 0 (pins_on h a + total (λ (r : HeldHeader). one_at r.header h) a.held))
+
+-- how often the pass has the header fresh at the generation
+abbrev pub fresh_at : ℕ → ℕ → HeaderHolds → ℕ
+fresh_at h g a = total (λ (r : HeldHeader). one_at r.header h * one_at r.generation g * one_at (held_state r.held_as) LIVE) a.held
+
+-- the pass knows the header at the generation: it has it fresh
+abbrev pub KnowsHeader : ℕ → ℕ → HeaderHolds → Type 0
+KnowsHeader h g a = 0 < fresh_at h g a
+
+-- what stands in the place word of a held header
+abbrev pub place_held : ℕ → List HeldHeader → ℕ
+place_held h [] = 0
+place_held h (r ∷ rs) = cond (r.header == h) r.place (place_held h rs)
+
+-- the held headers but this one
+abbrev pub without_header : ℕ → List HeldHeader → List HeldHeader
+without_header h [] = []
+without_header h (r ∷ rs) = cond (r.header == h) (without_header h rs) (r ∷ without_header h rs)
 
 -- the place and the stamp word of each held header
 unfoldable pub kept_of_headers : List HeldHeader → List (KeptWord HeaderSpot)

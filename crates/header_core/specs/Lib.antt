@@ -1,2 +1,4 @@
 pub mod Headers
 pub mod HeaderHolds
+pub mod HeaderRule
+pub mod HeaderStep

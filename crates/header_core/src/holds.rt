@@ -1,18 +1,33 @@
 //! What a pass holds of headers: plain data for the proofs, of which no value is made.
 use std::collections::LinkedList;
 
-/// A pin of a header, with the word that it found.
-pub struct PinnedHeader {
-    pub header: u32,
-    pub found: u64,
+/// How a pass holds a header, which says the state that the header is in: owned while it is filled, or
+/// live and named by no entry yet.
+pub enum HeldAs {
+    Owned,
+    Fresh,
 }
 
-/// A header that a pass owns, has fresh, has locked or buries, with the numbers of its place and
-/// stamp words, which no other pass may change.
-pub struct HeldHeader {
+/// A pin of a header: the generation that was wanted, the word that it found, and what stood at that
+/// moment in the header's place and stamp words and in the block that the place names.
+pub struct PinnedHeader {
     pub header: u32,
+    pub wanted: u32,
+    pub found: u64,
     pub place: u64,
     pub stamp: u64,
+    pub words: LinkedList<u64>,
+}
+
+/// A header that a pass owns or has fresh, with the numbers of its place and stamp words, which no
+/// other pass may change. Of a fresh header so are those of its block.
+pub struct HeldHeader {
+    pub header: u32,
+    pub generation: u32,
+    pub held_as: HeldAs,
+    pub place: u64,
+    pub stamp: u64,
+    pub words: LinkedList<u64>,
 }
 
 /// The pin of a pass, of which it has one at most, and the headers that it holds.

@@ -7,5 +7,5 @@ pub mod states;
 #[cfg(test)]
 mod tests;
 
-pub use holds::{HeaderHolds, HeldHeader, PinnedHeader};
+pub use holds::{HeaderHolds, HeldAs, HeldHeader, PinnedHeader};
 pub use states::{DEAD, FREE, LIVE, LOCKED, OWNED, RETIRED};

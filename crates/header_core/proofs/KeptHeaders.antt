@@ -1,0 +1,108 @@
+-- The words that are kept with held headers.
+use Rattle.std.proofs.Common.{◌≡◌, ℕ, ◌+◌, ◌≤◌, ◌==◌, cond, List, [], ◌∷◌, sym, refl, ap, ◌∙◌, arith}
+use mathlib.Core.Logic.{dite}
+use native.Mathlib.Decide.{ℕ_discrete}
+use Rattle.pin_word.specs.PinWord.{state_of}
+use Rattle.oak_model.specs.Counts.{one_if, one_at, total}
+use Rattle.oak_model.specs.Kept.{keeps, AreTrueTo, restored}
+use Rattle.oak_model.proofs.Counting.{one_at-le, one_at-other, total_zero}
+use Rattle.oak_model.proofs.RowLaws.{total_le}
+use Rattle.header_core.specs.declared.states.TheConstants.{FREE}
+use Rattle.header_core.specs.declared.holds.HeldHeader.{HeldHeader}
+use Rattle.header_core.specs.declared.holds.HeaderHolds.{HeaderHolds}
+use Rattle.header_core.specs.Headers.{HeaderMemory, HeaderSpot, at_pin, at_place, at_stamp, same_header_spot, read_header}
+use Rattle.header_core.specs.HeaderHolds.{without_header, kept_of_headers}
+use Rattle.header_core.specs.HeaderRule.{HeadersStand}
+use Rattle.header_core.specs.HeaderStep.{placed_at, stamped_at, freshened, owned_at}
+use Rattle.header_core.proofs.HeldHeaders.{held_in}
+use Rattle.header_core.proofs.HeldChanges.{held_claimed, without-cases}
+use Rattle.header_core.proofs.HeaderFacts.{headers_once, free_unheld}
+
+-- no pin word is kept
+pub keeps_pin : (h : ℕ) (rs : List HeldHeader) → keeps same_header_spot (at_pin h) (kept_of_headers rs) ≡ 0
+unfolding kept_of_headers total
+keeps_pin h [] = refl
+keeps_pin h (r ∷ rs) = let t = keeps_pin h rs in omega arith
+
+-- the place and the stamp word of a header are kept as often as it is held
+
+pub keeps_place : (h : ℕ) (rs : List HeldHeader) → keeps same_header_spot (at_place h) (kept_of_headers rs) ≡ held_in h rs
+unfolding kept_of_headers total one_at
+keeps_place h [] = refl
+keeps_place h (r ∷ rs) = let t = keeps_place h rs in omega arith
+
+pub keeps_stamp : (h : ℕ) (rs : List HeldHeader) → keeps same_header_spot (at_stamp h) (kept_of_headers rs) ≡ held_in h rs
+unfolding kept_of_headers total one_at
+keeps_stamp h [] = refl
+keeps_stamp h (r ∷ rs) = let t = keeps_stamp h rs in omega arith
+
+-- a word that is stored changes its number
+
+pub kept_placed : (h x : ℕ) (rs : List HeldHeader) → kept_of_headers (placed_at h x rs) ≡ restored same_header_spot (at_place h) x (kept_of_headers rs)
+unfolding kept_of_headers
+kept_placed h x [] = refl
+kept_placed h x (r ∷ rs) = let t = kept_placed h x rs in λ i. record { spot = at_place r.header; number = cond (r.header == h) x r.place } ∷ record { spot = at_stamp r.header; number = r.stamp } ∷ t i
+
+pub kept_stamped : (h x : ℕ) (rs : List HeldHeader) → kept_of_headers (stamped_at h x rs) ≡ restored same_header_spot (at_stamp h) x (kept_of_headers rs)
+unfolding kept_of_headers
+kept_stamped h x [] = refl
+kept_stamped h x (r ∷ rs) = let t = kept_stamped h x rs in λ i. record { spot = at_place r.header; number = r.place } ∷ record { spot = at_stamp r.header; number = cond (r.header == h) x r.stamp } ∷ t i
+
+pub kept_freshened : (h : ℕ) (words : List ℕ) (rs : List HeldHeader) → kept_of_headers (freshened h words rs) ≡ kept_of_headers rs
+unfolding kept_of_headers
+kept_freshened h words [] = refl
+kept_freshened h words (r ∷ rs) = let t = kept_freshened h words rs in λ i. record { spot = at_place r.header; number = r.place } ∷ record { spot = at_stamp r.header; number = r.stamp } ∷ t i
+
+-- a header that is claimed comes with its two words
+
+pub keeps_claimed : (m : HeaderMemory) (h : ℕ) (q : HeaderSpot) (rs : List HeldHeader)
+    → keeps same_header_spot q (kept_of_headers (owned_at m h ∷ rs)) ≡ one_if (same_header_spot (at_place h) q) + (one_if (same_header_spot (at_stamp h) q) + keeps same_header_spot q (kept_of_headers rs))
+unfolding kept_of_headers total
+keeps_claimed m h q rs = refl
+
+pub true_claimed : (m : HeaderMemory) (h : ℕ) (rs : List HeldHeader) → AreTrueTo (read_header m) (kept_of_headers rs) → AreTrueTo (read_header m) (kept_of_headers (owned_at m h ∷ rs))
+unfolding kept_of_headers
+true_claimed m h rs t = (refl, (refl, t))
+
+-- a header that is released takes them with it
+
+pub keeps_without_header : (q : HeaderSpot) (h : ℕ) (rs : List HeldHeader) → keeps same_header_spot q (kept_of_headers (without_header h rs)) ≤ keeps same_header_spot q (kept_of_headers rs)
+unfolding kept_of_headers total
+keeps_without_header q h [] = omega arith
+keeps_without_header q h (r ∷ rs) = let t = keeps_without_header q h rs in
+    without-cases h r rs (λ l. keeps same_header_spot q (kept_of_headers l) ≤ keeps same_header_spot q (kept_of_headers (r ∷ rs))) (λ _. omega arith) (λ _. omega arith)
+
+pub true_without_header : (read : HeaderSpot → ℕ) (h : ℕ) (rs : List HeldHeader) → AreTrueTo read (kept_of_headers rs) → AreTrueTo read (kept_of_headers (without_header h rs))
+unfolding kept_of_headers
+true_without_header read h [] t = tt
+true_without_header read h (r ∷ rs) t = without-cases h r rs (λ l. AreTrueTo read (kept_of_headers l)) (λ _. true_without_header read h rs t.1.1) (λ _. (t.0, (t.1.0, true_without_header read h rs t.1.1)))
+
+-- no word is kept twice, and the words of a free header by none
+
+abbrev pub keeps_of : HeaderSpot → HeaderHolds → ℕ
+keeps_of q a = keeps same_header_spot q (kept_of_headers a.held)
+
+module _ (m : HeaderMemory) (content : ℕ → List ℕ) (IsPlace : ℕ → Type 0) (named : ℕ → ℕ) (hs : List HeaderHolds) (r : HeadersStand m content IsPlace named hs) where
+  as_held : (q : HeaderSpot) (h : ℕ) → ((rs : List HeldHeader) → keeps same_header_spot q (kept_of_headers rs) ≡ held_in h rs) → total (keeps_of q) hs ≤ total (λ (a : HeaderHolds). held_in h a.held) hs
+  as_held q h same = total_le (keeps_of q) (λ (a : HeaderHolds). held_in h a.held) hs (λ a. let e = same a.held in omega arith)
+
+  none_keeps : (h : ℕ) → total (keeps_of (at_pin h)) hs ≡ 0
+  none_keeps h = total_zero (keeps_of (at_pin h)) hs (λ j a _. keeps_pin h a.held)
+
+  pub kept_once : (q : HeaderSpot) → total (keeps_of q) hs ≤ 1
+  kept_once (at_pin h) = let z = none_keeps h in omega arith
+  kept_once (at_place h) = let l = as_held (at_place h) h (keeps_place h) in let o = headers_once m content IsPlace named hs r h in omega arith
+  kept_once (at_stamp h) = let l = as_held (at_stamp h) h (keeps_stamp h) in let o = headers_once m content IsPlace named hs r h in omega arith
+
+  room : (h k : ℕ) (rs : List HeldHeader) → state_of (m.pin h) ≡ FREE → (q : HeaderSpot) → ((rs : List HeldHeader) → keeps same_header_spot q (kept_of_headers rs) ≡ held_in k rs)
+      → total (keeps_of q) hs + keeps same_header_spot q (kept_of_headers (owned_at m h ∷ rs)) ≤ 1 + keeps same_header_spot q (kept_of_headers rs)
+  room h k rs free q same = let l = as_held q k same in let a = same rs in let b = same (owned_at m h ∷ rs) in let c = held_claimed m h k rs in dite (ℕ_discrete h k)
+      (λ e. let z = free_unheld m content IsPlace named hs r k (ap (λ (i : ℕ). state_of (m.pin i)) (sym e) ∙ free) in let o = one_at-le h k in omega arith)
+      (λ ne. let z = one_at-other h k ne in let o = headers_once m content IsPlace named hs r k in omega arith)
+
+  -- so a pass that claims it may keep them
+  pub claimed_once : (h : ℕ) (q : HeaderSpot) (rs : List HeldHeader) → state_of (m.pin h) ≡ FREE
+      → total (keeps_of q) hs + keeps same_header_spot q (kept_of_headers (owned_at m h ∷ rs)) ≤ 1 + keeps same_header_spot q (kept_of_headers rs)
+  claimed_once h (at_pin k) rs free = let z = none_keeps k in let a = keeps_pin k rs in let b = keeps_pin k (owned_at m h ∷ rs) in omega arith
+  claimed_once h (at_place k) rs free = room h k rs free (at_place k) (keeps_place k)
+  claimed_once h (at_stamp k) rs free = room h k rs free (at_stamp k) (keeps_stamp k)
