@@ -1,20 +1,13 @@
 -- What a word of bits tells that was loaded, or of which a bit was set.
-use Rattle.std.proofs.Common.{◌≡◌, ℕ, ◌/◌, ◌%◌, ◌<◌, Bool, cond, eqb, List, [], ◌∷◌, map, sym, refl, ap, ◌∙◌, subst, arith, Some, eq-eqb, ne_eqb, append-nil}
+use Rattle.std.proofs.Common.{◌≡◌, ℕ, ◌/◌, ◌%◌, ◌<◌, Bool, cond, eqb, List, [], ◌∷◌, map, sym, refl, ap, ◌∙◌, arith, Some, eq-eqb, ne_eqb, append-nil}
 use Rattle.std.specs.Prelude.{bit_or}
 use Rattle.std.specs.Int.{bit_at}
-use mathlib.Core.Logic.{dite}
-use mathlib.Core.Option.{some, some-injective}
-use native.Mathlib.Decide.{ℕ_discrete}
-use lib.ListN.{get_elem?}
 use Rattle.oak_model.specs.declared.classes.Class.{Class}
 use Rattle.oak_model.specs.Class.{class_number}
 use Rattle.oak_model.specs.Limits.{Sizes}
-use Rattle.oak_model.specs.Counts.{total}
-use Rattle.oak_model.proofs.Counting.{total_some, total_at}
-use Rattle.oak_model.proofs.Lists.{at_map, at_unmap}
-use Rattle.arena_core.specs.declared.blocks.HeldBlocks.{HeldBlocks}
+use Rattle.oak_model.proofs.Counting.{total_at}
+use Rattle.oak_model.proofs.Lists.{at_map}
 use Rattle.arena_core.specs.Arena.{at_bits, blocks, bit_words}
-use Rattle.arena_core.specs.HeldBlocks.{no_blocks}
 use Rattle.arena_core.specs.Blocks.{holds, block_from}
 use Rattle.arena_core.specs.ArenaStep.{bit_of}
 use Rattle.arena_core.proofs.ArenaSteps.{none_owns}
@@ -22,31 +15,17 @@ use Rattle.oak_core.specs.declared.states.Finding.{Finding}
 use Rattle.oak_core.specs.declared.states.PassState.{PassState}
 use Rattle.oak_core.specs.Memory.{Spot, in_arena, index, read, memory}
 use Rattle.oak_core.specs.Finding.{finding, noted, had, grown}
-use Rattle.oak_core.specs.PassState.{blocks_of, IsAlone, spent_state}
-use Rattle.oak_core.specs.Rule.{other_owners, Rule}
-use Rattle.oak_core.specs.TableState.{TableState}
+use Rattle.oak_core.specs.PassState.{blocks_of}
+use Rattle.oak_core.specs.Owners.{other_owners}
 use Rattle.oak_core.specs.ArenaCalls.{Sets}
 use Rattle.oak_core.specs.Splitting.{Loads}
-use Rattle.oak_core.proofs.Alone.{others_are}
+use Rattle.oak_core.proofs.AloneOwns.{alone_owns}
 use Rattle.oak_core.proofs.ArenaNames.{bit_inside}
 use Rattle.oak_core.proofs.KeepsArena.{class_below}
 use Rattle.oak_core.proofs.Words.{index_apart, memory_read}
 use Rattle.arena_ops.proofs.LookLaws.{told_of}
 use Rattle.arena_ops.specs.Looking.{bit_spot, FoundSet, Looked}
 use Rattle.arena_ops.specs.Taking.{Takes}
-
-none_held : (c b : ℕ) (a : HeldBlocks) → a ≡ no_blocks → holds c b a ≡ 0
-unfolding total
-none_held c b a e = ap (holds c b) e
-
--- a pass that is alone holds each block whose bit is set
-alone_owner : (z : Sizes) (s : TableState) → Rule z s → (seat : ℕ) (v : PassState) → get_elem? s.states seat ≡ some v → (c b : ℕ) → IsAlone v
-    → bit_at ((memory z s.words).arena.bits c (b / 64)) (b % 64) ≡ 1 → 0 < holds c b v.blocks
-alone_owner z s r seat v here c b alone set =
-    let o = r.blocks.owned c b in let t = total_some (holds c b) (map blocks_of s.states) (omega arith) in let u = at_unmap blocks_of s.states t.0 t.1 t.2 in
-    dite (ℕ_discrete t.0 seat)
-    (λ q. let same : u.0 ≡ v = some-injective u.0 v (sym u.1 ∙ (ap (get_elem? s.states) q ∙ here)) in subst (λ (a : HeldBlocks). 0 < holds c b a) (sym u.2 ∙ ap blocks_of same) t.3)
-    (λ ne. let gone : u.0 ≡ spent_state = others_are z s r seat v here alone t.0 u.0 ne u.1 in let h = none_held c b t.1 (sym u.2 ∙ ap blocks_of gone) in let p = t.3 in absurd (omega arith))
 
 module _ (z : Sizes) (call : ℕ) (c : Class) (v : PassState) where
   -- one finding at a word of bits
@@ -71,7 +50,7 @@ module _ (z : Sizes) (call : ℕ) (c : Class) (v : PassState) where
         after = l.met;
         calls = (refl, tt);
         set = λ b lb p. found_here i n l.spot n same b p.0 p.1;
-        own = λ a b lb p. alone_owner z t.table t.rule t.seat v t.here (class_number c) b a
+        own = λ a b lb p. alone_owns z t.table t.rule t.seat v t.here a (class_number c) b
             (ap (λ (k : ℕ). bit_at ((memory z t.table.words).arena.bits (class_number c) k) (b % 64)) p.0
             ∙ (ap (λ (q : Spot). bit_at (read (memory z t.table.words) q) (b % 64)) (sym same) ∙ (ap (λ (m : ℕ). bit_at m (b % 64)) word_is ∙ p.1)));
       }
@@ -97,7 +76,7 @@ module _ (z : Sizes) (call : ℕ) (c : Class) (v : PassState) where
       calls = (refl, tt);
       after = after_is ∙ ap with_test (ne_eqb (bit_at n (block % 64)) 0 (λ q. omega arith));
       set = λ b l p. found_here (block / 64) n (bit_spot c block) (bit_or n (bit_of block)) refl b p.0 p.1;
-      own = λ a b l p. alone_owner z t.table t.rule t.seat v t.here (class_number c) b a
+      own = λ a b l p. alone_owns z t.table t.rule t.seat v t.here a (class_number c) b
           (ap (λ (k : ℕ). bit_at ((memory z t.table.words).arena.bits (class_number c) k) (b % 64)) p.0 ∙ (ap (λ (m : ℕ). bit_at m (b % 64)) word_is ∙ p.1));
     }
 
@@ -108,7 +87,7 @@ module _ (z : Sizes) (call : ℕ) (c : Class) (v : PassState) where
     told_first = told_of z call c block v (grown [] v) same n w t
 
     pub now_taken : bit_at n (block % 64) ≡ 0 → Takes z call c block v w
-    now_taken e = let none = none_owns z (memory z t.table.words).arena other_owners (map blocks_of t.table.states) t.seat v.blocks (at_map blocks_of t.table.states t.seat v t.here) t.rule.blocks (class_number c) block
+    now_taken e = let none = none_owns z (memory z t.table.words).arena (other_owners z (memory z t.table.words).headers) (map blocks_of t.table.states) t.seat v.blocks (at_map blocks_of t.table.states t.seat v t.here) t.rule.blocks (class_number c) block
         (ap (λ (m : ℕ). bit_at m (block % 64)) word_is ∙ e) in let n0 = none.0 in let n1 = none.1 in record {
           inside = lb;
           before = [];

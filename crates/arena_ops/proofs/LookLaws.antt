@@ -7,6 +7,7 @@ use Rattle.oak_model.specs.Limits.{Sizes}
 use Rattle.oak_model.proofs.Lists.{at_longer, each_append}
 use Rattle.arena_core.specs.Arena.{blocks}
 use Rattle.arena_core.specs.Blocks.{holds, block_from}
+use Rattle.oak_core.specs.Owners.{has_fresh}
 use Rattle.oak_core.specs.declared.states.Finding.{Finding}
 use Rattle.oak_core.specs.declared.states.PassState.{PassState}
 use Rattle.oak_core.specs.Memory.{memory}
@@ -85,7 +86,7 @@ module _ (z : Sizes) (call : ℕ) (c : Class) where
     calls = each_append (λ (f : Finding). f.call ≡ call) l.more k.more l.calls k.calls;
     set = λ b lb. ⊎_elim (λ (p : P b). set_first b v l.more k.more (l.set b lb p)) (λ (q : Q b). set_later b v w l.more k.more l.after (k.set b lb q));
     own = λ a b lb. ⊎_elim (λ (p : P b). l.own a b lb p)
-        (λ (q : Q b). subst (λ (y : PassState). 0 < holds (class_number c) b y.blocks) l.after (k.own (subst IsAlone (sym l.after) (alone_still v l.more a)) b lb q));
+        (λ (q : Q b). subst (λ (y : PassState). 0 < holds (class_number c) b y.blocks + has_fresh (class_number c) b y.headers) l.after (k.own (subst IsAlone (sym l.after) (alone_still v l.more a)) b lb q));
   }
 
   -- a block is taken behind what was looked at

@@ -1,5 +1,5 @@
 -- What a search for a block found.
-use Rattle.std.specs.Prelude.{◌≡◌, ℕ, ◌/◌, ◌%◌, ◌<◌, List, Some}
+use Rattle.std.specs.Prelude.{◌≡◌, ℕ, ◌+◌, ◌/◌, ◌%◌, ◌<◌, List, Some}
 use Rattle.std.specs.Int.{bit_at}
 use mathlib.Core.Option.{some}
 use lib.ListN.{get_elem?}
@@ -9,6 +9,7 @@ use Rattle.oak_model.specs.Counts.{Each}
 use Rattle.oak_model.specs.Limits.{Sizes}
 use Rattle.arena_core.specs.Arena.{at_bits, blocks}
 use Rattle.arena_core.specs.Blocks.{holds}
+use Rattle.oak_core.specs.Owners.{has_fresh}
 use Rattle.oak_core.specs.declared.states.Finding.{Finding}
 use Rattle.oak_core.specs.declared.states.PassState.{PassState}
 use Rattle.oak_core.specs.Memory.{Spot, in_arena, index}
@@ -31,10 +32,10 @@ pub record FoundSet (z : Sizes) (call : ℕ) (c : Class) (b : ℕ) (v : PassStat
   pub set : bit_at number (b % 64) ≡ 1
   pub had_is : finding.had ≡ had (bit_spot c b) v
 
--- The pass only met more, all in the call, and of each block of the class with P the bit was found set. A pass that is alone holds these blocks itself.
+-- The pass only met more, all in the call, and of each block of the class with P the bit was found set. A pass that is alone has these blocks itself: it holds them, or has them in fresh headers.
 pub record Looked (z : Sizes) (call : ℕ) (c : Class) (v w : PassState) (P : ℕ → Type 0) : Type 0 where
   pub more : List Finding
   pub after : w ≡ grown more v
   pub calls : Each (λ (f : Finding). f.call ≡ call) more
   pub set : (b : ℕ) → b < blocks z (class_number c) → P b → FoundSet z call c b v more
-  pub own : IsAlone v → (b : ℕ) → b < blocks z (class_number c) → P b → 0 < holds (class_number c) b v.blocks
+  pub own : IsAlone v → (b : ℕ) → b < blocks z (class_number c) → P b → 0 < holds (class_number c) b v.blocks + has_fresh (class_number c) b v.headers

@@ -15,13 +15,14 @@ use Rattle.oak_core.specs.Memory.{in_arena, memory, write}
 use Rattle.oak_core.specs.Finding.{grown}
 use Rattle.oak_core.specs.PassState.{blocks_of}
 use Rattle.oak_core.specs.ArenaCalls.{Sets, Clears, Writes}
-use Rattle.oak_core.specs.Rule.{other_owners, Rule}
+use Rattle.oak_core.specs.Owners.{other_owners, has_fresh}
+use Rattle.oak_core.specs.Rule.{Rule}
 use Rattle.oak_core.specs.TableState.{TableState}
 use Rattle.arena_ops.specs.Looking.{Looked}
 
 -- how many owners the block has
-abbrev pub owners : Class → ℕ → TableState → ℕ
-owners c b s = total (holds (class_number c) b) (map blocks_of s.states) + other_owners (class_number c) b
+abbrev pub owners : Sizes → Class → ℕ → TableState → ℕ
+owners z c b s = total (holds (class_number c) b) (map blocks_of s.states) + other_owners z (memory z s.words).headers (class_number c) b
 
 -- The step that set the bit of the block, after others that only met more, found it clear. No owner had the block at that moment. The pass holds it now, with the words that it had then, and else only met more, all in the call.
 pub record Takes (z : Sizes) (call : ℕ) (c : Class) (b : ℕ) (v w : PassState) : Type 0 where
@@ -30,7 +31,7 @@ pub record Takes (z : Sizes) (call : ℕ) (c : Class) (b : ℕ) (v w : PassState
   pub number : ℕ
   pub clear : bit_at number (b % 64) ≡ 0
   pub told : Sets z call c b (grown before v) number w
-  pub free : owners c b told.table ≡ 0
+  pub free : owners z c b told.table ≡ 0
   pub unheld : holds (class_number c) b v.blocks ≡ 0
   pub more : List Finding
   pub calls : Each (λ (f : Finding). f.call ≡ call) more
@@ -40,9 +41,9 @@ pub record Takes (z : Sizes) (call : ℕ) (c : Class) (b : ℕ) (v w : PassState
 abbrev pub FindsNone : Sizes → ℕ → Class → PassState → PassState → Type 0
 FindsNone z call c v w = Looked z call c v w (λ b. Unit {0})
 
--- the pass holds each block of the class
-abbrev pub HoldsAll : Sizes → Class → PassState → Type 0
-HoldsAll z c v = (b : ℕ) → b < blocks z (class_number c) → 0 < holds (class_number c) b v.blocks
+-- the pass has each block of the class: it holds it, or has it in a fresh header
+abbrev pub HasAll : Sizes → Class → PassState → Type 0
+HasAll z c v = (b : ℕ) → b < blocks z (class_number c) → 0 < holds (class_number c) b v.blocks + has_fresh (class_number c) b v.headers
 
 -- The pass holds the block no more, and else only met more. After the step no owner has it.
 pub record Gives (z : Sizes) (call : ℕ) (c : Class) (b : ℕ) (v w : PassState) : Type 0 where
@@ -53,7 +54,7 @@ pub record Gives (z : Sizes) (call : ℕ) (c : Class) (b : ℕ) (v w : PassState
   pub table : TableState
   pub rule : Rule z table
   pub here : get_elem? table.states told.seat ≡ some w
-  pub free : owners c b table ≡ 0
+  pub free : owners z c b table ≡ 0
 
 -- Word k of the block is x, for the pass and in the table, of which the step changed that word alone.
 pub record Stores (z : Sizes) (call : ℕ) (c : Class) (b k x : ℕ) (v w : PassState) : Type 0 where

@@ -5,7 +5,7 @@ ghost use Rattle.arena_core.specs.Arena.{block_words};
 ghost use Rattle.arena_core.specs.Blocks.{HoldsBlock};
 ghost use Rattle.oak_core.specs.PassState.{IsAlone};
 ghost use Rattle.oak_core.specs.Passes.{IsPassOf, Stays, state, key, call_of};
-ghost use Rattle.arena_ops.specs.Taking.{Takes, FindsNone, HoldsAll, Gives, Stores};
+ghost use Rattle.arena_ops.specs.Taking.{Takes, FindsNone, HasAll, Gives, Stores};
 
 use crate::searching::search;
 use oak_core::steps::{clear_bit, store_word};
@@ -19,13 +19,14 @@ use thiserror::Error;
 pub struct NoBlock(pub Class);
 
 /// Takes a block that had no owner. `NoBlock` comes only where every bit of the class was found set in
-/// this call; to a pass that is alone it comes exactly where it holds every block of the class.
+/// this call; to a pass that is alone it comes exactly where it has every block of the class, holding it
+/// or in a fresh header.
 pub fn take(table: &OakTable, pass: &mut Pass, class: Class) -> Result<Block, NoBlock>
     requires own { IsPassOf table.now pass.old }
     ensures own { Stays pass.old pass.new }
     ensures taken { IfOk result (λ b. (b.class ≡ class) × Takes (key table.now) (call_of pass.old) class b.number (state pass.old) (state pass.new)) }
     ensures none { IfErr result (λ e. (e.0 ≡ class) × FindsNone (key table.now) (call_of pass.old) class (state pass.old) (state pass.new)) }
-    ensures alone { OnErr result (IsAlone (state pass.old) → HoldsAll (key table.now) class (state pass.old)) }
+    ensures alone { OnErr result (IsAlone (state pass.old) → HasAll (key table.now) class (state pass.old)) }
 {
     match search(table, pass, class) {
         Some(number) => {

@@ -1,5 +1,5 @@
 -- Each kind of step keeps the rule.
-use Rattle.std.proofs.Common.{false, true≢false, ◌≡◌, ◌≢◌, ℕ, ◌+◌, ◌^◌, ◌<◌, ◌≤◌, cond, Bool, List, [], ◌∷◌, ◌++◌, map, length, get_or, set, sym, refl, ap, ◌∙◌, subst, arith, Some, length-set, get_or-set_other, get_or-set_same, pow_mono}
+use Rattle.std.proofs.Common.{false, true≢false, ◌≡◌, ℕ, ◌^◌, ◌<◌, ◌≤◌, cond, Bool, List, [], ◌∷◌, ◌++◌, map, get_or, set, sym, refl, ap, ◌∙◌, subst, arith, Some, length-set, get_or-set_other, get_or-set_same, pow_mono}
 use Rattle.std.specs.Prelude.{bit_or}
 use Rattle.std.specs.Int.{bit_at}
 use Rattle.std.proofs.lemmas.Nat.{or_lt}
@@ -9,27 +9,26 @@ use native.Mathlib.Decide.{ℕ_discrete}
 use lib.ListN.{get_elem?}
 use lib.Seq.{set-get_or}
 use Rattle.oak_model.specs.Limits.{Sizes}
-use Rattle.oak_model.specs.Counts.{Every, Each, total, one_if}
-use Rattle.oak_model.specs.Kept.{KeptWord, keeps, KeptNumbersStand, renamed}
+use Rattle.oak_model.specs.Counts.{Every, Each}
+use Rattle.oak_model.specs.Kept.{KeptNumbersStand}
 use Rattle.oak_model.proofs.Lists.{at_map, map_set, map_set_same}
-use Rattle.oak_model.proofs.Counting.{total_append}
 use Rattle.oak_model.proofs.Changes.{stepped}
 use Rattle.oak_model.proofs.KeptLaws.{kept_unkept}
 use Rattle.arena_core.specs.Blocks.{BlocksAreOwned}
-use Rattle.arena_core.specs.HeldBlocks.{kept_of_blocks}
-use Rattle.header_core.specs.HeaderHolds.{kept_of_headers}
 use Rattle.oak_core.specs.declared.states.Finding.{Finding}
 use Rattle.oak_core.specs.declared.states.Findings.{Findings}
 use Rattle.oak_core.specs.declared.states.Joined.{Joined}
 use Rattle.oak_core.specs.declared.states.PassState.{PassState}
-use Rattle.oak_core.specs.Memory.{Memory, Spot, at_given, in_arena, in_headers, same_spot, read, write, memory, index, IsInside, word_count}
+use Rattle.oak_core.specs.Memory.{Memory, Spot, at_given, same_spot, read, write, memory, index, IsInside, word_count}
 use Rattle.oak_core.specs.Finding.{finding}
-use Rattle.oak_core.specs.Lack.{FullsStand}
-use Rattle.oak_core.specs.PassState.{blocks_of, numbers_of, findings_of, knowledge_of, kept_of}
+use Rattle.oak_core.specs.PassState.{blocks_of, headers_held, numbers_of, findings_of, knowledge_of, kept_of}
 use Rattle.oak_core.specs.TableState.{TableState}
-use Rattle.oak_core.specs.Rule.{WordsStand, NumbersStand, FoundStays, FindingsStand, HistoriesStand, SpentIsSpent, JoinedStand, FindingsHold, other_owners, Rule}
-use Rattle.oak_core.specs.Step.{Step, load, give_number, on_arena, note_full, spot, effect, MayGive, found, state_after, table_after}
+use Rattle.oak_core.specs.Rule.{WordsStand, NumbersStand, FoundStays, FindingsStand, HistoriesStand, SpentIsSpent, JoinedStand, FindingsHold, Rule}
+use Rattle.oak_core.specs.Owners.{other_owners, HeadersAreHeld}
+use Rattle.oak_core.specs.Step.{Step, load, give_number, on_arena, on_headers, spot, effect, MayGive, found, state_after, table_after, note_full}
+use Rattle.oak_core.specs.Lack.{FullsStand}
 use Rattle.oak_core.proofs.Words.{read-write, first_word, index_apart, index_below, memory_set, memory_read}
+use Rattle.oak_core.proofs.KeptWords.{given_unkept}
 use Rattle.oak_core.proofs.GivenNumbers.{number_given, bits_stay}
 use Rattle.oak_core.proofs.Found.{found_on, found_more}
 use Rattle.oak_core.proofs.Lacked.{fulls_met}
@@ -46,26 +45,12 @@ words_put z ws i x lt small r = record {
       (λ ne. subst (λ (n : ℕ). n < 2 ^ 64) (sym (get_or-set_other ws i j x 0 ne)) (r.small j));
 }
 
--- no pass keeps word 0
-given_unkept : (v : PassState) → keeps same_spot at_given (kept_of v) ≡ 0
-unfolding total
-given_unkept v = total_append (λ (w : KeptWord Spot). one_if (same_spot w.spot at_given)) (renamed in_arena (kept_of_blocks v.blocks.held)) (renamed in_headers (kept_of_headers v.headers.held))
-    ∙ (let a = none in_arena (λ _. refl) (kept_of_blocks v.blocks.held) in let b = none in_headers (λ _. refl) (kept_of_headers v.headers.held) in omega arith)
-  where
-    none : {P : Type 0} (f : P → Spot) → ((p : P) → same_spot (f p) at_given ≡ Rattle.std.proofs.Common.false) → (ws : List (KeptWord P)) → keeps same_spot at_given (renamed f ws) ≡ 0
-    none f e [] = refl
-    none f e (w ∷ ws) = let t = none f e ws in let u : one_if (same_spot (f w.spot) at_given) ≡ 0 = ap one_if (e w.spot) in omega arith
-
-pub all_unkept : (vs : List PassState) → total (keeps same_spot at_given) (map kept_of vs) ≡ 0
-unfolding total
-all_unkept [] = refl
-all_unkept (v ∷ vs) = let a = given_unkept v in let b = all_unkept vs in omega arith
-
 -- a step leaves its pass going
 pub going_after : (z : Sizes) (call : ℕ) (x : Step) (s : TableState) (v : PassState) → (state_after z call x s v).numbers.spent ≡ v.numbers.spent
 going_after z call (load p) s v = refl
 going_after z call (give_number k) s v = refl
 going_after z call (on_arena a) s v = refl
+going_after z call (on_headers x) s v = refl
 going_after z call (note_full lack began) s v = refl
 
 -- a step takes no other pass in
@@ -73,6 +58,7 @@ joined_after : (z : Sizes) (call : ℕ) (x : Step) (s : TableState) (v : PassSta
 joined_after z call (load p) s v = refl
 joined_after z call (give_number k) s v = refl
 joined_after z call (on_arena a) s v = refl
+joined_after z call (on_headers x) s v = refl
 joined_after z call (note_full lack began) s v = refl
 
 module _ (z : Sizes) (s : TableState) (call seat : ℕ) (v : PassState) (r : Rule z s) (here : get_elem? s.states seat ≡ some v) (going : v.numbers.spent ≡ false) where
@@ -88,9 +74,9 @@ module _ (z : Sizes) (s : TableState) (call seat : ℕ) (v : PassState) (r : Rul
 
   -- the rule after a step that changes its word, from the bundles over the memory and the parts of the states after it
   pub stepped_rule : (x : Step) → IsInside z (spot x) → effect x (found z x s) < 2 ^ 64 → let m' = write m (spot x) (effect x (found z x s)) in let after = set s.states seat (state_after z call x s v) in
-      NumbersStand z m'.given (map numbers_of after) → FindingsStand z m'.given (map findings_of after) → HistoriesStand (map knowledge_of after) → BlocksAreOwned z m'.arena.bits other_owners (map blocks_of after) → KeptNumbersStand same_spot (read m') (map kept_of after)
+      NumbersStand z m'.given (map numbers_of after) → FindingsStand z m'.given (map findings_of after) → HistoriesStand (map knowledge_of after) → BlocksAreOwned z m'.arena.bits (other_owners z m'.headers) (map blocks_of after) → HeadersAreHeld z m'.headers m'.arena.bytes (map headers_held after) → KeptNumbersStand same_spot (read m') (map kept_of after)
       → Rule z (table_after z call x seat v s)
-  stepped_rule x inside small numbers findings histories blocks kept =
+  stepped_rule x inside small numbers findings histories blocks headers kept =
       let y : ℕ = effect x (found z x s) in let after : List PassState = set s.states seat (state_after z call x s v) in let law = memory_set z s.words (spot x) y r.words.counted inside in record {
         sizes = r.sizes;
         words = words_put z s.words (index z (spot x)) y (index_below z (spot x) inside) small r.words;
@@ -99,7 +85,8 @@ module _ (z : Sizes) (s : TableState) (call seat : ℕ) (v : PassState) (r : Rul
         joined = joined_stays x;
         histories = histories;
         spent = spent_stays x;
-        blocks = subst (λ (a : Memory). BlocksAreOwned z a.arena.bits other_owners (map blocks_of after)) (sym law) blocks;
+        blocks = subst (λ (a : Memory). BlocksAreOwned z a.arena.bits (other_owners z a.headers) (map blocks_of after)) (sym law) blocks;
+        headers = subst (λ (a : Memory). HeadersAreHeld z a.headers a.arena.bytes (map headers_held after)) (sym law) headers;
         kept = subst (λ (a : Memory). KeptNumbersStand same_spot (read a) (map kept_of after)) (sym law) kept;
       }
 
@@ -117,14 +104,15 @@ module _ (z : Sizes) (s : TableState) (call seat : ℕ) (v : PassState) (r : Rul
 
   -- a step that stores to a word other than word 0, and leaves the numbers of its pass and what it knows, owes the bundles of the holds alone
   pub elsewhere_rule : (x : Step) (f : Finding) → IsInside z (spot x) → effect x (found z x s) < 2 ^ 64 → same_spot at_given (spot x) ≡ false → let w = state_after z call x s v in f.word ≡ index z (spot x) → w.findings ≡ record v.findings { met = v.findings.met ++ f ∷ [] }
-      → w.numbers ≡ v.numbers → w.knowledge ≡ v.knowledge → BlocksAreOwned z (write m (spot x) (effect x (found z x s))).arena.bits other_owners (map blocks_of (set s.states seat w))
+      → w.numbers ≡ v.numbers → w.knowledge ≡ v.knowledge → (let m' = write m (spot x) (effect x (found z x s)) in BlocksAreOwned z m'.arena.bits (other_owners z m'.headers) (map blocks_of (set s.states seat w)))
+      → (let m' = write m (spot x) (effect x (found z x s)) in HeadersAreHeld z m'.headers m'.arena.bytes (map headers_held (set s.states seat w)))
       → KeptNumbersStand same_spot (read (write m (spot x) (effect x (found z x s)))) (map kept_of (set s.states seat w)) → Rule z (table_after z call x seat v s)
-  elsewhere_rule x f inside small other at grew numbers knowledge blocks kept =
+  elsewhere_rule x f inside small other at grew numbers knowledge blocks headers kept =
       let w : PassState = state_after z call x s v in let y : ℕ = effect x (found z x s) in let same : (write m (spot x) y).given ≡ m.given = ap (λ (b : Bool). cond b y m.given) other in
       stepped_rule x inside small
       (subst (λ (g : ℕ). NumbersStand z g (map numbers_of (set s.states seat w))) (sym same) (subst (NumbersStand z m.given) (sym (map_set_same numbers_of s.states seat v w here numbers)) r.numbers))
       (subst (λ (g : ℕ). FindingsStand z g (map findings_of (set s.states seat w))) (sym same) (findings_elsewhere (spot x) f w inside other at grew))
-      (subst HistoriesStand (sym (map_set_same knowledge_of s.states seat v w here knowledge)) r.histories) blocks kept
+      (subst HistoriesStand (sym (map_set_same knowledge_of s.states seat v w here knowledge)) r.histories) blocks headers kept
 
   -- one more finding at a word that stays, in a state whose other parts stay
   pub findings_stay : (p : Spot) (n : ℕ) (w : PassState) → w.findings.met ≡ v.findings.met ++ finding z call p (Some n) n v ∷ [] → FullsStand z w.findings → IsInside z p → n ≡ get_or s.words (index z p) 0
@@ -152,7 +140,8 @@ module _ (z : Sizes) (s : TableState) (call seat : ℕ) (v : PassState) (r : Rul
         joined = joined_stays (load p);
         histories = subst HistoriesStand (sym (map_set_same knowledge_of s.states seat v w here refl)) r.histories;
         spent = spent_stays (load p);
-        blocks = subst (BlocksAreOwned z m.arena.bits other_owners) (sym (map_set_same blocks_of s.states seat v w here refl)) r.blocks;
+        blocks = subst (BlocksAreOwned z m.arena.bits (other_owners z m.headers)) (sym (map_set_same blocks_of s.states seat v w here refl)) r.blocks;
+        headers = subst (HeadersAreHeld z m.headers m.arena.bytes) (sym (map_set_same headers_held s.states seat v w here refl)) r.headers;
         kept = subst (KeptNumbersStand same_spot (read m)) (sym (map_set_same kept_of s.states seat v w here refl)) r.kept;
       }
 
@@ -204,6 +193,7 @@ module _ (z : Sizes) (s : TableState) (call seat : ℕ) (v : PassState) (r : Rul
         (subst (NumbersStand z x) (sym (map_set numbers_of s.states seat w)) (number_given z n k (map numbers_of s.states) seat v.numbers at stands may.few may.hand going lower))
         findings_after
         (subst HistoriesStand (sym (map_set_same knowledge_of s.states seat v w here refl)) r.histories)
-        (subst (BlocksAreOwned z m.arena.bits other_owners) (sym (map_set_same blocks_of s.states seat v w here refl)) r.blocks)
+        (subst (BlocksAreOwned z m.arena.bits (other_owners z m.headers)) (sym (map_set_same blocks_of s.states seat v w here refl)) r.blocks)
+        (subst (HeadersAreHeld z m.headers m.arena.bytes) (sym (map_set_same headers_held s.states seat v w here refl)) r.headers)
         (subst (KeptNumbersStand same_spot (read (write m at_given x))) (sym (map_set_same kept_of s.states seat v w here refl))
-        (kept_unkept same_spot (read m) (read (write m at_given x)) at_given x (λ q. read-write m at_given q x) (map kept_of s.states) (all_unkept s.states) r.kept))
+        (kept_unkept same_spot (read m) (read (write m at_given x)) at_given x (λ q. read-write m at_given q x) (map kept_of s.states) (given_unkept s.states) r.kept))

@@ -9,7 +9,7 @@ use Rattle.oak_model.specs.declared.classes.Class.TheVariants.{B16, B64, B256, B
 use Rattle.oak_model.specs.Limits.{Sizes}
 use Rattle.oak_model.specs.Class.{class_number}
 use Rattle.oak_model.specs.Kept.{KeptNumbersStand}
-use Rattle.oak_model.proofs.Lists.{at_map, map_set}
+use Rattle.oak_model.proofs.Lists.{at_map, map_set, map_set_same}
 use Rattle.arena_core.specs.declared.blocks.HeldBlocks.{HeldBlocks}
 use Rattle.arena_core.specs.Arena.{read_arena, IsInArena, blocks}
 use Rattle.arena_core.specs.Blocks.{BlocksAreOwned}
@@ -18,13 +18,17 @@ use Rattle.arena_core.proofs.ArenaSteps.{bit_of_below, arena_owned}
 use Rattle.oak_core.specs.declared.states.PassState.{PassState}
 use Rattle.oak_core.specs.Memory.{Memory, Spot, in_arena, same_spot, read, write, memory, index, IsInside}
 use Rattle.oak_core.specs.Finding.{finding}
-use Rattle.oak_core.specs.PassState.{blocks_of, kept_of}
+use Rattle.oak_core.specs.PassState.{blocks_of, headers_held, kept_of}
 use Rattle.oak_core.specs.TableState.{TableState}
-use Rattle.oak_core.specs.Rule.{other_owners, Rule}
+use Rattle.oak_core.specs.Owners.{other_owners, HeadersAreHeld}
+use Rattle.oak_core.specs.Rule.{Rule}
 use Rattle.oak_core.specs.Step.{on_arena, state_after, table_after}
 use Rattle.oak_core.proofs.Words.{memory_read}
+use Rattle.oak_core.proofs.OwnerLaws.{live_inside}
 use Rattle.oak_core.proofs.Keeps.{elsewhere_rule}
-use Rattle.oak_core.proofs.KeptInArena.{kept_with, arena_kept}
+use Rattle.oak_core.proofs.KeptWords.{kept_with}
+use Rattle.oak_core.proofs.KeptInArena.{arena_kept}
+use Rattle.oak_core.proofs.HeadersInArena.{headers_on_arena}
 
 pub class_below : (c : Class) → class_number c < CLASSES
 class_below B16 = omega arith
@@ -64,15 +68,19 @@ module _ (z : Sizes) (s : TableState) (call seat : ℕ) (v : PassState) (r : Rul
   read_is : read_arena m.arena (arena_spot x) ≡ n
   read_is = memory_read z s.words p inside
 
-  owned_after : BlocksAreOwned z (write m p y).arena.bits other_owners (map blocks_of (set s.states seat w))
-  owned_after = subst (BlocksAreOwned z (write m p y).arena.bits other_owners) (sym (map_set blocks_of s.states seat w))
-      (subst (λ (i : ℕ). BlocksAreOwned z (put_arena m.arena (arena_spot x) (arena_effect x i)).bits other_owners (set (map blocks_of s.states) seat (blocks_after m.arena.bytes x i v.blocks))) read_is
-      (arena_owned z m.arena other_owners (map blocks_of s.states) seat v.blocks (at_map blocks_of s.states seat v here) r.blocks x may))
+  owned_after : BlocksAreOwned z (write m p y).arena.bits (other_owners z m.headers) (map blocks_of (set s.states seat w))
+  owned_after = subst (BlocksAreOwned z (write m p y).arena.bits (other_owners z m.headers)) (sym (map_set blocks_of s.states seat w))
+      (subst (λ (i : ℕ). BlocksAreOwned z (put_arena m.arena (arena_spot x) (arena_effect x i)).bits (other_owners z m.headers) (set (map blocks_of s.states) seat (blocks_after m.arena.bytes x i v.blocks))) read_is
+      (arena_owned z m.arena (other_owners z m.headers) (map blocks_of s.states) seat v.blocks (at_map blocks_of s.states seat v here) r.blocks x may))
+
+  headers_after_it : HeadersAreHeld z m.headers (write m p y).arena.bytes (map headers_held (set s.states seat w))
+  headers_after_it = subst (HeadersAreHeld z m.headers (write m p y).arena.bytes) (sym (map_set_same headers_held s.states seat v w here refl))
+      (headers_on_arena z m s.states seat v here r.blocks r.headers (live_inside z s.words) x y may)
 
   kept_after : KeptNumbersStand same_spot (read (write m p y)) (map kept_of (set s.states seat w))
   kept_after = subst (KeptNumbersStand same_spot (read (write m p y))) (sym (map_set kept_of s.states seat w))
-      (subst (λ (i : ℕ). KeptNumbersStand same_spot (read (write m p (arena_effect x i))) (set (map kept_of s.states) seat (kept_with (blocks_after m.arena.bytes x i v.blocks) v))) read_is
-      (arena_kept z m s.states seat v here r.blocks r.kept x may))
+      (subst (λ (i : ℕ). KeptNumbersStand same_spot (read (write m p (arena_effect x i))) (set (map kept_of s.states) seat (kept_with (blocks_after m.arena.bytes x i v.blocks) v.headers))) read_is
+      (arena_kept z m (other_owners z m.headers) s.states seat v here r.blocks r.headers.blocks r.kept x may))
 
   pub arena_keeps : Rule z (table_after z call (on_arena x) seat v s)
-  arena_keeps = elsewhere_rule z s call seat v r here going (on_arena x) (finding z call p (arena_found x n) y v) inside (arena_small z x v.blocks n may (r.words.small (index z p))) refl refl refl refl refl owned_after kept_after
+  arena_keeps = elsewhere_rule z s call seat v r here going (on_arena x) (finding z call p (arena_found x n) y v) inside (arena_small z x v.blocks n may (r.words.small (index z p))) refl refl refl refl refl owned_after headers_after_it kept_after

@@ -9,9 +9,9 @@ use Rattle.oak_model.specs.Class.{class_number}
 use Rattle.oak_model.specs.Counts.{total, one_if}
 use Rattle.oak_model.specs.Kept.{KeptWord, keeps, AreTrueTo, KeptNumbersStand, renamed, restored}
 use Rattle.oak_model.proofs.Lists.{at_map, each_append}
-use Rattle.oak_model.proofs.Counting.{test-cases, total_append, total_map, total_zero}
-use Rattle.oak_model.proofs.KeptLaws.{kept_put, kept_unkept, kept_own}
-use Rattle.oak_model.proofs.RowLaws.{total_le, renamed_true, true_renamed, renamed_none, renamed_keeps, renamed_restored, restored_else, restored_append, renamed_append, each_first, each_rest}
+use Rattle.oak_model.proofs.Counting.{test-cases, total_append, total_at}
+use Rattle.oak_model.proofs.KeptLaws.{kept_own}
+use Rattle.oak_model.proofs.RowLaws.{renamed_none, renamed_keeps, renamed_restored, restored_else, restored_append, renamed_append}
 use Rattle.arena_core.specs.declared.blocks.HeldBlock.{HeldBlock}
 use Rattle.arena_core.specs.declared.blocks.HeldBlocks.{HeldBlocks}
 use Rattle.arena_core.specs.Arena.{ArenaSpot, at_bits, at_bytes, same_arena_spot, read_arena, block_words}
@@ -20,63 +20,47 @@ use Rattle.arena_core.specs.Blocks.{is_block, holds, BlocksAreOwned, block_from,
 use Rattle.arena_core.specs.ArenaStep.{ArenaStep, take_bit, clear_bit, store_word, arena_spot, arena_effect, MayArena, blocks_after}
 use Rattle.arena_core.proofs.HeldLists.{is_block-is}
 use Rattle.arena_core.proofs.ArenaSteps.{none_owns}
-use Rattle.arena_core.proofs.KeptBlocks.{block_keeps-bits, keeps_bits, block_keeps-most, keeps_most, keeps_some, taken_true, true_without, keeps_without, kept_rewritten}
+use Rattle.arena_core.proofs.KeptBlocks.{block_keeps-bits, block_keeps-most, keeps_some, taken_true, true_without, keeps_without, kept_rewritten}
 use Rattle.header_core.specs.HeaderHolds.{kept_of_headers}
 use Rattle.oak_core.specs.declared.states.PassState.{PassState}
 use Rattle.oak_core.specs.Memory.{Memory, Spot, at_given, in_arena, in_headers, in_rooms, same_spot, read, write}
-use Rattle.oak_core.specs.PassState.{blocks_of, kept_of}
-use Rattle.oak_core.specs.Rule.{other_owners}
+use Rattle.oak_core.specs.Owners.{fresh_blocks, has_fresh}
+use Rattle.oak_core.specs.PassState.{blocks_of, headers_held, kept_of}
 use Rattle.oak_core.proofs.Words.{read-write}
+use Rattle.oak_core.proofs.KeptWords.{kept_with, times, times_of, times_in_arena, times_in_headers, bits_unkept, bytes_kept, still_true, parts_put, restored_unkept}
 
--- what the pass keeps, with these blocks
-abbrev pub kept_with : HeldBlocks → PassState → List (KeptWord Spot)
-kept_with a v = renamed in_arena (kept_of_blocks a.held) ++ renamed in_headers (kept_of_headers v.headers.held)
+-- the words of a block that no pass has had are kept by none
+module _ (z : Sizes) (m : Memory) (o : ℕ → ℕ → ℕ) (vs : List PassState) (seat : ℕ) (v : PassState) (there : get_elem? vs seat ≡ some v) (r : BlocksAreOwned z m.arena.bits o (map blocks_of vs))
+    (fresh : (c b : ℕ) → total (has_fresh c b) (map headers_held vs) ≤ o c b) (k : KeptNumbersStand same_spot (read m) (map kept_of vs)) where
+  -- a block without an owner, whose words come to be kept
+  pub fresh_once : (new : HeldBlock) → bit_at (m.arena.bits (class_number new.class) (new.number / 64)) (new.number % 64) ≡ 0 → (q : Spot) → total (times q) (map kept_of vs) + times q (renamed in_arena (kept_of_block new)) ≤ 1
+  fresh_once new e at_given = let o = k.once at_given in let t = renamed_none in_arena same_spot at_given (kept_of_block new) (λ p. refl) in omega arith
+  fresh_once new e (in_headers q) = let o = k.once (in_headers q) in let t = renamed_none in_arena same_spot (in_headers q) (kept_of_block new) (λ p. refl) in omega arith
+  fresh_once new e (in_rooms q) = let o = k.once (in_rooms q) in let t = renamed_none in_arena same_spot (in_rooms q) (kept_of_block new) (λ p. refl) in omega arith
+  fresh_once new e (in_arena (at_bits d i)) = let o = k.once (in_arena (at_bits d i)) in let t = renamed_keeps in_arena same_arena_spot same_spot (at_bits d i) (kept_of_block new) (λ p. refl) in let u = block_keeps-bits d i new in omega arith
+  fresh_once new e (in_arena (at_bytes d f l)) = let o1 = k.once (in_arena (at_bytes d f l)) in let t = renamed_keeps in_arena same_arena_spot same_spot (at_bytes d f l) (kept_of_block new) (λ p. refl) in let u = block_keeps-most d f l new in
+      test-cases (is_block d f new) (λ s. keeps same_arena_spot (at_bytes d f l) (kept_of_block new) ≤ one_if s → total (times (in_arena (at_bytes d f l))) (map kept_of vs) + times (in_arena (at_bytes d f l)) (renamed in_arena (kept_of_block new)) ≤ 1)
+      (λ is le. let p = is_block-is d f new is in
+      let none = none_owns z m.arena o (map blocks_of vs) seat v.blocks (at_map blocks_of vs seat v there) r d f
+      (subst (λ (i : ℕ × ℕ). bit_at (m.arena.bits i.0 (i.1 / 64)) (i.1 % 64) ≡ 0) (λ j. (p.0 j, p.1 j)) e) in
+      let none0 = none.0 in let none1 = none.1 in let some_fresh = fresh d f in let most = bytes_kept d f l vs in omega arith)
+      (λ other le. omega arith) u
 
--- how often it keeps a word
-abbrev times : Spot → List (KeptWord Spot) → ℕ
-times q ws = keeps same_spot q ws
+  -- a block more in front, kept besides what was
+  pub times_more : (new : HeldBlock) (a : HeldBlocks) (q : Spot) → times q (kept_with (record a { held = new ∷ a.held }) v.headers) ≡ times q (renamed in_arena (kept_of_block new)) + times q (kept_with a v.headers)
+  unfolding kept_of_blocks
+  times_more new a q = let p = times_of q (record a { held = new ∷ a.held }) v.headers in let u = times_of q a v.headers in
+      let parts : times q (renamed in_arena (kept_of_block new ++ kept_of_blocks a.held)) ≡ times q (renamed in_arena (kept_of_block new)) + times q (renamed in_arena (kept_of_blocks a.held)) =
+      ap (times q) (renamed_append in_arena (kept_of_block new) (kept_of_blocks a.held)) ∙ total_append (λ (w : KeptWord Spot). one_if (same_spot w.spot q)) (renamed in_arena (kept_of_block new)) (renamed in_arena (kept_of_blocks a.held)) in omega arith
 
-times_of : (q : Spot) (a : HeldBlocks) (v : PassState) → times q (kept_with a v) ≡ times q (renamed in_arena (kept_of_blocks a.held)) + times q (renamed in_headers (kept_of_headers v.headers.held))
-times_of q a v = total_append (λ (w : KeptWord Spot). one_if (same_spot w.spot q)) (renamed in_arena (kept_of_blocks a.held)) (renamed in_headers (kept_of_headers v.headers.held))
-
-times_in_arena : (q : ArenaSpot) (a : HeldBlocks) (v : PassState) → times (in_arena q) (kept_with a v) ≡ keeps same_arena_spot q (kept_of_blocks a.held)
-times_in_arena q a v = let t = times_of (in_arena q) a v in let b = renamed_keeps in_arena same_arena_spot same_spot q (kept_of_blocks a.held) (λ p. refl) in
-    let h = renamed_none in_headers same_spot (in_arena q) (kept_of_headers v.headers.held) (λ p. refl) in omega arith
-
--- no pass keeps a word of bits, and a word of a block only the passes that hold it
-bits_unkept : (c i : ℕ) (vs : List PassState) → total (times (in_arena (at_bits c i))) (map kept_of vs) ≡ 0
-bits_unkept c i vs = total_map kept_of (times (in_arena (at_bits c i))) vs
-    ∙ total_zero (λ (v : PassState). times (in_arena (at_bits c i)) (kept_of v)) vs (λ j v _. times_in_arena (at_bits c i) v.blocks v ∙ keeps_bits c i v.blocks.held)
-
-bytes_kept : (c b k : ℕ) (vs : List PassState) → total (times (in_arena (at_bytes c b k))) (map kept_of vs) ≤ total (holds c b) (map blocks_of vs)
-bytes_kept c b k vs = let a = total_map kept_of (times (in_arena (at_bytes c b k))) vs in let o = total_map blocks_of (holds c b) vs in
-    let l = total_le (λ (v : PassState). times (in_arena (at_bytes c b k)) (kept_of v)) (λ (v : PassState). holds c b v.blocks) vs
-    (λ v. let t = times_in_arena (at_bytes c b k) v.blocks v in let m = keeps_most c b k v.blocks.held in omega arith) in omega arith
-
-module _ (z : Sizes) (m : Memory) (vs : List PassState) (seat : ℕ) (v : PassState) (there : get_elem? vs seat ≡ some v) (r : BlocksAreOwned z m.arena.bits other_owners (map blocks_of vs)) (k : KeptNumbersStand same_spot (read m) (map kept_of vs)) where
-  abbrev at : get_elem? (map kept_of vs) seat ≡ some (kept_of v)
-  at = at_map kept_of vs seat v there
-
-  -- a word of bits becomes y
-  module _ (c i y : ℕ) where
-    abbrev m' : Memory
-    m' = write m (in_arena (at_bits c i)) y
-
-    bits_written : KeptNumbersStand same_spot (read m') (map kept_of vs)
-    bits_written = kept_unkept same_spot (read m) (read m') (in_arena (at_bits c i)) y (λ q. read-write m (in_arena (at_bits c i)) q y) (map kept_of vs) (bits_unkept c i vs) k
-
-    true_blocks : AreTrueTo (λ q. read m' (in_arena q)) (kept_of_blocks v.blocks.held)
-    true_blocks = true_renamed in_arena (read m') (kept_of_blocks v.blocks.held) (each_first (λ (w : KeptWord Spot). read m' w.spot ≡ w.number) (renamed in_arena (kept_of_blocks v.blocks.held)) (renamed in_headers (kept_of_headers v.headers.held)) (bits_written.true_to seat (kept_of v) at))
-
-    true_headers : AreTrueTo (read m') (renamed in_headers (kept_of_headers v.headers.held))
-    true_headers = each_rest (λ (w : KeptWord Spot). read m' w.spot ≡ w.number) (renamed in_arena (kept_of_blocks v.blocks.held)) (renamed in_headers (kept_of_headers v.headers.held)) (bits_written.true_to seat (kept_of v) at)
-
-    -- the pass holds other blocks
-    blocks_put : (a : HeldBlocks) → AreTrueTo (λ q. read m' (in_arena q)) (kept_of_blocks a.held) → ((q : Spot) → total (times q) (map kept_of vs) + times q (kept_with a v) ≤ 1 + times q (kept_of v))
-        → KeptNumbersStand same_spot (read m') (set (map kept_of vs) seat (kept_with a v))
-    blocks_put a true_to few = kept_put same_spot (read m') (map kept_of vs) seat (kept_of v) (kept_with a v) at
-        (each_append (λ (w : KeptWord Spot). read m' w.spot ≡ w.number) (renamed in_arena (kept_of_blocks a.held)) (renamed in_headers (kept_of_headers v.headers.held)) (renamed_true in_arena (read m') (kept_of_blocks a.held) true_to) true_headers)
-        few bits_written
+  -- without a block no word is kept more often
+  pub fewer : (a : HeldBlocks) (c b : ℕ) (q : Spot) → times q (kept_with (record a { held = without c b a.held }) v.headers) ≤ times q (kept_with a v.headers)
+  fewer a c b (in_arena q) = let s = times_in_arena q (record a { held = without c b a.held }) v.headers in let d = times_in_arena q a v.headers in let l = keeps_without q c b a.held in omega arith
+  fewer a c b at_given = let s = times_of at_given (record a { held = without c b a.held }) v.headers in let d = times_of at_given a v.headers in
+      let e = renamed_none in_arena same_spot at_given (kept_of_blocks (without c b a.held)) (λ p. refl) in omega arith
+  fewer a c b (in_headers q) = let s = times_in_headers q (record a { held = without c b a.held }) v.headers in let d = times_in_headers q a v.headers in omega arith
+  fewer a c b (in_rooms q) = let s = times_of (in_rooms q) (record a { held = without c b a.held }) v.headers in let d = times_of (in_rooms q) a v.headers in
+      let e = renamed_none in_arena same_spot (in_rooms q) (kept_of_blocks (without c b a.held)) (λ p. refl) in omega arith
 
   module _ (c : Class) (b : ℕ) where
     abbrev n : ℕ
@@ -85,60 +69,59 @@ module _ (z : Sizes) (m : Memory) (vs : List PassState) (seat : ℕ) (v : PassSt
     abbrev new : HeldBlock
     new = block_from m.arena.bytes c b
 
-    -- a block that no pass held
-    fresh_once : bit_at n (b % 64) ≡ 0 → (q : Spot) → total (times q) (map kept_of vs) + times q (renamed in_arena (kept_of_block new)) ≤ 1
-    fresh_once e at_given = let o = k.once at_given in let t = renamed_none in_arena same_spot at_given (kept_of_block new) (λ p. refl) in omega arith
-    fresh_once e (in_headers q) = let o = k.once (in_headers q) in let t = renamed_none in_arena same_spot (in_headers q) (kept_of_block new) (λ p. refl) in omega arith
-    fresh_once e (in_rooms q) = let o = k.once (in_rooms q) in let t = renamed_none in_arena same_spot (in_rooms q) (kept_of_block new) (λ p. refl) in omega arith
-    fresh_once e (in_arena (at_bits d i)) = let o = k.once (in_arena (at_bits d i)) in let t = renamed_keeps in_arena same_arena_spot same_spot (at_bits d i) (kept_of_block new) (λ p. refl) in let u = block_keeps-bits d i new in omega arith
-    fresh_once e (in_arena (at_bytes d f l)) = let o = k.once (in_arena (at_bytes d f l)) in let t = renamed_keeps in_arena same_arena_spot same_spot (at_bytes d f l) (kept_of_block new) (λ p. refl) in let u = block_keeps-most d f l new in
-        test-cases (is_block d f new) (λ s. keeps same_arena_spot (at_bytes d f l) (kept_of_block new) ≤ one_if s → total (times (in_arena (at_bytes d f l))) (map kept_of vs) + times (in_arena (at_bytes d f l)) (renamed in_arena (kept_of_block new)) ≤ 1)
-        (λ is le. let p = is_block-is d f new is in
-        let none : total (holds d f) (map blocks_of vs) ≡ 0 = subst (λ (i : ℕ × ℕ). total (holds i.0 i.1) (map blocks_of vs) ≡ 0) (λ j. (p.0 j, p.1 j)) (none_owns z m.arena other_owners (map blocks_of vs) seat v.blocks (at_map blocks_of vs seat v there) r (class_number c) b e).0 in
-        let most = bytes_kept d f l vs in omega arith)
-        (λ other le. omega arith) u
+    abbrev p : Spot
+    p = in_arena (at_bits (class_number c) (b / 64))
 
-    pub take_kept : (y : ℕ) → KeptNumbersStand same_spot (read (write m (in_arena (at_bits (class_number c) (b / 64))) y)) (set (map kept_of vs) seat (kept_with (blocks_after m.arena.bytes (take_bit c b) n v.blocks) v))
+    abbrev Stand : ℕ → HeldBlocks → Type 0
+    Stand y a = KeptNumbersStand same_spot (read (write m p y)) (set (map kept_of vs) seat (kept_with a v.headers))
+
+    put_blocks : (y : ℕ) (a : HeldBlocks) → AreTrueTo (λ q. read (write m p y) (in_arena q)) (kept_of_blocks a.held) → ((q : Spot) → total (times q) (map kept_of vs) + times q (kept_with a v.headers) ≤ 1 + times q (kept_of v)) → Stand y a
+    put_blocks y a true_to few = let t = still_true m vs seat v there k p y (bits_unkept (class_number c) (b / 64) vs) in
+        parts_put m vs seat v there k p y (bits_unkept (class_number c) (b / 64) vs) a v.headers record { blocks = true_to; fresh = t.fresh; headers = t.headers } few
+
+    was_true : (y : ℕ) → AreTrueTo (λ q. read (write m p y) (in_arena q)) (kept_of_blocks v.blocks.held)
+    was_true y = (still_true m vs seat v there k p y (bits_unkept (class_number c) (b / 64) vs)).blocks
+
+    pub take_kept : (y : ℕ) → Stand y (blocks_after m.arena.bytes (take_bit c b) n v.blocks)
     unfolding kept_of_blocks
-    take_kept y = test-cases (eqb (bit_at n (b % 64)) 0) (λ t. KeptNumbersStand same_spot (read (m' (class_number c) (b / 64) y)) (set (map kept_of vs) seat (kept_with (record v.blocks { held = cond t (new ∷ v.blocks.held) v.blocks.held }) v)))
-        (λ t. let a : HeldBlocks = record v.blocks { held = new ∷ v.blocks.held } in blocks_put (class_number c) (b / 64) y a
-        (each_append (λ (w : KeptWord ArenaSpot). read (m' (class_number c) (b / 64) y) (in_arena w.spot) ≡ w.number) (kept_of_block new) (kept_of_blocks v.blocks.held) (taken_true (m' (class_number c) (b / 64) y).arena c b) (true_blocks (class_number c) (b / 64) y))
-        (λ q. let e : bit_at n (b % 64) ≡ 0 = eqb-true _ _ t in let o = fresh_once e q in let p = times_of q a v in let u = times_of q v.blocks v in
-        let parts : times q (renamed in_arena (kept_of_block new ++ kept_of_blocks v.blocks.held)) ≡ times q (renamed in_arena (kept_of_block new)) + times q (renamed in_arena (kept_of_blocks v.blocks.held)) =
-        ap (times q) (renamed_append in_arena (kept_of_block new) (kept_of_blocks v.blocks.held)) ∙ total_append (λ (w : KeptWord Spot). one_if (same_spot w.spot q)) (renamed in_arena (kept_of_block new)) (renamed in_arena (kept_of_blocks v.blocks.held)) in omega arith))
-        (λ f. blocks_put (class_number c) (b / 64) y v.blocks (true_blocks (class_number c) (b / 64) y) (λ q. let o = k.once q in omega arith))
+    take_kept y = test-cases (eqb (bit_at n (b % 64)) 0) (λ t. Stand y (record v.blocks { held = cond t (new ∷ v.blocks.held) v.blocks.held }))
+        (λ t. put_blocks y (record v.blocks { held = new ∷ v.blocks.held })
+        (each_append (λ (w : KeptWord ArenaSpot). read (write m p y) (in_arena w.spot) ≡ w.number) (kept_of_block new) (kept_of_blocks v.blocks.held) (taken_true (write m p y).arena c b) (was_true y))
+        (λ q. let e : bit_at n (b % 64) ≡ 0 = eqb-true _ _ t in let o1 = fresh_once new e q in let p1 = times_more new v.blocks q in omega arith))
+        (λ f. put_blocks y v.blocks (was_true y) (λ q. let o1 = k.once q in omega arith))
 
-    pub clear_kept : (y : ℕ) → KeptNumbersStand same_spot (read (write m (in_arena (at_bits (class_number c) (b / 64))) y)) (set (map kept_of vs) seat (kept_with (blocks_after m.arena.bytes (clear_bit c b) n v.blocks) v))
-    clear_kept y = let a : HeldBlocks = record v.blocks { held = without (class_number c) b v.blocks.held } in blocks_put (class_number c) (b / 64) y a
-        (true_without (λ q. read (m' (class_number c) (b / 64) y) (in_arena q)) (class_number c) b v.blocks.held (true_blocks (class_number c) (b / 64) y))
-        (λ q. let o = k.once q in let f = fewer q in omega arith)
-      where
-        fewer : (q : Spot) → times q (kept_with (record v.blocks { held = without (class_number c) b v.blocks.held }) v) ≤ times q (kept_of v)
-        fewer (in_arena q) = let a = times_in_arena q (record v.blocks { held = without (class_number c) b v.blocks.held }) v in let d = times_in_arena q v.blocks v in let l = keeps_without q (class_number c) b v.blocks.held in omega arith
-        fewer at_given = let a = times_of at_given (record v.blocks { held = without (class_number c) b v.blocks.held }) v in let d = times_of at_given v.blocks v in
-            let e = renamed_none in_arena same_spot at_given (kept_of_blocks (without (class_number c) b v.blocks.held)) (λ p. refl) in omega arith
-        fewer (in_headers q) = let a = times_of (in_headers q) (record v.blocks { held = without (class_number c) b v.blocks.held }) v in let d = times_of (in_headers q) v.blocks v in
-            let e = renamed_none in_arena same_spot (in_headers q) (kept_of_blocks (without (class_number c) b v.blocks.held)) (λ p. refl) in omega arith
-        fewer (in_rooms q) = let a = times_of (in_rooms q) (record v.blocks { held = without (class_number c) b v.blocks.held }) v in let d = times_of (in_rooms q) v.blocks v in
-            let e = renamed_none in_arena same_spot (in_rooms q) (kept_of_blocks (without (class_number c) b v.blocks.held)) (λ p. refl) in omega arith
+    pub clear_kept : (y : ℕ) → Stand y (blocks_after m.arena.bytes (clear_bit c b) n v.blocks)
+    clear_kept y = put_blocks y (record v.blocks { held = without (class_number c) b v.blocks.held })
+        (true_without (λ q. read (write m p y) (in_arena q)) (class_number c) b v.blocks.held (was_true y))
+        (λ q. let o1 = k.once q in let f = fewer v.blocks (class_number c) b q in omega arith)
 
     pub store_kept : (l x : ℕ) → 0 < holds (class_number c) b v.blocks → l < block_words (class_number c)
-        → KeptNumbersStand same_spot (read (write m (in_arena (at_bytes (class_number c) b l)) x)) (set (map kept_of vs) seat (kept_with (record v.blocks { held = rewritten (class_number c) b l x v.blocks.held }) v))
+        → KeptNumbersStand same_spot (read (write m (in_arena (at_bytes (class_number c) b l)) x)) (set (map kept_of vs) seat (kept_with (record v.blocks { held = rewritten (class_number c) b l x v.blocks.held }) v.headers))
     store_kept l x some_of lt = let q : ArenaSpot = at_bytes (class_number c) b l in
         subst (λ (ws : List (KeptWord Spot)). KeptNumbersStand same_spot (read (write m (in_arena q) x)) (set (map kept_of vs) seat ws)) (sym same)
-        (kept_own same_spot (read m) (read (write m (in_arena q) x)) (in_arena q) x (λ o. read-write m (in_arena q) o x) (map kept_of vs) seat (kept_of v) at
-        (let t = times_in_arena q v.blocks v in let s = keeps_some (class_number c) b l v.blocks.held some_of lt in omega arith) k)
+        (kept_own same_spot (read m) (read (write m (in_arena q) x)) (in_arena q) x (λ o. read-write m (in_arena q) o x) (map kept_of vs) seat (kept_of v) (at_map kept_of vs seat v there) (let t = of_blocks in omega arith) k)
       where
-        same : kept_with (record v.blocks { held = rewritten (class_number c) b l x v.blocks.held }) v ≡ restored same_spot (in_arena (at_bytes (class_number c) b l)) x (kept_of v)
-        same = let q : ArenaSpot = at_bytes (class_number c) b l in let A : List (KeptWord Spot) = renamed in_arena (kept_of_blocks v.blocks.held) in let H : List (KeptWord Spot) = renamed in_headers (kept_of_headers v.headers.held) in
-            ap (λ (ws : List (KeptWord ArenaSpot)). renamed in_arena ws ++ H) (kept_rewritten (class_number c) b l x v.blocks.held (r.whole seat v.blocks (at_map blocks_of vs seat v there)))
-            ∙ (ap (λ (ws : List (KeptWord Spot)). ws ++ H) (sym (renamed_restored in_arena same_arena_spot same_spot q x (kept_of_blocks v.blocks.held) (λ p. refl)))
-            ∙ (ap (λ (ws : List (KeptWord Spot)). restored same_spot (in_arena q) x A ++ ws) (sym (restored_else in_headers same_spot (in_arena q) x (kept_of_headers v.headers.held) (λ p. refl)))
-            ∙ sym (restored_append same_spot (in_arena q) x A H)))
+        of_blocks : (times (in_arena (at_bytes (class_number c) b l)) (kept_of v) ≡ keeps same_arena_spot (at_bytes (class_number c) b l) (kept_of_blocks v.blocks.held) + keeps same_arena_spot (at_bytes (class_number c) b l) (kept_of_blocks (fresh_blocks v.headers.held)))
+            × (0 < keeps same_arena_spot (at_bytes (class_number c) b l) (kept_of_blocks v.blocks.held))
+        of_blocks = (times_in_arena (at_bytes (class_number c) b l) v.blocks v.headers, keeps_some (class_number c) b l v.blocks.held some_of lt)
+
+        not_fresh : keeps same_arena_spot (at_bytes (class_number c) b l) (kept_of_blocks (fresh_blocks v.headers.held)) ≡ 0
+        not_fresh = let t = of_blocks in let t0 = t.0 in let t1 = t.1 in let o1 = k.once (in_arena (at_bytes (class_number c) b l)) in
+            let mine = total_at (times (in_arena (at_bytes (class_number c) b l))) (map kept_of vs) seat (kept_of v) (at_map kept_of vs seat v there) in omega arith
+
+        same : kept_with (record v.blocks { held = rewritten (class_number c) b l x v.blocks.held }) v.headers ≡ restored same_spot (in_arena (at_bytes (class_number c) b l)) x (kept_of v)
+        same = let q : ArenaSpot = at_bytes (class_number c) b l in let A : List (KeptWord Spot) = renamed in_arena (kept_of_blocks v.blocks.held) in let F : List (KeptWord Spot) = renamed in_arena (kept_of_blocks (fresh_blocks v.headers.held)) in
+            let H : List (KeptWord Spot) = renamed in_headers (kept_of_headers v.headers.held) in
+            let F_same : restored same_spot (in_arena q) x F ≡ F = restored_unkept same_spot (in_arena q) x F (renamed_keeps in_arena same_arena_spot same_spot q (kept_of_blocks (fresh_blocks v.headers.held)) (λ p. refl) ∙ not_fresh) in
+            let H_same : restored same_spot (in_arena q) x H ≡ H = restored_else in_headers same_spot (in_arena q) x (kept_of_headers v.headers.held) (λ p. refl) in
+            ap (λ (ws : List (KeptWord ArenaSpot)). renamed in_arena ws ++ (F ++ H)) (kept_rewritten (class_number c) b l x v.blocks.held (r.whole seat v.blocks (at_map blocks_of vs seat v there)))
+            ∙ (ap (λ (ws : List (KeptWord Spot)). ws ++ (F ++ H)) (sym (renamed_restored in_arena same_arena_spot same_spot q x (kept_of_blocks v.blocks.held) (λ p. refl)))
+            ∙ (ap (λ (ws : List (KeptWord Spot)). restored same_spot (in_arena q) x A ++ ws) (sym (restored_append same_spot (in_arena q) x F H ∙ (λ i. F_same i ++ H_same i)))
+            ∙ sym (restored_append same_spot (in_arena q) x A (F ++ H))))
 
   -- one clause for each kind
   pub arena_kept : (x : ArenaStep) → MayArena z x v.blocks → let i = read_arena m.arena (arena_spot x) in
-      KeptNumbersStand same_spot (read (write m (in_arena (arena_spot x)) (arena_effect x i))) (set (map kept_of vs) seat (kept_with (blocks_after m.arena.bytes x i v.blocks) v))
+      KeptNumbersStand same_spot (read (write m (in_arena (arena_spot x)) (arena_effect x i))) (set (map kept_of vs) seat (kept_with (blocks_after m.arena.bytes x i v.blocks) v.headers))
   arena_kept (take_bit c b) may = take_kept c b (arena_effect (take_bit c b) (n c b))
   arena_kept (clear_bit c b) may = clear_kept c b (arena_effect (clear_bit c b) (n c b))
   arena_kept (store_word c b l x) may = store_kept c b l x may.block.held may.word

@@ -19,7 +19,7 @@ use Rattle.oak_core.specs.Rule.{WordsStand, NumbersStand, FindingsHold, SpentIsS
 use Rattle.oak_core.specs.Schedule.{opening_number, opening}
 use Rattle.oak_core.proofs.Words.{first_word, memory_read}
 use Rattle.oak_core.proofs.Found.{none_met}
-use Rattle.oak_core.proofs.OpeningBlocks.{opening_blocks}
+use Rattle.oak_core.proofs.OpeningBlocks.{opening_blocks, opening_headers}
 
 either_small : (b : Bool) (x y : ℕ) → x < 2 ^ 64 → y < 2 ^ 64 → cond b x y < 2 ^ 64
 either_small true x y h k = h
@@ -77,6 +77,7 @@ module _ (z : Sizes) (g : ℕ) (is : IsInLimits z) (lt : g < 2 ^ 32) where
     histories = λ k. every_one _ first_state.knowledge tt;
     spent = every_one SpentIsSpent first_state (λ e. absurd (true≢false (sym e)));
     blocks = opening_blocks z g;
+    headers = opening_headers z g;
     kept = opening_kept;
   }
 

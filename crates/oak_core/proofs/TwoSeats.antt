@@ -5,37 +5,50 @@ use mathlib.Core.Option.{some}
 use lib.ListN.{get_elem?}
 use Rattle.oak_model.specs.Limits.{Sizes}
 use Rattle.oak_model.specs.Counts.{one_at, total, below, Begins}
-use Rattle.oak_model.specs.Kept.{KeptNumbersStand, renamed}
+use Rattle.oak_model.specs.Kept.{KeptNumbersStand}
 use Rattle.oak_model.proofs.Lists.{at_map, map_set_same, set_else, each_append}
 use Rattle.oak_model.proofs.Counting.{total_append, below_add, below_same}
-use Rattle.oak_model.proofs.Changes.{Change, divided, joined, change_parts}
+use Rattle.oak_model.proofs.Changes.{Change, divided, joined, change_parts, change_level}
 use Rattle.oak_model.proofs.KeptLaws.{kept_idle}
 use Rattle.arena_core.specs.declared.blocks.HeldBlocks.{HeldBlocks}
 use Rattle.arena_core.specs.Blocks.{holds}
 use Rattle.arena_core.specs.HeldBlocks.{no_blocks, kept_of_blocks}
 use Rattle.arena_core.proofs.OwnedBlocks.{blocks_frame}
-use Rattle.header_core.specs.HeaderHolds.{kept_of_headers}
+use Rattle.arena_core.specs.Place.{IsPlace, content}
+use Rattle.header_core.specs.declared.holds.HeaderHolds.{HeaderHolds}
+use Rattle.header_core.specs.HeaderHolds.{no_headers, kept_of_headers}
+use Rattle.header_core.proofs.HeaderLaws.{headers_divided, headers_joined}
 use Rattle.oak_core.specs.declared.states.Joined.{Joined}
 use Rattle.oak_core.specs.declared.states.KeyedWrite.{KeyedWrite}
 use Rattle.oak_core.specs.declared.states.Knowledge.{Knowledge}
 use Rattle.oak_core.specs.declared.states.PassState.{PassState}
-use Rattle.oak_core.specs.Memory.{Memory, in_arena, in_headers, same_spot, read, memory}
-use Rattle.oak_core.specs.PassState.{blocks_of, numbers_of, findings_of, knowledge_of, kept_of, rooted, in_hand, has_number, is_parent, of_key, seen_of, history, number_in, left_state, right_state, joined_from, both_state, spent_state}
-use Rattle.oak_core.specs.Lack.{FullsStand}
+use Rattle.oak_core.specs.Memory.{Memory, same_spot, read, memory}
+use Rattle.oak_core.specs.PassState.{blocks_of, headers_held, numbers_of, findings_of, knowledge_of, kept_of, rooted, in_hand, has_number, is_parent, of_key, seen_of, history, number_in, left_state, right_state, joined_from, both_state, spent_state}
 use Rattle.oak_core.specs.TableState.{TableState}
-use Rattle.oak_core.specs.Rule.{FindingsHold, SpentIsSpent, JoinedStand, other_owners, Rule}
+use Rattle.oak_core.specs.Rule.{FindingsHold, SpentIsSpent, JoinedStand, Rule}
+use Rattle.oak_core.specs.Owners.{other_owners, has_fresh}
+use Rattle.oak_core.specs.Lack.{FullsStand}
 use Rattle.oak_core.specs.Schedule.{MaySplit, MayJoin}
+use Rattle.oak_core.proofs.KeptWords.{kept_with}
 use Rattle.oak_core.proofs.GivenNumbers.{numbers_frame}
 use Rattle.oak_core.proofs.Found.{none_met}
 use Rattle.oak_core.proofs.Histories.{histories_frame, seen_both}
 
 -- a pass that holds nothing owns no block
-level : (c b : ℕ) (a : HeldBlocks) → total (holds c b) (a ∷ no_blocks ∷ []) + 0 ≡ total (holds c b) (a ∷ []) + 0
+level : (c b o : ℕ) (a : HeldBlocks) → total (holds c b) (a ∷ no_blocks ∷ []) + o ≡ total (holds c b) (a ∷ []) + o
 unfolding total
-level c b a = omega arith
+level c b o a = omega arith
 
-level-both : (c b : ℕ) (a e : HeldBlocks) → e ≡ no_blocks → total (holds c b) (a ∷ no_blocks ∷ []) + 0 ≡ total (holds c b) (a ∷ e ∷ []) + 0
-level-both c b a e is = ap (λ (h : HeldBlocks). total (holds c b) (a ∷ h ∷ []) + 0) (sym is)
+level-both : (c b o : ℕ) (a e : HeldBlocks) → e ≡ no_blocks → total (holds c b) (a ∷ no_blocks ∷ []) + o ≡ total (holds c b) (a ∷ e ∷ []) + o
+level-both c b o a e is = ap (λ (h : HeldBlocks). total (holds c b) (a ∷ h ∷ []) + o) (sym is)
+
+-- and has no fresh header
+fresh_level : (c b : ℕ) (a : HeaderHolds) → total (has_fresh c b) (a ∷ no_headers ∷ []) ≡ total (has_fresh c b) (a ∷ [])
+unfolding total
+fresh_level c b a = omega arith
+
+fresh_level-both : (c b : ℕ) (a e : HeaderHolds) → e ≡ no_headers → total (has_fresh c b) (a ∷ no_headers ∷ []) ≡ total (has_fresh c b) (a ∷ e ∷ [])
+fresh_level-both c b a e is = ap (λ (h : HeaderHolds). total (has_fresh c b) (a ∷ h ∷ [])) (sym is)
 
 module _ (z : Sizes) (s : TableState) (seat : ℕ) (v : PassState) (r : Rule z s) (here : get_elem? s.states seat ≡ some v) where
   abbrev m : Memory
@@ -76,7 +89,11 @@ module _ (z : Sizes) (s : TableState) (seat : ℕ) (v : PassState) (r : Rule z s
       histories = histories_frame (change_parts knowledge_of apart) seat v.knowledge (at_map knowledge_of s.states seat v here) r.histories
           (λ k. let h = r.histories k seat v.knowledge (at_map knowledge_of s.states seat v here) in (h, (h, tt)))
           (λ k y g. (v.knowledge, (change_parts knowledge_of apart).come.0, ⊎_elim (λ (q : v.knowledge ≡ y). let e = ap (λ (z : Knowledge). length (seen_of k z)) q in omega arith) (λ (q : ⊥). absurd q) g));
-      blocks = blocks_frame z m.arena.bits other_owners other_owners (change_parts blocks_of apart) r.blocks (r.blocks.whole seat v.blocks (at_map blocks_of s.states seat v here), (tt, tt)) (λ c b. level c b v.blocks);
+      blocks = blocks_frame z m.arena.bits (other_owners z m.headers) (other_owners z m.headers) (change_parts blocks_of apart) r.blocks (r.blocks.whole seat v.blocks (at_map blocks_of s.states seat v here), (tt, tt)) (λ c b. level c b (other_owners z m.headers c b) v.blocks);
+      headers = record {
+        stand = headers_divided m.headers (content m.arena.bytes) IsPlace (λ _. 0) r.headers.stand v.headers (change_parts headers_held apart) (seat, at_map headers_held s.states seat v here);
+        blocks = λ c b. let l = change_level (change_parts headers_held apart) (has_fresh c b) (fresh_level c b v.headers) in let o = r.headers.blocks c b in omega arith;
+      };
       spent = apart.every SpentIsSpent ((λ e. absurd (true≢false (sym e ∙ may.going))), ((λ e. absurd (true≢false (sym e))), tt)) (λ j u _ at. r.spent j u at);
       kept = subst (KeptNumbersStand same_spot (read m)) (sym same_kept) (kept_idle same_spot (read m) (map kept_of s.states) r.kept);
     }
@@ -121,7 +138,7 @@ module _ (z : Sizes) (s : TableState) (seat : ℕ) (v : PassState) (r : Rule z s
 
     kept_w : kept_of w ≡ []
     unfolding kept_of_blocks kept_of_headers
-    kept_w = λ i. renamed in_arena (kept_of_blocks (may.idle.blocks i).held) ++ renamed in_headers (kept_of_headers (may.idle.headers i).held)
+    kept_w = λ i. kept_with (may.idle.blocks i) (may.idle.headers i)
 
     kept_spent : kept_of spent_state ≡ []
     unfolding kept_of_blocks kept_of_headers
@@ -147,7 +164,11 @@ module _ (z : Sizes) (s : TableState) (seat : ℕ) (v : PassState) (r : Rule z s
             ⊎_elim (λ (q : v.knowledge ≡ y). let e = ap (λ (z : Knowledge). length (seen_of k z)) q in omega arith)
                 (λ (q : (w.knowledge ≡ y) ⊎ ⊥). ⊎_elim (λ (q : w.knowledge ≡ y). let e = ap (λ (z : Knowledge). length (seen_of k z)) q in omega arith) (λ (q : ⊥). absurd q) q) g,
           ));
-      blocks = blocks_frame z m.arena.bits other_owners other_owners (change_parts blocks_of together) r.blocks (r.blocks.whole seat v.blocks (at_map blocks_of s.states seat v here), (tt, tt)) (λ c b. level-both c b v.blocks w.blocks may.idle.blocks);
+      blocks = blocks_frame z m.arena.bits (other_owners z m.headers) (other_owners z m.headers) (change_parts blocks_of together) r.blocks (r.blocks.whole seat v.blocks (at_map blocks_of s.states seat v here), (tt, tt)) (λ c b. level-both c b (other_owners z m.headers c b) v.blocks w.blocks may.idle.blocks);
+      headers = record {
+        stand = headers_joined m.headers (content m.arena.bytes) IsPlace (λ _. 0) r.headers.stand v.headers w.headers (change_parts headers_held together) (seat, at_map headers_held s.states seat v here) may.idle.headers;
+        blocks = λ c b. let l = change_level (change_parts headers_held together) (has_fresh c b) (fresh_level-both c b v.headers w.headers may.idle.headers) in let o = r.headers.blocks c b in omega arith;
+      };
       spent = together.every SpentIsSpent ((λ e. absurd (true≢false (sym e ∙ going))), ((λ _. refl), tt)) (λ j u _ at. r.spent j u at);
       kept = subst (KeptNumbersStand same_spot (read m)) (sym same_words) r.kept;
     }

@@ -5,6 +5,7 @@ use Rattle.oak_model.specs.KeyNumber.{key_number}
 use Rattle.oak_model.specs.Kept.{KeptWord, renamed}
 use Rattle.arena_core.specs.declared.blocks.HeldBlocks.{HeldBlocks}
 use Rattle.arena_core.specs.HeldBlocks.{no_blocks, kept_of_blocks}
+use Rattle.header_core.specs.declared.holds.HeaderHolds.{HeaderHolds}
 use Rattle.header_core.specs.HeaderHolds.{no_headers, kept_of_headers}
 use Rattle.chunk_core.specs.RoomHolds.{no_rooms}
 use Rattle.oak_core.specs.declared.states.KeyedWrite.{KeyedWrite}
@@ -14,9 +15,13 @@ use Rattle.oak_core.specs.declared.states.Joined.{Joined}
 use Rattle.oak_core.specs.declared.states.Numbers.{Numbers}
 use Rattle.oak_core.specs.declared.states.PassState.{PassState}
 use Rattle.oak_core.specs.Memory.{Spot, in_arena, in_headers}
+use Rattle.oak_core.specs.Owners.{fresh_blocks}
 
 abbrev pub blocks_of : PassState → HeldBlocks
 blocks_of v = v.blocks
+
+abbrev pub headers_held : PassState → HeaderHolds
+headers_held v = v.headers
 
 abbrev pub numbers_of : PassState → Numbers
 numbers_of v = v.numbers
@@ -27,9 +32,12 @@ findings_of v = v.findings
 abbrev pub knowledge_of : PassState → Knowledge
 knowledge_of v = v.knowledge
 
--- the words that no other pass may change, each with its number
+-- the words that no other pass may change, each with its number: those of its blocks, and with its headers, those of the blocks of fresh ones and the place and stamp words
+abbrev pub kept_with_headers : PassState → List (KeptWord Spot)
+kept_with_headers v = renamed in_arena (kept_of_blocks (fresh_blocks v.headers.held)) ++ renamed in_headers (kept_of_headers v.headers.held)
+
 abbrev pub kept_of : PassState → List (KeptWord Spot)
-kept_of v = renamed in_arena (kept_of_blocks v.blocks.held) ++ renamed in_headers (kept_of_headers v.headers.held)
+kept_of v = renamed in_arena (kept_of_blocks v.blocks.held) ++ kept_with_headers v
 
 -- numbers
 

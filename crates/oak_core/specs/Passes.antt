@@ -21,6 +21,10 @@ call_of p = p.call
 abbrev pub searches : Pass → List ℕ
 searches p = p.searches
 
+-- the header at which its next search for a free one begins
+abbrev pub header_search : Pass → ℕ
+header_search p = p.header_search
+
 -- the pass belongs to the table
 abbrev pub IsPassOf : OakTable → Pass → Type 0
 IsPassOf t p = p.seat.table_id ≡ t.table.shared.table_id
@@ -37,3 +41,6 @@ pub record Turns (p q : Pass) (next : ℕ) : Type 0 where
   pub seat : q.seat.id ≡ p.seat.id
   pub call : q.call ≡ next
   pub state : q.seat.me ≡ p.seat.me
+  pub searches : q.searches ≡ p.searches
+  pub header_search : q.header_search ≡ p.header_search
+  pub scratch : q.scratch ≡ p.scratch

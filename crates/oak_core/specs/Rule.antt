@@ -13,8 +13,9 @@ use Rattle.oak_core.specs.declared.states.Numbers.{Numbers}
 use Rattle.oak_core.specs.declared.states.PassState.{PassState}
 use Rattle.oak_core.specs.Memory.{memory, read, same_spot, word_count}
 use Rattle.oak_core.specs.Finding.{Shows}
+use Rattle.oak_core.specs.Owners.{other_owners, HeadersAreHeld}
+use Rattle.oak_core.specs.PassState.{blocks_of, headers_held, numbers_of, findings_of, knowledge_of, kept_of, has_number, is_parent, of_key, history, spent_state}
 use Rattle.oak_core.specs.Lack.{FullsStand}
-use Rattle.oak_core.specs.PassState.{blocks_of, numbers_of, findings_of, knowledge_of, kept_of, has_number, is_parent, of_key, history, spent_state}
 use Rattle.oak_core.specs.TableState.{TableState}
 
 -- the words are as many as the layout says, and each is one of 64 bits
@@ -53,10 +54,6 @@ HistoriesStand qs = (k : ℕ) → Every (λ (q : Knowledge). Each (λ (l : List 
 abbrev pub SpentIsSpent : PassState → Type 0
 SpentIsSpent v = v.numbers.spent ≡ true → v ≡ spent_state
 
--- how many owners a block has beside the passes that hold it
-abbrev pub other_owners : ℕ → ℕ → ℕ
-other_owners c b = 0
-
 pub record Rule (z : Sizes) (s : TableState) : Type 0 where
   pub sizes : IsInLimits z
   pub words : WordsStand z s.words
@@ -65,5 +62,6 @@ pub record Rule (z : Sizes) (s : TableState) : Type 0 where
   pub joined : Every (JoinedStand z) s.states
   pub histories : HistoriesStand (map knowledge_of s.states)
   pub spent : Every SpentIsSpent s.states
-  pub blocks : BlocksAreOwned z (memory z s.words).arena.bits other_owners (map blocks_of s.states)
+  pub blocks : BlocksAreOwned z (memory z s.words).arena.bits (other_owners z (memory z s.words).headers) (map blocks_of s.states)
+  pub headers : HeadersAreHeld z (memory z s.words).headers (memory z s.words).arena.bytes (map headers_held s.states)
   pub kept : KeptNumbersStand same_spot (read (memory z s.words)) (map kept_of s.states)

@@ -8,7 +8,15 @@ use Rattle.oak_model.specs.Limits.{Sizes}
 use Rattle.oak_core.specs.declared.states.Numbers.{Numbers}
 use Rattle.oak_core.specs.declared.states.PassState.{PassState}
 use Rattle.arena_core.specs.ArenaStep.{ArenaStep, arena_spot, arena_effect, arena_found, MayArena, blocks_after}
-use Rattle.oak_core.specs.Memory.{Spot, at_given, in_arena, index, IsInside, memory}
+use Rattle.arena_core.specs.declared.blocks.HeldBlocks.{HeldBlocks}
+use Rattle.arena_core.specs.Blocks.{HoldsBlock, block_from, without}
+use Rattle.arena_core.specs.Place.{IsPlace, class_in, block_in, class_from, content}
+use Rattle.header_core.specs.declared.holds.HeldAs.{HeldAs}
+use Rattle.header_core.specs.declared.holds.HeldAs.TheVariants.{Owned, Fresh}
+use Rattle.header_core.specs.Headers.{IsInHeaders}
+use Rattle.header_core.specs.HeaderHolds.{place_held}
+use Rattle.header_core.specs.HeaderStep.{HeaderStep, open_header, release_header, header_spot, header_effect, header_found, MayHeader, headers_after}
+use Rattle.oak_core.specs.Memory.{Memory, Spot, at_given, in_arena, in_headers, index, IsInside, memory}
 use Rattle.oak_core.specs.Finding.{finding, noted, Shows}
 use Rattle.oak_core.specs.Lack.{Lacks, full_state}
 use Rattle.oak_core.specs.TableState.{TableState}
@@ -21,6 +29,8 @@ pub data Step : Type 0 where
   give_number : ℕ → Step
   -- a step on a word of the arena
   on_arena : ArenaStep → Step
+  -- a step on a word of a header
+  on_headers : HeaderStep → Step
   -- word 0 is loaded, and the call is noted as one that lacks something; it began where so many findings were met
   note_full : Lack → ℕ → Step
 
@@ -28,6 +38,7 @@ abbrev pub spot : Step → Spot
 spot (load p) = p
 spot (give_number k) = at_given
 spot (on_arena a) = in_arena (arena_spot a)
+spot (on_headers x) = in_headers (header_spot x)
 spot (note_full lack began) = at_given
 
 -- what the word n becomes
@@ -35,6 +46,7 @@ abbrev pub effect : Step → ℕ → ℕ
 effect (load p) n = n
 effect (give_number k) n = bit_or n (2 ^ k)
 effect (on_arena a) n = arena_effect a n
+effect (on_headers x) n = header_effect x n
 effect (note_full lack began) n = n
 
 -- the pass has no number in hand, and found all lower numbers given
@@ -43,11 +55,26 @@ pub record MayGive (z : Sizes) (k : ℕ) (v : PassState) : Type 0 where
   pub hand : v.numbers.hand ≡ None
   pub lower : (j : ℕ) → j < k → Shows v.findings.met 0 (λ n. bit_at n j ≡ 1)
 
+-- an owned header is opened with a block that the pass holds, of the class that its length has
+pub record MayOpen (z : Sizes) (h : ℕ) (v : PassState) : Type 0 where
+  pub place : IsPlace (place_held h v.headers.held)
+  pub block : HoldsBlock z (class_in (place_held h v.headers.held)) (block_in (place_held h v.headers.held)) v.blocks
+
+abbrev pub MayWithBlock : Sizes → HeaderStep → PassState → Type 0
+MayWithBlock z (open_header h) v = MayOpen z h v
+MayWithBlock z _ v = Unit {0}
+
+pub record MayOnHeaders (z : Sizes) (x : HeaderStep) (v : PassState) : Type 0 where
+  pub inside : IsInHeaders z (header_spot x)
+  pub headers : MayHeader x v.headers
+  pub block : MayWithBlock z x v
+
 -- what the step asks of the pass in its present call
 abbrev pub May : Sizes → ℕ → Step → PassState → Type 0
 May z call (load p) v = IsInside z p
 May z call (give_number k) v = MayGive z k v
 May z call (on_arena a) v = MayArena z a v.blocks
+May z call (on_headers x) v = MayOnHeaders z x v
 May z call (note_full lack began) v = Lacks z call lack began (length v.findings.met) v.findings
 
 -- the number that the step finds
@@ -58,6 +85,17 @@ found z x s = slice_index s.words (index z (spot x))
 abbrev pub numbered : ℕ → ℕ → Numbers → Numbers
 numbered n k a = record a { hand = cond (bit_at n k == 0) (Some k) a.hand; made = cond (bit_at n k == 0) (a.made ++ k ∷ []) a.made }
 
+-- a fresh header's block is held before it is opened, and after it is released
+
+abbrev pub block_regained : HeldAs → (ℕ → ℕ → ℕ → ℕ) → ℕ → HeldBlocks → HeldBlocks
+block_regained Owned bytes place a = a
+block_regained Fresh bytes place a = record a { held = block_from bytes (class_from (class_in place)) (block_in place) ∷ a.held }
+
+abbrev pub blocks_with : HeaderStep → Memory → HeldBlocks → HeldBlocks
+blocks_with (open_header h) m a = record a { held = without (class_in (m.headers.place h)) (block_in (m.headers.place h)) a.held }
+blocks_with (release_header h s) m a = block_regained s m.arena.bytes (m.headers.place h) a
+blocks_with _ m a = a
+
 -- the state of the pass after the step
 abbrev pub state_after : Sizes → ℕ → Step → TableState → PassState → PassState
 state_after z call (load p) s v = let n = found z (load p) s in noted (finding z call p (Some n) n v) v
@@ -65,6 +103,9 @@ state_after z call (give_number k) s v = let n = found z (give_number k) s in re
 state_after z call (on_arena a) s v =
     let n = found z (on_arena a) s in
     record (noted (finding z call (in_arena (arena_spot a)) (arena_found a n) (arena_effect a n) v) v) { blocks = blocks_after (memory z s.words).arena.bytes a n v.blocks }
+state_after z call (on_headers x) s v =
+    let n = found z (on_headers x) s in let m = memory z s.words in
+    record (noted (finding z call (in_headers (header_spot x)) (header_found x n) (header_effect x n) v) v) { blocks = blocks_with x m v.blocks; headers = headers_after m.headers (content m.arena.bytes) x v.headers }
 state_after z call (note_full lack began) s v = let n = found z (note_full lack began) s in full_state call lack (finding z call at_given (Some n) n v) v
 
 -- the state of the table after the step of one seat

@@ -1,6 +1,7 @@
 //! One function for each operation on a word. What a step tells is picked by its caller, since a step
 //! on a word sees neither the call nor what the word is for.
-ghost use Rattle.std.specs.Prelude.{◌≡◌, ℕ, ◌<◌, bit_and, bit_or};
+ghost use Rattle.std.specs.Prelude.{◌≡◌, ℕ, ◌<◌, ◌+◌, ◌-◌, ◌%◌, ◌^◌, ◌==◌, bit_and, bit_or};
+ghost use prog.Atomic.{either};
 ghost use Rattle.atomic_table.specs.Table.{Allows};
 ghost use Rattle.oak_core.specs.declared.states.PassState.{PassState};
 ghost use Rattle.oak_core.specs.Running.{Holds, KeepsSeat};
@@ -75,4 +76,67 @@ pub(crate) fn store_said<T: Said>(table: &OakTable, pass: &mut Pass, word: usize
         .table
         .shared
         .store::<Says<T>>(&mut pass.seat, word, value);
+}
+
+pub(crate) fn add_said<T: Said>(table: &OakTable, pass: &mut Pass, word: usize, amount: u64) -> u64
+    requires own { IsPassOf table.now pass.old }
+    requires inside { word < table.now.table.shared.table_id.words }
+    requires rule { Allows (Holds (key table.now)) table.now.table.shared.table_id.slots pass.old.seat.id pass.old.seat.me word (λ n. (n + amount) % 2 ^ 64) (λ n m. T.told n m.0 × KeepsSeat pass.old.seat.me m) }
+    ensures own { Stays pass.old pass.new }
+    ensures told { T.told result (state pass.new) }
+{
+    table
+        .table
+        .shared
+        .fetch_add::<Says<T>>(&mut pass.seat, word, amount)
+}
+
+/// Adds as [`add_said`] does; what it tells may name the number that is wanted.
+pub(crate) fn add_wanted<T: Said>(
+    table: &OakTable,
+    pass: &mut Pass,
+    word: usize,
+    amount: u64,
+    wanted: u64,
+) -> u64
+    requires own { IsPassOf table.now pass.old }
+    requires inside { word < table.now.table.shared.table_id.words }
+    requires rule { Allows (Holds (key table.now)) table.now.table.shared.table_id.slots pass.old.seat.id pass.old.seat.me word (λ n. (n + amount) % 2 ^ 64) (λ n m. T.told n m.0 × KeepsSeat pass.old.seat.me m) }
+    ensures own { Stays pass.old pass.new }
+    ensures told { T.told result (state pass.new) }
+{
+    let _ = wanted;
+    add_said::<T>(table, pass, word, amount)
+}
+
+pub(crate) fn sub_said<T: Said>(table: &OakTable, pass: &mut Pass, word: usize, amount: u64) -> u64
+    requires own { IsPassOf table.now pass.old }
+    requires inside { word < table.now.table.shared.table_id.words }
+    requires rule { Allows (Holds (key table.now)) table.now.table.shared.table_id.slots pass.old.seat.id pass.old.seat.me word (λ n. (n + (2 ^ 64 - amount)) % 2 ^ 64) (λ n m. T.told n m.0 × KeepsSeat pass.old.seat.me m) }
+    ensures own { Stays pass.old pass.new }
+    ensures told { T.told result (state pass.new) }
+{
+    table
+        .table
+        .shared
+        .fetch_sub::<Says<T>>(&mut pass.seat, word, amount)
+}
+
+pub(crate) fn exchange_said<T: Said>(
+    table: &OakTable,
+    pass: &mut Pass,
+    word: usize,
+    old: u64,
+    new: u64,
+) -> u64
+    requires own { IsPassOf table.now pass.old }
+    requires inside { word < table.now.table.shared.table_id.words }
+    requires rule { Allows (Holds (key table.now)) table.now.table.shared.table_id.slots pass.old.seat.id pass.old.seat.me word (λ n. either (n == old) new n) (λ n m. T.told n m.0 × KeepsSeat pass.old.seat.me m) }
+    ensures own { Stays pass.old pass.new }
+    ensures told { T.told result (state pass.new) }
+{
+    table
+        .table
+        .shared
+        .compare_exchange::<Says<T>>(&mut pass.seat, word, old, new)
 }

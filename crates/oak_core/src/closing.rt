@@ -52,6 +52,7 @@ impl OakTable {
             call: _,
             scratch: _,
             searches: _,
+            header_search: _,
         } = pass;
         Closed {
             table: table.close_with(seat),

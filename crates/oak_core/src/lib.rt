@@ -4,6 +4,9 @@
 mod atoms;
 pub mod blocks;
 pub mod closing;
+pub mod fresh;
+mod header_steps;
+pub mod headers;
 pub mod layout;
 pub mod loads;
 pub mod notes;
@@ -19,6 +22,7 @@ pub mod writing;
 
 pub use blocks::Block;
 pub use closing::Closed;
+pub use fresh::Fresh;
 pub use loads::load;
 pub use passes::SplitFault;
 pub use schedules::every_schedule;

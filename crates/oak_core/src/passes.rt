@@ -79,6 +79,7 @@ impl OakTable {
             call: 0,
             scratch,
             searches: [0; CLASSES],
+            header_search: 0,
         };
         Ok((table, pass))
     }
@@ -118,6 +119,7 @@ impl Pass {
             call: 0,
             scratch,
             searches: [0; CLASSES],
+            header_search: 0,
         }
     }
 
@@ -161,6 +163,7 @@ impl Pass {
             call: _,
             scratch: _,
             searches: _,
+            header_search: _,
         } = other;
         table.table.shared.join_seat::<Glue>(&mut self.seat, seat);
     }

@@ -8,6 +8,9 @@ ghost use Rattle.oak_core.specs.ArenaCalls.{NamesBit, NamesMask, NamesWord, Sets
 ghost use Rattle.oak_core.specs.Passes.{IsPassOf, Stays, state, key, call_of};
 
 use crate::atoms::{and_said, or_said, store_said};
+pub use crate::header_steps::{
+    claim_header, open_header, pin_header, release_header, store_field, unpin_header,
+};
 use crate::table::{OakTable, Pass};
 use std::marker::Brand;
 

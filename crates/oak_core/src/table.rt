@@ -36,6 +36,7 @@ pub struct Pass {
     pub(crate) call: u32,
     pub(crate) scratch: Writing,
     pub(crate) searches: [u32; CLASSES],
+    pub(crate) header_search: u32,
     ghost idle: { seat.me.1 ≡ [] },
     ghost going: { seat.me.0.numbers.spent ≡ false },
 }

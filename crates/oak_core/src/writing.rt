@@ -1,4 +1,7 @@
 ghost use Rattle.std.specs.Prelude.{◌≡◌, ◌<◌, ◌↔◌, IsTrue, [], IfOk, slice_index, slice_set, length};
+ghost use Rattle.std.specs.List.{refill};
+ghost use Rattle.std.specs.Borrow.{Lends, Array, sem, u8 as byte};
+ghost use Rattle.oak_core.specs.contracts.writing.Writing.{the_row};
 
 use oak_model::{GREATEST_VALUE, OutOfMemory};
 use std::alloc::Global;
@@ -52,6 +55,16 @@ impl Writing {
         ensures { result ≡ slice_index self.now i }
     {
         self.bytes[i]
+    }
+
+    /// All of its bytes, to be changed in place.
+    pub fn bytes_mut(&mut self) -> &mut [u8]
+        ensures* writes_back { sem 𝓛 (Lends the_row (Array byte 0) self.entry result
+            (refill (length self.old) self.old)) }
+        ensures value { result.now ≡ self.old }
+    {
+        let len = self.len;
+        self.bytes.slice_mut(..len)
     }
 
     /// Byte `i` becomes `b`.

@@ -1,0 +1,75 @@
+-- The points on headers stand after a step on the arena: a block that a header has is no pass's, so no pass stores to it.
+use Rattle.std.proofs.Common.{◌≡◌, ◌≢◌, ℕ, ◌+◌, ◌*◌, ◌<◌, ◌≤◌, ◌==◌, ◌&&◌, cond, eqb, Bool, false, List, map, sym, refl, ap, ◌∙◌, subst, arith, ne_eqb, Option, Some}
+use mathlib.Core.Logic.{dite}
+use native.Mathlib.Decide.{ℕ_discrete}
+use mathlib.Core.Option.{some}
+use lib.ListN.{get_elem?}
+use Rattle.pin_word.specs.PinWord.{state_of}
+use Rattle.oak_model.specs.Limits.{Sizes}
+use Rattle.oak_model.specs.Counts.{one_at}
+use Rattle.oak_model.specs.Class.{class_number}
+use Rattle.oak_model.proofs.Lists.{at_map}
+use Rattle.oak_model.proofs.Counting.{one_at-same}
+use Rattle.oak_model.proofs.RowLaws.{rows_same}
+use Rattle.arena_core.specs.Arena.{block_words}
+use Rattle.arena_core.specs.ArenaStep.{ArenaStep, take_bit, clear_bit, store_word, arena_spot, MayArena}
+use Rattle.arena_core.specs.Blocks.{holds, BlocksAreOwned}
+use Rattle.arena_core.specs.Place.{IsPlace, class_in, block_in, names_block, content}
+use Rattle.arena_core.specs.Arena.{at_bytes}
+use Rattle.arena_core.proofs.ArenaSteps.{held_once}
+use Rattle.header_core.specs.declared.states.TheConstants.{LIVE}
+use Rattle.header_core.specs.declared.holds.HeaderHolds.{HeaderHolds}
+use Rattle.header_core.specs.declared.holds.PinnedHeader.{PinnedHeader}
+use Rattle.header_core.specs.HeaderRule.{stocked, IsGood, PinHolds, GoodPinHolds, OnPin}
+use Rattle.header_core.proofs.HeaderLaws.{content_frame}
+use Rattle.oak_core.specs.declared.states.PassState.{PassState}
+use Rattle.oak_core.specs.Memory.{Memory, in_arena, write}
+use Rattle.oak_core.specs.Owners.{has_block, other_owners, HeadersAreHeld}
+use Rattle.oak_core.specs.PassState.{blocks_of, headers_held}
+use Rattle.oak_core.proofs.OwnerLaws.{owner_counts}
+
+-- a block that the word does not name is not what the word names
+other_content : (m : Memory) (c b k x word : ℕ) → ¬ ((class_in word ≡ c) × (block_in word ≡ b)) → content (write m (in_arena (at_bytes c b k)) x).arena.bytes word ≡ content m.arena.bytes word
+other_content m c b k x word ne = rows_same 0 (block_words (class_in word)) ((write m (in_arena (at_bytes c b k)) x).arena.bytes (class_in word) (block_in word)) (m.arena.bytes (class_in word) (block_in word)) (λ l _ _. same l)
+  where
+    same : (l : ℕ) → cond ((class_in word == c) && ((block_in word == b) && (l == k))) x (m.arena.bytes (class_in word) (block_in word) l) ≡ m.arena.bytes (class_in word) (block_in word) l
+    same l = dite (ℕ_discrete (class_in word) c)
+        (λ e. dite (ℕ_discrete (block_in word) b) (λ f. absurd (ne (e, f))) (λ nf. ap (λ (t : Bool). cond ((class_in word == c) && (t && (l == k))) x (m.arena.bytes (class_in word) (block_in word) l)) (ne_eqb _ _ nf) ∙ neither (class_in word == c) l))
+        (λ n. ap (λ (t : Bool). cond (t && ((block_in word == b) && (l == k))) x (m.arena.bytes (class_in word) (block_in word) l)) (ne_eqb _ _ n))
+      where
+        neither : (t : Bool) (l : ℕ) → cond (t && false) x (m.arena.bytes (class_in word) (block_in word) l) ≡ m.arena.bytes (class_in word) (block_in word) l
+        neither Rattle.std.proofs.Common.true l = refl
+        neither Rattle.std.proofs.Common.false l = refl
+
+names_named : (c b word : ℕ) → class_in word ≡ c → block_in word ≡ b → names_block c b word ≡ 1
+names_named c b word e f = let a = one_at-same (class_in word) c e in let d = one_at-same (block_in word) b f in (λ i. a i * d i)
+
+pub live_stocked : (s : ℕ) → s ≡ LIVE → stocked s ≡ 1
+unfolding one_at
+live_stocked s e = ap stocked e
+
+-- a pin that the rule has of a state
+pub pin_fact : (P : PinnedHeader → Type 0) (o : Option PinnedHeader) (p : PinnedHeader) → o ≡ Some p → OnPin P o → P p
+pin_fact P o p e f = subst (OnPin P) e f
+
+module _ (z : Sizes) (m : Memory) (vs : List PassState) (seat : ℕ) (v : PassState) (there : get_elem? vs seat ≡ some v) (r : BlocksAreOwned z m.arena.bits (other_owners z m.headers) (map blocks_of vs))
+    (hr : HeadersAreHeld z m.headers m.arena.bytes (map headers_held vs)) (inside : (h : ℕ) → 0 < stocked (state_of (m.headers.pin h)) → h < z.headers) where
+  -- a block under a good pin is held by no pass
+  pub pinned_unheld : (j : ℕ) (u : HeaderHolds) (p : PinnedHeader) (c b : ℕ) → get_elem? (map headers_held vs) j ≡ some u → u.pin ≡ Some p → IsGood p → 0 < holds c b v.blocks → ¬ ((class_in p.place ≡ c) × (block_in p.place ≡ b))
+  pinned_unheld j u p c b at is good held same =
+      let holds_it : PinHolds m.headers (content m.arena.bytes) p = pin_fact (GoodPinHolds m.headers (content m.arena.bytes)) u.pin p is (hr.stand.good j u at) good in
+      let live = live_stocked (state_of (m.headers.pin p.header)) holds_it.live in
+      let lt = inside p.header (omega arith) in
+      let counts = owner_counts z m.headers p.header c b lt in
+      let none = (held_once z m.arena (other_owners z m.headers) (map blocks_of vs) seat v.blocks (at_map blocks_of vs seat v there) r c b held).3 in
+      let one : has_block m.headers c b p.header ≡ 1 = (λ i. live i * names_block c b (holds_it.place i)) ∙ (λ i. 1 * names_named c b p.place same.0 same.1 i) in
+      omega arith
+
+  pub headers_on_arena : (x : ArenaStep) (y : ℕ) → MayArena z x v.blocks → HeadersAreHeld z m.headers (write m (in_arena (arena_spot x)) y).arena.bytes (map headers_held vs)
+  headers_on_arena (take_bit c b) y may = hr
+  headers_on_arena (clear_bit c b) y may = hr
+  headers_on_arena (store_word c b k x) y may = record {
+    stand = content_frame m.headers (content m.arena.bytes) (content (write m (in_arena (at_bytes (class_number c) b k)) y).arena.bytes) IsPlace (λ _. 0) (map headers_held vs)
+        (λ j u p at is good. other_content m (class_number c) b k y p.place (pinned_unheld j u p (class_number c) b at is good may.block.held)) hr.stand;
+    blocks = hr.blocks;
+  }

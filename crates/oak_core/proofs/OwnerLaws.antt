@@ -1,0 +1,46 @@
+-- Owners of blocks that are headers, where the words of one header change.
+use Rattle.std.proofs.Common.{◌≡◌, ◌≢◌, ℕ, zero, suc, ◌+◌, ◌*◌, ◌<◌, ◌≤◌, cond, nat_lt, List, get_or, sym, refl, ap, ◌∙◌, subst, arith, ltb-true}
+use mathlib.Core.Logic.{dite}
+use native.Mathlib.Decide.{ℕ_discrete}
+use Rattle.pin_word.specs.PinWord.{state_of}
+use Rattle.oak_model.specs.Limits.{Sizes}
+use Rattle.oak_model.specs.Counts.{one_at, below}
+use Rattle.oak_model.proofs.Counting.{test-cases, one_at-same, one_at-other, below_at, below_same}
+use Rattle.arena_core.specs.Place.{class_in, block_in, names_block}
+use Rattle.header_core.specs.Headers.{HeaderMemory, at_pin}
+use Rattle.header_core.specs.HeaderRule.{stocked}
+use Rattle.oak_core.specs.Memory.{in_headers, index, number_at, memory}
+use Rattle.oak_core.specs.Owners.{has_block, other_owners}
+
+-- a header in a state with a block is one of the table's
+pub live_inside : (z : Sizes) (ws : List ℕ) (h : ℕ) → 0 < stocked (state_of ((memory z ws).headers.pin h)) → h < z.headers
+unfolding number_at state_of one_at
+live_inside z ws h = test-cases (nat_lt h z.headers) (λ t. 0 < stocked (state_of (cond t (get_or ws (index z (in_headers (at_pin h))) 0) 0)) → h < z.headers) (λ t _. ltb-true h z.headers t) (λ f pos. absurd (omega arith))
+
+-- a sum in which one number counts otherwise
+pub below_other : (f g : ℕ → ℕ) (n h : ℕ) → h < n → ((k : ℕ) → k ≢ h → f k ≡ g k) → below f n + g h ≡ below g n + f h
+unfolding below
+below_other f g zero h lt same = absurd (omega arith)
+below_other f g (suc n) h lt same = dite (ℕ_discrete h n)
+    (λ e. let s = below_same f g n (λ k l. same k (λ q. omega arith)) in subst (λ (i : ℕ). (below f n + f n) + g i ≡ (below g n + g n) + f i) (sym e) (omega arith))
+    (λ ne. let t = below_other f g n h (omega arith) same in let u = same n (λ q. ne (sym q)) in omega arith)
+
+-- the words of the header h change alone
+pub owners_put : (z : Sizes) (m m' : HeaderMemory) (h c b : ℕ) → h < z.headers → ((k : ℕ) → k ≢ h → has_block m' c b k ≡ has_block m c b k) → other_owners z m' c b + has_block m c b h ≡ other_owners z m c b + has_block m' c b h
+owners_put z m m' h c b lt same = below_other (has_block m' c b) (has_block m c b) z.headers h lt same
+
+-- and it has a block neither before nor after, or the same one
+pub owners_same : (z : Sizes) (m m' : HeaderMemory) (c b : ℕ) → ((k : ℕ) → has_block m' c b k ≡ has_block m c b k) → other_owners z m' c b ≡ other_owners z m c b
+owners_same z m m' c b same = below_same (has_block m' c b) (has_block m c b) z.headers (λ k _. same k)
+
+pub owner_counts : (z : Sizes) (m : HeaderMemory) (h c b : ℕ) → h < z.headers → has_block m c b h ≤ other_owners z m c b
+owner_counts z m h c b lt = below_at (has_block m c b) z.headers h lt
+
+-- the word names one block
+pub names_itself : (word : ℕ) → names_block (class_in word) (block_in word) word ≡ 1
+names_itself word = let a = one_at-same (class_in word) (class_in word) refl in let b = one_at-same (block_in word) (block_in word) refl in (λ i. a i * b i)
+
+pub names_other : (c b word : ℕ) → ¬ ((class_in word ≡ c) × (block_in word ≡ b)) → names_block c b word ≡ 0
+names_other c b word ne = dite (ℕ_discrete (class_in word) c)
+    (λ e. let o = one_at-other (block_in word) b (λ f. ne (e, f)) in ap (λ (n : ℕ). one_at (class_in word) c * n) o ∙ (let x : ℕ = one_at (class_in word) c in let r : x * 0 ≡ 0 = omega arith in r))
+    (λ n. let o = one_at-other (class_in word) c n in ap (λ (i : ℕ). i * one_at (block_in word) b) o ∙ (let x : ℕ = one_at (block_in word) b in let r : 0 * x ≡ 0 = omega arith in r))
