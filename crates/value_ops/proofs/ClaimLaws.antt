@@ -1,0 +1,128 @@
+-- Searches for a free header, one behind the other.
+use Rattle.std.proofs.Common.{◌≡◌, ℕ, ◌+◌, ◌*◌, ◌<◌, ◌≤◌, ◌⊎◌, List, [], ◌∷◌, ◌++◌, length, sym, refl, ap, ◌∙◌, subst, ⊎_elim, inl, inr, arith, Option, Some, None, IfNone, IfSome}
+use mathlib.Core.Logic.{dite}
+use native.Mathlib.Decide.{dec_lt}
+use Rattle.oak_model.specs.Counts.{one_at}
+use Rattle.oak_model.proofs.Counting.{one_at-same}
+use Rattle.oak_model.specs.Limits.{Sizes}
+use Rattle.oak_model.proofs.Lists.{at_longer, each_append}
+use Rattle.header_core.specs.declared.states.TheConstants.{OWNED}
+use Rattle.header_core.specs.HeaderHolds.{in_state}
+use Rattle.header_core.proofs.HeldChanges.{rows_claimed}
+use Rattle.header_core.specs.HeaderStep.{claim_header, owned_at}
+use Rattle.oak_core.specs.declared.states.Finding.{Finding}
+use Rattle.oak_core.specs.declared.states.PassState.{PassState}
+use Rattle.oak_core.specs.Memory.{memory}
+use Rattle.oak_core.specs.Finding.{had, grown}
+use Rattle.oak_core.specs.Step.{on_headers}
+use Rattle.oak_core.proofs.Splits.{at_behind}
+use Rattle.value_ops.proofs.MetMore.{grown_twice, grown_none, told_of}
+use Rattle.value_ops.specs.Claiming.{pin_spot, FoundPin, FoundUnfree, FoundTwice, Looked, FindsNoneFree, ClaimsHeader}
+
+module _ (z : Sizes) (call : ℕ) where
+  -- nothing was looked at
+  pub looked_none : (v : PassState) (P : ℕ → Type 0) → ((h : ℕ) → P h → ⊥) → Looked z call v v P
+  looked_none v P empty = record { more = []; after = grown_none v; calls = tt; found = λ h lh p. absurd (empty h p) }
+
+  pub looked_only : (v w : PassState) (P Q : ℕ → Type 0) → ((h : ℕ) → h < z.headers → Q h → P h) → Looked z call v w P → Looked z call v w Q
+  looked_only v w P Q only l = record { more = l.more; after = l.after; calls = l.calls; found = λ h lh q. l.found h lh (only h lh q) }
+
+  abbrev found_first : (h : ℕ) (v : PassState) (first second : List Finding) (P : ℕ → Type 0) → FoundPin z call h v first P → FoundPin z call h v (first ++ second) P
+  found_first h v first second P f = record {
+    place = f.place;
+    finding = f.finding;
+    there = at_longer first second f.place f.finding f.there;
+    call_is = f.call_is;
+    word_is = f.word_is;
+    number = f.number;
+    found_is = f.found_is;
+    shows = f.shows;
+    had_is = f.had_is;
+  }
+
+  abbrev found_later : (h : ℕ) (v w : PassState) (first second : List Finding) (P : ℕ → Type 0) → w ≡ grown first v → FoundPin z call h w second P → FoundPin z call h v (first ++ second) P
+  found_later h v w first second P is f = record {
+    place = length first + f.place;
+    finding = f.finding;
+    there = at_behind first second f.place f.finding f.there;
+    call_is = f.call_is;
+    word_is = f.word_is;
+    number = f.number;
+    found_is = f.found_is;
+    shows = f.shows;
+    had_is = f.had_is ∙ ap (had (pin_spot h)) is;
+  }
+
+  abbrev Unfree : ℕ → PassState → List Finding → Type 0
+  Unfree h v met = FoundUnfree z call h v met ⊎ FoundTwice z call h v met
+
+  unfree_first : (h : ℕ) (v : PassState) (first second : List Finding) → Unfree h v first → Unfree h v (first ++ second)
+  unfree_first h v first second = ⊎_elim (λ (f : FoundUnfree z call h v first). inl (found_first h v first second _ f))
+      (λ (t : FoundTwice z call h v first). inr (record { one = found_first h v first second _ t.one; other = found_first h v first second _ t.other; apart = t.apart }))
+
+  unfree_later : (h : ℕ) (v w : PassState) (first second : List Finding) → w ≡ grown first v → Unfree h w second → Unfree h v (first ++ second)
+  unfree_later h v w first second is = ⊎_elim (λ (f : FoundUnfree z call h w second). inl (found_later h v w first second _ is f))
+      (λ (t : FoundTwice z call h w second). inr (record { one = found_later h v w first second _ is t.one; other = found_later h v w first second _ is t.other; apart = t.apart }))
+
+  pub looked_both : (v w x : PassState) (P Q : ℕ → Type 0) → Looked z call v w P → Looked z call w x Q → Looked z call v x (λ h. P h ⊎ Q h)
+  looked_both v w x P Q l k = record {
+    more = l.more ++ k.more;
+    after = k.after ∙ (ap (grown k.more) l.after ∙ grown_twice v l.more k.more);
+    calls = each_append (λ (f : Finding). f.call ≡ call) l.more k.more l.calls k.calls;
+    found = λ h lh. ⊎_elim (λ (p : P h). unfree_first h v l.more k.more (l.found h lh p)) (λ (q : Q h). unfree_later h v w l.more k.more l.after (k.found h lh q));
+  }
+
+  -- a header is claimed behind what was looked at
+  module _ (h : ℕ) (v w x : PassState) (P : ℕ → Type 0) (l : Looked z call v w P) (t : ClaimsHeader z call h w x) where
+    same : grown t.before w ≡ grown (l.more ++ t.before) v
+    same = ap (grown t.before) l.after ∙ grown_twice v l.more t.before
+
+    pub claims_behind : ClaimsHeader z call h v x
+    claims_behind = record {
+      inside = t.inside;
+      before = l.more ++ t.before;
+      number = t.number;
+      free = t.free;
+      told = told_of z call (on_headers (claim_header h t.number)) (grown t.before w) (grown (l.more ++ t.before) v) same t.number x t.told;
+      unheld = t.unheld;
+      unpinned = t.unpinned;
+      more = l.more ++ t.more;
+      calls = each_append (λ (f : Finding). f.call ≡ call) l.more t.more l.calls t.calls;
+      after = t.after
+          ∙ (ap (λ (y : PassState). record (grown t.more y) { headers = record y.headers { held = owned_at (memory z t.told.table.words).headers h ∷ y.headers.held } }) l.after
+          ∙ ap (λ (y : PassState). record y { headers = record v.headers { held = owned_at (memory z t.told.table.words).headers h ∷ v.headers.held } }) (grown_twice v l.more t.more));
+    }
+
+  -- one header more, and round once
+
+  pub next_header : (from i : ℕ) (v w x : PassState) → Looked z call v w (λ h. (from ≤ h) × (h < i)) → Looked z call w x (λ h. h ≡ i) → Looked z call v x (λ h. (from ≤ h) × (h < i + 1))
+  next_header from i v w x l k = looked_only v x (λ h. ((from ≤ h) × (h < i)) ⊎ (h ≡ i)) (λ h. (from ≤ h) × (h < i + 1))
+      (λ h lh p. let q : h < i + 1 = p.1 in dite (dec_lt h i) (λ lt. inl (p.0, lt)) (λ no. inr (omega arith)))
+      (looked_both v w x (λ h. (from ≤ h) × (h < i)) (λ h. h ≡ i) l k)
+
+  pub all_round : (first count : ℕ) (v w x : PassState) → count ≡ z.headers → Looked z call v w (λ h. (first ≤ h) × (h < count)) → Looked z call w x (λ h. (0 ≤ h) × (h < first)) → FindsNoneFree z call v x
+  all_round first count v w x all l k = looked_only v x (λ h. ((first ≤ h) × (h < count)) ⊎ ((0 ≤ h) × (h < first))) (λ h. Unit {0})
+      (λ h lh p. dite (dec_lt h first) (λ lt. inr (omega arith, lt)) (λ no. inl (omega arith, omega arith)))
+      (looked_both v w x (λ h. (first ≤ h) × (h < count)) (λ h. (0 ≤ h) × (h < first)) l k)
+
+-- who claimed a header owns it
+pub claims_owned : (z : Sizes) (call h : ℕ) (v w : PassState) → ClaimsHeader z call h v w → 0 < in_state h OWNED w.headers
+claims_owned z call h v w t = subst (λ (y : PassState). 0 < in_state h OWNED y.headers) (sym t.after)
+    (let r = rows_claimed (memory z t.told.table.words).headers h h OWNED v.headers.held in let a = one_at-same h h refl in let b = one_at-same OWNED OWNED refl in
+    let c : one_at h h * one_at OWNED OWNED ≡ 1 * 1 = (λ i. a i * b i) in omega arith)
+
+-- what was done is of the call
+module _ (z : Sizes) (first now : ℕ) (v w : PassState) (same : now ≡ first) where
+  pub looked_in : (P : ℕ → Type 0) → Looked z now v w P → Looked z first v w P
+  looked_in P l = subst (λ (k : ℕ). Looked z k v w P) same l
+
+  pub claims_in : (h : ℕ) → ClaimsHeader z now h v w → ClaimsHeader z first h v w
+  claims_in h t = subst (λ (k : ℕ). ClaimsHeader z k h v w) same t
+
+pub if_none : {A : Type 0} (o : Option A) (P Q : Type 0) → (P → Q) → IfNone o P → IfNone o Q
+if_none None P Q f p = f p
+if_none (Some a) P Q f p = tt
+
+pub if_some : {A : Type 0} (o : Option A) (P Q : A → Type 0) → ((a : A) → P a → Q a) → IfSome o P → IfSome o Q
+if_some None P Q f p = tt
+if_some (Some a) P Q f p = f a p

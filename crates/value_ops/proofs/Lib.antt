@@ -1,0 +1,14 @@
+pub mod MetMore
+pub mod ClaimLaws
+pub mod ClaimFacts
+pub mod FreedFacts
+pub mod FillFacts
+pub mod FillSteps
+pub mod WithdrawFacts
+pub mod LackedHeaders
+pub mod OneHeaderLaws
+pub mod PinFacts
+pub mod ByteFacts
+pub mod LoadFacts
+pub mod ValueFacts
+pub mod StandingPins

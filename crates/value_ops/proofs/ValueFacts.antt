@@ -1,0 +1,97 @@
+-- Where the words of a value lie that is read.
+use Rattle.std.proofs.Common.{◌≡◌, ℕ, zero, suc, ◌+◌, ◌-◌, ◌*◌, ◌/◌, ◌%◌, ◌^◌, ◌<◌, ◌≤◌, min, List, length, get_or, take, sym, ap, ◌∙◌, subst, arith}
+use Rattle.std.proofs.lemmas.List.{length-take}
+use Rattle.std.proofs.lemmas.Grind.{div_ceil_times}
+use Rattle.std.proofs.Math.Nat.{min-eq_left}
+use Rattle.oak_model.specs.declared.limits.TheConstants.{CLASSES}
+use Rattle.oak_model.specs.Limits.{Sizes, IsInLimits}
+use Rattle.oak_model.specs.Counts.{below}
+use Rattle.arena_core.specs.Arena.{at_bytes, block_words, bit_words, byte_words, blocks}
+use Rattle.arena_core.specs.Place.{class_in, block_in, length_in}
+use Rattle.arena_core.proofs.ArenaSizes.{few_words}
+use Rattle.oak_core.specs.declared.states.PassState.{PassState}
+use Rattle.oak_core.specs.Memory.{in_arena, index, word_count}
+use Rattle.oak_core.specs.Passes.{state, key}
+use Rattle.oak_core.proofs.ArenaPlaces.{bytes_place, few_bits, few_bytes}
+use Rattle.oak_core.proofs.Words.{index_below}
+use Rattle.value_ops.specs.declared.reading.Reading.{Reading}
+use Rattle.value_ops.specs.Reading.{word_bytes, bytes_of, bytes_in, value, value_pinned, words_pinned, IsReading, ReadsOn}
+use Rattle.value_ops.proofs.PinFacts.{grown_both}
+use Rattle.value_ops.proofs.ByteFacts.{Stand, stand, length-bytes_of, part_in}
+
+below_few : (f : ℕ → ℕ) (n : ℕ) → ((k : ℕ) → k < n → f k ≤ 8388608) → below f n ≤ n * 8388608
+unfolding below
+below_few f zero h = omega arith
+below_few f (suc n) h = let r = below_few f n (λ k l. h k (omega arith)) in let a = h n (omega arith) in omega arith
+
+-- the number of a word of a block is one of 32 bits
+bytes_small : (z : Sizes) → IsInLimits z → (c b i : ℕ) → c < CLASSES → b < blocks z c → i < block_words c → index z (in_arena (at_bytes c b i)) < 2 ^ 32
+bytes_small z is c b i lc lb li =
+    let bits = below_few (bit_words z) CLASSES (λ k l. let f = few_bits z is k l in omega arith) in
+    let bytes = below_few (byte_words z) c (λ k l. few_words z is k (omega arith)) in
+    let at = few_bytes z is c b i lc lb li in let e = bytes_place z c b i in
+    let x : ℕ = b * block_words c + i in let y : ℕ = below (bit_words z) CLASSES in let w : ℕ = below (byte_words z) c in let j : ℕ = index z (in_arena (at_bytes c b i)) in
+    let at' : x < 8388608 = at in let bits' : y ≤ CLASSES * 8388608 = bits in let bytes' : w ≤ c * 8388608 = bytes in let e' : 1 + (y + (w + x)) ≡ j = e in
+    let res : j < 2 ^ 32 = omega arith in res
+
+module _ (r : Reading) (is : IsReading r) where
+  abbrev z : Sizes
+  z = key r.table.now
+
+  abbrev c : ℕ
+  c = class_in is.pin.place
+
+  abbrev b : ℕ
+  b = block_in is.pin.place
+
+  pub words_are : words_pinned (state r.pass.now).headers.pin ≡ is.pin.words
+  words_are = ap words_pinned is.has.is
+
+  pub value_is : value r ≡ take r.length (bytes_of is.pin.words)
+  value_is = ap value_pinned is.has.is ∙ ap (λ (n : ℕ). take n (bytes_of is.pin.words)) (sym is.length_is)
+
+  pub room : r.length ≤ 8 * length is.pin.words
+  room = let k : ℕ = block_words c in let p : length_in is.pin.place ≤ 8 * k = is.placed.room in let e = is.length_is in let w : length is.pin.words ≡ k = is.words in omega arith
+
+  pub long : length (value r) ≡ r.length
+  long = ap length value_is ∙ (length-take r.length (bytes_of is.pin.words) ∙ min-eq_left (let e = length-bytes_of is.pin.words in let l = room in let h : r.length ≤ length (bytes_of is.pin.words) = omega arith in h))
+
+  module _ (i : ℕ) (lt : 8 * i < length (value r)) where
+    pub word_inside : i < block_words c
+    word_inside = let k : ℕ = block_words c in let w : length is.pin.words ≡ k = is.words in let l = room in let e = long in let h : i < k = omega arith in h
+
+    pub word_spot : r.block + i ≡ index z (in_arena (at_bytes c b i))
+    word_spot = let x : ℕ = b * block_words c in let y : ℕ = below (bit_words z) CLASSES in let w : ℕ = below (byte_words z) c in
+        let first : 1 + (y + (w + (x + 0))) ≡ index z (in_arena (at_bytes c b 0)) = bytes_place z c b 0 in let at : 1 + (y + (w + (x + i))) ≡ index z (in_arena (at_bytes c b i)) = bytes_place z c b i in let e = is.block_is in omega arith
+
+    pub word_below : r.block + i < word_count z
+    word_below = let e = word_spot in let l = index_below z (in_arena (at_bytes c b i)) (is.placed.class, is.placed.block, word_inside) in omega arith
+
+    pub word_small : r.block + i < 2 ^ 32
+    word_small = let e = word_spot in let l = bytes_small z is.limits c b i is.placed.class is.placed.block word_inside in omega arith
+
+    -- the bytes of the word that was loaded
+    pub bytes_loaded : (to n : ℕ) → to ≡ min (8 * i + 8) (length (value r)) → n ≡ get_or (words_pinned (state r.pass.now).headers.pin) i 0 → take (to - 8 * i) (word_bytes n) ≡ bytes_in i (value r)
+    bytes_loaded to n e f = let s : Stand r.length i (to - 8 * i) = subst (λ (k : ℕ). Stand k i (to - 8 * i)) long (stand (length (value r)) i to lt e) in
+        ap (λ (j : ℕ). take (to - 8 * i) (word_bytes j)) (f ∙ ap (λ (ws : List ℕ). get_or ws i 0) words_are)
+        ∙ (sym (part_in r.length i (to - 8 * i) s is.pin.words room) ∙ ap (bytes_in i) (sym value_is))
+
+-- readings that go on
+
+pub value_same : (q r : Reading) → ReadsOn q r → value r ≡ value q
+value_same q r o = ap (λ (v : PassState). value_pinned v.headers.pin) o.grown.after
+
+pub reads_both : (q r s : Reading) → ReadsOn q r → ReadsOn r s → ReadsOn q s
+reads_both q r s a b = record {
+  reading = b.reading;
+  table = b.table ∙ a.table;
+  stays = record { table = b.stays.table ∙ a.stays.table; seat = b.stays.seat ∙ a.stays.seat; call = b.stays.call ∙ a.stays.call };
+  grown = grown_both (state q.pass.now) (state r.pass.now) (state s.pass.now) a.grown b.grown;
+}
+
+-- a word that a loop over as many as there are comes to
+pub word_of_loop : (len i n : ℕ) → i < n → n ≡ len / 8 + min 1 (len % 8) → 8 * i < len
+word_of_loop len i n lt e = let d = div_ceil_times len 8 (omega arith) in let k : ℕ = len / 8 + min 1 (len % 8) in let d' : k * 8 < len + 8 = d.1 in let e' : n ≡ k = e in let r : 8 * i < len = omega arith in r
+
+pub words_all : (len n : ℕ) → n ≡ len / 8 + min 1 (len % 8) → len ≤ 8 * n
+words_all len n e = let d = div_ceil_times len 8 (omega arith) in let k : ℕ = len / 8 + min 1 (len % 8) in let d' : len ≤ k * 8 = d.0 in let e' : n ≡ k = e in let r : len ≤ 8 * n = omega arith in r

@@ -1,0 +1,45 @@
+use Rattle.std.proofs.Common.{◌≡◌, ℕ, ◌<◌, sym, refl, ap, ◌∙◌, subst, arith}
+use Rattle.oak_model.specs.declared.limits.TheConstants.{CLASSES}
+use Rattle.oak_model.specs.declared.classes.Class.{Class}
+use Rattle.oak_model.specs.Class.{class_number}
+use Rattle.oak_model.specs.Limits.{Sizes}
+use Rattle.arena_core.specs.Arena.{at_bytes, blocks}
+use Rattle.arena_core.specs.Place.{class_in, block_in, length_in, class_from}
+use Rattle.arena_core.proofs.PlaceLaws.{class_number-from}
+use Rattle.header_core.specs.Headers.{at_place, at_stamp}
+use Rattle.oak_core.specs.Memory.{in_arena, in_headers, index}
+use Rattle.oak_core.specs.Passes.{state, key, call_of}
+use Rattle.oak_core.proofs.Words.{index_below}
+use Rattle.value_ops.proofs.PinFacts.{pin_stays}
+use Rattle.value_ops.proofs.LoadFacts.{loaded_placed, loaded_long, place_loaded, stamp_loaded}
+use Rattle.value_ops.proofs.pinning.HeaderPin.reading.Goals as goal
+
+pub load-place-requires-clause-inside : goal.load-place-requires-clause-inside
+load-place-requires-clause-inside c = let e = c.place_at.ensures in let l = index_below (key c.args.table.now) (in_headers (at_place c.args.self.header)) c.requires.pinned.1.inside in omega arith
+
+pub load-stamp-requires-clause-inside : goal.load-stamp-requires-clause-inside
+load-stamp-requires-clause-inside c = let e = c.stamp_at.ensures in let l = index_below (key c.args.table.now) (in_headers (at_stamp c.args.self.header)) c.requires.pinned.1.inside in omega arith
+
+-- the class of the place that was loaded
+class_is : (k : Class) (n place : ℕ) → k ≡ class_from (class_in n) → n ≡ place → class_in place < CLASSES → class_number k ≡ class_in place
+class_is k n place e f lt = ap class_number e ∙ (ap (λ (i : ℕ). class_number (class_from (class_in i))) f ∙ class_number-from (class_in place) lt)
+
+pub bytes_at-block-requires-clause-block : goal.bytes_at-block-requires-clause-block
+bytes_at-block-requires-clause-block c = let z : Sizes = key c.args.table.now in let v = state c.args.pass.now in let w = state c.load-place.new.pass in let l = c.load-place.ensures.loaded in let p = c.requires.pinned.0 in let h = c.requires.pinned.1 in
+    let e = place_loaded z (call_of c.args.pass.now) c.place_at.result c.load-place.result v w l p h.is h.good c.args.self.header h.inside h.header_is c.place_at.ensures in let placed = loaded_placed z (call_of c.args.pass.now) c.place_at.result c.load-place.result v w l p h.is h.good in
+    subst (λ (t : ℕ × ℕ). t.0 < blocks z t.1) (λ i. (sym (c.block_in.ensures ∙ ap block_in e) i, sym (class_is c.class_in.result c.load-place.result p.place c.class_in.ensures e placed.class) i)) placed.block
+
+pub returns-clause-reading : goal.returns-clause-reading
+returns-clause-reading c = let z : Sizes = key c.args.table.now in let v = state c.args.pass.now in let w = state c.load-place.new.pass in let l = c.load-place.ensures.loaded in let p = c.requires.pinned.0 in let h = c.requires.pinned.1 in
+    let e = place_loaded z (call_of c.args.pass.now) c.place_at.result c.load-place.result v w l p h.is h.good c.args.self.header h.inside h.header_is c.place_at.ensures in let placed = loaded_placed z (call_of c.args.pass.now) c.place_at.result c.load-place.result v w l p h.is h.good in
+    let k = c.load-stamp.ensures.loaded in let is = pin_stays v w record { more = _; after = l.met } ∙ h.is in record {
+      own = c.load-stamp.ensures.own.table ∙ (c.load-place.ensures.own.table ∙ c.requires.own);
+      limits = l.told.rule.sizes;
+      pin = p;
+      has = record { inside = h.inside; is = pin_stays w (state c.load-stamp.new.pass) record { more = _; after = k.met } ∙ is; header_is = h.header_is; wanted_is = refl; good = h.good };
+      placed = placed;
+      block_is = c.bytes_at-block.ensures ∙ (λ i. index z (in_arena (at_bytes (class_is c.class_in.result c.load-place.result p.place c.class_in.ensures e placed.class i) (c.block_in.ensures i) 0))) ∙ ap (λ (j : ℕ). index z (in_arena (at_bytes (class_in p.place) (block_in j) 0))) e;
+      length_is = c.length_in.ensures.is ∙ ap length_in e;
+      words = loaded_long z (call_of c.args.pass.now) c.place_at.result c.load-place.result v w l p h.is h.good;
+      stamp_is = stamp_loaded z (call_of c.load-place.new.pass) c.stamp_at.result c.load-stamp.result w (state c.load-stamp.new.pass) k p is h.good c.args.self.header h.inside h.header_is c.stamp_at.ensures;
+    }

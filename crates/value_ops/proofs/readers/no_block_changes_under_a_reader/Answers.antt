@@ -1,0 +1,9 @@
+use Rattle.std.proofs.Common.{arith}
+use Rattle.oak_core.specs.Schedule.{opening}
+use Rattle.oak_core.proofs.EachEvent.{schedule_keeps}
+use Rattle.oak_core.proofs.Opening.{opening_rule}
+use Rattle.value_ops.proofs.StandingPins.{block_kept}
+use Rattle.value_ops.proofs.readers.no_block_changes_under_a_reader.Goals as goal
+
+pub returns : goal.returns
+returns c z is g lt events s run seat p at good = block_kept z s (schedule_keeps z events (opening z g) s run (opening_rule z g is (omega arith))) seat p at good

@@ -1,0 +1,78 @@
+-- What the calls on a claimed header and on a fresh one do.
+use Rattle.std.specs.Prelude.{◌≡◌, ℕ, cond, List, [], ◌∷◌}
+use mathlib.Core.Option.{some}
+use lib.ListN.{get_elem?}
+use Rattle.pin_word.specs.PinWord.{generation_of, state_of, count_of}
+use Rattle.oak_model.specs.declared.classes.Class.{Class}
+use Rattle.oak_model.specs.Class.{class_number}
+use Rattle.oak_model.specs.Counts.{Each}
+use Rattle.oak_model.specs.Limits.{Sizes}
+use Rattle.arena_core.specs.declared.blocks.HeldBlock.{HeldBlock}
+use Rattle.arena_core.specs.Blocks.{is_block, block_from, without}
+use Rattle.arena_core.specs.Place.{place_word, class_in, block_in}
+use Rattle.header_core.specs.declared.states.TheConstants.{FREE}
+use Rattle.header_core.specs.declared.holds.HeldAs.TheVariants.{Owned, Fresh}
+use Rattle.header_core.specs.HeaderHolds.{place_held, without_header}
+use Rattle.header_core.specs.HeaderStep.{placed_at, stamped_at, freshened}
+use Rattle.oak_core.specs.declared.states.Finding.{Finding}
+use Rattle.oak_core.specs.declared.states.PassState.{PassState}
+use Rattle.oak_core.specs.Memory.{memory}
+use Rattle.oak_core.specs.Finding.{grown}
+use Rattle.oak_core.specs.HeaderCalls.{StoresPlace, StoresStamp, Opens, Releases}
+use Rattle.oak_core.specs.Rule.{Rule}
+use Rattle.oak_core.specs.TableState.{TableState}
+
+-- at a moment at which the rule holds, the pass is in the state w, and the header is free, with the generation and the pins that the word `number` says
+pub record IsFreed (z : Sizes) (h number seat : ℕ) (w : PassState) : Type 0 where
+  pub table : TableState
+  pub rule : Rule z table
+  pub here : get_elem? table.states seat ≡ some w
+  pub state : state_of ((memory z table.words).headers.pin h) ≡ FREE
+  pub generation : generation_of ((memory z table.words).headers.pin h) ≡ generation_of number
+  pub count : count_of ((memory z table.words).headers.pin h) ≡ count_of number
+
+-- The pass owns the header no more, and else only met more, all in the call. The header is free after the step, which left its generation and the pins on it as they were.
+pub record ReleasesOwned (z : Sizes) (call h : ℕ) (v w : PassState) : Type 0 where
+  pub number : ℕ
+  pub told : Releases z call h Owned v number w
+  pub freed : IsFreed z h number told.seat w
+  pub more : List Finding
+  pub calls : Each (λ (f : Finding). f.call ≡ call) more
+  pub after : w ≡ record (grown more v) { headers = record v.headers { held = without_header h v.headers.held } }
+
+-- the numbers of the words of a held block
+abbrev pub words_held : ℕ → ℕ → List HeldBlock → List ℕ
+words_held c b [] = []
+words_held c b (o ∷ os) = cond (is_block c b o) o.words (words_held c b os)
+
+-- the state of a pass that filled the owned header: it holds the block no more, and has the header fresh, with the place word of the block and the length, the stamp, and the words of the block
+abbrev pub filled_state : ℕ → Class → ℕ → ℕ → ℕ → PassState → PassState
+filled_state h c b len stamp v = record v {
+  blocks = record v.blocks { held = without (class_number c) b v.blocks.held };
+  headers = record v.headers { held = freshened h (words_held (class_number c) b v.blocks.held) (stamped_at h stamp (placed_at h (place_word (class_number c) b len) v.headers.held)) };
+}
+
+-- The place word and the stamp word of the header were stored, and then it was opened, at its generation. The state became the filled one, and the pass else only met more, all in the call.
+pub record Fills (z : Sizes) (call h : ℕ) (c : Class) (b len stamp generation : ℕ) (v w : PassState) : Type 0 where
+  pub placed : PassState
+  pub stamped : PassState
+  pub stores : StoresPlace z call h (place_word (class_number c) b len) v placed
+  pub stamps : StoresStamp z call h stamp placed stamped
+  pub number : ℕ
+  pub told : Opens z call h stamped number w
+  pub generation_is : generation_of number ≡ generation
+  pub more : List Finding
+  pub calls : Each (λ (f : Finding). f.call ≡ call) more
+  pub after : w ≡ grown more (filled_state h c b len stamp v)
+
+-- The pass has the header no more, and holds the block that its place word named, with the words that it had at the step; else it only met more, all in the call. The header is free after the step, at its generation.
+pub record Withdraws (z : Sizes) (call h : ℕ) (c : Class) (b : ℕ) (v w : PassState) : Type 0 where
+  pub class_is : class_in (place_held h v.headers.held) ≡ class_number c
+  pub block_is : block_in (place_held h v.headers.held) ≡ b
+  pub before : List Finding
+  pub number : ℕ
+  pub told : Releases z call h Fresh (grown before v) number w
+  pub freed : IsFreed z h number told.seat w
+  pub more : List Finding
+  pub calls : Each (λ (f : Finding). f.call ≡ call) more
+  pub after : w ≡ record (grown more v) { blocks = record v.blocks { held = block_from (memory z told.table.words).arena.bytes c b ∷ v.blocks.held }; headers = record v.headers { held = without_header h v.headers.held } }

@@ -1,0 +1,77 @@
+-- What a pin of a header finds.
+use Rattle.std.specs.Prelude.{◌≡◌, ◌≢◌, ℕ, ◌<◌, List, Option, Some, None}
+use Rattle.pin_word.specs.PinWord.{generation_of, state_of}
+use Rattle.oak_model.specs.Limits.{Sizes}
+use Rattle.arena_core.specs.Place.{content}
+use Rattle.header_core.specs.declared.states.TheConstants.{LIVE, LOCKED, DEAD}
+use Rattle.header_core.specs.declared.holds.PinnedHeader.{PinnedHeader}
+use Rattle.header_core.specs.Headers.{at_stamp}
+use Rattle.header_core.specs.HeaderRule.{IsGood}
+use Rattle.oak_core.specs.declared.states.Finding.{Finding}
+use Rattle.oak_core.specs.declared.states.PassState.{PassState}
+use Rattle.oak_core.specs.Finding.{grown}
+use Rattle.oak_core.specs.HeaderCalls.{Pins, Unpins}
+use Rattle.oak_core.specs.Memory.{Memory, in_headers, index, memory}
+use Rattle.oak_core.specs.Splitting.{Loads, IsGrown}
+use Rattle.value_ops.specs.declared.pinning.BadPin.{BadPin}
+use Rattle.value_ops.specs.declared.pinning.BadPin.TheVariants.{Locked, Dead, Other}
+
+-- what a pin of the header records, wanted at a generation: the word that it found, what stands in the place and the stamp word, and the words of the block that the place names
+abbrev pub pin_of : Memory → ℕ → ℕ → PinnedHeader
+pin_of m h g = record { header = h; wanted = g; found = m.headers.pin h; place = m.headers.place h; stamp = m.headers.stamp h; words = content m.arena.bytes (m.headers.place h) }
+
+abbrev pub with_pin : Option PinnedHeader → PassState → PassState
+with_pin o v = record v { headers = record v.headers { pin = o } }
+
+-- the pass's pin is p, a good one of the header at the generation
+pub record HasPin (z : Sizes) (h g : ℕ) (p : PinnedHeader) (v : PassState) : Type 0 where
+  pub inside : h < z.headers
+  pub is : v.headers.pin ≡ Some p
+  pub header_is : p.header ≡ h
+  pub wanted_is : p.wanted ≡ g
+  pub good : IsGood p
+
+-- The step that pinned the header found its word live, at the generation. The pass has the pin that records what stood there at that moment, a good one, and else only met more.
+pub record PinsLive (z : Sizes) (call h g : ℕ) (v w : PassState) : Type 0 where
+  pub number : ℕ
+  pub told : Pins z call h g v number w
+  pub live : state_of number ≡ LIVE
+  pub generation : generation_of number ≡ g
+  pub more : List Finding
+  pub after : w ≡ with_pin (Some (pin_of (memory z told.table.words) h g)) (grown more v)
+  pub pin : HasPin z h g (pin_of (memory z told.table.words) h g) w
+
+-- the word found that is a cause, where the generation g was wanted
+abbrev pub IsCause : BadPin → ℕ → ℕ → Type 0
+IsCause Locked g n = (generation_of n ≡ g) × (state_of n ≡ LOCKED)
+IsCause (Dead stamp) g n = (generation_of n ≡ g) × (state_of n ≡ DEAD)
+IsCause Other g n = generation_of n ≢ g
+
+-- Between the pin and the unpin the stamp word of a dead header is loaded, and of no other. It has the number that the pin recorded.
+abbrev pub LooksUnder : Sizes → ℕ → ℕ → BadPin → Memory → PassState → PassState → Type 0
+LooksUnder z call h (Dead stamp) m u x = Loads z call (index z (in_headers (at_stamp h))) u stamp x × (stamp ≡ m.headers.stamp h)
+LooksUnder z call h _ m u x = x ≡ u
+
+-- the pass's pin is one of the header
+pub record PinsHeader (z : Sizes) (h : ℕ) (v : PassState) : Type 0 where
+  pub inside : h < z.headers
+  pub pin : PinnedHeader
+  pub is : v.headers.pin ≡ Some pin
+  pub header_is : pin.header ≡ h
+
+-- The step that undid the pin of the header. The pass has none now, and else only met more.
+pub record EndsPin (z : Sizes) (call h : ℕ) (v w : PassState) : Type 0 where
+  pub number : ℕ
+  pub told : Unpins z call h v number w
+  pub grown : IsGrown (with_pin None v) w
+
+-- The step that pinned the header found a word that is the cause, and another undid the pin. The pass only met more.
+pub record PinsDud (z : Sizes) (call h g : ℕ) (why : BadPin) (v w : PassState) : Type 0 where
+  pub number : ℕ
+  pub pinned : PassState
+  pub told : Pins z call h g v number pinned
+  pub cause : IsCause why g number
+  pub looked : PassState
+  pub looks : LooksUnder z call h why (memory z told.table.words) pinned looked
+  pub undone : EndsPin z call h looked w
+  pub grown : IsGrown v w

@@ -1,0 +1,80 @@
+-- The value under a pin, and what a reading of it has.
+use Rattle.std.specs.Prelude.{◌≡◌, ℕ, ◌*◌, ◌<◌, ◌≤◌, List, [], length, take, drop, Option, Some, None}
+use Rattle.std.specs.Int.{w64, to_be_bytes}
+use Rattle.std.specs.List.{flat_map}
+use Rattle.arena_core.specs.Arena.{at_bytes, block_words, blocks}
+use Rattle.arena_core.specs.Place.{class_in, block_in, length_in}
+use Rattle.oak_model.specs.declared.limits.TheConstants.{CLASSES}
+use Rattle.oak_model.specs.Limits.{Sizes, IsInLimits}
+use Rattle.header_core.specs.declared.holds.PinnedHeader.{PinnedHeader}
+use Rattle.oak_core.specs.Memory.{in_arena, index}
+use Rattle.oak_core.specs.Passes.{IsPassOf, Stays, state, key}
+use Rattle.oak_core.specs.Splitting.{IsGrown}
+use Rattle.value_ops.specs.declared.reading.Reading.{Reading}
+use Rattle.value_ops.specs.Pinning.{HasPin}
+
+-- the eight bytes of a word, the highest first
+abbrev pub word_bytes : ℕ → List ℕ
+word_bytes n = to_be_bytes w64 n
+
+-- the bytes of words, one behind the other
+unfoldable pub bytes_of : List ℕ → List ℕ
+bytes_of ns = flat_map word_bytes ns
+
+-- the bytes of xs from 8 * i on, at most 8
+abbrev pub bytes_in : ℕ → List ℕ → List ℕ
+bytes_in i xs = take 8 (drop (8 * i) xs)
+
+-- the value that the pin found: of the bytes of the block as many as its place says
+abbrev pub value_of : PinnedHeader → List ℕ
+value_of p = take (length_in p.place) (bytes_of p.words)
+
+-- what the pin of a pass recorded
+
+abbrev pub value_pinned : Option PinnedHeader → List ℕ
+value_pinned None = []
+value_pinned (Some p) = value_of p
+
+abbrev pub words_pinned : Option PinnedHeader → List ℕ
+words_pinned None = []
+words_pinned (Some p) = p.words
+
+abbrev pub stamp_pinned : Option PinnedHeader → ℕ
+stamp_pinned None = 0
+stamp_pinned (Some p) = p.stamp
+
+-- the value and the stamp that the reading is of, and the header
+
+abbrev pub value : Reading → List ℕ
+value r = value_pinned (state r.pass.now).headers.pin
+
+abbrev pub stamp : Reading → ℕ
+stamp r = stamp_pinned (state r.pass.now).headers.pin
+
+abbrev pub header : Reading → ℕ
+header r = r.header
+
+-- the pin's place names a block of the table that has room for the value
+pub record IsPlaced (z : Sizes) (p : PinnedHeader) : Type 0 where
+  pub class : class_in p.place < CLASSES
+  pub block : block_in p.place < blocks z (class_in p.place)
+  pub room : length_in p.place ≤ 8 * block_words (class_in p.place)
+
+-- the pass has a good pin, and the reading has its block, length and stamp
+pub record IsReading (r : Reading) : Type 0 where
+  pub own : IsPassOf r.table.now r.pass.now
+  pub limits : IsInLimits (key r.table.now)
+  pub pin : PinnedHeader
+  pub has : HasPin (key r.table.now) r.header pin.wanted pin (state r.pass.now)
+  pub placed : IsPlaced (key r.table.now) pin
+  pub block_is : r.block ≡ index (key r.table.now) (in_arena (at_bytes (class_in pin.place) (block_in pin.place) 0))
+  pub length_is : r.length ≡ length_in pin.place
+  pub words : length pin.words ≡ block_words (class_in pin.place)
+  pub stamp_is : r.stamp ≡ pin.stamp
+
+-- the later reading is that of the same pin, and its pass only met more
+pub record ReadsOn (q r : Reading) : Type 0 where
+  pub reading : IsReading r
+  pub table : r.table ≡ q.table
+  pub stays : Stays q.pass.now r.pass.now
+  pub grown : IsGrown (state q.pass.now) (state r.pass.now)

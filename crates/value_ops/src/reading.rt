@@ -1,0 +1,187 @@
+//! Readings: the bytes of a value under a good pin.
+ghost use Rattle.std.specs.Prelude.{◌≡◌, ◌≢◌, ◌+◌, ◌*◌, ◌<◌, ◌≤◌, ◌++◌, ◌↔◌, IsTrue, MatchBool, length, take, slice_index, slice_range};
+ghost use Rattle.std.specs.Int.{w64, from_be_bytes};
+ghost use Rattle.header_core.specs.declared.holds.PinnedHeader.{PinnedHeader};
+ghost use Rattle.oak_core.specs.Splitting.{IsGrown};
+ghost use Rattle.oak_core.specs.Passes.{IsPassOf, Stays, state, key, call_of};
+ghost use Rattle.value_ops.specs.Pinning.{HasPin, EndsPin};
+ghost use Rattle.value_ops.specs.Reading.{IsReading, ReadsOn, value, stamp, header, words_pinned, bytes_in};
+
+use crate::pinning::{HeaderPin, unpin};
+use arena_core::place::{block_in, class_in, length_in};
+use oak_core::{OakTable, Pass, load};
+
+/// The bytes of a word.
+const WORD: usize = 8;
+
+/// A value that is read under a good pin. It borrows the pass until [`Reading::done`] undoes the pin,
+/// and can't be dropped. Its calls load words of the value's block, and change nothing.
+pub struct Reading<'p> {
+    table: &'p OakTable,
+    pass: &'p mut Pass,
+    header: u32,
+    /// The number of the block's first word.
+    block: u32,
+    length: usize,
+    stamp: u64,
+}
+
+impl HeaderPin {
+    /// Reads the value that the header had at the pin.
+    pub fn reading<'p>(self, table: &'p OakTable, pass: &'p mut Pass) -> Reading<'p>
+        requires own { IsPassOf table.now pass.old }
+        requires pinned { (p : PinnedHeader) × HasPin (key table.now) self.header self.generation p (state pass.old) }
+        ensures same_reference { result.pass.ghost_name ≡ pass.entry.ghost_name }
+        ensures table { result.table ≡ table.entry }
+        ensures reading { IsReading result }
+        ensures own { Stays pass.old result.pass.now }
+        ensures grown { IsGrown (state pass.old) (state result.pass.now) }
+    {
+        let HeaderPin {
+            header,
+            generation: _,
+        } = self;
+        let place = load(table, pass, table.place_at(header));
+        let stamp = load(table, pass, table.stamp_at(header));
+        let block = table.bytes_at(class_in(place), block_in(place), 0);
+        Reading {
+            table,
+            pass,
+            header,
+            block,
+            length: length_in(place),
+            stamp,
+        }
+    }
+}
+
+impl Reading<'_> {
+    /// The length of the value in bytes.
+    pub fn len(&self) -> usize
+        requires { IsReading self.now }
+        ensures { result ≡ length (value self.now) }
+    {
+        self.length
+    }
+
+    /// The stamp of the write that made the value.
+    pub fn at(&self) -> u64
+        requires { IsReading self.now }
+        ensures { result ≡ stamp self.now }
+    {
+        self.stamp
+    }
+
+    /// Loads the word in which the bytes from `8 * i` on stand, the last of which may be none of the
+    /// value's.
+    fn word(&mut self, i: usize) -> u64
+        requires reading { IsReading self.old }
+        requires inside { WORD * i < length (value self.old) }
+        ensures same_reference { self.new.pass.ghost_name ≡ self.old.pass.ghost_name }
+        ensures reads { ReadsOn self.old self.new }
+        ensures word { result ≡ slice_index (words_pinned (state self.old.pass.now).headers.pin) i }
+    {
+        load(self.table, self.pass, self.block + i as u32)
+    }
+
+    /// The byte at `i`.
+    pub fn byte(&mut self, i: usize) -> u8
+        requires reading { IsReading self.old }
+        requires inside { i < length (value self.old) }
+        ensures same_reference { self.new.pass.ghost_name ≡ self.old.pass.ghost_name }
+        ensures reads { ReadsOn self.old self.new }
+        ensures byte { result ≡ slice_index (value self.old) i }
+    {
+        self.word(i / WORD).to_be_bytes()[i % WORD]
+    }
+
+    /// The bytes from `8 * i` to `8 * i + 7`, the first of which is the highest of the number.
+    pub fn eight(&mut self, i: usize) -> u64
+        requires reading { IsReading self.old }
+        requires inside { 8 * i + 8 ≤ length (value self.old) }
+        ensures same_reference { self.new.pass.ghost_name ≡ self.old.pass.ghost_name }
+        ensures reads { ReadsOn self.old self.new }
+        ensures eight { result ≡ from_be_bytes w64 (slice_range (value self.old) (8 * i) (8 * i + 8)) }
+    {
+        self.word(i)
+    }
+
+    /// Whether the bytes of the value in word `i` are those that `other` has there.
+    fn same_in_word(&mut self, other: &[u8], i: usize) -> bool
+        requires reading { IsReading self.old }
+        requires long { length other.now ≡ length (value self.old) }
+        requires inside { WORD * i < length (value self.old) }
+        ensures same_reference { self.new.pass.ghost_name ≡ self.old.pass.ghost_name }
+        ensures reads { ReadsOn self.old self.new }
+        ensures same { MatchBool result (bytes_in i other.now ≡ bytes_in i (value self.old)) (bytes_in i other.now ≢ bytes_in i (value self.old)) }
+    {
+        let bytes = self.word(i).to_be_bytes();
+        let from = WORD * i;
+        let to = (from + WORD).min(other.len());
+        other[from..to] == bytes[..to - from]
+    }
+
+    /// Whether the value has exactly these bytes. Each word of the value is loaded once, up to the first
+    /// that differs, and none where the lengths differ.
+    pub fn same(&mut self, other: &[u8]) -> bool
+        requires { IsReading self.old }
+        ensures same_reference { self.new.pass.ghost_name ≡ self.old.pass.ghost_name }
+        ensures reads { ReadsOn self.old self.new }
+        ensures same { IsTrue result ↔ other.now ≡ value self.old }
+    {
+        if other.len() != self.length {
+            return false;
+        }
+        for i in 0..other.len().div_ceil(WORD) {
+            if !self.same_in_word(other, i) {
+                return false;
+            }
+        }
+        true
+    }
+
+    /// Copies the bytes of the value in word `i` to their place in `out`.
+    fn copy_word(&mut self, out: &mut [u8], i: usize)
+        requires reading { IsReading self.old }
+        requires long { length out.old ≡ length (value self.old) }
+        requires inside { WORD * i < length (value self.old) }
+        ensures same_reference { self.new.pass.ghost_name ≡ self.old.pass.ghost_name }
+        ensures reads { ReadsOn self.old self.new }
+        ensures copied { take (WORD * i + WORD) out.new ≡ take (WORD * i) out.old ++ bytes_in i (value self.old) }
+    {
+        let bytes = self.word(i).to_be_bytes();
+        let from = WORD * i;
+        let to = (from + WORD).min(out.len());
+        out[from..to].copy_from_slice(&bytes[..to - from]);
+    }
+
+    /// Copies the value to `out`, which is as long. Each word of the value is loaded once.
+    pub fn copy_into(&mut self, out: &mut [u8])
+        requires reading { IsReading self.old }
+        requires long { length out.old ≡ length (value self.old) }
+        ensures same_reference { self.new.pass.ghost_name ≡ self.old.pass.ghost_name }
+        ensures reads { ReadsOn self.old self.new }
+        ensures copied { out.new ≡ value self.old }
+    {
+        for i in 0..out.len().div_ceil(WORD) {
+            self.copy_word(out, i);
+        }
+    }
+
+    /// Undoes the pin.
+    pub fn done(self)
+        requires { IsReading self }
+        ensures own { Stays self.entry.pass.now self.exit.1.0.now }
+        ensures undone { EndsPin (key self.entry.table.now) (call_of self.entry.pass.now) (header self.entry) (state self.entry.pass.now) (state self.exit.1.0.now) }
+    {
+        let Reading {
+            table,
+            pass,
+            header,
+            block: _,
+            length: _,
+            stamp: _,
+        } = self;
+        unpin(table, pass, header);
+    }
+}
