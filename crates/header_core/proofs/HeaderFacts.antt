@@ -1,25 +1,27 @@
 -- What the points on headers say together of what a pass holds.
-use Rattle.std.proofs.Common.{◌≡◌, ◌≢◌, ℕ, ◌+◌, ◌*◌, ◌<◌, ◌≤◌, ◌⊎◌, cond, Bool, List, [], ◌∷◌, sym, ap, ◌∙◌, subst, inl, inr, arith, Option, Some, None, eq-eqb, ne_eqb}
+use Rattle.std.proofs.Common.{◌≡◌, ◌≢◌, ℕ, ◌+◌, ◌*◌, ◌<◌, ◌≤◌, ◌⊎◌, cond, Bool, List, [], ◌∷◌, sym, ap, ◌∙◌, subst, inl, inr, refl, arith, Option, Some, None, eq-eqb, ne_eqb}
 use mathlib.Core.Logic.{dite}
 use mathlib.Core.Option.{some}
-use native.Mathlib.Decide.{ℕ_discrete}
+use native.Mathlib.Decide.{ℕ_discrete, dec_lt}
 use lib.ListN.{get_elem?}
 use Rattle.pin_word.specs.PinWord.{generation_of, state_of, count_of}
 use Rattle.oak_model.specs.Counts.{one_at, total, Has}
 use Rattle.oak_model.specs.Kept.{AreTrueTo}
 use Rattle.oak_model.proofs.Counting.{one_at-same, one_at-other, one_at-cases, one_at-le, one_at-true, total_at, total_two}
 use Rattle.oak_model.proofs.RowLaws.{total_le}
-use Rattle.header_core.specs.declared.states.TheConstants.{FREE, OWNED, LIVE, RETIRED}
+use Rattle.header_core.specs.declared.states.TheConstants.{FREE, OWNED, LIVE, LOCKED, DEAD, RETIRED}
 use Rattle.header_core.specs.declared.holds.HeldHeader.{HeldHeader}
 use Rattle.header_core.specs.declared.holds.PinnedHeader.{PinnedHeader}
 use Rattle.header_core.specs.declared.holds.HeaderHolds.{HeaderHolds}
 use Rattle.header_core.specs.Headers.{HeaderMemory, read_header}
-use Rattle.header_core.specs.HeaderHolds.{pins_of, pins_on, held_state, in_state, KnowsHeader, place_held, kept_of_headers}
-use Rattle.header_core.specs.HeaderRule.{HeadersStand}
-use Rattle.header_core.proofs.HeldHeaders.{held_in, each_has, total_sum, rows_split, row_of, rows_have, fresh_row}
+use Rattle.header_core.specs.HeaderHolds.{pins_of, pins_on, held_state, in_state, IsFreshAt, place_held, generation_held, kept_of_headers}
+use Rattle.header_core.specs.HeaderRule.{stocked, HeadersStand}
+use Rattle.header_core.proofs.HeaderLaws.{unstocked}
+use Rattle.header_core.proofs.StockedStates.{stocked_le, held_le, stocked_high}
+use Rattle.header_core.proofs.HeldHeaders.{held_in, stocked_in, each_has, total_sum, rows_split, stocked_split, row_of, rows_have, fresh_row, generation_in}
 
--- a pass holds a header as owned or as fresh
-pub holds_split : (h : ℕ) (a : HeaderHolds) → held_in h a.held ≡ in_state h OWNED a + in_state h LIVE a
+-- a pass holds a header as owned, or in a state with a block
+pub holds_split : (h : ℕ) (a : HeaderHolds) → held_in h a.held ≡ in_state h OWNED a + stocked_in h a.held
 holds_split h a = rows_split h a.held
 
 -- and who holds it in a state holds it
@@ -29,8 +31,17 @@ holds_some h s a l = let e = total_le (λ (r : HeldHeader). one_at r.header h * 
     at_most : (x t : ℕ) → x * one_at t s ≤ x
     at_most x t = one_at-cases t s (λ k. x * k ≤ x) (λ _. omega arith) (λ _. omega arith)
 
--- a header that is known is held as fresh
-pub knows_fresh : (h g : ℕ) (a : HeaderHolds) → KnowsHeader h g a → 0 < in_state h LIVE a
+pub unheld_none : (h s : ℕ) (a : HeaderHolds) → held_in h a.held ≡ 0 → in_state h s a ≡ 0
+unheld_none h s a none = dite (dec_lt 0 (in_state h s a)) (λ l. let t = holds_some h s a l in absurd (omega arith)) (λ no. omega arith)
+
+-- and holds it in some state
+pub some_state : (h : ℕ) (a : HeaderHolds) → 0 < held_in h a.held → (s : ℕ) × (0 < s) × (s < RETIRED) × (0 < in_state h s a)
+some_state h a l = let p = holds_split h a in let q = stocked_split h a.held in dite (dec_lt 0 (in_state h OWNED a)) (λ o. (OWNED, (omega arith), (omega arith), o))
+    (λ no. dite (dec_lt 0 (in_state h LIVE a)) (λ o. (LIVE, (omega arith), (omega arith), o))
+    (λ nl. dite (dec_lt 0 (in_state h LOCKED a)) (λ o. (LOCKED, (omega arith), (omega arith), o)) (λ nk. (DEAD, (omega arith), (omega arith), (omega arith)))))
+
+-- a header that is fresh at a generation is held as fresh
+pub knows_fresh : (h g : ℕ) (a : HeaderHolds) → IsFreshAt h g a → 0 < in_state h LIVE a
 knows_fresh h g a l = let t = fresh_row h g a.held l in rows_have h LIVE a.held t.0 t.1 t.2 t.4
 
 -- a pass has one pin at most
@@ -59,7 +70,7 @@ place_is m h (r ∷ rs) t l = dite (ℕ_discrete r.header h)
     (λ e. ap m.place (sym e) ∙ (t.0 ∙ sym (ap (λ (b : Bool). cond b r.place (place_held h rs)) (eq-eqb r.header h e))))
     (λ n. place_is m h rs t.1.1 (let o = one_at-other r.header h n in omega arith) ∙ sym (ap (λ (b : Bool). cond b r.place (place_held h rs)) (ne_eqb r.header h n)))
 
-module _ (m : HeaderMemory) (content : ℕ → List ℕ) (IsPlace : ℕ → Type 0) (named : ℕ → ℕ) (hs : List HeaderHolds) (r : HeadersStand m content IsPlace named hs) where
+module _ (m : HeaderMemory) (content : ℕ → List ℕ) (IsPlace : ℕ → Type 0) (known : ℕ → ℕ → ℕ) (hs : List HeaderHolds) (r : HeadersStand m content IsPlace known hs) where
   -- no more passes hold a header in a state than it is in that state
   pub in_state-most : (h s : ℕ) → 0 < s → s < RETIRED → total (in_state h s) hs ≤ one_at (state_of (m.pin h)) s
   in_state-most h s pos low = dite (ℕ_discrete s LIVE)
@@ -86,33 +97,64 @@ module _ (m : HeaderMemory) (content : ℕ → List ℕ) (IsPlace : ℕ → Type
   pub has_all : (j : ℕ) (a : HeaderHolds) (h s : ℕ) → get_elem? hs j ≡ some a → 0 < s → s < RETIRED → ((state_of (m.pin h) ≡ FREE) ⊎ (0 < held_in h a.held)) → in_state h s a ≡ one_at (state_of (m.pin h)) s
   has_all j a h s at pos low (inl free) = let t = total_at (in_state h s) hs j a at in let u = in_state-most h s pos low in let o = one_at-other (state_of (m.pin h)) s (λ e. omega arith) in omega arith
   has_all j a h s at pos low (inr some_of) = let t = total_at (in_state h s) hs j a at in let u = in_state-most h s pos low in
-      one_at-cases (state_of (m.pin h)) s (λ k. in_state h s a ≤ k → in_state h s a ≡ k)
-      (λ e le. dite (ℕ_discrete (in_state h s a) 0) (λ z. absurd (none s e z)) (λ nz. omega arith)) (λ n le. omega arith) (omega arith)
+      one_at-cases (state_of (m.pin h)) s (λ k. in_state h s a ≤ k → in_state h s a ≡ k) (λ e le. let p = in_some s pos low some_of e in omega arith) (λ n le. omega arith) (omega arith)
     where
-      none : (s : ℕ) → state_of (m.pin h) ≡ s → in_state h s a ≡ 0 → ⊥
-      none s e z = let q = holds_split h a in dite (ℕ_discrete (in_state h OWNED a) 0)
-          (λ zo. let f = fresh_is j a h at (omega arith) in let w = ap (λ (i : ℕ). in_state h i a) (sym e ∙ f) in omega arith)
-          (λ no. let f = held_is j a h OWNED at (omega arith) (omega arith) (omega arith) in let w = ap (λ (i : ℕ). in_state h i a) (sym e ∙ f) in omega arith)
+      in_some : (s : ℕ) → 0 < s → s < RETIRED → 0 < held_in h a.held → state_of (m.pin h) ≡ s → 0 < in_state h s a
+      in_some s pos low some_of e = let t = some_state h a some_of in subst (λ (i : ℕ). 0 < in_state h i a) (sym (held_is j a h t.0 at t.1 t.2 t.3) ∙ e) t.3
+
+  stocked_total : (h : ℕ) → total (λ (a : HeaderHolds). stocked_in h a.held) hs ≡ total (in_state h LIVE) hs + (total (in_state h LOCKED) hs + total (in_state h DEAD) hs)
+  stocked_total h = total_sum (λ (a : HeaderHolds). stocked_in h a.held) (in_state h LIVE) (λ (a : HeaderHolds). in_state h LOCKED a + in_state h DEAD a) hs (λ a. stocked_split h a.held)
+      ∙ ap (λ (n : ℕ). total (in_state h LIVE) hs + n) (total_sum (λ (a : HeaderHolds). in_state h LOCKED a + in_state h DEAD a) (in_state h LOCKED) (in_state h DEAD) hs (λ a. refl))
+
+  -- no more passes hold a header in a state with a block than it is in one
+  pub stocked_most : (h : ℕ) → total (λ (a : HeaderHolds). stocked_in h a.held) hs ≤ stocked (state_of (m.pin h))
+  stocked_most h = let t = stocked_total h in let v = in_state-most h LIVE (omega arith) (omega arith) in let w = in_state-most h LOCKED (omega arith) (omega arith) in let x = in_state-most h DEAD (omega arith) (omega arith) in omega arith
+
+  held_total : (h : ℕ) → total (λ (a : HeaderHolds). held_in h a.held) hs ≡ total (in_state h OWNED) hs + total (λ (a : HeaderHolds). stocked_in h a.held) hs
+  held_total h = total_sum (λ (a : HeaderHolds). held_in h a.held) (in_state h OWNED) (λ (a : HeaderHolds). stocked_in h a.held) hs (holds_split h)
 
   pub headers_once : (h : ℕ) → total (λ (a : HeaderHolds). held_in h a.held) hs ≤ 1
-  headers_once h = let t = total_sum (λ (a : HeaderHolds). held_in h a.held) (in_state h OWNED) (in_state h LIVE) hs (holds_split h) in
-      let u = in_state-most h OWNED (omega arith) (omega arith) in let v = in_state-most h LIVE (omega arith) (omega arith) in
-      one_at-cases (state_of (m.pin h)) OWNED (λ k. total (in_state h OWNED) hs ≤ k → total (λ (a : HeaderHolds). held_in h a.held) hs ≤ 1)
-      (λ e le. let o = one_at-other (state_of (m.pin h)) LIVE (λ f. omega arith) in omega arith) (λ n le. let o = one_at-le (state_of (m.pin h)) LIVE in omega arith) u
+  headers_once h = let t = held_total h in let u = in_state-most h OWNED (omega arith) (omega arith) in let v = stocked_most h in let o = held_le (state_of (m.pin h)) in omega arith
 
   pub free_unheld : (h : ℕ) → state_of (m.pin h) ≡ FREE → total (λ (a : HeaderHolds). held_in h a.held) hs ≡ 0
-  free_unheld h free = let t = total_sum (λ (a : HeaderHolds). held_in h a.held) (in_state h OWNED) (in_state h LIVE) hs (holds_split h) in
-      let u = in_state-most h OWNED (omega arith) (omega arith) in let v = in_state-most h LIVE (omega arith) (omega arith) in
-      let o = one_at-other (state_of (m.pin h)) OWNED (λ e. omega arith) in let p = one_at-other (state_of (m.pin h)) LIVE (λ e. omega arith) in omega arith
+  free_unheld h free = let t = held_total h in let u = in_state-most h OWNED (omega arith) (omega arith) in let v = stocked_most h in
+      let o = one_at-other (state_of (m.pin h)) OWNED (λ e. omega arith) in let p = unstocked (state_of (m.pin h)) (omega arith) in omega arith
+
+  -- a header that is known at its generation has a block, and no pass has it fresh
+  pub known_settled : (h g : ℕ) → 0 < known h g → generation_of (m.pin h) ≡ g → (stocked (state_of (m.pin h)) ≡ 1) × (total (in_state h LIVE) hs ≡ 0)
+  known_settled h g some_of at = let s = r.settled h in let k = ap (known h) at in let o = stocked_le (state_of (m.pin h)) in ((omega arith), (omega arith))
+
+  -- where it is live besides, no pass holds it
+  pub known_unheld : (h g : ℕ) → 0 < known h g → generation_of (m.pin h) ≡ g → state_of (m.pin h) ≡ LIVE → total (λ (a : HeaderHolds). held_in h a.held) hs ≡ 0
+  known_unheld h g some_of at live = let k = known_settled h g some_of at in let t = held_total h in let none = λ (s : ℕ) (pos : 0 < s) (low : s < RETIRED) (ne : s ≢ LIVE). r.held h s pos low ne ∙ one_at-other (state_of (m.pin h)) s (λ e. ne (sym e ∙ live)) in
+      let x = stocked_total h in let o = none OWNED (omega arith) (omega arith) (λ e. omega arith) in let l = none LOCKED (omega arith) (omega arith) (λ e. omega arith) in let d = none DEAD (omega arith) (omega arith) (λ e. omega arith) in let z = k.1 in omega arith
+
+  -- a header that a pass has locked or buries is known
+  pub locked_known : (j : ℕ) (a : HeaderHolds) (h s : ℕ) → get_elem? hs j ≡ some a → LIVE < s → s < RETIRED → 0 < in_state h s a → known h (generation_of (m.pin h)) ≡ 1
+  locked_known j a h s at above low some_of = let is = held_is j a h s at (omega arith) low some_of in let t = stocked_high (state_of (m.pin h)) (omega arith) (omega arith) in let f = r.fresh h in let o = one_at-other (state_of (m.pin h)) LIVE (λ e. omega arith) in
+      let w = r.settled h in omega arith
+
+  -- of a header that no pass holds each has none, and of one that a pass holds each other
+  pub unheld_by : (h : ℕ) → total (λ (a : HeaderHolds). held_in h a.held) hs ≡ 0 → (j : ℕ) (u : HeaderHolds) → get_elem? hs j ≡ some u → held_in h u.held ≡ 0
+  unheld_by h none j u at = let t = total_at (λ (a : HeaderHolds). held_in h a.held) hs j u at in omega arith
+
+  pub unheld_else : (j : ℕ) (a : HeaderHolds) (h : ℕ) → get_elem? hs j ≡ some a → 0 < held_in h a.held → (k : ℕ) (u : HeaderHolds) → get_elem? hs k ≡ some u → k ≢ j → held_in h u.held ≡ 0
+  unheld_else j a h at some_of k u there ne = let t = total_two (λ (a : HeaderHolds). held_in h a.held) hs j k a u (λ e. ne (sym e)) at there in let o = headers_once h in omega arith
+
+  pub held_one : (j : ℕ) (a : HeaderHolds) (h s : ℕ) → get_elem? hs j ≡ some a → 0 < in_state h s a → held_in h a.held ≡ 1
+  held_one j a h s at some_of = let t = total_at (λ (a : HeaderHolds). held_in h a.held) hs j a at in let o = headers_once h in let l = holds_some h s a some_of in omega arith
 
   -- the record of a header that a pass holds
   pub record_of : (j : ℕ) (a : HeaderHolds) (h s : ℕ) → get_elem? hs j ≡ some a → 0 < in_state h s a → (x : HeldHeader) × Has x a.held × (x.header ≡ h) × (held_state x.held_as ≡ s) × (generation_of (m.pin h) ≡ x.generation)
   record_of j a h s at some_of = let t = row_of h s a.held some_of in
       (t.0, t.1, t.2, t.3, ap (λ (i : ℕ). generation_of (m.pin i)) (sym t.2) ∙ each_has (λ (x : HeldHeader). generation_of (m.pin x.header) ≡ x.generation) a.held t.0 (r.generations j a at) t.1)
 
-  pub known_is : (j : ℕ) (a : HeaderHolds) (h g : ℕ) → get_elem? hs j ≡ some a → KnowsHeader h g a → (state_of (m.pin h) ≡ LIVE) × (generation_of (m.pin h) ≡ g)
-  known_is j a h g at knows = let t = fresh_row h g a.held knows in (
-    fresh_is j a h at (knows_fresh h g a knows),
+  pub generation_is : (j : ℕ) (a : HeaderHolds) (h : ℕ) → get_elem? hs j ≡ some a → 0 < held_in h a.held → generation_of (m.pin h) ≡ generation_held h a.held
+  generation_is j a h at some_of = generation_in h (λ k g. generation_of (m.pin k) ≡ g) a.held (r.generations j a at) some_of
+
+  pub fresh_at_is : (j : ℕ) (a : HeaderHolds) (h g : ℕ) → get_elem? hs j ≡ some a → IsFreshAt h g a → (state_of (m.pin h) ≡ LIVE) × (generation_of (m.pin h) ≡ g)
+  fresh_at_is j a h g at fresh = let t = fresh_row h g a.held fresh in (
+    fresh_is j a h at (knows_fresh h g a fresh),
     ap (λ (i : ℕ). generation_of (m.pin i)) (sym t.2) ∙ (each_has (λ (x : HeldHeader). generation_of (m.pin x.header) ≡ x.generation) a.held t.0 (r.generations j a at) t.1 ∙ t.3),
   )
 

@@ -1,14 +1,17 @@
 -- Lists of held headers: what is in them, how often one is in them in a state, and what of that a step changes.
-use Rattle.std.proofs.Common.{◌≡◌, ℕ, ◌+◌, ◌*◌, ◌<◌, ◌≤◌, List, [], ◌∷◌, sym, refl, ap, subst, arith, inl, inr, ⊎_elim}
+use Rattle.std.proofs.Common.{◌≡◌, ◌≢◌, ℕ, zero, suc, ◌+◌, ◌*◌, ◌<◌, ◌≤◌, List, [], ◌∷◌, sym, refl, ap, ◌∙◌, subst, arith, inl, inr, ⊎_elim, eq-eqb, ne_eqb, Bool, cond}
 use mathlib.Core.Logic.{dite}
-use native.Mathlib.Decide.{dec_lt}
+use mathlib.Core.Option.{some, some-injective, some-ne-none}
+use native.Mathlib.Decide.{ℕ_discrete, dec_lt}
+use lib.ListN.{get_elem?}
 use Rattle.oak_model.specs.Counts.{one_at, total, Each, Has}
-use Rattle.oak_model.proofs.Counting.{one_at-same, one_at-other, one_at-cases, one_at-true}
-use Rattle.header_core.specs.declared.states.TheConstants.{OWNED, LIVE}
+use Rattle.oak_model.proofs.Counting.{one_at-same, one_at-other, one_at-cases, one_at-true, total_zero}
+use Rattle.header_core.specs.declared.states.TheConstants.{OWNED, LIVE, LOCKED, DEAD}
 use Rattle.header_core.specs.declared.holds.HeldAs.{HeldAs}
-use Rattle.header_core.specs.declared.holds.HeldAs.TheVariants.{Owned, Fresh}
+use Rattle.header_core.specs.declared.holds.HeldAs.TheVariants.{Owned, Fresh, Locked, Buried}
 use Rattle.header_core.specs.declared.holds.HeldHeader.{HeldHeader}
-use Rattle.header_core.specs.HeaderHolds.{held_state}
+use Rattle.header_core.specs.HeaderHolds.{held_state, generation_held}
+use Rattle.header_core.specs.HeaderRule.{stocked}
 
 -- how often the header is in the list, and how often in the state
 
@@ -20,6 +23,10 @@ rows_in h s rs = total (λ (r : HeldHeader). one_at r.header h * one_at (held_st
 
 abbrev pub fresh_in : ℕ → ℕ → List HeldHeader → ℕ
 fresh_in h g rs = total (λ (r : HeldHeader). one_at r.header h * one_at r.generation g * one_at (held_state r.held_as) LIVE) rs
+
+-- how often in a state with a block
+abbrev pub stocked_in : ℕ → List HeldHeader → ℕ
+stocked_in h rs = total (λ (r : HeldHeader). one_at r.header h * stocked (held_state r.held_as)) rs
 
 -- of a list in general
 
@@ -39,20 +46,44 @@ module _ {A : Type 0} where
   total_has f [] x m = absurd m
   total_has f (y ∷ ys) x m = ⊎_elim (λ (e : x ≡ y). let s = ap f e in omega arith) (λ (r : Has x ys). let t = total_has f ys x r in omega arith) m
 
+  -- where only one of a list counts, the sum is its
+  pub total_alone : (f : A → ℕ) (xs : List A) (i : ℕ) (v : A) → get_elem? xs i ≡ some v → ((j : ℕ) (u : A) → get_elem? xs j ≡ some u → j ≢ i → f u ≡ 0) → total f xs ≡ f v
+  unfolding total
+  total_alone f [] i v at none = absurd (some-ne-none v (sym at))
+  total_alone f (x ∷ xs) zero v at none = let s = ap f (some-injective x v at) in let z = total_zero f xs (λ j u e. none (suc j) u e (λ q. omega arith)) in omega arith
+  total_alone f (x ∷ xs) (suc i) v at none = let z = none zero x refl (λ q. omega arith) in let t = total_alone f xs i v at (λ j u e ne. none (suc j) u e (λ q. ne (omega arith))) in omega arith
+
   -- a sum of sums
   pub total_sum : (f g k : A → ℕ) (xs : List A) → ((x : A) → f x ≡ g x + k x) → total f xs ≡ total g xs + total k xs
   unfolding total
   total_sum f g k [] h = refl
   total_sum f g k (x ∷ xs) h = let a = h x in let t = total_sum f g k xs h in omega arith
 
--- a held header is in one of two states
+-- a held header is owned, or in a state with a block, which is one of three
 
-in_one_state : (x : ℕ) (q : HeldAs) → x ≡ x * one_at (held_state q) OWNED + x * one_at (held_state q) LIVE
-in_one_state x Owned = let a : x * one_at (held_state Owned) OWNED ≡ x * 1 = ap (λ (k : ℕ). x * k) (one_at-same OWNED OWNED refl) in let b : x * one_at (held_state Owned) LIVE ≡ x * 0 = ap (λ (k : ℕ). x * k) (one_at-other OWNED LIVE (λ e. omega arith)) in omega arith
-in_one_state x Fresh = let a : x * one_at (held_state Fresh) OWNED ≡ x * 0 = ap (λ (k : ℕ). x * k) (one_at-other LIVE OWNED (λ e. omega arith)) in let b : x * one_at (held_state Fresh) LIVE ≡ x * 1 = ap (λ (k : ℕ). x * k) (one_at-same LIVE LIVE refl) in omega arith
+owned_or_stocked : (x : ℕ) (q : HeldAs) → x ≡ x * one_at (held_state q) OWNED + x * stocked (held_state q)
+unfolding one_at
+owned_or_stocked x Owned = omega arith
+owned_or_stocked x Fresh = omega arith
+owned_or_stocked x (Locked at) = omega arith
+owned_or_stocked x Buried = omega arith
 
-pub rows_split : (h : ℕ) (rs : List HeldHeader) → held_in h rs ≡ rows_in h OWNED rs + rows_in h LIVE rs
-rows_split h rs = total_sum (λ (r : HeldHeader). one_at r.header h) (λ (r : HeldHeader). one_at r.header h * one_at (held_state r.held_as) OWNED) (λ (r : HeldHeader). one_at r.header h * one_at (held_state r.held_as) LIVE) rs (λ r. in_one_state (one_at r.header h) r.held_as)
+stocked_parts : (x : ℕ) (q : HeldAs) → x * stocked (held_state q) ≡ x * one_at (held_state q) LIVE + (x * one_at (held_state q) LOCKED + x * one_at (held_state q) DEAD)
+unfolding one_at
+stocked_parts x Owned = omega arith
+stocked_parts x Fresh = omega arith
+stocked_parts x (Locked at) = omega arith
+stocked_parts x Buried = omega arith
+
+abbrev row : ℕ → ℕ → HeldHeader → ℕ
+row h s r = one_at r.header h * one_at (held_state r.held_as) s
+
+pub rows_split : (h : ℕ) (rs : List HeldHeader) → held_in h rs ≡ rows_in h OWNED rs + stocked_in h rs
+rows_split h rs = total_sum (λ (r : HeldHeader). one_at r.header h) (row h OWNED) (λ (r : HeldHeader). one_at r.header h * stocked (held_state r.held_as)) rs (λ r. owned_or_stocked (one_at r.header h) r.held_as)
+
+pub stocked_split : (h : ℕ) (rs : List HeldHeader) → stocked_in h rs ≡ rows_in h LIVE rs + (rows_in h LOCKED rs + rows_in h DEAD rs)
+stocked_split h rs = total_sum (λ (r : HeldHeader). one_at r.header h * stocked (held_state r.held_as)) (row h LIVE) (λ (r : HeldHeader). row h LOCKED r + row h DEAD r) rs (λ r. stocked_parts (one_at r.header h) r.held_as)
+    ∙ ap (λ (n : ℕ). rows_in h LIVE rs + n) (total_sum (λ (r : HeldHeader). row h LOCKED r + row h DEAD r) (row h LOCKED) (row h DEAD) rs (λ r. refl))
 
 -- the record of a header that is held in a state
 
@@ -71,3 +102,11 @@ fresh_row h g rs l = let t = has_some (λ (r : HeldHeader). one_at r.header h * 
     one_at-cases r.header h (λ k. 0 < k * one_at r.generation g * one_at (held_state r.held_as) LIVE → (r : HeldHeader) × Has r rs × (r.header ≡ h) × (r.generation ≡ g) × (held_state r.held_as ≡ LIVE))
     (λ e p. let q = both_positive r.generation g (held_state r.held_as) LIVE (subst (λ (k : ℕ). 0 < k * one_at (held_state r.held_as) LIVE) (let o : 1 * one_at r.generation g ≡ one_at r.generation g = omega arith in o) p) in (r, t.1, e, q.0, q.1))
     (λ _ p. absurd (omega arith)) t.2
+
+-- the record that `generation_held` reads
+pub generation_in : (h : ℕ) (P : ℕ → ℕ → Type 0) (rs : List HeldHeader) → Each (λ (r : HeldHeader). P r.header r.generation) rs → 0 < held_in h rs → P h (generation_held h rs)
+unfolding total
+generation_in h P [] e l = absurd (omega arith)
+generation_in h P (r ∷ rs) e l = dite (ℕ_discrete r.header h)
+    (λ q. subst (P h) (sym (ap (λ (b : Bool). cond b r.generation (generation_held h rs)) (eq-eqb r.header h q))) (subst (λ (k : ℕ). P k r.generation) q e.0))
+    (λ n. subst (P h) (sym (ap (λ (b : Bool). cond b r.generation (generation_held h rs)) (ne_eqb r.header h n))) (generation_in h P rs e.1 (let o = one_at-other r.header h n in omega arith)))

@@ -1,6 +1,8 @@
 pub mod HeaderWords
 pub mod HeldHeaders
+pub mod HeldRecords
 pub mod HeldChanges
+pub mod StockedStates
 pub mod HeaderFacts
 pub mod KeptHeaders
 pub mod HeaderLaws
@@ -8,4 +10,6 @@ pub mod PinWordChanges
 pub mod HeaderPins
 pub mod HeaderStores
 pub mod HeaderStates
+pub mod ClaimedHeaders
+pub mod LockedHeaders
 pub mod HeaderSteps

@@ -1,18 +1,18 @@
 -- What a step on a pin word does to its parts, and what stays of a header whose pin word changes.
-use Rattle.std.proofs.Common.{◌≡◌, ◌≢◌, ℕ, ◌+◌, ◌-◌, ◌*◌, ◌%◌, ◌^◌, ◌<◌, cond, Bool, List, sym, refl, ap, ◌∙◌, subst, arith, eq-eqb, ne_eqb}
+use Rattle.std.proofs.Common.{◌≡◌, ◌≢◌, ℕ, ◌+◌, ◌-◌, ◌*◌, ◌%◌, ◌^◌, ◌<◌, ◌⊎◌, inl, inr, cond, Bool, List, sym, refl, ap, ◌∙◌, subst, arith, eq-eqb, ne_eqb}
 use mathlib.Core.Logic.{dite}
 use mathlib.Core.Path.{fun_ext}
 use native.Mathlib.Decide.{ℕ_discrete}
 use Rattle.pin_word.specs.PinWord.{generation_of, state_of, count_of}
 use Rattle.oak_model.specs.Counts.{put}
-use Rattle.header_core.specs.declared.states.TheConstants.{FREE, LIVE}
+use Rattle.header_core.specs.declared.states.TheConstants.{FREE, LIVE, DEAD, RETIRED, LAST_GENERATION}
 use Rattle.header_core.specs.declared.holds.HeldAs.{HeldAs}
-use Rattle.header_core.specs.declared.holds.HeldAs.TheVariants.{Owned, Fresh}
+use Rattle.header_core.specs.declared.holds.HeldAs.TheVariants.{Owned, Fresh, Locked, Buried}
 use Rattle.header_core.specs.declared.holds.PinnedHeader.{PinnedHeader}
 use Rattle.header_core.specs.Headers.{HeaderMemory, at_pin}
 use Rattle.header_core.specs.HeaderHolds.{held_state}
 use Rattle.header_core.specs.HeaderRule.{PinHolds, IsOver, RemovalStands}
-use Rattle.header_core.specs.HeaderStep.{STATE, put_header}
+use Rattle.header_core.specs.HeaderStep.{STATE, renewal, put_header}
 
 -- one pin more, and one less
 
@@ -37,12 +37,42 @@ pub state_up : (w : ℕ) → state_of w < 15 → w < 2 ^ 64
 unfolding count_of state_of generation_of
 state_up w h b = ((omega arith), (omega arith), (omega arith))
 
+-- the state before
+pub state_down : (w : ℕ) → 0 < state_of w → w < 2 ^ 64
+    → (count_of ((w + (2 ^ 64 - STATE)) % 2 ^ 64) ≡ count_of w) × (state_of ((w + (2 ^ 64 - STATE)) % 2 ^ 64) + 1 ≡ state_of w) × (generation_of ((w + (2 ^ 64 - STATE)) % 2 ^ 64) ≡ generation_of w)
+unfolding count_of state_of generation_of
+state_down w h b = ((omega arith), (omega arith), (omega arith))
+
 -- a held header becomes free
 pub state_off : (s : HeldAs) (w : ℕ) → state_of w ≡ held_state s → w < 2 ^ 64
     → (count_of ((w + (2 ^ 64 - held_state s * STATE)) % 2 ^ 64) ≡ count_of w) × (state_of ((w + (2 ^ 64 - held_state s * STATE)) % 2 ^ 64) ≡ FREE) × (generation_of ((w + (2 ^ 64 - held_state s * STATE)) % 2 ^ 64) ≡ generation_of w)
 unfolding count_of state_of generation_of
 state_off Owned w h b = ((omega arith), (omega arith), (omega arith))
 state_off Fresh w h b = ((omega arith), (omega arith), (omega arith))
+state_off (Locked at) w h b = ((omega arith), (omega arith), (omega arith))
+state_off Buried w h b = ((omega arith), (omega arith), (omega arith))
+
+-- a dead header comes to the next generation: it is free there, or retired where that is the last
+
+abbrev pub IsRenewed : ℕ → ℕ → Type 0
+IsRenewed w x = (count_of x ≡ count_of w) × (generation_of x ≡ generation_of w + 1) × (((generation_of w + 1 ≡ LAST_GENERATION) × (state_of x ≡ RETIRED)) ⊎ ((generation_of w + 1 ≢ LAST_GENERATION) × (state_of x ≡ FREE)))
+
+to_last : (w : ℕ) → state_of w ≡ DEAD → generation_of w + 2 ≡ 2 ^ 32 → w < 2 ^ 64 → IsRenewed w ((w + (2 ^ 32 + STATE)) % 2 ^ 64)
+unfolding count_of state_of generation_of
+to_last w dead e b = ((omega arith), (omega arith), inl ((omega arith), (omega arith)))
+
+to_next : (w : ℕ) → state_of w ≡ DEAD → generation_of w + 1 < 2 ^ 32 → generation_of w + 2 ≢ 2 ^ 32 → w < 2 ^ 64 → IsRenewed w ((w + (2 ^ 32 - DEAD * STATE)) % 2 ^ 64)
+unfolding count_of state_of generation_of
+to_next w dead room ne b = ((omega arith), (omega arith), inr ((λ e. ne (omega arith)), (omega arith)))
+
+pub renewed : (w : ℕ) → state_of w ≡ DEAD → generation_of w + 1 < 2 ^ 32 → w < 2 ^ 64 → IsRenewed w ((w + renewal (generation_of w)) % 2 ^ 64)
+renewed w dead room b = dite (ℕ_discrete (generation_of w + 2) (2 ^ 32))
+    (λ e. subst (λ (t : Bool). IsRenewed w ((w + cond t (2 ^ 32 + STATE) (2 ^ 32 - DEAD * STATE)) % 2 ^ 64)) (sym (eq-eqb (generation_of w + 2) (2 ^ 32) e)) (to_last w dead e b))
+    (λ ne. subst (λ (t : Bool). IsRenewed w ((w + cond t (2 ^ 32 + STATE) (2 ^ 32 - DEAD * STATE)) % 2 ^ 64)) (sym (ne_eqb (generation_of w + 2) (2 ^ 32) ne)) (to_next w dead room ne b))
+
+pub generation_small : (w : ℕ) → w < 2 ^ 64 → generation_of w < 2 ^ 32
+unfolding generation_of
+generation_small w b = omega arith
 
 -- a function with one value exchanged
 
@@ -60,18 +90,18 @@ pub put-again : (f : ℕ → ℕ) (i : ℕ) → put f i (f i) ≡ f
 put-again f i = fun_ext (λ k. dite (ℕ_discrete k i) (λ e. put-here f i (f i) k e ∙ ap f (sym e)) (λ ne. put-else f i (f i) k ne))
 
 -- the pin word of h becomes x
-module _ (m : HeaderMemory) (h x : ℕ) (generation : generation_of x ≡ generation_of (m.pin h)) where
+module _ (m : HeaderMemory) (h x : ℕ) where
   abbrev pub with_pin : HeaderMemory
   with_pin = put_header m (at_pin h) x
 
-  pub same_generation : (k : ℕ) → generation_of (with_pin.pin k) ≡ generation_of (m.pin k)
-  same_generation k = put-cases m.pin h x k (λ w. generation_of w ≡ generation_of (m.pin k)) (λ e. generation ∙ ap (λ (i : ℕ). generation_of (m.pin i)) (sym e)) (λ _. refl)
+  pub same_generation : generation_of x ≡ generation_of (m.pin h) → (k : ℕ) → generation_of (with_pin.pin k) ≡ generation_of (m.pin k)
+  same_generation generation k = put-cases m.pin h x k (λ w. generation_of w ≡ generation_of (m.pin k)) (λ e. generation ∙ ap (λ (i : ℕ). generation_of (m.pin i)) (sym e)) (λ _. refl)
 
   -- a pin that found its header live
-  pub still_holds : (content : ℕ → List ℕ) (p : PinnedHeader) → (p.header ≡ h → state_of (m.pin h) ≡ LIVE → state_of x ≡ LIVE) → PinHolds m content p → PinHolds with_pin content p
-  still_holds content p live t = record {
-    live = put-cases m.pin h x p.header (λ w. state_of w ≡ LIVE) (λ e. live e (ap (λ (i : ℕ). state_of (m.pin i)) (sym e) ∙ t.live)) (λ _. t.live);
-    generation = same_generation p.header ∙ t.generation;
+  pub still_holds : (content : ℕ → List ℕ) (p : PinnedHeader) → (p.header ≡ h → state_of (m.pin h) ≡ LIVE → generation_of (m.pin h) ≡ p.wanted → (state_of x ≡ LIVE) × (generation_of x ≡ p.wanted)) → PinHolds m content p → PinHolds with_pin content p
+  still_holds content p live t = let on = λ (e : p.header ≡ h). live e (ap (λ (i : ℕ). state_of (m.pin i)) (sym e) ∙ t.live) (ap (λ (i : ℕ). generation_of (m.pin i)) (sym e) ∙ t.generation) in record {
+    live = put-cases m.pin h x p.header (λ w. state_of w ≡ LIVE) (λ e. (on e).0) (λ _. t.live);
+    generation = put-cases m.pin h x p.header (λ w. generation_of w ≡ p.wanted) (λ e. (on e).1) (λ _. t.generation);
     place = t.place;
     stamp = t.stamp;
     words = t.words;

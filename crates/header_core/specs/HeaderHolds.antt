@@ -2,9 +2,9 @@
 use Rattle.std.specs.Prelude.{ℕ, ◌+◌, ◌*◌, ◌<◌, ◌==◌, nat_lt, cond, List, [], ◌∷◌, Option, Some, None}
 use Rattle.oak_model.specs.Counts.{one_if, one_at, total}
 use Rattle.oak_model.specs.Kept.{KeptWord}
-use Rattle.header_core.specs.declared.states.TheConstants.{OWNED, LIVE}
+use Rattle.header_core.specs.declared.states.TheConstants.{OWNED, LIVE, LOCKED, DEAD}
 use Rattle.header_core.specs.declared.holds.HeldAs.{HeldAs}
-use Rattle.header_core.specs.declared.holds.HeldAs.TheVariants.{Owned, Fresh}
+use Rattle.header_core.specs.declared.holds.HeldAs.TheVariants.{Owned, Fresh, Locked, Buried}
 use Rattle.header_core.specs.declared.holds.HeldHeader.{HeldHeader}
 use Rattle.header_core.specs.declared.holds.PinnedHeader.{PinnedHeader}
 use Rattle.header_core.specs.declared.holds.HeaderHolds.{HeaderHolds}
@@ -25,6 +25,8 @@ pins_on h a = pins_of h a.pin
 abbrev pub held_state : HeldAs → ℕ
 held_state Owned = OWNED
 held_state Fresh = LIVE
+held_state (Locked at) = LOCKED
+held_state Buried = DEAD
 
 -- how often the pass holds the header in the state
 abbrev pub in_state : ℕ → ℕ → HeaderHolds → ℕ
@@ -38,14 +40,19 @@ had_header h a = one_if (nat_lt 0 (pins_on h a + total (λ (r : HeldHeader). one
 abbrev pub fresh_at : ℕ → ℕ → HeaderHolds → ℕ
 fresh_at h g a = total (λ (r : HeldHeader). one_at r.header h * one_at r.generation g * one_at (held_state r.held_as) LIVE) a.held
 
--- the pass knows the header at the generation: it has it fresh
-abbrev pub KnowsHeader : ℕ → ℕ → HeaderHolds → Type 0
-KnowsHeader h g a = 0 < fresh_at h g a
+-- the pass has the header fresh at the generation
+abbrev pub IsFreshAt : ℕ → ℕ → HeaderHolds → Type 0
+IsFreshAt h g a = 0 < fresh_at h g a
 
--- what stands in the place word of a held header
+-- what stands in the place word of a held header, and its generation
+
 abbrev pub place_held : ℕ → List HeldHeader → ℕ
 place_held h [] = 0
 place_held h (r ∷ rs) = cond (r.header == h) r.place (place_held h rs)
+
+abbrev pub generation_held : ℕ → List HeldHeader → ℕ
+generation_held h [] = 0
+generation_held h (r ∷ rs) = cond (r.header == h) r.generation (generation_held h rs)
 
 -- the held headers but this one
 abbrev pub without_header : ℕ → List HeldHeader → List HeldHeader

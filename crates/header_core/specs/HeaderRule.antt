@@ -1,13 +1,13 @@
--- Pins are counted, what a good pin found stands, and a header that is owned or fresh is one pass's.
-use Rattle.std.specs.Prelude.{◌≡◌, ◌≢◌, ℕ, ◌+◌, ◌<◌, ◌⊎◌, List, Option, Some, None}
+-- Pins are counted, what a good pin found stands, and a header that is owned, fresh, locked or dead is one pass's.
+use Rattle.std.specs.Prelude.{◌≡◌, ◌≢◌, ℕ, ◌+◌, ◌<◌, ◌≤◌, ◌⊎◌, List, Option, Some, None}
 use Rattle.pin_word.specs.PinWord.{generation_of, state_of, count_of}
 use Rattle.oak_model.specs.Counts.{one_at, total, Every, Each}
-use Rattle.header_core.specs.declared.states.TheConstants.{FREE, LIVE, LOCKED, DEAD, RETIRED}
+use Rattle.header_core.specs.declared.states.TheConstants.{FREE, LIVE, LOCKED, DEAD, RETIRED, LAST_GENERATION}
 use Rattle.header_core.specs.declared.holds.HeldHeader.{HeldHeader}
 use Rattle.header_core.specs.declared.holds.PinnedHeader.{PinnedHeader}
 use Rattle.header_core.specs.declared.holds.HeaderHolds.{HeaderHolds}
 use Rattle.header_core.specs.Headers.{HeaderMemory}
-use Rattle.header_core.specs.HeaderHolds.{pins_on, in_state, KnowsHeader}
+use Rattle.header_core.specs.HeaderHolds.{pins_on, in_state, fresh_at}
 
 -- 1 where a header in this state has a block, the one that its place word names
 abbrev pub stocked : ℕ → ℕ
@@ -46,19 +46,27 @@ pub record RemovalStands (m : HeaderMemory) (p : PinnedHeader) : Type 0 where
 abbrev pub DeadPinHolds : HeaderMemory → PinnedHeader → Type 0
 DeadPinHolds m p = state_of p.found ≡ DEAD → RemovalStands m p
 
--- the bundle of points on headers; `named` says how many entries name a header that is live, and `IsPlace` that a number names a block with the class of its length
-pub record HeadersStand (m : HeaderMemory) (content : ℕ → List ℕ) (IsPlace : ℕ → Type 0) (named : ℕ → ℕ) (hs : List HeaderHolds) : Type 0 where
+-- The bundle of points on headers. `known` is 1 where a pass knows the header at the generation other than as its fresh one, and else 0; `IsPlace` says that a number names a block with the class of its length.
+pub record HeadersStand (m : HeaderMemory) (content : ℕ → List ℕ) (IsPlace : ℕ → Type 0) (known : ℕ → ℕ → ℕ) (hs : List HeaderHolds) : Type 0 where
   -- the count of a header is the number of pins on it, duds among them
   pub counted : (h : ℕ) → total (pins_on h) hs ≡ count_of (m.pin h)
   -- a header is owned, locked or dead exactly where one pass holds it so
   pub held : (h s : ℕ) → 0 < s → s < RETIRED → s ≢ LIVE → total (in_state h s) hs ≡ one_at (state_of (m.pin h)) s
-  -- a live header is one pass's fresh one, or named by entries
-  pub fresh : (h : ℕ) → total (in_state h LIVE) hs + named h ≡ one_at (state_of (m.pin h)) LIVE
+  -- a header that is fresh is live, and one pass's
+  pub fresh : (h : ℕ) → total (in_state h LIVE) hs ≤ one_at (state_of (m.pin h)) LIVE
+  -- a header that has a block is fresh, or known at its generation, and not both; one without a block is neither
+  pub settled : (h : ℕ) → total (in_state h LIVE) hs + known h (generation_of (m.pin h)) ≡ stocked (state_of (m.pin h))
+  -- a header that is known at a generation is at that one or at a greater one
+  pub older : (h g : ℕ) → 0 < known h g → g ≤ generation_of (m.pin h)
+  -- a header is retired exactly where it is at the last generation
+  pub retired : (h : ℕ) → one_at (state_of (m.pin h)) RETIRED ≡ one_at (generation_of (m.pin h)) LAST_GENERATION
   -- the place word of a header that has a block names one, with the class of its length
   pub placed : (h : ℕ) → 0 < stocked (state_of (m.pin h)) → IsPlace (m.place h)
   -- a held header is at its generation
   pub generations : Every (λ (a : HeaderHolds). Each (λ (r : HeldHeader). generation_of (m.pin r.header) ≡ r.generation) a.held) hs
   pub good : Every (λ (a : HeaderHolds). OnPin (GoodPinHolds m content) a.pin) hs
   pub dead : Every (λ (a : HeaderHolds). OnPin (DeadPinHolds m) a.pin) hs
-  -- a pass pins only headers that it knows
-  pub known : Every (λ (a : HeaderHolds). OnPin (λ (p : PinnedHeader). KnowsHeader p.header p.wanted a) a.pin) hs
+
+-- the pass has a pin only on a header that it knows: it has it fresh, or knows it otherwise, as `knows` counts
+abbrev pub PinsWhatItKnows : (ℕ → ℕ → ℕ) → HeaderHolds → Type 0
+PinsWhatItKnows knows a = OnPin (λ (p : PinnedHeader). 0 < fresh_at p.header p.wanted a + knows p.header p.wanted) a.pin

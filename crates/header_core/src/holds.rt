@@ -1,11 +1,21 @@
 //! What a pass holds of headers: plain data for the proofs, of which no value is made.
 use std::collections::LinkedList;
 
-/// How a pass holds a header, which says the state that the header is in: owned while it is filled, or
-/// live and named by no entry yet.
+/// What a header had when a pass locked it: the numbers of its place and stamp words, and those of the
+/// words of its block.
+pub struct AtLock {
+    pub place: u64,
+    pub stamp: u64,
+    pub words: LinkedList<u64>,
+}
+
+/// How a pass holds a header, which says the state that the header is in: owned while it is filled,
+/// live and named by no entry yet, locked, or dead and not yet taken back.
 pub enum HeldAs {
     Owned,
     Fresh,
+    Locked(AtLock),
+    Buried,
 }
 
 /// A pin of a header: the generation that was wanted, the word that it found, and what stood at that
@@ -19,8 +29,8 @@ pub struct PinnedHeader {
     pub words: LinkedList<u64>,
 }
 
-/// A header that a pass owns or has fresh, with the numbers of its place and stamp words, which no
-/// other pass may change. Of a fresh header so are those of its block.
+/// A header that a pass owns, has fresh, has locked or buries, with the numbers of its place and stamp
+/// words, which no other pass may change. Of all but an owned header so are those of its block.
 pub struct HeldHeader {
     pub header: u32,
     pub generation: u32,

@@ -7,5 +7,5 @@ pub mod states;
 #[cfg(test)]
 mod tests;
 
-pub use holds::{HeaderHolds, HeldAs, HeldHeader, PinnedHeader};
-pub use states::{DEAD, FREE, LIVE, LOCKED, OWNED, RETIRED};
+pub use holds::{AtLock, HeaderHolds, HeldAs, HeldHeader, PinnedHeader};
+pub use states::{DEAD, FREE, LAST_GENERATION, LIVE, LOCKED, OWNED, RETIRED};

@@ -17,3 +17,6 @@ pub const DEAD: u8 = 4;
 
 /// At the last generation, never used again.
 pub const RETIRED: u8 = 5;
+
+/// The last generation. A header that comes to it is retired.
+pub const LAST_GENERATION: u32 = u32::MAX;

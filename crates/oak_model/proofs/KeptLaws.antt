@@ -42,19 +42,22 @@ module _ {P : Type 0} (same : P → P → Bool) where
       once = r.once;
     }
 
-    now_true : (ws : List (KeptWord P)) → AreTrueTo read ws → AreTrueTo read' (restored same p x ws)
+    pub now_true : (ws : List (KeptWord P)) → AreTrueTo read ws → AreTrueTo read' (restored same p x ws)
     now_true [] t = tt
     now_true (w ∷ ws) t = (after w.spot ∙ ap (λ (n : ℕ). cond (same w.spot p) x n) t.0, now_true ws t.1)
 
-    same_spots : (q : P) (ws : List (KeptWord P)) → keeps same q (restored same p x ws) ≡ keeps same q ws
+    pub same_spots : (q : P) (ws : List (KeptWord P)) → keeps same q (restored same p x ws) ≡ keeps same q ws
     unfolding total
     same_spots q [] = refl
     same_spots q (w ∷ ws) = ap (λ (n : ℕ). one_if (same w.spot q) + n) (same_spots q ws)
 
-    -- which one state keeps
-    pub kept_own : (ks : List (List (KeptWord P))) (id : ℕ) (ws : List (KeptWord P)) → get_elem? ks id ≡ some ws → 0 < keeps same p ws → KeptNumbersStand same read ks → KeptNumbersStand same read' (set ks id (restored same p x ws))
-    kept_own ks id ws at mine r = record {
-      true_to = λ j v e. ⊎_elim (λ (t : (j ≡ id) × (restored same p x ws ≡ v)). subst (AreTrueTo read') t.1 (now_true ws (r.true_to id ws at)))
-          (λ (t : (j ≢ id) × (get_elem? ks j ≡ some v)). still_true v (let o = r.once p in let two = total_two (keeps same p) ks j id v ws t.0 t.1 at in omega arith) (r.true_to j v t.1)) (at_set ks id j (restored same p x ws) v e);
-      once = λ q. let t = total_set (keeps same q) ks id ws (restored same p x ws) at in let s = same_spots q ws in let o = r.once q in omega arith;
+    -- which one state keeps; it keeps it with its number then, and no word more often than it did
+    pub kept_own-put : (ks : List (List (KeptWord P))) (id : ℕ) (ws ws' : List (KeptWord P)) → get_elem? ks id ≡ some ws → 0 < keeps same p ws → AreTrueTo read' ws' → ((q : P) → keeps same q ws' ≤ keeps same q ws) → KeptNumbersStand same read ks → KeptNumbersStand same read' (set ks id ws')
+    kept_own-put ks id ws ws' at mine true_to few r = record {
+      true_to = λ j v e. ⊎_elim (λ (t : (j ≡ id) × (ws' ≡ v)). subst (AreTrueTo read') t.1 true_to)
+          (λ (t : (j ≢ id) × (get_elem? ks j ≡ some v)). still_true v (let o = r.once p in let two = total_two (keeps same p) ks j id v ws t.0 t.1 at in omega arith) (r.true_to j v t.1)) (at_set ks id j ws' v e);
+      once = λ q. let t = total_set (keeps same q) ks id ws ws' at in let f = few q in let o = r.once q in omega arith;
     }
+
+    pub kept_own : (ks : List (List (KeptWord P))) (id : ℕ) (ws : List (KeptWord P)) → get_elem? ks id ≡ some ws → 0 < keeps same p ws → KeptNumbersStand same read ks → KeptNumbersStand same read' (set ks id (restored same p x ws))
+    kept_own ks id ws at mine r = kept_own-put ks id ws (restored same p x ws) at mine (now_true ws (r.true_to id ws at)) (λ q. let s = same_spots q ws in omega arith) r
