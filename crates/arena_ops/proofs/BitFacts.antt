@@ -1,5 +1,5 @@
 -- What a word of bits tells that was loaded, or of which a bit was set.
-use Rattle.std.proofs.Common.{◌≡◌, ℕ, ◌/◌, ◌%◌, ◌<◌, Bool, cond, eqb, List, [], ◌∷◌, map, sym, refl, ap, ◌∙◌, arith, Some, eq-eqb, ne_eqb, append-nil}
+use Rattle.std.proofs.Common.{◌≡◌, ℕ, ◌/◌, ◌%◌, ◌<◌, Bool, cond, eqb, [], ◌∷◌, map, sym, refl, ap, ◌∙◌, arith, Some, eq-eqb, ne_eqb}
 use Rattle.std.specs.Prelude.{bit_or}
 use Rattle.std.specs.Int.{bit_at}
 use Rattle.oak_model.specs.declared.classes.Class.{Class}
@@ -9,38 +9,30 @@ use Rattle.oak_model.proofs.Counting.{total_at}
 use Rattle.oak_model.proofs.Lists.{at_map}
 use Rattle.arena_core.specs.Arena.{at_bits, blocks, bit_words}
 use Rattle.arena_core.specs.Blocks.{holds, block_from}
-use Rattle.arena_core.specs.ArenaStep.{bit_of}
+use Rattle.arena_core.specs.ArenaStep.{bit_of, take_bit}
 use Rattle.arena_core.proofs.ArenaSteps.{none_owns}
 use Rattle.oak_core.specs.declared.states.Finding.{Finding}
 use Rattle.oak_core.specs.declared.states.PassState.{PassState}
 use Rattle.oak_core.specs.Memory.{Spot, in_arena, index, read, memory}
-use Rattle.oak_core.specs.Finding.{finding, noted, had, grown}
+use Rattle.oak_core.specs.Finding.{finding, noted, grown}
 use Rattle.oak_core.specs.PassState.{blocks_of}
 use Rattle.oak_core.specs.Owners.{other_owners}
 use Rattle.oak_core.specs.ArenaCalls.{Sets}
 use Rattle.oak_core.specs.Splitting.{Loads}
+use Rattle.oak_core.specs.Step.{on_arena}
 use Rattle.oak_core.proofs.AloneOwns.{alone_owns}
 use Rattle.oak_core.proofs.ArenaNames.{bit_inside}
+use Rattle.oak_core.proofs.FoundThere.{met_here}
 use Rattle.oak_core.proofs.KeepsArena.{class_below}
+use Rattle.oak_core.proofs.MetMore.{grown_none, told_of}
 use Rattle.oak_core.proofs.Words.{index_apart, memory_read}
-use Rattle.arena_ops.proofs.LookLaws.{told_of}
 use Rattle.arena_ops.specs.Looking.{bit_spot, FoundSet, Looked}
 use Rattle.arena_ops.specs.Taking.{Takes}
 
 module _ (z : Sizes) (call : ℕ) (c : Class) (v : PassState) where
   -- one finding at a word of bits
   found_here : (i n : ℕ) (p : Spot) (left : ℕ) → p ≡ in_arena (at_bits (class_number c) i) → (b : ℕ) → b / 64 ≡ i → bit_at n (b % 64) ≡ 1 → FoundSet z call c b v (finding z call p (Some n) left v ∷ [])
-  found_here i n p left is b at set = let same : p ≡ bit_spot c b = is ∙ ap (λ (k : ℕ). in_arena (at_bits (class_number c) k)) (sym at) in record {
-    place = 0;
-    finding = finding z call p (Some n) left v;
-    there = refl;
-    call_is = refl;
-    word_is = ap (index z) same;
-    number = n;
-    found_is = refl;
-    set = set;
-    had_is = ap (λ (q : Spot). had q v) same;
-  }
+  found_here i n p left is b at set = met_here z call (bit_spot c b) n left p v [] (λ m. bit_at m (b % 64) ≡ 1) (is ∙ ap (λ (k : ℕ). in_arena (at_bits (class_number c) k)) (sym at)) set
 
   pub loaded : (i word n : ℕ) (w : PassState) → i < bit_words z (class_number c) → word ≡ index z (in_arena (at_bits (class_number c) i)) → Loads z call word v n w
       → Looked z call c v w (λ b. (b / 64 ≡ i) × (bit_at n (b % 64) ≡ 1))
@@ -80,11 +72,8 @@ module _ (z : Sizes) (call : ℕ) (c : Class) (v : PassState) where
           (ap (λ (k : ℕ). bit_at ((memory z t.table.words).arena.bits (class_number c) k) (b % 64)) p.0 ∙ (ap (λ (m : ℕ). bit_at m (b % 64)) word_is ∙ p.1));
     }
 
-    same : v ≡ grown [] v
-    same = ap (λ (l : List Finding). record v { findings = record v.findings { met = l } }) (sym (append-nil v.findings.met))
-
     abbrev told_first : Sets z call c block (grown [] v) n w
-    told_first = told_of z call c block v (grown [] v) same n w t
+    told_first = told_of z call (on_arena (take_bit c block)) v (grown [] v) (grown_none v) n w t
 
     pub now_taken : bit_at n (block % 64) ≡ 0 → Takes z call c block v w
     now_taken e = let none = none_owns z (memory z t.table.words).arena (other_owners z (memory z t.table.words).headers) (map blocks_of t.table.states) t.seat v.blocks (at_map blocks_of t.table.states t.seat v t.here) t.rule.blocks (class_number c) block

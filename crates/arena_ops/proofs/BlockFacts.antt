@@ -16,7 +16,7 @@ use Rattle.oak_core.specs.Finding.{finding}
 use Rattle.oak_core.specs.Rule.{Rule}
 use Rattle.oak_core.specs.Step.{Step, on_arena, effect, found, state_after, table_after}
 use Rattle.oak_core.specs.TableState.{TableState}
-use Rattle.oak_core.specs.ArenaCalls.{Clears, Writes}
+use Rattle.oak_core.specs.ArenaCalls.{of_pass, Clears, Writes}
 use Rattle.oak_core.proofs.ArenaNames.{bit_inside}
 use Rattle.oak_core.proofs.EachEvent.{rule_keeps}
 use Rattle.oak_core.proofs.KeepsArena.{class_below}
@@ -51,7 +51,7 @@ module _ (z : Sizes) (call : ℕ) (c : Class) (b : ℕ) (v : PassState) (lb : b 
       free = sym (rule_after.blocks.owned (class_number c) b) ∙ (ap (λ (m : ℕ). bit_at m (b % 64)) word_after ∙ clear_there (found z x t.table) b);
     }
 
-  module _ (k y : ℕ) (w : PassState) (lk : k < block_words (class_number c)) (written : Writes z call c b k y v w) where
+  module _ (k y : ℕ) (w : PassState) (lk : k < block_words (class_number c)) (written : Writes z call of_pass c b k y v w) where
     pub stores : Stores z call c b k y v w
     stores = let t = written.1 in let x : Step = on_arena (store_word c b k y) in record {
       told = written;

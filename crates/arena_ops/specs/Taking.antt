@@ -14,8 +14,9 @@ use Rattle.oak_core.specs.declared.states.PassState.{PassState}
 use Rattle.oak_core.specs.Memory.{in_arena, memory, write}
 use Rattle.oak_core.specs.Finding.{grown}
 use Rattle.oak_core.specs.PassState.{blocks_of}
-use Rattle.oak_core.specs.ArenaCalls.{Sets, Clears, Writes}
-use Rattle.oak_core.specs.Owners.{other_owners, has_fresh}
+use Rattle.oak_core.specs.ArenaCalls.{of_pass, Sets, Clears, Writes}
+use Rattle.oak_core.specs.Owners.{other_owners}
+use Rattle.oak_core.specs.OwnBlocks.{OwnsBlock}
 use Rattle.oak_core.specs.Rule.{Rule}
 use Rattle.oak_core.specs.TableState.{TableState}
 use Rattle.arena_ops.specs.Looking.{Looked}
@@ -41,9 +42,9 @@ pub record Takes (z : Sizes) (call : ℕ) (c : Class) (b : ℕ) (v w : PassState
 abbrev pub FindsNone : Sizes → ℕ → Class → PassState → PassState → Type 0
 FindsNone z call c v w = Looked z call c v w (λ b. Unit {0})
 
--- the pass has each block of the class: it holds it, or has it in a fresh header
+-- the pass has each block of the class: it holds it, has it in a header that it holds, or knew a live header that had it
 abbrev pub HasAll : Sizes → Class → PassState → Type 0
-HasAll z c v = (b : ℕ) → b < blocks z (class_number c) → 0 < holds (class_number c) b v.blocks + has_fresh (class_number c) b v.headers
+HasAll z c v = (b : ℕ) → b < blocks z (class_number c) → OwnsBlock z (class_number c) b v
 
 -- The pass holds the block no more, and else only met more. After the step no owner has it.
 pub record Gives (z : Sizes) (call : ℕ) (c : Class) (b : ℕ) (v w : PassState) : Type 0 where
@@ -58,7 +59,7 @@ pub record Gives (z : Sizes) (call : ℕ) (c : Class) (b : ℕ) (v w : PassState
 
 -- Word k of the block is x, for the pass and in the table, of which the step changed that word alone.
 pub record Stores (z : Sizes) (call : ℕ) (c : Class) (b k x : ℕ) (v w : PassState) : Type 0 where
-  pub told : Writes z call c b k x v w
+  pub told : Writes z call of_pass c b k x v w
   pub more : List Finding
   pub after : w ≡ record (grown more v) { blocks = record v.blocks { held = rewritten (class_number c) b k x v.blocks.held } }
   pub table : TableState

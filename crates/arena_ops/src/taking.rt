@@ -18,9 +18,9 @@ use thiserror::Error;
 #[error("no block of class {0:?} is free")]
 pub struct NoBlock(pub Class);
 
-/// Takes a block that had no owner. `NoBlock` comes only where every bit of the class was found set in
-/// this call; to a pass that is alone it comes exactly where it has every block of the class, holding it
-/// or in a fresh header.
+/// Takes a block that had no owner, one whose bit was found clear. `NoBlock` comes only where every bit
+/// of the class was found set in this call; a pass that is alone then has every block of the class: it
+/// holds it, has it in a header that it holds, or knew a live header that had it.
 pub fn take(table: &OakTable, pass: &mut Pass, class: Class) -> Result<Block, NoBlock>
     requires own { IsPassOf table.now pass.old }
     ensures own { Stays pass.old pass.new }

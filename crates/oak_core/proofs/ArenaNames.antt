@@ -1,22 +1,27 @@
 -- A word and an operand name at most one bit or word of the arena, so a step that may be taken is told of whatever they name.
 use Rattle.std.proofs.Common.{◌≡◌, ℕ, zero, suc, ◌-◌, ◌/◌, ◌%◌, ◌^◌, ◌<◌, false, sym, refl, ap, ◌∙◌, subst, arith, div-add-mod'}
 use Rattle.std.specs.Prelude.{bit_and, bit_or}
+use mathlib.Core.Option.{some}
+use lib.ListN.{get_elem?}
 use Rattle.atomic_table.specs.Table.{Me, Allows}
 use Rattle.oak_model.specs.declared.classes.Class.{Class}
 use Rattle.oak_model.specs.declared.classes.Class.TheVariants.{B16, B64, B256, B1024}
 use Rattle.oak_model.specs.Limits.{Sizes}
 use Rattle.oak_model.specs.Class.{class_number}
-use Rattle.arena_core.specs.Arena.{at_bits, at_bytes, IsInArena, blocks}
+use Rattle.arena_core.specs.Arena.{at_bits, at_bytes, IsInArena, block_words, blocks}
 use Rattle.arena_core.specs.Blocks.{HoldsBlock}
-use Rattle.arena_core.specs.ArenaStep.{take_bit, clear_bit, store_word, bit_of}
+use Rattle.arena_core.specs.ArenaStep.{take_bit, clear_bit, bit_of}
 use Rattle.arena_core.proofs.ArenaSteps.{bit_of_below}
 use Rattle.oak_core.specs.declared.states.PassState.{PassState}
 use Rattle.oak_core.specs.Memory.{Spot, in_arena, index, word_count}
-use Rattle.oak_core.specs.ArenaCalls.{NamesBit, NamesMask, NamesWord, Sets, Clears, Writes}
+use Rattle.oak_core.specs.ArenaCalls.{NamesBit, NamesMask, NamesWord, BlockOwner, of_pass, of_locked, MayStoreTo, store_step, Sets, Clears, Writes}
 use Rattle.oak_core.specs.Running.{Holds, KeepsSeat}
-use Rattle.oak_core.specs.Step.{on_arena}
+use Rattle.oak_core.specs.Rule.{Rule}
+use Rattle.oak_core.specs.Step.{on_arena, spot, effect, May}
+use Rattle.oak_core.specs.TableState.{TableState}
 use Rattle.oak_core.proofs.Allowed.{same_power, allows_at}
 use Rattle.oak_core.proofs.KeepsArena.{class_below}
+use Rattle.oak_core.proofs.OneOwner.{two_headers, unowned_held, inside_locked, has_locked}
 use Rattle.oak_core.proofs.Words.{index_below, index_apart}
 
 class_at : ℕ → Class
@@ -94,8 +99,30 @@ module _ (z : Sizes) (call : ℕ) (slots id : ℕ) (me : Me (Unit {0}) PassState
       (sym names.word_is) (λ i n. bit_and n (sym names.operand_is i)) held
       (λ n w told d e named. let s = one_mask z c d b e word bits names named in subst (λ (p : Class × ℕ). Clears z call p.0 p.1 me.0 n w) (λ i. (s.0 i, s.1 i)) told)
 
-  pub allows_store : (word x : ℕ) (c : Class) (b k : ℕ) → NamesWord z c b k word → HoldsBlock z (class_number c) b me.0.blocks → x < 2 ^ 64
-      → Allows (Holds z) slots id me word (λ _. x) (λ _ m. ((d : Class) (e l : ℕ) → NamesWord z d e l word → Writes z call d e l x me.0 m.0) × KeepsSeat me m)
-  allows_store word x c b k names held small = allows_at z call slots id me going (on_arena (store_word c b k x)) (λ _ w. (d : Class) (e l : ℕ) → NamesWord z d e l word → Writes z call d e l x me.0 w) word (λ _. x)
-      (sym names.word_is) refl record { block = held; word = names.place; small = small }
-      (λ n w told d e l named. let s = one_word z c d b e k l word names named in subst (λ (p : Class × (ℕ × ℕ)). Writes z call p.0 p.1.0 p.1.1 x me.0 w) (λ i. (s.0 i, (s.1 i, s.2 i))) (n, told))
+  -- a block has one owner, so the word that a pass may store to is of the block that it holds, or of that of one header which it has locked
+  same_owner : (t : TableState) (seat : ℕ) → Rule z t → get_elem? t.states seat ≡ some me.0 → (o p : BlockOwner) (c : Class) (b : ℕ) → MayStoreTo z o c b me.0 → MayStoreTo z p c b me.0 → o ≡ p
+  same_owner t seat r here of_pass of_pass c b may also = refl
+  same_owner t seat r here of_pass (of_locked h) c b may also = absurd (unowned_held z t r seat me.0 here (class_number c) b h may.held (has_locked z t r seat me.0 here h c b also) (inside_locked z t r seat me.0 here h c b also))
+  same_owner t seat r here (of_locked h) of_pass c b may also = absurd (unowned_held z t r seat me.0 here (class_number c) b h also.held (has_locked z t r seat me.0 here h c b may) (inside_locked z t r seat me.0 here h c b may))
+  same_owner t seat r here (of_locked h) (of_locked k) c b may also = ap of_locked
+      (two_headers z t r (class_number c) b h k (has_locked z t r seat me.0 here h c b may) (has_locked z t r seat me.0 here k c b also) (inside_locked z t r seat me.0 here h c b may) (inside_locked z t r seat me.0 here k c b also))
+
+  may_store : (o : BlockOwner) (c : Class) (b k x : ℕ) → MayStoreTo z o c b me.0 → k < block_words (class_number c) → x < 2 ^ 64 → May z call (store_step o c b k x) me.0
+  may_store of_pass c b k x may word small = record { block = may; word = word; small = small }
+  may_store (of_locked h) c b k x may word small = record { block = may; word = word; small = small }
+
+  store_spot : (o : BlockOwner) (c : Class) (b k x : ℕ) → spot (store_step o c b k x) ≡ in_arena (at_bytes (class_number c) b k)
+  store_spot of_pass c b k x = refl
+  store_spot (of_locked h) c b k x = refl
+
+  stores : (o : BlockOwner) (c : Class) (b k x : ℕ) → effect (store_step o c b k x) ≡ (λ _. x)
+  stores of_pass c b k x = refl
+  stores (of_locked h) c b k x = refl
+
+  pub allows_store : (word x : ℕ) (o : BlockOwner) (c : Class) (b k : ℕ) → NamesWord z c b k word → MayStoreTo z o c b me.0 → x < 2 ^ 64
+      → Allows (Holds z) slots id me word (λ _. x) (λ _ m. ((p : BlockOwner) (d : Class) (e l : ℕ) → NamesWord z d e l word → MayStoreTo z p d e me.0 → Writes z call p d e l x me.0 m.0) × KeepsSeat me m)
+  allows_store word x o c b k names may small = allows_at z call slots id me going (store_step o c b k x) (λ _ w. (p : BlockOwner) (d : Class) (e l : ℕ) → NamesWord z d e l word → MayStoreTo z p d e me.0 → Writes z call p d e l x me.0 w) word (λ _. x)
+      (ap (index z) (store_spot o c b k x) ∙ sym names.word_is) (stores o c b k x) (may_store o c b k x may names.place small)
+      (λ n w told p d e l named also. let s = one_word z c d b e k l word names named in
+      let q = same_owner told.table told.seat told.rule told.here o p c b may (subst (λ (i : Class × ℕ). MayStoreTo z p i.0 i.1 me.0) (λ i. (sym s.0 i, sym s.1 i)) also) in
+      subst (λ (i : BlockOwner × (Class × (ℕ × ℕ))). Writes z call i.0 i.1.0 i.1.1.0 i.1.1.1 x me.0 w) (λ i. (q i, (s.0 i, (s.1 i, s.2 i)))) (n, told))

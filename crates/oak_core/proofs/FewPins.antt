@@ -17,18 +17,12 @@ use Rattle.oak_core.specs.Memory.{memory}
 use Rattle.oak_core.specs.PassState.{headers_held, numbers_of, has_number}
 use Rattle.oak_core.specs.TableState.{TableState}
 use Rattle.oak_core.specs.Rule.{NumbersStand, Rule}
+use Rattle.oak_core.proofs.HeaderSums.{total_of_below}
 
 total_le_every : {A : Type 0} (f g : A → ℕ) (xs : List A) → Every (λ x. f x ≤ g x) xs → total f xs ≤ total g xs
 unfolding total
 total_le_every f g [] h = omega arith
 total_le_every f g (x ∷ xs) h = let a = h zero x refl in let t = total_le_every f g xs (λ j y e. h (suc j) y e) in omega arith
-
-below_total : {A : Type 0} (f : ℕ → A → ℕ) (xs : List A) (n : ℕ) → total (λ x. below (λ k. f k x) n) xs ≡ below (λ k. total (f k) xs) n
-unfolding below total
-below_total f [] zero = refl
-below_total f (x ∷ xs) zero = let t = below_total f xs zero in omega arith
-below_total f [] (suc n) = let t = below_total f [] n in omega arith
-below_total f (x ∷ xs) (suc n) = let a = below_total f (x ∷ xs) n in let t = below_total f xs (suc n) in let u = below_total f xs n in omega arith
 
 below_ones : (f : ℕ → ℕ) (n : ℕ) → ((k : ℕ) → f k ≤ 1) → below f n ≤ n
 unfolding below
@@ -45,7 +39,7 @@ counted z given ns r j n at going = let own : 0 < has_number n.number n = let on
 pub few_pins : (z : Sizes) (s : TableState) → Rule z s → (h : ℕ) → total (pins_on h) (map headers_held s.states) + 1 < 2 ^ 28
 few_pins z s r h = let p = total_map headers_held (pins_on h) s.states in
     let l = total_le_every (λ (v : PassState). pins_on h v.headers) (λ (v : PassState). below (λ k. has_number k v.numbers) z.passes) s.states (λ j v at. one j v at) in
-    let q = below_total (λ (k : ℕ) (v : PassState). has_number k v.numbers) s.states z.passes in
+    let q = total_of_below (λ (v : PassState) (k : ℕ). has_number k v.numbers) s.states z.passes in
     let m = below_ones (λ k. total (λ (v : PassState). has_number k v.numbers) s.states) z.passes (λ k. let t = total_map numbers_of (has_number k) s.states in let o = r.numbers.owned k in let b = bit_at-lt (memory z s.words).given k in omega arith) in
     let g = r.sizes.passes_greatest in omega arith
   where

@@ -40,3 +40,9 @@ module _ (z : Sizes) (m : HeaderMemory) (h x : ℕ) (c b : ℕ) where
       (λ k. put-cases m.place h x k (λ w. stocked (state_of (m.pin k)) * names_block c b w ≡ stocked (state_of (m.pin k)) * names_block c b (m.place k))
       (λ q. let s : stocked (state_of (m.pin k)) ≡ 0 = ap (λ (i : ℕ). stocked (state_of (m.pin i))) q ∙ none in
       let zero_of : (n : ℕ) → stocked (state_of (m.pin k)) * n ≡ 0 = (λ n. ap (λ (i : ℕ). i * n) s ∙ (let e : 0 * n ≡ 0 = omega arith in e)) in zero_of (names_block c b x) ∙ sym (zero_of (names_block c b (m.place k)))) (λ _. refl))
+
+  -- or of one with a block
+  pub place_owners : h < z.headers → stocked (state_of (m.pin h)) ≡ 1 → other_owners z (put_header m (at_place h) x) c b + names_block c b (m.place h) ≡ other_owners z m c b + names_block c b x
+  place_owners lt one = let o = owners_put z m (put_header m (at_place h) x) h c b lt (λ k ne. ap (λ (w : ℕ). stocked (state_of (m.pin k)) * names_block c b w) (put-else m.place h x k ne)) in let n : ℕ = names_block c b (m.place h) in let i : ℕ = names_block c b x in
+      let a : has_block m c b h ≡ n = ap (λ (k : ℕ). k * n) one ∙ (let e : 1 * n ≡ n = omega arith in e) in
+      let d : has_block (put_header m (at_place h) x) c b h ≡ i = ap (λ (w : ℕ). stocked (state_of (m.pin h)) * names_block c b w) (put-here m.place h x h refl) ∙ (ap (λ (k : ℕ). k * i) one ∙ (let e : 1 * i ≡ i = omega arith in e)) in omega arith

@@ -29,7 +29,7 @@ use Rattle.oak_core.specs.PassState.{blocks_of, headers_held}
 use Rattle.oak_core.proofs.OwnerLaws.{owner_counts}
 
 -- a block that the word does not name is not what the word names
-other_content : (m : Memory) (c b k x word : ℕ) → ¬ ((class_in word ≡ c) × (block_in word ≡ b)) → content (write m (in_arena (at_bytes c b k)) x).arena.bytes word ≡ content m.arena.bytes word
+pub other_content : (m : Memory) (c b k x word : ℕ) → ¬ ((class_in word ≡ c) × (block_in word ≡ b)) → content (write m (in_arena (at_bytes c b k)) x).arena.bytes word ≡ content m.arena.bytes word
 other_content m c b k x word ne = rows_same 0 (block_words (class_in word)) ((write m (in_arena (at_bytes c b k)) x).arena.bytes (class_in word) (block_in word)) (m.arena.bytes (class_in word) (block_in word)) (λ l _ _. same l)
   where
     same : (l : ℕ) → cond ((class_in word == c) && ((block_in word == b) && (l == k))) x (m.arena.bytes (class_in word) (block_in word) l) ≡ m.arena.bytes (class_in word) (block_in word) l
@@ -41,7 +41,7 @@ other_content m c b k x word ne = rows_same 0 (block_words (class_in word)) ((wr
         neither Rattle.std.proofs.Common.true l = refl
         neither Rattle.std.proofs.Common.false l = refl
 
-names_named : (c b word : ℕ) → class_in word ≡ c → block_in word ≡ b → names_block c b word ≡ 1
+pub names_named : (c b word : ℕ) → class_in word ≡ c → block_in word ≡ b → names_block c b word ≡ 1
 names_named c b word e f = let a = one_at-same (class_in word) c e in let d = one_at-same (block_in word) b f in (λ i. a i * d i)
 
 pub live_stocked : (s : ℕ) → s ≡ LIVE → stocked s ≡ 1
@@ -53,11 +53,11 @@ pub pin_fact : (P : PinnedHeader → Type 0) (o : Option PinnedHeader) (p : Pinn
 pin_fact P o p e f = subst (OnPin P) e f
 
 module _ (z : Sizes) (m : Memory) (vs : List PassState) (seat : ℕ) (v : PassState) (there : get_elem? vs seat ≡ some v) (r : BlocksAreOwned z m.arena.bits (other_owners z m.headers) (map blocks_of vs))
-    (hr : HeadersAreHeld z m.headers m.arena.bytes (map headers_held vs)) (inside : (h : ℕ) → 0 < stocked (state_of (m.headers.pin h)) → h < z.headers) where
+    (known : ℕ → ℕ → ℕ) (hr : HeadersAreHeld m.headers m.arena.bytes known (map headers_held vs)) (inside : (h : ℕ) → 0 < stocked (state_of (m.headers.pin h)) → h < z.headers) where
   -- a block under a good pin is held by no pass
   pub pinned_unheld : (j : ℕ) (u : HeaderHolds) (p : PinnedHeader) (c b : ℕ) → get_elem? (map headers_held vs) j ≡ some u → u.pin ≡ Some p → IsGood p → 0 < holds c b v.blocks → ¬ ((class_in p.place ≡ c) × (block_in p.place ≡ b))
   pinned_unheld j u p c b at is good held same =
-      let holds_it : PinHolds m.headers (content m.arena.bytes) p = pin_fact (GoodPinHolds m.headers (content m.arena.bytes)) u.pin p is (hr.stand.good j u at) good in
+      let holds_it : PinHolds m.headers (content m.arena.bytes) p = pin_fact (GoodPinHolds m.headers (content m.arena.bytes)) u.pin p is (hr.good j u at) good in
       let live = live_stocked (state_of (m.headers.pin p.header)) holds_it.live in
       let lt = inside p.header (omega arith) in
       let counts = owner_counts z m.headers p.header c b lt in
@@ -65,11 +65,8 @@ module _ (z : Sizes) (m : Memory) (vs : List PassState) (seat : ℕ) (v : PassSt
       let one : has_block m.headers c b p.header ≡ 1 = (λ i. live i * names_block c b (holds_it.place i)) ∙ (λ i. 1 * names_named c b p.place same.0 same.1 i) in
       omega arith
 
-  pub headers_on_arena : (x : ArenaStep) (y : ℕ) → MayArena z x v.blocks → HeadersAreHeld z m.headers (write m (in_arena (arena_spot x)) y).arena.bytes (map headers_held vs)
+  pub headers_on_arena : (x : ArenaStep) (y : ℕ) → MayArena z x v.blocks → HeadersAreHeld m.headers (write m (in_arena (arena_spot x)) y).arena.bytes known (map headers_held vs)
   headers_on_arena (take_bit c b) y may = hr
   headers_on_arena (clear_bit c b) y may = hr
-  headers_on_arena (store_word c b k x) y may = record {
-    stand = content_frame m.headers (content m.arena.bytes) (content (write m (in_arena (at_bytes (class_number c) b k)) y).arena.bytes) IsPlace (λ _. 0) (map headers_held vs)
-        (λ j u p at is good. other_content m (class_number c) b k y p.place (pinned_unheld j u p (class_number c) b at is good may.block.held)) hr.stand;
-    blocks = hr.blocks;
-  }
+  headers_on_arena (store_word c b k x) y may = content_frame m.headers (content m.arena.bytes) (content (write m (in_arena (at_bytes (class_number c) b k)) y).arena.bytes) IsPlace known (map headers_held vs)
+      (λ j u p at is good. other_content m (class_number c) b k y p.place (pinned_unheld j u p (class_number c) b at is good may.block.held)) hr

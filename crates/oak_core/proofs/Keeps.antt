@@ -1,8 +1,6 @@
 -- Each kind of step keeps the rule.
-use Rattle.std.proofs.Common.{false, true≢false, ◌≡◌, ℕ, ◌^◌, ◌<◌, ◌≤◌, cond, Bool, List, [], ◌∷◌, ◌++◌, map, get_or, set, sym, refl, ap, ◌∙◌, subst, arith, Some, length-set, get_or-set_other, get_or-set_same, pow_mono}
-use Rattle.std.specs.Prelude.{bit_or}
+use Rattle.std.proofs.Common.{false, true≢false, ◌≡◌, ℕ, ◌^◌, ◌<◌, cond, Bool, List, [], ◌∷◌, ◌++◌, map, get_or, set, sym, refl, ap, ◌∙◌, subst, arith, Some, length-set, get_or-set_other, get_or-set_same}
 use Rattle.std.specs.Int.{bit_at}
-use Rattle.std.proofs.lemmas.Nat.{or_lt}
 use mathlib.Core.Option.{some}
 use mathlib.Core.Logic.{dite}
 use native.Mathlib.Decide.{ℕ_discrete}
@@ -13,27 +11,26 @@ use Rattle.oak_model.specs.Counts.{Every, Each}
 use Rattle.oak_model.specs.Kept.{KeptNumbersStand}
 use Rattle.oak_model.proofs.Lists.{at_map, map_set, map_set_same}
 use Rattle.oak_model.proofs.Changes.{stepped}
-use Rattle.oak_model.proofs.KeptLaws.{kept_unkept}
 use Rattle.arena_core.specs.Blocks.{BlocksAreOwned}
+use Rattle.header_core.specs.declared.holds.HeaderHolds.{HeaderHolds}
 use Rattle.oak_core.specs.declared.states.Finding.{Finding}
-use Rattle.oak_core.specs.declared.states.Findings.{Findings}
 use Rattle.oak_core.specs.declared.states.Joined.{Joined}
+use Rattle.oak_core.specs.declared.states.Knowledge.{Knowledge}
 use Rattle.oak_core.specs.declared.states.PassState.{PassState}
 use Rattle.oak_core.specs.Memory.{Memory, Spot, at_given, same_spot, read, write, memory, index, IsInside, word_count}
 use Rattle.oak_core.specs.Finding.{finding}
 use Rattle.oak_core.specs.PassState.{blocks_of, headers_held, numbers_of, findings_of, knowledge_of, kept_of}
 use Rattle.oak_core.specs.TableState.{TableState}
-use Rattle.oak_core.specs.Rule.{WordsStand, NumbersStand, FoundStays, FindingsStand, HistoriesStand, SpentIsSpent, JoinedStand, FindingsHold, Rule}
+use Rattle.oak_core.specs.Rule.{WordsStand, NumbersStand, FindingsStand, HistoriesStand, SpentIsSpent, JoinedStand, FindingsHold, Rule, PassStands}
 use Rattle.oak_core.specs.Owners.{other_owners, HeadersAreHeld}
-use Rattle.oak_core.specs.Step.{Step, load, give_number, on_arena, on_headers, spot, effect, MayGive, found, state_after, table_after, note_full}
+use Rattle.oak_core.specs.Known.{known}
+use Rattle.oak_core.specs.Step.{Step, load, give_number, on_arena, on_headers, store_locked, spot, effect, found, state_after, table_after, note_full}
 use Rattle.oak_core.specs.Lack.{FullsStand}
-use Rattle.oak_core.proofs.Words.{read-write, first_word, index_apart, index_below, memory_set, memory_read}
-use Rattle.oak_core.proofs.KeptWords.{given_unkept}
-use Rattle.oak_core.proofs.GivenNumbers.{number_given, bits_stay}
-use Rattle.oak_core.proofs.Found.{found_on, found_more}
+use Rattle.oak_core.proofs.Words.{first_word, index_apart, index_below, memory_set, memory_read}
+use Rattle.oak_core.proofs.Found.{found_more}
 use Rattle.oak_core.proofs.Lacked.{fulls_met}
 
-same_number : (n k : ℕ) → Some n ≡ Some k → n ≡ k
+pub same_number : (n k : ℕ) → Some n ≡ Some k → n ≡ k
 same_number n k e = cc
 
 -- a word is below 2^64 where the others are, and it is
@@ -51,6 +48,7 @@ going_after z call (load p) s v = refl
 going_after z call (give_number k) s v = refl
 going_after z call (on_arena a) s v = refl
 going_after z call (on_headers x) s v = refl
+going_after z call (store_locked h c b k x) s v = refl
 going_after z call (note_full lack began) s v = refl
 
 -- a step takes no other pass in
@@ -59,6 +57,7 @@ joined_after z call (load p) s v = refl
 joined_after z call (give_number k) s v = refl
 joined_after z call (on_arena a) s v = refl
 joined_after z call (on_headers x) s v = refl
+joined_after z call (store_locked h c b k x) s v = refl
 joined_after z call (note_full lack began) s v = refl
 
 module _ (z : Sizes) (s : TableState) (call seat : ℕ) (v : PassState) (r : Rule z s) (here : get_elem? s.states seat ≡ some v) (going : v.numbers.spent ≡ false) where
@@ -72,11 +71,20 @@ module _ (z : Sizes) (s : TableState) (call seat : ℕ) (v : PassState) (r : Rul
   joined_stays x = (stepped s.states seat v (state_after z call x s v) here).every (JoinedStand z) (subst (λ (js : List Joined). Each (λ (j : Joined). FullsStand z j.findings) js) (sym (joined_after z call x s v)) (r.joined seat v here), tt)
       (λ j u _ at. r.joined j u at)
 
+  -- the pins stay known, if that of this pass does
+  passes_stay : (w : PassState) → PassStands w → Every PassStands (set s.states seat w)
+  passes_stay w mine = (stepped s.states seat v w here).every PassStands (mine, tt) (λ j u _ at. r.passes j u at)
+
+  -- a step that leaves what its pass knows, and its headers, leaves the points on headers
+  pub headers_stay : (w : PassState) → w.knowledge ≡ v.knowledge → w.headers ≡ v.headers → HeadersAreHeld m.headers m.arena.bytes (known (map knowledge_of (set s.states seat w))) (map headers_held (set s.states seat w))
+  headers_stay w knowledge headers = subst (λ (p : List Knowledge × List HeaderHolds). HeadersAreHeld m.headers m.arena.bytes (known p.0) p.1)
+      (λ i. (sym (map_set_same knowledge_of s.states seat v w here knowledge) i, sym (map_set_same headers_held s.states seat v w here headers) i)) r.headers
+
   -- the rule after a step that changes its word, from the bundles over the memory and the parts of the states after it
   pub stepped_rule : (x : Step) → IsInside z (spot x) → effect x (found z x s) < 2 ^ 64 → let m' = write m (spot x) (effect x (found z x s)) in let after = set s.states seat (state_after z call x s v) in
-      NumbersStand z m'.given (map numbers_of after) → FindingsStand z m'.given (map findings_of after) → HistoriesStand (map knowledge_of after) → BlocksAreOwned z m'.arena.bits (other_owners z m'.headers) (map blocks_of after) → HeadersAreHeld z m'.headers m'.arena.bytes (map headers_held after) → KeptNumbersStand same_spot (read m') (map kept_of after)
-      → Rule z (table_after z call x seat v s)
-  stepped_rule x inside small numbers findings histories blocks headers kept =
+      NumbersStand z m'.given (map numbers_of after) → FindingsStand z m'.given (map findings_of after) → HistoriesStand (map knowledge_of after) → BlocksAreOwned z m'.arena.bits (other_owners z m'.headers) (map blocks_of after) → HeadersAreHeld m'.headers m'.arena.bytes (known (map knowledge_of after)) (map headers_held after) → KeptNumbersStand same_spot (read m') (map kept_of after)
+      → PassStands (state_after z call x s v) → Rule z (table_after z call x seat v s)
+  stepped_rule x inside small numbers findings histories blocks headers kept pin =
       let y : ℕ = effect x (found z x s) in let after : List PassState = set s.states seat (state_after z call x s v) in let law = memory_set z s.words (spot x) y r.words.counted inside in record {
         sizes = r.sizes;
         words = words_put z s.words (index z (spot x)) y (index_below z (spot x) inside) small r.words;
@@ -86,7 +94,8 @@ module _ (z : Sizes) (s : TableState) (call seat : ℕ) (v : PassState) (r : Rul
         histories = histories;
         spent = spent_stays x;
         blocks = subst (λ (a : Memory). BlocksAreOwned z a.arena.bits (other_owners z a.headers) (map blocks_of after)) (sym law) blocks;
-        headers = subst (λ (a : Memory). HeadersAreHeld z a.headers a.arena.bytes (map headers_held after)) (sym law) headers;
+        headers = subst (λ (a : Memory). HeadersAreHeld a.headers a.arena.bytes (known (map knowledge_of after)) (map headers_held after)) (sym law) headers;
+        passes = passes_stay (state_after z call x s v) pin;
         kept = subst (λ (a : Memory). KeptNumbersStand same_spot (read a) (map kept_of after)) (sym law) kept;
       }
 
@@ -105,14 +114,15 @@ module _ (z : Sizes) (s : TableState) (call seat : ℕ) (v : PassState) (r : Rul
   -- a step that stores to a word other than word 0, and leaves the numbers of its pass and what it knows, owes the bundles of the holds alone
   pub elsewhere_rule : (x : Step) (f : Finding) → IsInside z (spot x) → effect x (found z x s) < 2 ^ 64 → same_spot at_given (spot x) ≡ false → let w = state_after z call x s v in f.word ≡ index z (spot x) → w.findings ≡ record v.findings { met = v.findings.met ++ f ∷ [] }
       → w.numbers ≡ v.numbers → w.knowledge ≡ v.knowledge → (let m' = write m (spot x) (effect x (found z x s)) in BlocksAreOwned z m'.arena.bits (other_owners z m'.headers) (map blocks_of (set s.states seat w)))
-      → (let m' = write m (spot x) (effect x (found z x s)) in HeadersAreHeld z m'.headers m'.arena.bytes (map headers_held (set s.states seat w)))
-      → KeptNumbersStand same_spot (read (write m (spot x) (effect x (found z x s)))) (map kept_of (set s.states seat w)) → Rule z (table_after z call x seat v s)
-  elsewhere_rule x f inside small other at grew numbers knowledge blocks headers kept =
+      → (let m' = write m (spot x) (effect x (found z x s)) in HeadersAreHeld m'.headers m'.arena.bytes (known (map knowledge_of s.states)) (map headers_held (set s.states seat w)))
+      → KeptNumbersStand same_spot (read (write m (spot x) (effect x (found z x s)))) (map kept_of (set s.states seat w)) → PassStands w → Rule z (table_after z call x seat v s)
+  elsewhere_rule x f inside small other at grew numbers knowledge blocks headers kept pin =
       let w : PassState = state_after z call x s v in let y : ℕ = effect x (found z x s) in let same : (write m (spot x) y).given ≡ m.given = ap (λ (b : Bool). cond b y m.given) other in
       stepped_rule x inside small
       (subst (λ (g : ℕ). NumbersStand z g (map numbers_of (set s.states seat w))) (sym same) (subst (NumbersStand z m.given) (sym (map_set_same numbers_of s.states seat v w here numbers)) r.numbers))
       (subst (λ (g : ℕ). FindingsStand z g (map findings_of (set s.states seat w))) (sym same) (findings_elsewhere (spot x) f w inside other at grew))
-      (subst HistoriesStand (sym (map_set_same knowledge_of s.states seat v w here knowledge)) r.histories) blocks headers kept
+      (subst HistoriesStand (sym (map_set_same knowledge_of s.states seat v w here knowledge)) r.histories) blocks
+      (subst (λ (qs : List Knowledge). HeadersAreHeld (write m (spot x) y).headers (write m (spot x) y).arena.bytes (known qs) (map headers_held (set s.states seat w))) (sym (map_set_same knowledge_of s.states seat v w here knowledge)) headers) kept pin
 
   -- one more finding at a word that stays, in a state whose other parts stay
   pub findings_stay : (p : Spot) (n : ℕ) (w : PassState) → w.findings.met ≡ v.findings.met ++ finding z call p (Some n) n v ∷ [] → FullsStand z w.findings → IsInside z p → n ≡ get_or s.words (index z p) 0
@@ -141,59 +151,7 @@ module _ (z : Sizes) (s : TableState) (call seat : ℕ) (v : PassState) (r : Rul
         histories = subst HistoriesStand (sym (map_set_same knowledge_of s.states seat v w here refl)) r.histories;
         spent = spent_stays (load p);
         blocks = subst (BlocksAreOwned z m.arena.bits (other_owners z m.headers)) (sym (map_set_same blocks_of s.states seat v w here refl)) r.blocks;
-        headers = subst (HeadersAreHeld z m.headers m.arena.bytes) (sym (map_set_same headers_held s.states seat v w here refl)) r.headers;
+        headers = headers_stay w refl refl;
+        passes = passes_stay w (r.passes seat v here);
         kept = subst (KeptNumbersStand same_spot (read m)) (sym (map_set_same kept_of s.states seat v w here refl)) r.kept;
       }
-
-  module _ (k : ℕ) (may : MayGive z k v) where
-    abbrev n : ℕ
-    n = found z (give_number k) s
-
-    abbrev x : ℕ
-    x = bit_or n (2 ^ k)
-
-    abbrev w : PassState
-    w = state_after z call (give_number k) s v
-
-    given_is : m.given ≡ n
-    given_is = memory_read z s.words at_given tt
-
-    stands : NumbersStand z n (map numbers_of s.states)
-    stands = subst (λ (g : ℕ). NumbersStand z g (map numbers_of s.states)) given_is r.numbers
-
-    still_found : (fs : Findings) (j : ℕ) → get_elem? (map findings_of s.states) j ≡ some fs → FoundStays n fs
-    still_found fs j e = subst (λ (g : ℕ). FoundStays g fs) given_is (r.findings j fs e).found
-
-    lower : (j : ℕ) → j < k → bit_at n j ≡ 1
-    lower j lt = still_found v.findings seat (at_map findings_of s.states seat v here) j (may.lower j lt)
-
-    at : get_elem? (map numbers_of s.states) seat ≡ some v.numbers
-    at = at_map numbers_of s.states seat v here
-
-    up : (j : ℕ) → bit_at n j ≡ 1 → bit_at x j ≡ 1
-    up = bits_stay z n k (map numbers_of s.states) seat v.numbers at stands may.few may.hand going lower
-
-    small : x < 2 ^ 64
-    small = or_lt 64 n (2 ^ k) (r.words.small (index z at_given)) (let p = r.sizes.passes_greatest in let f = may.few in let a : 2 ^ k ≤ 2 ^ 63 = pow_mono {i = k} {j = 63} (omega arith) in omega arith)
-
-    findings_after : FindingsStand z x (map findings_of (set s.states seat w))
-    findings_after = subst (FindingsStand z x) (sym (map_set findings_of s.states seat w))
-        ((stepped (map findings_of s.states) seat v.findings w.findings (at_map findings_of s.states seat v here)).every (FindingsHold z x) (
-          record {
-            found = found_more x v.findings w.findings (finding z call at_given (Some n) x v) refl (λ _ j e b set_bit. up b (ap (λ (i : ℕ). bit_at i b) (same_number n j e) ∙ set_bit))
-                (found_on n x v.findings up (still_found v.findings seat (at_map findings_of s.states seat v here)));
-            noted = fulls_met z v.findings w.findings (finding z call at_given (Some n) x v) refl (r.findings seat v.findings (at_map findings_of s.states seat v here)).noted;
-          },
-          tt,
-        )
-        (λ j fs _ e. record { found = found_on n x fs up (still_found fs j e); noted = (r.findings j fs e).noted }))
-
-    pub give_keeps : Rule z (table_after z call (give_number k) seat v s)
-    give_keeps = stepped_rule (give_number k) tt small
-        (subst (NumbersStand z x) (sym (map_set numbers_of s.states seat w)) (number_given z n k (map numbers_of s.states) seat v.numbers at stands may.few may.hand going lower))
-        findings_after
-        (subst HistoriesStand (sym (map_set_same knowledge_of s.states seat v w here refl)) r.histories)
-        (subst (BlocksAreOwned z m.arena.bits (other_owners z m.headers)) (sym (map_set_same blocks_of s.states seat v w here refl)) r.blocks)
-        (subst (HeadersAreHeld z m.headers m.arena.bytes) (sym (map_set_same headers_held s.states seat v w here refl)) r.headers)
-        (subst (KeptNumbersStand same_spot (read (write m at_given x))) (sym (map_set_same kept_of s.states seat v w here refl))
-        (kept_unkept same_spot (read m) (read (write m at_given x)) at_given x (λ q. read-write m at_given q x) (map kept_of s.states) (given_unkept s.states) r.kept))

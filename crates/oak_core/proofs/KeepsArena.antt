@@ -18,13 +18,15 @@ use Rattle.arena_core.proofs.ArenaSteps.{bit_of_below, arena_owned}
 use Rattle.oak_core.specs.declared.states.PassState.{PassState}
 use Rattle.oak_core.specs.Memory.{Memory, Spot, in_arena, same_spot, read, write, memory, index, IsInside}
 use Rattle.oak_core.specs.Finding.{finding}
-use Rattle.oak_core.specs.PassState.{blocks_of, headers_held, kept_of}
+use Rattle.oak_core.specs.PassState.{blocks_of, headers_held, knowledge_of, kept_of}
 use Rattle.oak_core.specs.TableState.{TableState}
 use Rattle.oak_core.specs.Owners.{other_owners, HeadersAreHeld}
+use Rattle.oak_core.specs.Known.{known}
 use Rattle.oak_core.specs.Rule.{Rule}
 use Rattle.oak_core.specs.Step.{on_arena, state_after, table_after}
 use Rattle.oak_core.proofs.Words.{memory_read}
 use Rattle.oak_core.proofs.OwnerLaws.{live_inside}
+use Rattle.oak_core.proofs.HeaderSums.{headers_own}
 use Rattle.oak_core.proofs.Keeps.{elsewhere_rule}
 use Rattle.oak_core.proofs.KeptWords.{kept_with}
 use Rattle.oak_core.proofs.KeptInArena.{arena_kept}
@@ -73,14 +75,17 @@ module _ (z : Sizes) (s : TableState) (call seat : ℕ) (v : PassState) (r : Rul
       (subst (λ (i : ℕ). BlocksAreOwned z (put_arena m.arena (arena_spot x) (arena_effect x i)).bits (other_owners z m.headers) (set (map blocks_of s.states) seat (blocks_after m.arena.bytes x i v.blocks))) read_is
       (arena_owned z m.arena (other_owners z m.headers) (map blocks_of s.states) seat v.blocks (at_map blocks_of s.states seat v here) r.blocks x may))
 
-  headers_after_it : HeadersAreHeld z m.headers (write m p y).arena.bytes (map headers_held (set s.states seat w))
-  headers_after_it = subst (HeadersAreHeld z m.headers (write m p y).arena.bytes) (sym (map_set_same headers_held s.states seat v w here refl))
-      (headers_on_arena z m s.states seat v here r.blocks r.headers (live_inside z s.words) x y may)
+  abbrev knows : ℕ → ℕ → ℕ
+  knows = known (map knowledge_of s.states)
+
+  headers_after_it : HeadersAreHeld m.headers (write m p y).arena.bytes knows (map headers_held (set s.states seat w))
+  headers_after_it = subst (HeadersAreHeld m.headers (write m p y).arena.bytes knows) (sym (map_set_same headers_held s.states seat v w here refl))
+      (headers_on_arena z m s.states seat v here r.blocks knows r.headers (live_inside z s.words) x y may)
 
   kept_after : KeptNumbersStand same_spot (read (write m p y)) (map kept_of (set s.states seat w))
   kept_after = subst (KeptNumbersStand same_spot (read (write m p y))) (sym (map_set kept_of s.states seat w))
       (subst (λ (i : ℕ). KeptNumbersStand same_spot (read (write m p (arena_effect x i))) (set (map kept_of s.states) seat (kept_with (blocks_after m.arena.bytes x i v.blocks) v.headers))) read_is
-      (arena_kept z m (other_owners z m.headers) s.states seat v here r.blocks r.headers.blocks r.kept x may))
+      (arena_kept z m (other_owners z m.headers) s.states seat v here r.blocks (headers_own z s r) r.kept x may))
 
   pub arena_keeps : Rule z (table_after z call (on_arena x) seat v s)
-  arena_keeps = elsewhere_rule z s call seat v r here going (on_arena x) (finding z call p (arena_found x n) y v) inside (arena_small z x v.blocks n may (r.words.small (index z p))) refl refl refl refl refl owned_after headers_after_it kept_after
+  arena_keeps = elsewhere_rule z s call seat v r here going (on_arena x) (finding z call p (arena_found x n) y v) inside (arena_small z x v.blocks n may (r.words.small (index z p))) refl refl refl refl refl owned_after headers_after_it kept_after (r.passes seat v here)

@@ -16,35 +16,25 @@ use Rattle.arena_core.specs.declared.blocks.HeldBlock.{HeldBlock}
 use Rattle.arena_core.specs.declared.blocks.HeldBlocks.{HeldBlocks}
 use Rattle.arena_core.specs.Arena.{ArenaSpot, at_bits, at_bytes, same_arena_spot, read_arena, block_words}
 use Rattle.arena_core.specs.HeldBlocks.{kept_of_block, kept_of_blocks}
-use Rattle.arena_core.specs.Blocks.{is_block, holds, BlocksAreOwned, block_from, without, rewritten}
+use Rattle.arena_core.specs.Blocks.{holds, BlocksAreOwned, block_from, without, rewritten}
 use Rattle.arena_core.specs.ArenaStep.{ArenaStep, take_bit, clear_bit, store_word, arena_spot, arena_effect, MayArena, blocks_after}
-use Rattle.arena_core.proofs.HeldLists.{is_block-is}
 use Rattle.arena_core.proofs.ArenaSteps.{none_owns}
-use Rattle.arena_core.proofs.KeptBlocks.{block_keeps-bits, block_keeps-most, keeps_some, taken_true, true_without, keeps_without, kept_rewritten}
+use Rattle.arena_core.proofs.KeptBlocks.{keeps_some, taken_true, true_without, keeps_without, kept_rewritten}
 use Rattle.header_core.specs.HeaderHolds.{kept_of_headers}
 use Rattle.oak_core.specs.declared.states.PassState.{PassState}
 use Rattle.oak_core.specs.Memory.{Memory, Spot, at_given, in_arena, in_headers, in_rooms, same_spot, read, write}
-use Rattle.oak_core.specs.Owners.{fresh_blocks, has_fresh}
+use Rattle.oak_core.specs.Owners.{header_blocks, has_in_headers}
 use Rattle.oak_core.specs.PassState.{blocks_of, headers_held, kept_of}
 use Rattle.oak_core.proofs.Words.{read-write}
-use Rattle.oak_core.proofs.KeptWords.{kept_with, times, times_of, times_in_arena, times_in_headers, bits_unkept, bytes_kept, still_true, parts_put, restored_unkept}
+use Rattle.oak_core.proofs.KeptWords.{block_once, kept_with, times, times_of, times_in_arena, times_in_headers, bits_unkept, still_true, parts_put, restored_unkept}
 
 -- the words of a block that no pass has had are kept by none
 module _ (z : Sizes) (m : Memory) (o : ℕ → ℕ → ℕ) (vs : List PassState) (seat : ℕ) (v : PassState) (there : get_elem? vs seat ≡ some v) (r : BlocksAreOwned z m.arena.bits o (map blocks_of vs))
-    (fresh : (c b : ℕ) → total (has_fresh c b) (map headers_held vs) ≤ o c b) (k : KeptNumbersStand same_spot (read m) (map kept_of vs)) where
+    (own : (c b : ℕ) → total (has_in_headers c b) (map headers_held vs) ≤ o c b) (k : KeptNumbersStand same_spot (read m) (map kept_of vs)) where
   -- a block without an owner, whose words come to be kept
   pub fresh_once : (new : HeldBlock) → bit_at (m.arena.bits (class_number new.class) (new.number / 64)) (new.number % 64) ≡ 0 → (q : Spot) → total (times q) (map kept_of vs) + times q (renamed in_arena (kept_of_block new)) ≤ 1
-  fresh_once new e at_given = let o = k.once at_given in let t = renamed_none in_arena same_spot at_given (kept_of_block new) (λ p. refl) in omega arith
-  fresh_once new e (in_headers q) = let o = k.once (in_headers q) in let t = renamed_none in_arena same_spot (in_headers q) (kept_of_block new) (λ p. refl) in omega arith
-  fresh_once new e (in_rooms q) = let o = k.once (in_rooms q) in let t = renamed_none in_arena same_spot (in_rooms q) (kept_of_block new) (λ p. refl) in omega arith
-  fresh_once new e (in_arena (at_bits d i)) = let o = k.once (in_arena (at_bits d i)) in let t = renamed_keeps in_arena same_arena_spot same_spot (at_bits d i) (kept_of_block new) (λ p. refl) in let u = block_keeps-bits d i new in omega arith
-  fresh_once new e (in_arena (at_bytes d f l)) = let o1 = k.once (in_arena (at_bytes d f l)) in let t = renamed_keeps in_arena same_arena_spot same_spot (at_bytes d f l) (kept_of_block new) (λ p. refl) in let u = block_keeps-most d f l new in
-      test-cases (is_block d f new) (λ s. keeps same_arena_spot (at_bytes d f l) (kept_of_block new) ≤ one_if s → total (times (in_arena (at_bytes d f l))) (map kept_of vs) + times (in_arena (at_bytes d f l)) (renamed in_arena (kept_of_block new)) ≤ 1)
-      (λ is le. let p = is_block-is d f new is in
-      let none = none_owns z m.arena o (map blocks_of vs) seat v.blocks (at_map blocks_of vs seat v there) r d f
-      (subst (λ (i : ℕ × ℕ). bit_at (m.arena.bits i.0 (i.1 / 64)) (i.1 % 64) ≡ 0) (λ j. (p.0 j, p.1 j)) e) in
-      let none0 = none.0 in let none1 = none.1 in let some_fresh = fresh d f in let most = bytes_kept d f l vs in omega arith)
-      (λ other le. omega arith) u
+  fresh_once new e = let none = none_owns z m.arena o (map blocks_of vs) seat v.blocks (at_map blocks_of vs seat v there) r (class_number new.class) new.number e in
+      block_once m vs k new none.0 (let owned = own (class_number new.class) new.number in let none1 = none.1 in omega arith)
 
   -- a block more in front, kept besides what was
   pub times_more : (new : HeldBlock) (a : HeldBlocks) (q : Spot) → times q (kept_with (record a { held = new ∷ a.held }) v.headers) ≡ times q (renamed in_arena (kept_of_block new)) + times q (kept_with a v.headers)
@@ -77,7 +67,7 @@ module _ (z : Sizes) (m : Memory) (o : ℕ → ℕ → ℕ) (vs : List PassState
 
     put_blocks : (y : ℕ) (a : HeldBlocks) → AreTrueTo (λ q. read (write m p y) (in_arena q)) (kept_of_blocks a.held) → ((q : Spot) → total (times q) (map kept_of vs) + times q (kept_with a v.headers) ≤ 1 + times q (kept_of v)) → Stand y a
     put_blocks y a true_to few = let t = still_true m vs seat v there k p y (bits_unkept (class_number c) (b / 64) vs) in
-        parts_put m vs seat v there k p y (bits_unkept (class_number c) (b / 64) vs) a v.headers record { blocks = true_to; fresh = t.fresh; headers = t.headers } few
+        parts_put m vs seat v there k p y (bits_unkept (class_number c) (b / 64) vs) a v.headers record { blocks = true_to; within = t.within; headers = t.headers } few
 
     was_true : (y : ℕ) → AreTrueTo (λ q. read (write m p y) (in_arena q)) (kept_of_blocks v.blocks.held)
     was_true y = (still_true m vs seat v there k p y (bits_unkept (class_number c) (b / 64) vs)).blocks
@@ -101,18 +91,18 @@ module _ (z : Sizes) (m : Memory) (o : ℕ → ℕ → ℕ) (vs : List PassState
         subst (λ (ws : List (KeptWord Spot)). KeptNumbersStand same_spot (read (write m (in_arena q) x)) (set (map kept_of vs) seat ws)) (sym same)
         (kept_own same_spot (read m) (read (write m (in_arena q) x)) (in_arena q) x (λ o. read-write m (in_arena q) o x) (map kept_of vs) seat (kept_of v) (at_map kept_of vs seat v there) (let t = of_blocks in omega arith) k)
       where
-        of_blocks : (times (in_arena (at_bytes (class_number c) b l)) (kept_of v) ≡ keeps same_arena_spot (at_bytes (class_number c) b l) (kept_of_blocks v.blocks.held) + keeps same_arena_spot (at_bytes (class_number c) b l) (kept_of_blocks (fresh_blocks v.headers.held)))
+        of_blocks : (times (in_arena (at_bytes (class_number c) b l)) (kept_of v) ≡ keeps same_arena_spot (at_bytes (class_number c) b l) (kept_of_blocks v.blocks.held) + keeps same_arena_spot (at_bytes (class_number c) b l) (kept_of_blocks (header_blocks v.headers.held)))
             × (0 < keeps same_arena_spot (at_bytes (class_number c) b l) (kept_of_blocks v.blocks.held))
         of_blocks = (times_in_arena (at_bytes (class_number c) b l) v.blocks v.headers, keeps_some (class_number c) b l v.blocks.held some_of lt)
 
-        not_fresh : keeps same_arena_spot (at_bytes (class_number c) b l) (kept_of_blocks (fresh_blocks v.headers.held)) ≡ 0
+        not_fresh : keeps same_arena_spot (at_bytes (class_number c) b l) (kept_of_blocks (header_blocks v.headers.held)) ≡ 0
         not_fresh = let t = of_blocks in let t0 = t.0 in let t1 = t.1 in let o1 = k.once (in_arena (at_bytes (class_number c) b l)) in
             let mine = total_at (times (in_arena (at_bytes (class_number c) b l))) (map kept_of vs) seat (kept_of v) (at_map kept_of vs seat v there) in omega arith
 
         same : kept_with (record v.blocks { held = rewritten (class_number c) b l x v.blocks.held }) v.headers ≡ restored same_spot (in_arena (at_bytes (class_number c) b l)) x (kept_of v)
-        same = let q : ArenaSpot = at_bytes (class_number c) b l in let A : List (KeptWord Spot) = renamed in_arena (kept_of_blocks v.blocks.held) in let F : List (KeptWord Spot) = renamed in_arena (kept_of_blocks (fresh_blocks v.headers.held)) in
+        same = let q : ArenaSpot = at_bytes (class_number c) b l in let A : List (KeptWord Spot) = renamed in_arena (kept_of_blocks v.blocks.held) in let F : List (KeptWord Spot) = renamed in_arena (kept_of_blocks (header_blocks v.headers.held)) in
             let H : List (KeptWord Spot) = renamed in_headers (kept_of_headers v.headers.held) in
-            let F_same : restored same_spot (in_arena q) x F ≡ F = restored_unkept same_spot (in_arena q) x F (renamed_keeps in_arena same_arena_spot same_spot q (kept_of_blocks (fresh_blocks v.headers.held)) (λ p. refl) ∙ not_fresh) in
+            let F_same : restored same_spot (in_arena q) x F ≡ F = restored_unkept same_spot (in_arena q) x F (renamed_keeps in_arena same_arena_spot same_spot q (kept_of_blocks (header_blocks v.headers.held)) (λ p. refl) ∙ not_fresh) in
             let H_same : restored same_spot (in_arena q) x H ≡ H = restored_else in_headers same_spot (in_arena q) x (kept_of_headers v.headers.held) (λ p. refl) in
             ap (λ (ws : List (KeptWord ArenaSpot)). renamed in_arena ws ++ (F ++ H)) (kept_rewritten (class_number c) b l x v.blocks.held (r.whole seat v.blocks (at_map blocks_of vs seat v there)))
             ∙ (ap (λ (ws : List (KeptWord Spot)). ws ++ (F ++ H)) (sym (renamed_restored in_arena same_arena_spot same_spot q x (kept_of_blocks v.blocks.held) (λ p. refl)))

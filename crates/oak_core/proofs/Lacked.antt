@@ -1,10 +1,13 @@
 -- What a call lacks is shown by what was met, and by all that is met and swept further on.
-use Rattle.std.proofs.Common.{◌≡◌, ℕ, zero, suc, ◌<◌, List, [], ◌∷◌, ◌++◌, length, sym, refl, subst, arith, ⊎_elim, inl, inr}
+use Rattle.std.proofs.Common.{◌≡◌, ℕ, ◌-◌, ◌≤◌, List, [], ◌∷◌, ◌++◌, length, sym, refl, ap, subst, arith, ⊎_elim, inl, inr}
 use mathlib.Core.Option.{some}
+use mathlib.Core.Logic.{dite}
+use native.Mathlib.Decide.{dec_lt}
 use lib.ListN.{get_elem?}
 use Rattle.oak_model.specs.declared.replies.Lack.{Lack}
 use Rattle.oak_model.specs.declared.replies.Lack.TheVariants.{Block, Header, Room}
 use Rattle.oak_model.specs.Counts.{Each, Begins}
+use Rattle.oak_model.specs.Key.{IsKey}
 use Rattle.oak_model.specs.Limits.{Sizes}
 use Rattle.oak_model.proofs.Lists.{at_longer, each_append, each_map, begins_self, begins_length}
 use Rattle.oak_core.specs.declared.states.Finding.{Finding}
@@ -12,12 +15,10 @@ use Rattle.oak_core.specs.declared.states.Findings.{Findings}
 use Rattle.oak_core.specs.declared.states.Full.{Full}
 use Rattle.oak_core.specs.declared.states.PassState.{PassState}
 use Rattle.oak_core.specs.declared.states.Swept.{Swept}
-use Rattle.oak_core.specs.Lack.{FoundBehind, FoundTaken, FoundRenewed, LackFound, Lacks, Lacked, FullsStand, full_state}
-
-pub at_shorter : {A : Type 0} (l m : List A) (i : ℕ) (a : A) → i < length l → get_elem? (l ++ m) i ≡ some a → get_elem? l i ≡ some a
-at_shorter [] m i a lt e = absurd (omega arith)
-at_shorter (x ∷ xs) m zero a lt e = e
-at_shorter (x ∷ xs) m (suc i) a lt e = at_shorter xs m i a (omega arith) e
+use Rattle.oak_core.specs.Finding.{grown}
+use Rattle.oak_core.specs.Lack.{FoundBehind, FoundTaken, FoundRenewed, KeySwept, LackFound, Lacks, Lacked, FullsStand, full_state}
+use Rattle.oak_core.proofs.MetLists.{at_shorter, from_behind, each_at}
+use Rattle.oak_core.proofs.MetMore.{grown_met, grown_length}
 
 module _ (z : Sizes) (behind ended : ℕ) (met more : List Finding) where
   abbrev found_longer : (word : ℕ) (P : ℕ → ℕ → Type 0) → FoundBehind behind ended met word P → FoundBehind behind ended (met ++ more) word P
@@ -71,3 +72,20 @@ fulls_noted z call lack began f v l h = let fs : Findings = (full_state call lac
     each_append (λ (n : Full). Lacked z n.call n.lack fs) v.findings.fulls (record { call = call; lack = lack } ∷ [])
     (each_longer z v.findings fs (f ∷ [], refl) (begins_self v.findings.swept) v.findings.fulls h)
     ((began, length v.findings.met, lacks_longer z call lack began (length v.findings.met) v.findings fs (f ∷ [], refl) (begins_self v.findings.swept) l), tt)
+
+-- A call that met nothing of another call lacks what it found with nothing free behind a moment at which it had swept every key, where from then on it only met more.
+module _ (z : Sizes) (call : ℕ) (v w : PassState) (more : List Finding) (after : w ≡ grown more v) (calls : Each (λ (f : Finding). f.call ≡ call) more) where
+  pub lacks_then : (lack : Lack) (began : ℕ) → began ≤ length v.findings.met → ((i : ℕ) (f : Finding) → began ≤ i → get_elem? v.findings.met i ≡ some f → f.call ≡ call)
+      → ((k : List ℕ) → IsKey k → KeySwept began (length v.findings.met) v.findings.swept k) → LackFound z (length v.findings.met) (length w.findings.met) w.findings.met lack
+      → Lacks z call lack began (length w.findings.met) w.findings
+  lacks_then lack began le own swept found = record {
+    behind = length v.findings.met;
+    from = le;
+    to = let l = grown_length v w more after in omega arith;
+    met = omega arith;
+    of_call = λ i f b lt e. let at = subst (λ (l : List Finding). get_elem? l i ≡ some f) (grown_met v w more after) e in dite (dec_lt i (length v.findings.met))
+        (λ l. own i f b (at_shorter v.findings.met more i f l at))
+        (λ no. each_at (λ (g : Finding). g.call ≡ call) more calls (i - length v.findings.met) f (from_behind v.findings.met more i f (omega arith) at));
+    covered = λ k is. subst (λ (s : List Swept). KeySwept began (length v.findings.met) s k) (ap (λ (y : PassState). y.findings.swept) (sym after)) (swept k is);
+    found = found;
+  }

@@ -13,9 +13,10 @@ use Rattle.oak_model.proofs.Counting.{one_at-same, one_at-other}
 use Rattle.arena_core.specs.HeldBlocks.{kept_of_blocks}
 use Rattle.header_core.specs.HeaderHolds.{kept_of_headers}
 use Rattle.header_core.specs.declared.layout.TheConstants.{HEADER_WORDS}
+use Rattle.header_core.specs.declared.states.TheConstants.{LAST_GENERATION}
 use Rattle.oak_core.specs.Memory.{at_given, same_spot, read, memory, headers_at, rooms_at, word_count}
 use Rattle.oak_core.specs.PassState.{first_state, kept_of}
-use Rattle.oak_core.specs.Rule.{WordsStand, NumbersStand, FindingsHold, SpentIsSpent, JoinedStand, Rule}
+use Rattle.oak_core.specs.Rule.{WordsStand, NumbersStand, FindingsHold, SpentIsSpent, JoinedStand, Rule, PassStands}
 use Rattle.oak_core.specs.Schedule.{opening_number, opening}
 use Rattle.oak_core.proofs.Words.{first_word, memory_read}
 use Rattle.oak_core.proofs.Found.{none_met}
@@ -25,7 +26,7 @@ either_small : (b : Bool) (x y : ℕ) → x < 2 ^ 64 → y < 2 ^ 64 → cond b x
 either_small true x y h k = h
 either_small false x y h k = k
 
-module _ (z : Sizes) (g : ℕ) (is : IsInLimits z) (lt : g < 2 ^ 32) where
+module _ (z : Sizes) (g : ℕ) (is : IsInLimits z) (lt : g < LAST_GENERATION) where
   some_word : 0 < word_count z
   some_word = omega arith
 
@@ -76,8 +77,9 @@ module _ (z : Sizes) (g : ℕ) (is : IsInLimits z) (lt : g < 2 ^ 32) where
     joined = every_one (JoinedStand z) first_state tt;
     histories = λ k. every_one _ first_state.knowledge tt;
     spent = every_one SpentIsSpent first_state (λ e. absurd (true≢false (sym e)));
-    blocks = opening_blocks z g;
-    headers = opening_headers z g;
+    blocks = opening_blocks z g lt;
+    headers = opening_headers z g lt;
+    passes = every_one PassStands first_state record { pin = tt; whole = tt };
     kept = opening_kept;
   }
 

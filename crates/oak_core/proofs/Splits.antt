@@ -1,11 +1,9 @@
 -- What the calls on passes tell: a search for a free number, and what two passes have seen together.
-use Rattle.std.proofs.Common.{map, ◌≡◌, ℕ, suc, ◌+◌, ◌^◌, ◌<◌, Bool, cond, List, [], ◌∷◌, ◌++◌, length, sym, refl, ap, ◌∙◌, subst, arith, append_assoc, append-nil, eq-eqb, ne_eqb, Some, None}
+use Rattle.std.proofs.Common.{map, ◌≡◌, ℕ, ◌+◌, ◌^◌, ◌<◌, Bool, cond, List, [], ◌∷◌, ◌++◌, length, sym, refl, ap, ◌∙◌, subst, arith, eq-eqb, ne_eqb, Some, None}
 use Rattle.std.specs.Prelude.{bit_or}
 use Rattle.std.specs.Int.{bit_at}
-use mathlib.Core.Option.{some}
 use mathlib.Core.Logic.{dite}
 use native.Mathlib.Decide.{ℕ_discrete}
-use lib.ListN.{get_elem?}
 use Rattle.oak_model.specs.Limits.{Sizes}
 use Rattle.oak_model.proofs.Lists.{at_map}
 use Rattle.oak_model.proofs.Counting.{total_at}
@@ -17,6 +15,8 @@ use Rattle.oak_core.specs.PassState.{has_number, numbers_of, findings_of, both_s
 use Rattle.oak_core.specs.Splitting.{IsGrown, SplitsOff, FindsAllGiven, SeesLonger}
 use Rattle.oak_core.specs.Step.{give_number, numbered, MayGive, Told}
 use Rattle.oak_core.proofs.Found.{shows_last}
+use Rattle.oak_core.proofs.MetLists.{at_behind}
+use Rattle.oak_core.proofs.MetMore.{grown_twice, grown_none}
 use Rattle.oak_core.proofs.Histories.{seen_later, seen_first}
 use Rattle.oak_core.proofs.Words.{first_word, memory_read}
 
@@ -26,13 +26,6 @@ sees_longer v w x k e = subst (λ (y : PassState). SeesLonger v w y k) (sym e) r
   own = seen_first k v.knowledge w.knowledge (both_state v w).knowledge refl;
 }
 
-grown-more : (v : PassState) (more : List Finding) (f : Finding) → grown (f ∷ []) (grown more v) ≡ grown (more ++ f ∷ []) v
-grown-more v more f = ap (λ (l : List Finding). record v { findings = record v.findings { met = l } }) (append_assoc v.findings.met more (f ∷ []))
-
-pub at_behind : {A : Type 0} (xs ys : List A) (i : ℕ) (a : A) → get_elem? ys i ≡ some a → get_elem? (xs ++ ys) (length xs + i) ≡ some a
-at_behind [] ys i a e = ap (get_elem? ys) (let z : 0 + i ≡ i = omega arith in z) ∙ e
-at_behind (x ∷ xs) ys i a e = ap (get_elem? (x ∷ (xs ++ ys))) (let z : suc (length xs) + i ≡ suc (length xs + i) = omega arith in z) ∙ at_behind xs ys i a e
-
 -- the first i numbers were tried, and found given at the last of these steps
 pub record Tried (i : ℕ) (v w : PassState) : Type 0 where
   pub more : List Finding
@@ -40,7 +33,7 @@ pub record Tried (i : ℕ) (v w : PassState) : Type 0 where
   pub given : 0 < i → Shows more 0 (λ n. (j : ℕ) → j < i → bit_at n j ≡ 1)
 
 pub none_tried : (v : PassState) → Tried 0 v v
-none_tried v = record { more = []; after = ap (λ (l : List Finding). record v { findings = record v.findings { met = l } }) (sym (append-nil v.findings.met)); given = λ h. absurd (omega arith) }
+none_tried v = record { more = []; after = grown_none v; given = λ h. absurd (omega arith) }
 
 -- so the next may be tried
 pub may_give : (z : Sizes) (i : ℕ) (v w : PassState) → i < z.passes → v.numbers.hand ≡ None → Tried i v w → MayGive z i w
@@ -76,7 +69,7 @@ module _ (z : Sizes) (call k : ℕ) (v w x : PassState) (n : ℕ) (t : Tried k v
   tried_more e = record {
     more = t.more ++ met_now ∷ [];
     after = after_is ∙ (ap (λ (b : Bool). record (noted met_now w) { numbers = record w.numbers { hand = cond b (Some k) w.numbers.hand; made = cond b (w.numbers.made ++ k ∷ []) w.numbers.made } }) (ne_eqb (bit_at n k) 0 (λ q. omega arith))
-        ∙ (ap (grown (met_now ∷ [])) t.after ∙ grown-more v t.more met_now));
+        ∙ (ap (grown (met_now ∷ [])) t.after ∙ grown_twice v t.more (met_now ∷ [])));
     given = λ _. shows_last t.more met_now 0 n (λ n. (j : ℕ) → j < k + 1 → bit_at n j ≡ 1) (first_word z) refl
         (λ j lt. dite (ℕ_discrete j k) (λ q. ap (bit_at n) q ∙ e) (λ ne. lower_given j (omega arith)));
   }
@@ -88,7 +81,7 @@ module _ (z : Sizes) (call k : ℕ) (v w x : PassState) (n : ℕ) (t : Tried k v
     pub now_in_hand : x ≡ given_state
     now_in_hand = after_is ∙ (ap (λ (b : Bool). record (noted met_now w) { numbers = record w.numbers { hand = cond b (Some k) w.numbers.hand; made = cond b (w.numbers.made ++ k ∷ []) w.numbers.made } }) (eq-eqb (bit_at n k) 0 e)
         ∙ (ap (λ (y : PassState). record (grown (met_now ∷ []) y) { numbers = record y.numbers { hand = Some k; made = y.numbers.made ++ k ∷ [] } }) t.after
-        ∙ ap (λ (y : PassState). record y { numbers = record v.numbers { hand = Some k; made = v.numbers.made ++ k ∷ [] } }) (grown-more v t.more met_now)))
+        ∙ ap (λ (y : PassState). record y { numbers = record v.numbers { hand = Some k; made = v.numbers.made ++ k ∷ [] } }) (grown_twice v t.more (met_now ∷ []))))
 
     pub splits_off : (l r : PassState) → k < z.passes → v.numbers.hand ≡ None → l ≡ left_state x → r ≡ right_state x → SplitsOff z v l r
     splits_off l r few hand is_left is_right = record {

@@ -1,38 +1,41 @@
 -- A split and a join keep the rule.
-use Rattle.std.proofs.Common.{false, true≢false, ◌≡◌, ◌≢◌, ℕ, ◌+◌, ◌*◌, ◌≤◌, ◌⊎◌, cond, Bool, List, [], ◌∷◌, ◌++◌, map, length, set, sym, refl, ap, ◌∙◌, subst, arith, ⊎_elim, Option}
+use Rattle.std.proofs.Common.{false, true≢false, ◌≡◌, ◌≢◌, ℕ, ◌+◌, ◌<◌, ◌≤◌, ◌⊎◌, List, [], ◌∷◌, ◌++◌, map, length, set, sym, refl, ap, ◌∙◌, subst, arith, ⊎_elim, Option}
 use Rattle.std.proofs.lemmas.List.{map-append}
 use mathlib.Core.Option.{some}
 use lib.ListN.{get_elem?}
 use Rattle.oak_model.specs.Limits.{Sizes}
-use Rattle.oak_model.specs.Counts.{one_at, total, below, Begins}
+use Rattle.oak_model.specs.Counts.{one_at, total, Begins}
 use Rattle.oak_model.specs.Kept.{KeptNumbersStand}
 use Rattle.oak_model.proofs.Lists.{at_map, map_set_same, set_else, each_append}
-use Rattle.oak_model.proofs.Counting.{total_append, below_add, below_same}
-use Rattle.oak_model.proofs.Changes.{Change, divided, joined, change_parts, change_level}
+use Rattle.oak_model.proofs.Changes.{Change, divided, joined, change_parts}
 use Rattle.oak_model.proofs.KeptLaws.{kept_idle}
 use Rattle.arena_core.specs.declared.blocks.HeldBlocks.{HeldBlocks}
 use Rattle.arena_core.specs.Blocks.{holds}
 use Rattle.arena_core.specs.HeldBlocks.{no_blocks, kept_of_blocks}
 use Rattle.arena_core.proofs.OwnedBlocks.{blocks_frame}
 use Rattle.arena_core.specs.Place.{IsPlace, content}
-use Rattle.header_core.specs.declared.holds.HeaderHolds.{HeaderHolds}
-use Rattle.header_core.specs.HeaderHolds.{no_headers, kept_of_headers}
-use Rattle.header_core.proofs.HeaderLaws.{headers_divided, headers_joined}
+use Rattle.header_core.specs.declared.holds.PinnedHeader.{PinnedHeader}
+use Rattle.header_core.specs.HeaderRule.{PinsWhatItKnows}
+use Rattle.header_core.specs.HeaderHolds.{fresh_at, kept_of_headers}
+use Rattle.header_core.proofs.HeaderLaws.{on_pin, headers_divided, headers_joined}
 use Rattle.oak_core.specs.declared.states.Joined.{Joined}
 use Rattle.oak_core.specs.declared.states.KeyedWrite.{KeyedWrite}
 use Rattle.oak_core.specs.declared.states.Knowledge.{Knowledge}
 use Rattle.oak_core.specs.declared.states.PassState.{PassState}
 use Rattle.oak_core.specs.Memory.{Memory, same_spot, read, memory}
-use Rattle.oak_core.specs.PassState.{blocks_of, headers_held, numbers_of, findings_of, knowledge_of, kept_of, rooted, in_hand, has_number, is_parent, of_key, seen_of, history, number_in, left_state, right_state, joined_from, both_state, spent_state}
+use Rattle.oak_core.specs.PassState.{blocks_of, headers_held, numbers_of, findings_of, knowledge_of, kept_of, in_hand, has_number, is_parent, of_key, seen_of, history, number_in, left_state, right_state, joined_from, both_state, spent_state}
 use Rattle.oak_core.specs.TableState.{TableState}
-use Rattle.oak_core.specs.Rule.{FindingsHold, SpentIsSpent, JoinedStand, Rule}
-use Rattle.oak_core.specs.Owners.{other_owners, has_fresh}
+use Rattle.oak_core.specs.Rule.{FindingsHold, SpentIsSpent, JoinedStand, Rule, PassStands}
+use Rattle.oak_core.specs.Owners.{other_owners}
+use Rattle.oak_core.specs.Known.{knows_life, known}
 use Rattle.oak_core.specs.Lack.{FullsStand}
 use Rattle.oak_core.specs.Schedule.{MaySplit, MayJoin}
 use Rattle.oak_core.proofs.KeptWords.{kept_with}
 use Rattle.oak_core.proofs.GivenNumbers.{numbers_frame}
 use Rattle.oak_core.proofs.Found.{none_met}
 use Rattle.oak_core.proofs.Histories.{histories_frame, seen_both}
+use Rattle.oak_core.proofs.JoinedNumbers.{same_numbers_joined, more_parents_joined}
+use Rattle.oak_core.proofs.KnownInTwo.{both_knows, known_split, known_join}
 
 -- a pass that holds nothing owns no block
 level : (c b o : ℕ) (a : HeldBlocks) → total (holds c b) (a ∷ no_blocks ∷ []) + o ≡ total (holds c b) (a ∷ []) + o
@@ -42,13 +45,11 @@ level c b o a = omega arith
 level-both : (c b o : ℕ) (a e : HeldBlocks) → e ≡ no_blocks → total (holds c b) (a ∷ no_blocks ∷ []) + o ≡ total (holds c b) (a ∷ e ∷ []) + o
 level-both c b o a e is = ap (λ (h : HeldBlocks). total (holds c b) (a ∷ h ∷ []) + o) (sym is)
 
--- and has no fresh header
-fresh_level : (c b : ℕ) (a : HeaderHolds) → total (has_fresh c b) (a ∷ no_headers ∷ []) ≡ total (has_fresh c b) (a ∷ [])
-unfolding total
-fresh_level c b a = omega arith
-
-fresh_level-both : (c b : ℕ) (a e : HeaderHolds) → e ≡ no_headers → total (has_fresh c b) (a ∷ no_headers ∷ []) ≡ total (has_fresh c b) (a ∷ e ∷ [])
-fresh_level-both c b a e is = ap (λ (h : HeaderHolds). total (has_fresh c b) (a ∷ h ∷ [])) (sym is)
+-- a pin that is known to one of two is known to both together
+pin_both : (v w : PassState) → PinsWhatItKnows (λ h g. knows_life h g v.knowledge) v.headers → PinsWhatItKnows (λ h g. knows_life h g (both_state v w).knowledge) v.headers
+pin_both v w known_pin = on_pin (λ (p : PinnedHeader). 0 < fresh_at p.header p.wanted v.headers + knows_life p.header p.wanted v.knowledge)
+    (λ (p : PinnedHeader). 0 < fresh_at p.header p.wanted v.headers + knows_life p.header p.wanted (both_state v w).knowledge) v.headers.pin
+    (λ p _ l. let b = both_knows p.header p.wanted v w in omega arith) known_pin
 
 module _ (z : Sizes) (s : TableState) (seat : ℕ) (v : PassState) (r : Rule z s) (here : get_elem? s.states seat ≡ some v) where
   abbrev m : Memory
@@ -90,10 +91,9 @@ module _ (z : Sizes) (s : TableState) (seat : ℕ) (v : PassState) (r : Rule z s
           (λ k. let h = r.histories k seat v.knowledge (at_map knowledge_of s.states seat v here) in (h, (h, tt)))
           (λ k y g. (v.knowledge, (change_parts knowledge_of apart).come.0, ⊎_elim (λ (q : v.knowledge ≡ y). let e = ap (λ (z : Knowledge). length (seen_of k z)) q in omega arith) (λ (q : ⊥). absurd q) g));
       blocks = blocks_frame z m.arena.bits (other_owners z m.headers) (other_owners z m.headers) (change_parts blocks_of apart) r.blocks (r.blocks.whole seat v.blocks (at_map blocks_of s.states seat v here), (tt, tt)) (λ c b. level c b (other_owners z m.headers c b) v.blocks);
-      headers = record {
-        stand = headers_divided m.headers (content m.arena.bytes) IsPlace (λ _. 0) r.headers.stand v.headers (change_parts headers_held apart) (seat, at_map headers_held s.states seat v here);
-        blocks = λ c b. let l = change_level (change_parts headers_held apart) (has_fresh c b) (fresh_level c b v.headers) in let o = r.headers.blocks c b in omega arith;
-      };
+      headers = headers_divided m.headers (content m.arena.bytes) IsPlace (known (map knowledge_of s.states)) (known (map knowledge_of (set s.states seat left ++ right ∷ []))) (known_split s.states seat v here)
+          r.headers v.headers (change_parts headers_held apart) (seat, at_map headers_held s.states seat v here);
+      passes = apart.every PassStands (r.passes seat v here, (record { pin = tt; whole = tt }, tt)) (λ j u _ at. r.passes j u at);
       spent = apart.every SpentIsSpent ((λ e. absurd (true≢false (sym e ∙ may.going))), ((λ e. absurd (true≢false (sym e))), tt)) (λ j u _ at. r.spent j u at);
       kept = subst (KeptNumbersStand same_spot (read m)) (sym same_kept) (kept_idle same_spot (read m) (map kept_of s.states) r.kept);
     }
@@ -104,37 +104,6 @@ module _ (z : Sizes) (s : TableState) (seat : ℕ) (v : PassState) (r : Rule z s
 
     abbrev together : Change s.states (set (set s.states seat both) other spent_state) (v ∷ w ∷ []) (both ∷ spent_state ∷ [])
     together = joined s.states seat other v w both spent_state here there ne
-
-    -- the other's own number and those joined into it
-    roots : (k : ℕ) → rooted k both.numbers ≡ rooted k v.numbers + rooted k w.numbers
-    unfolding total
-    roots k = let a = total_append (λ (j : Joined). one_at j.number k) v.numbers.joined (joined_from w ∷ w.numbers.joined) in
-        let b : cond w.numbers.spent 0 (one_at w.numbers.number k) ≡ one_at w.numbers.number k = ap (λ (t : Bool). cond t 0 (one_at w.numbers.number k)) may.going in
-        let c : ℕ = cond v.numbers.spent 0 (one_at v.numbers.number k) in let d : ℕ = total (λ (j : Joined). one_at j.number k) w.numbers.joined in let f : ℕ = total (λ (j : Joined). one_at j.number k) v.numbers.joined in
-        let g : ℕ = total (λ (j : Joined). one_at j.number k) (v.numbers.joined ++ joined_from w ∷ w.numbers.joined) in let o : ℕ = one_at w.numbers.number k in let x : ℕ = cond w.numbers.spent 0 (one_at w.numbers.number k) in
-        let a' : g ≡ f + (o + d) = a in let b' : x ≡ o = b in let h : c + g ≡ (c + f) + (x + d) = omega arith in h
-
-    same_all : (k : ℕ) → total (has_number k) (both.numbers ∷ spent_state.numbers ∷ []) ≡ total (has_number k) (v.numbers ∷ w.numbers ∷ [])
-    unfolding total
-    same_all k = let a : in_hand k w.numbers.hand ≡ 0 = ap (in_hand k) may.idle.hand in let b = roots k in
-        let x : ℕ = rooted k both.numbers in let p : ℕ = rooted k v.numbers in let q : ℕ = rooted k w.numbers in let hv : ℕ = in_hand k v.numbers.hand in let hw : ℕ = in_hand k w.numbers.hand in
-        let b' : x ≡ p + q = b in let a' : hw ≡ 0 = a in let h : (x + hv) + (0 + 0 + 0 + 0) ≡ (p + hv) + ((q + hw) + 0) = omega arith in h
-
-    more_all : (k : ℕ) → total (is_parent k) (v.numbers ∷ w.numbers ∷ []) ≤ total (is_parent k) (both.numbers ∷ spent_state.numbers ∷ [])
-    unfolding total
-    more_all k =
-        let below_both : below (λ n. rooted n both.numbers) k ≡ below (λ n. rooted n v.numbers) k + below (λ n. rooted n w.numbers) k =
-        below_same (λ n. rooted n both.numbers) (λ n. rooted n v.numbers + rooted n w.numbers) k (λ n _. roots n) ∙ below_add (λ n. rooted n v.numbers) (λ n. rooted n w.numbers) k in
-        let made_both : total (λ (n : ℕ). one_at n k) both.numbers.made ≡ total (λ (n : ℕ). one_at n k) v.numbers.made + total (λ (n : ℕ). one_at n k) w.numbers.made =
-        total_append (λ (n : ℕ). one_at n k) v.numbers.made w.numbers.made in
-        let p = products (below (λ n. rooted n v.numbers) k) (total (λ (n : ℕ). one_at n k) v.numbers.made) (below (λ n. rooted n w.numbers) k) (total (λ (n : ℕ). one_at n k) w.numbers.made) in
-        let whole : is_parent k both.numbers ≡ (below (λ n. rooted n v.numbers) k + below (λ n. rooted n w.numbers) k) * (total (λ (n : ℕ). one_at n k) v.numbers.made + total (λ (n : ℕ). one_at n k) w.numbers.made) =
-        (λ i. below_both i * made_both i) in
-        let a : ℕ = is_parent k v.numbers in let b : ℕ = is_parent k w.numbers in let c : ℕ = is_parent k both.numbers in let d : ℕ = is_parent k spent_state.numbers in
-        let e : a + b ≤ c = subst (λ (n : ℕ). a + b ≤ n) (sym whole) p in let h : a + (b + 0) ≤ c + (d + 0) = omega arith in h
-      where
-        products : (a b c d : ℕ) → a * b + c * d ≤ (a + c) * (b + d)
-        products a b c d = grind arith
 
     kept_w : kept_of w ≡ []
     unfolding kept_of_blocks kept_of_headers
@@ -151,7 +120,7 @@ module _ (z : Sizes) (s : TableState) (seat : ℕ) (v : PassState) (r : Rule z s
     join_keeps = let av = at_map knowledge_of s.states seat v here in let aw = at_map knowledge_of s.states other w there in record {
       sizes = r.sizes;
       words = r.words;
-      numbers = numbers_frame z m.given (change_parts numbers_of together) same_all more_all r.numbers;
+      numbers = numbers_frame z m.given (change_parts numbers_of together) (same_numbers_joined v w may) (more_parents_joined v w may) r.numbers;
       findings = (change_parts findings_of together).every (FindingsHold z m.given) (r.findings seat v.findings (at_map findings_of s.states seat v here), (none_met z m.given, tt)) (λ j x _ e. r.findings j x e);
       joined = together.every (JoinedStand z)
           (each_append (λ (j : Joined). FullsStand z j.findings) v.numbers.joined (joined_from w ∷ w.numbers.joined) (r.joined seat v here) ((r.findings other w.findings (at_map findings_of s.states other w there)).noted, r.joined other w there), (tt, tt))
@@ -165,10 +134,9 @@ module _ (z : Sizes) (s : TableState) (seat : ℕ) (v : PassState) (r : Rule z s
                 (λ (q : (w.knowledge ≡ y) ⊎ ⊥). ⊎_elim (λ (q : w.knowledge ≡ y). let e = ap (λ (z : Knowledge). length (seen_of k z)) q in omega arith) (λ (q : ⊥). absurd q) q) g,
           ));
       blocks = blocks_frame z m.arena.bits (other_owners z m.headers) (other_owners z m.headers) (change_parts blocks_of together) r.blocks (r.blocks.whole seat v.blocks (at_map blocks_of s.states seat v here), (tt, tt)) (λ c b. level-both c b (other_owners z m.headers c b) v.blocks w.blocks may.idle.blocks);
-      headers = record {
-        stand = headers_joined m.headers (content m.arena.bytes) IsPlace (λ _. 0) r.headers.stand v.headers w.headers (change_parts headers_held together) (seat, at_map headers_held s.states seat v here) may.idle.headers;
-        blocks = λ c b. let l = change_level (change_parts headers_held together) (has_fresh c b) (fresh_level-both c b v.headers w.headers may.idle.headers) in let o = r.headers.blocks c b in omega arith;
-      };
+      headers = headers_joined m.headers (content m.arena.bytes) IsPlace (known (map knowledge_of s.states)) (known (map knowledge_of (set (set s.states seat both) other spent_state))) (known_join s.states seat v here other w there ne)
+          r.headers v.headers w.headers (change_parts headers_held together) (seat, at_map headers_held s.states seat v here) may.idle.headers;
+      passes = together.every PassStands (record { pin = pin_both v w (r.passes seat v here).pin; whole = (r.passes seat v here).whole }, (record { pin = tt; whole = tt }, tt)) (λ j u _ at. r.passes j u at);
       spent = together.every SpentIsSpent ((λ e. absurd (true≢false (sym e ∙ going))), ((λ _. refl), tt)) (λ j u _ at. r.spent j u at);
       kept = subst (KeptNumbersStand same_spot (read m)) (sym same_words) r.kept;
     }

@@ -50,3 +50,15 @@ Shows met word P = (i : ℕ) × (f : Finding) × (n : ℕ) × (get_elem? met i �
 -- the call appended findings, one of which shows a number of the word that has P
 abbrev pub FoundInCall : PassState → PassState → ℕ → (ℕ → Type 0) → Type 0
 FoundInCall v w word P = (more : List Finding) × (w.findings.met ≡ v.findings.met ++ more) × Shows more word P
+
+-- one of the findings is of the call, and shows a number of the word that has P; the pass had there what v has there
+pub record FoundThere (z : Sizes) (call : ℕ) (p : Spot) (v : PassState) (met : List Finding) (P : ℕ → Type 0) : Type 0 where
+  pub place : ℕ
+  pub finding : Finding
+  pub there : get_elem? met place ≡ some finding
+  pub call_is : finding.call ≡ call
+  pub word_is : finding.word ≡ index z p
+  pub number : ℕ
+  pub found_is : finding.found ≡ Some number
+  pub shows : P number
+  pub had_is : finding.had ≡ had p v

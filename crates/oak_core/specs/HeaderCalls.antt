@@ -1,26 +1,31 @@
 -- What a word and an operand name among the headers, and what the steps on them tell.
 use Rattle.std.specs.Prelude.{◌≡◌, ℕ, ◌+◌, ◌*◌, ◌<◌}
+use Rattle.oak_model.specs.declared.writes.Kind.{Kind}
 use Rattle.oak_model.specs.Limits.{Sizes}
 use Rattle.header_core.specs.declared.holds.HeldAs.{HeldAs}
 use Rattle.header_core.specs.Headers.{HeaderSpot, at_pin, at_place, at_stamp}
 use Rattle.header_core.specs.HeaderHolds.{held_state}
-use Rattle.header_core.specs.HeaderStep.{STATE, HeaderStep, claim_header, store_place, store_stamp, open_header, pin_header, unpin_header, release_header, IsFreeWord}
+use Rattle.header_core.specs.HeaderStep.{STATE, HeaderStep, claim_header, store_place, store_stamp, change_place, open_header, pin_header, unpin_header, release_header, lock_header, unlock_header, mark_dead, take_back, IsFreeWord, IsLiveWord}
 use Rattle.oak_core.specs.declared.states.PassState.{PassState}
 use Rattle.oak_core.specs.Memory.{in_headers, index}
 use Rattle.oak_core.specs.Step.{on_headers, Told}
 
--- the words of a header that its owner stores to
+-- the words of a header to which the pass stores that owns it, or has it locked
 pub data HeaderField : Type 0 where
   of_place : HeaderField
   of_stamp : HeaderField
+  -- the place word of a locked header
+  of_locked_place : HeaderField
 
 abbrev pub field_spot : HeaderField → ℕ → HeaderSpot
 field_spot of_place h = at_place h
 field_spot of_stamp h = at_stamp h
+field_spot of_locked_place h = at_place h
 
 abbrev pub field_step : HeaderField → ℕ → ℕ → HeaderStep
 field_step of_place h x = store_place h x
 field_step of_stamp h x = store_stamp h x
+field_step of_locked_place h x = change_place h x
 
 -- the pin word of the header
 pub record NamesPin (z : Sizes) (h word : ℕ) : Type 0 where
@@ -45,6 +50,13 @@ pub record NamesRelease (z : Sizes) (h : ℕ) (s : HeldAs) (word operand : ℕ) 
   pub word_is : word ≡ index z (in_headers (at_pin h))
   pub operand_is : operand ≡ held_state s * STATE
 
+-- that word, and what a live header's word becomes where the header is locked
+pub record NamesLock (z : Sizes) (h word old new : ℕ) : Type 0 where
+  pub inside : h < z.headers
+  pub word_is : word ≡ index z (in_headers (at_pin h))
+  pub live : IsLiveWord old
+  pub new_is : new ≡ old + STATE
+
 -- the header was claimed, where its word was the old one
 abbrev pub Claims : Sizes → ℕ → ℕ → ℕ → PassState → ℕ → PassState → Type 0
 Claims z call h old v n w = Told z call (on_headers (claim_header h old)) v n w
@@ -57,10 +69,15 @@ StoresPlace z call h x v w = (n : ℕ) × Told z call (on_headers (store_place h
 abbrev pub StoresStamp : Sizes → ℕ → ℕ → ℕ → PassState → PassState → Type 0
 StoresStamp z call h x v w = (n : ℕ) × Told z call (on_headers (store_stamp h x)) v n w
 
--- that of the two became x
+-- the place word of the locked header became x
+abbrev pub ChangesPlace : Sizes → ℕ → ℕ → ℕ → PassState → PassState → Type 0
+ChangesPlace z call h x v w = (n : ℕ) × Told z call (on_headers (change_place h x)) v n w
+
+-- that of them became x
 abbrev pub StoresField : Sizes → ℕ → HeaderField → ℕ → ℕ → PassState → PassState → Type 0
 StoresField z call of_place h x v w = StoresPlace z call h x v w
 StoresField z call of_stamp h x v w = StoresStamp z call h x v w
+StoresField z call of_locked_place h x v w = ChangesPlace z call h x v w
 
 -- the owned header became live
 abbrev pub Opens : Sizes → ℕ → ℕ → PassState → ℕ → PassState → Type 0
@@ -77,3 +94,19 @@ Unpins z call h v n w = Told z call (on_headers (unpin_header h)) v n w
 -- the header became free
 abbrev pub Releases : Sizes → ℕ → ℕ → HeldAs → PassState → ℕ → PassState → Type 0
 Releases z call h s v n w = Told z call (on_headers (release_header h s)) v n w
+
+-- the header was locked, where its word was the old one
+abbrev pub Locks : Sizes → ℕ → ℕ → ℕ → PassState → ℕ → PassState → Type 0
+Locks z call h old v n w = Told z call (on_headers (lock_header h old)) v n w
+
+-- the locked header became live
+abbrev pub Unlocks : Sizes → ℕ → ℕ → Kind → PassState → ℕ → PassState → Type 0
+Unlocks z call h kind v n w = Told z call (on_headers (unlock_header h kind)) v n w
+
+-- the locked header became dead
+abbrev pub MarksDead : Sizes → ℕ → ℕ → PassState → ℕ → PassState → Type 0
+MarksDead z call h v n w = Told z call (on_headers (mark_dead h)) v n w
+
+-- the buried header was taken back, by the number x
+abbrev pub TakesBack : Sizes → ℕ → ℕ → ℕ → PassState → ℕ → PassState → Type 0
+TakesBack z call h x v n w = Told z call (on_headers (take_back h x)) v n w

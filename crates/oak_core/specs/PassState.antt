@@ -15,7 +15,7 @@ use Rattle.oak_core.specs.declared.states.Joined.{Joined}
 use Rattle.oak_core.specs.declared.states.Numbers.{Numbers}
 use Rattle.oak_core.specs.declared.states.PassState.{PassState}
 use Rattle.oak_core.specs.Memory.{Spot, in_arena, in_headers}
-use Rattle.oak_core.specs.Owners.{fresh_blocks}
+use Rattle.oak_core.specs.Owners.{header_blocks}
 
 abbrev pub blocks_of : PassState → HeldBlocks
 blocks_of v = v.blocks
@@ -32,9 +32,9 @@ findings_of v = v.findings
 abbrev pub knowledge_of : PassState → Knowledge
 knowledge_of v = v.knowledge
 
--- the words that no other pass may change, each with its number: those of its blocks, and with its headers, those of the blocks of fresh ones and the place and stamp words
+-- the words that no other pass may change, each with its number: those of its blocks, and with its headers, those of the headers' blocks and the place and stamp words
 abbrev pub kept_with_headers : PassState → List (KeptWord Spot)
-kept_with_headers v = renamed in_arena (kept_of_blocks (fresh_blocks v.headers.held)) ++ renamed in_headers (kept_of_headers v.headers.held)
+kept_with_headers v = renamed in_arena (kept_of_blocks (header_blocks v.headers.held)) ++ renamed in_headers (kept_of_headers v.headers.held)
 
 abbrev pub kept_of : PassState → List (KeptWord Spot)
 kept_of v = renamed in_arena (kept_of_blocks v.blocks.held) ++ kept_with_headers v
@@ -95,7 +95,7 @@ abbrev pub first_state : PassState
 first_state = record {
   numbers = record { number = 0; spent = false; hand = None; made = []; joined = [] };
   findings = no_findings;
-  knowledge = record { seen = []; mine = [] };
+  knowledge = record { seen = []; loaded = []; mine = [] };
   blocks = no_blocks;
   headers = no_headers;
   rooms = no_rooms;
@@ -111,7 +111,7 @@ abbrev pub left_state : PassState → PassState
 left_state v = record v { numbers = record v.numbers { hand = None } }
 
 abbrev pub right_state : PassState → PassState
-right_state v = record first_state { numbers = record first_state.numbers { number = number_in v.numbers.hand }; knowledge = record { seen = v.knowledge.seen; mine = [] } }
+right_state v = record first_state { numbers = record first_state.numbers { number = number_in v.numbers.hand }; knowledge = record { seen = v.knowledge.seen; loaded = []; mine = [] } }
 
 -- a join: of each key the longer is seen; what the other wrote, met and noted is kept under its number
 
@@ -121,7 +121,7 @@ joined_from w = record { number = w.numbers.number; mine = w.knowledge.mine; fin
 abbrev pub both_state : PassState → PassState → PassState
 both_state v w = record v {
   numbers = record v.numbers { made = v.numbers.made ++ w.numbers.made; joined = v.numbers.joined ++ joined_from w ∷ w.numbers.joined };
-  knowledge = record v.knowledge { seen = v.knowledge.seen ++ w.knowledge.seen };
+  knowledge = record v.knowledge { seen = v.knowledge.seen ++ w.knowledge.seen; loaded = v.knowledge.loaded ++ w.knowledge.loaded };
 }
 
 abbrev pub spent_state : PassState

@@ -25,6 +25,10 @@ searches p = p.searches
 abbrev pub header_search : Pass → ℕ
 header_search p = p.header_search
 
+-- the bytes in its scratch
+abbrev pub scratch_of : Pass → List ℕ
+scratch_of p = p.scratch
+
 -- the pass belongs to the table
 abbrev pub IsPassOf : OakTable → Pass → Type 0
 IsPassOf t p = p.seat.table_id ≡ t.table.shared.table_id
@@ -34,6 +38,12 @@ pub record Stays (p q : Pass) : Type 0 where
   pub table : q.seat.table_id ≡ p.seat.table_id
   pub seat : q.seat.id ≡ p.seat.id
   pub call : q.call ≡ p.call
+
+-- its next searches begin where they would have begun, and its scratch is as it was
+pub record SearchesStay (p q : Pass) : Type 0 where
+  pub searches : q.searches ≡ p.searches
+  pub header_search : q.header_search ≡ p.header_search
+  pub scratch : q.scratch ≡ p.scratch
 
 -- it is the same pass with all that it has seen, done and holds, in another call
 pub record Turns (p q : Pass) (next : ℕ) : Type 0 where

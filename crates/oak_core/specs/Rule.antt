@@ -5,6 +5,8 @@ use Rattle.oak_model.specs.Limits.{Sizes, IsInLimits}
 use Rattle.oak_model.specs.Counts.{total, Every, Each, Begins}
 use Rattle.oak_model.specs.Kept.{KeptNumbersStand}
 use Rattle.arena_core.specs.Blocks.{BlocksAreOwned}
+use Rattle.header_core.specs.declared.holds.HeaderHolds.{HeaderHolds}
+use Rattle.header_core.specs.HeaderRule.{PinsWhatItKnows}
 use Rattle.oak_core.specs.declared.states.Findings.{Findings}
 use Rattle.oak_core.specs.declared.states.Joined.{Joined}
 use Rattle.oak_core.specs.declared.states.KeyedWrite.{KeyedWrite}
@@ -13,7 +15,8 @@ use Rattle.oak_core.specs.declared.states.Numbers.{Numbers}
 use Rattle.oak_core.specs.declared.states.PassState.{PassState}
 use Rattle.oak_core.specs.Memory.{memory, read, same_spot, word_count}
 use Rattle.oak_core.specs.Finding.{Shows}
-use Rattle.oak_core.specs.Owners.{other_owners, HeadersAreHeld}
+use Rattle.oak_core.specs.Owners.{other_owners, HeadersAreWhole, HeadersAreHeld}
+use Rattle.oak_core.specs.Known.{knows_life, known}
 use Rattle.oak_core.specs.PassState.{blocks_of, headers_held, numbers_of, findings_of, knowledge_of, kept_of, has_number, is_parent, of_key, history, spent_state}
 use Rattle.oak_core.specs.Lack.{FullsStand}
 use Rattle.oak_core.specs.TableState.{TableState}
@@ -54,6 +57,16 @@ HistoriesStand qs = (k : ℕ) → Every (λ (q : Knowledge). Each (λ (l : List 
 abbrev pub SpentIsSpent : PassState → Type 0
 SpentIsSpent v = v.numbers.spent ≡ true → v ≡ spent_state
 
+-- what holds of each pass by itself, with what it knows and the headers that it holds
+pub record HoldsKnown (q : Knowledge) (a : HeaderHolds) : Type 0 where
+  -- it has a pin only on a header that it knows
+  pub pin : PinsWhatItKnows (λ h g. knows_life h g q) a
+  -- each word of the blocks of its headers has its number
+  pub whole : HeadersAreWhole a
+
+abbrev pub PassStands : PassState → Type 0
+PassStands v = HoldsKnown v.knowledge v.headers
+
 pub record Rule (z : Sizes) (s : TableState) : Type 0 where
   pub sizes : IsInLimits z
   pub words : WordsStand z s.words
@@ -63,5 +76,6 @@ pub record Rule (z : Sizes) (s : TableState) : Type 0 where
   pub histories : HistoriesStand (map knowledge_of s.states)
   pub spent : Every SpentIsSpent s.states
   pub blocks : BlocksAreOwned z (memory z s.words).arena.bits (other_owners z (memory z s.words).headers) (map blocks_of s.states)
-  pub headers : HeadersAreHeld z (memory z s.words).headers (memory z s.words).arena.bytes (map headers_held s.states)
+  pub headers : HeadersAreHeld (memory z s.words).headers (memory z s.words).arena.bytes (known (map knowledge_of s.states)) (map headers_held s.states)
+  pub passes : Every PassStands s.states
   pub kept : KeptNumbersStand same_spot (read (memory z s.words)) (map kept_of s.states)

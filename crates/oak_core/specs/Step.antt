@@ -1,23 +1,30 @@
 -- The kinds of atomic step of one pass. A step names its word, what becomes of that word, what the step asks of the pass, and the pass's state after it, which may be read off the whole state of the table.
-use Rattle.std.specs.Prelude.{◌≡◌, ℕ, ◌^◌, ◌<◌, ◌==◌, cond, false, [], ◌∷◌, ◌++◌, length, slice_index, slice_set, Some, None, bit_or}
+use Rattle.std.specs.Prelude.{◌≡◌, ℕ, ◌^◌, ◌<◌, ◌⊎◌, ◌==◌, ◌&&◌, cond, Bool, true, false, [], ◌∷◌, ◌++◌, length, slice_index, slice_set, Some, None, bit_or}
 use Rattle.std.specs.Int.{bit_at}
 use mathlib.Core.Option.{some}
 use lib.ListN.{get_elem?}
+use Rattle.pin_word.specs.PinWord.{generation_of}
+use Rattle.oak_model.specs.declared.classes.Class.{Class}
 use Rattle.oak_model.specs.declared.replies.Lack.{Lack}
+use Rattle.oak_model.specs.Class.{class_number}
 use Rattle.oak_model.specs.Limits.{Sizes}
 use Rattle.oak_core.specs.declared.states.Numbers.{Numbers}
 use Rattle.oak_core.specs.declared.states.PassState.{PassState}
+use Rattle.arena_core.specs.Arena.{at_bytes, block_words}
 use Rattle.arena_core.specs.ArenaStep.{ArenaStep, arena_spot, arena_effect, arena_found, MayArena, blocks_after}
 use Rattle.arena_core.specs.declared.blocks.HeldBlocks.{HeldBlocks}
 use Rattle.arena_core.specs.Blocks.{HoldsBlock, block_from, without}
 use Rattle.arena_core.specs.Place.{IsPlace, class_in, block_in, class_from, content}
 use Rattle.header_core.specs.declared.holds.HeldAs.{HeldAs}
-use Rattle.header_core.specs.declared.holds.HeldAs.TheVariants.{Owned, Fresh}
+use Rattle.header_core.specs.declared.holds.HeldAs.TheVariants.{Owned, Fresh, Locked, Buried}
 use Rattle.header_core.specs.Headers.{IsInHeaders}
-use Rattle.header_core.specs.HeaderHolds.{place_held}
-use Rattle.header_core.specs.HeaderStep.{HeaderStep, open_header, release_header, header_spot, header_effect, header_found, MayHeader, headers_after}
+use Rattle.header_core.specs.declared.states.TheConstants.{LOCKED}
+use Rattle.header_core.specs.declared.holds.HeaderHolds.{HeaderHolds}
+use Rattle.header_core.specs.HeaderHolds.{in_state, place_held}
+use Rattle.header_core.specs.HeaderStep.{HeaderStep, change_place, open_header, pin_header, release_header, lock_header, take_back, header_spot, header_effect, header_found, MayHeader, headers_after, reworded}
 use Rattle.oak_core.specs.Memory.{Memory, Spot, at_given, in_arena, in_headers, index, IsInside, memory}
 use Rattle.oak_core.specs.Finding.{finding, noted, Shows}
+use Rattle.oak_core.specs.Known.{knows_life, KnowsHeader}
 use Rattle.oak_core.specs.Lack.{Lacks, full_state}
 use Rattle.oak_core.specs.TableState.{TableState}
 use Rattle.oak_core.specs.Rule.{Rule}
@@ -31,6 +38,8 @@ pub data Step : Type 0 where
   on_arena : ArenaStep → Step
   -- a step on a word of a header
   on_headers : HeaderStep → Step
+  -- word k of the block of a locked header, of this class and number, becomes x
+  store_locked : (h : ℕ) → Class → (b k x : ℕ) → Step
   -- word 0 is loaded, and the call is noted as one that lacks something; it began where so many findings were met
   note_full : Lack → ℕ → Step
 
@@ -39,6 +48,7 @@ spot (load p) = p
 spot (give_number k) = at_given
 spot (on_arena a) = in_arena (arena_spot a)
 spot (on_headers x) = in_headers (header_spot x)
+spot (store_locked h c b k x) = in_arena (at_bytes (class_number c) b k)
 spot (note_full lack began) = at_given
 
 -- what the word n becomes
@@ -47,6 +57,7 @@ effect (load p) n = n
 effect (give_number k) n = bit_or n (2 ^ k)
 effect (on_arena a) n = arena_effect a n
 effect (on_headers x) n = header_effect x n
+effect (store_locked h c b k x) n = x
 effect (note_full lack began) n = n
 
 -- the pass has no number in hand, and found all lower numbers given
@@ -60,14 +71,43 @@ pub record MayOpen (z : Sizes) (h : ℕ) (v : PassState) : Type 0 where
   pub place : IsPlace (place_held h v.headers.held)
   pub block : HoldsBlock z (class_in (place_held h v.headers.held)) (block_in (place_held h v.headers.held)) v.blocks
 
+-- the two place words name one block
+abbrev pub same_block : ℕ → ℕ → Bool
+same_block x y = (class_in x == class_in y) && (block_in x == block_in y)
+
+-- the place word of a locked header comes to name its block still, or one that the pass holds, of the class that its length has
+pub record MayChange (z : Sizes) (h x : ℕ) (v : PassState) : Type 0 where
+  pub place : IsPlace x
+  pub block : (same_block x (place_held h v.headers.held) ≡ true) ⊎ HoldsBlock z (class_in x) (block_in x) v.blocks
+
 abbrev pub MayWithBlock : Sizes → HeaderStep → PassState → Type 0
 MayWithBlock z (open_header h) v = MayOpen z h v
+MayWithBlock z (change_place h x) v = MayChange z h x v
 MayWithBlock z _ v = Unit {0}
+
+-- a pass pins a header that it knows, and locks one that it knows other than as its fresh one
+abbrev pub MayKnowing : HeaderStep → PassState → Type 0
+MayKnowing (pin_header h g) v = KnowsHeader h g v
+MayKnowing (lock_header h old) v = 0 < knows_life h (generation_of old) v.knowledge
+MayKnowing _ v = Unit {0}
 
 pub record MayOnHeaders (z : Sizes) (x : HeaderStep) (v : PassState) : Type 0 where
   pub inside : IsInHeaders z (header_spot x)
   pub headers : MayHeader x v.headers
   pub block : MayWithBlock z x v
+  pub known : MayKnowing x v
+
+-- the pass has the header locked, and the block is the header's
+pub record LocksBlock (h : ℕ) (c : Class) (b : ℕ) (a : HeaderHolds) : Type 0 where
+  pub locked : 0 < in_state h LOCKED a
+  pub class : class_in (place_held h a.held) ≡ class_number c
+  pub block : block_in (place_held h a.held) ≡ b
+
+-- a store is one of 64 bits, to a word of that block
+pub record MayStoreLocked (h : ℕ) (c : Class) (b k x : ℕ) (a : HeaderHolds) : Type 0 where
+  pub block : LocksBlock h c b a
+  pub word : k < block_words (class_number c)
+  pub small : x < 2 ^ 64
 
 -- what the step asks of the pass in its present call
 abbrev pub May : Sizes → ℕ → Step → PassState → Type 0
@@ -75,6 +115,7 @@ May z call (load p) v = IsInside z p
 May z call (give_number k) v = MayGive z k v
 May z call (on_arena a) v = MayArena z a v.blocks
 May z call (on_headers x) v = MayOnHeaders z x v
+May z call (store_locked h c b k x) v = MayStoreLocked h c b k x v.headers
 May z call (note_full lack began) v = Lacks z call lack began (length v.findings.met) v.findings
 
 -- the number that the step finds
@@ -85,15 +126,26 @@ found z x s = slice_index s.words (index z (spot x))
 abbrev pub numbered : ℕ → ℕ → Numbers → Numbers
 numbered n k a = record a { hand = cond (bit_at n k == 0) (Some k) a.hand; made = cond (bit_at n k == 0) (a.made ++ k ∷ []) a.made }
 
--- a fresh header's block is held before it is opened, and after it is released
+-- the block that the place word names, with what stands in its words, comes to be held
+abbrev pub block_back : (ℕ → ℕ → ℕ → ℕ) → ℕ → HeldBlocks → HeldBlocks
+block_back bytes place a = record a { held = block_from bytes (class_from (class_in place)) (block_in place) ∷ a.held }
 
+-- a fresh header's block is held before it is opened, and after it is released
 abbrev pub block_regained : HeldAs → (ℕ → ℕ → ℕ → ℕ) → ℕ → HeldBlocks → HeldBlocks
 block_regained Owned bytes place a = a
-block_regained Fresh bytes place a = record a { held = block_from bytes (class_from (class_in place)) (block_in place) ∷ a.held }
+block_regained Fresh bytes place a = block_back bytes place a
+block_regained (Locked at) bytes place a = a
+block_regained Buried bytes place a = a
+
+-- the block that x names is held no more, and the one that the place word names comes to be held; where both are one, nothing changes
+abbrev pub block_exchanged : (ℕ → ℕ → ℕ → ℕ) → ℕ → ℕ → HeldBlocks → HeldBlocks
+block_exchanged bytes place x a = record a { held = cond (same_block x place) a.held (block_from bytes (class_from (class_in place)) (block_in place) ∷ without (class_in x) (block_in x) a.held) }
 
 abbrev pub blocks_with : HeaderStep → Memory → HeldBlocks → HeldBlocks
 blocks_with (open_header h) m a = record a { held = without (class_in (m.headers.place h)) (block_in (m.headers.place h)) a.held }
+blocks_with (change_place h x) m a = block_exchanged m.arena.bytes (m.headers.place h) x a
 blocks_with (release_header h s) m a = block_regained s m.arena.bytes (m.headers.place h) a
+blocks_with (take_back h x) m a = block_back m.arena.bytes (m.headers.place h) a
 blocks_with _ m a = a
 
 -- the state of the pass after the step
@@ -106,6 +158,7 @@ state_after z call (on_arena a) s v =
 state_after z call (on_headers x) s v =
     let n = found z (on_headers x) s in let m = memory z s.words in
     record (noted (finding z call (in_headers (header_spot x)) (header_found x n) (header_effect x n) v) v) { blocks = blocks_with x m v.blocks; headers = headers_after m.headers (content m.arena.bytes) x v.headers }
+state_after z call (store_locked h c b k x) s v = record (noted (finding z call (in_arena (at_bytes (class_number c) b k)) None x v) v) { headers = record v.headers { held = reworded h k x v.headers.held } }
 state_after z call (note_full lack began) s v = let n = found z (note_full lack began) s in full_state call lack (finding z call at_given (Some n) n v) v
 
 -- the state of the table after the step of one seat

@@ -5,11 +5,12 @@ ghost use prog.Atomic.{either};
 ghost use Rattle.atomic_table.specs.Table.{Allows};
 ghost use Rattle.oak_core.specs.declared.states.PassState.{PassState};
 ghost use Rattle.oak_core.specs.Running.{Holds, KeepsSeat};
-ghost use Rattle.oak_core.specs.Passes.{IsPassOf, Stays, state, key};
+ghost use Rattle.oak_core.specs.Passes.{IsPassOf, Stays, SearchesStay, state, key, scratch_of};
 
 use crate::states::PassState;
 use crate::table::{OakTable, Pass};
 use atomic_table::Play;
+use oak_model::Kind;
 use std::marker::{Brand, PhantomData};
 
 /// What a step tells its caller of the number found and of the state after it.
@@ -34,6 +35,7 @@ pub(crate) fn load_said<T: Said>(table: &OakTable, pass: &mut Pass, word: usize)
     requires inside { word < table.now.table.shared.table_id.words }
     requires rule { Allows (Holds (key table.now)) table.now.table.shared.table_id.slots pass.old.seat.id pass.old.seat.me word (λ n. n) (λ n m. T.told n m.0 × KeepsSeat pass.old.seat.me m) }
     ensures own { Stays pass.old pass.new }
+    ensures searches { SearchesStay pass.old pass.new }
     ensures told { T.told result (state pass.new) }
 {
     table.table.shared.load::<Says<T>>(&mut pass.seat, word)
@@ -44,6 +46,7 @@ pub(crate) fn or_said<T: Said>(table: &OakTable, pass: &mut Pass, word: usize, b
     requires inside { word < table.now.table.shared.table_id.words }
     requires rule { Allows (Holds (key table.now)) table.now.table.shared.table_id.slots pass.old.seat.id pass.old.seat.me word (λ n. bit_or n bits) (λ n m. T.told n m.0 × KeepsSeat pass.old.seat.me m) }
     ensures own { Stays pass.old pass.new }
+    ensures searches { SearchesStay pass.old pass.new }
     ensures told { T.told result (state pass.new) }
 {
     table
@@ -70,6 +73,7 @@ pub(crate) fn store_said<T: Said>(table: &OakTable, pass: &mut Pass, word: usize
     requires inside { word < table.now.table.shared.table_id.words }
     requires rule { Allows (Holds (key table.now)) table.now.table.shared.table_id.slots pass.old.seat.id pass.old.seat.me word (λ _. value) (λ _ m. T.told value m.0 × KeepsSeat pass.old.seat.me m) }
     ensures own { Stays pass.old pass.new }
+    ensures scratch { scratch_of pass.new ≡ scratch_of pass.old }
     ensures told { T.told value (state pass.new) }
 {
     table
@@ -120,6 +124,24 @@ pub(crate) fn sub_said<T: Said>(table: &OakTable, pass: &mut Pass, word: usize, 
         .table
         .shared
         .fetch_sub::<Says<T>>(&mut pass.seat, word, amount)
+}
+
+/// Subtracts as [`sub_said`] does; what it tells may name the kind of the write that the step may be.
+pub(crate) fn sub_of_kind<T: Said>(
+    table: &OakTable,
+    pass: &mut Pass,
+    word: usize,
+    amount: u64,
+    kind: Kind,
+) -> u64
+    requires own { IsPassOf table.now pass.old }
+    requires inside { word < table.now.table.shared.table_id.words }
+    requires rule { Allows (Holds (key table.now)) table.now.table.shared.table_id.slots pass.old.seat.id pass.old.seat.me word (λ n. (n + (2 ^ 64 - amount)) % 2 ^ 64) (λ n m. T.told n m.0 × KeepsSeat pass.old.seat.me m) }
+    ensures own { Stays pass.old pass.new }
+    ensures told { T.told result (state pass.new) }
+{
+    let _ = kind;
+    sub_said::<T>(table, pass, word, amount)
 }
 
 pub(crate) fn exchange_said<T: Said>(

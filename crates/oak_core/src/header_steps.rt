@@ -1,13 +1,14 @@
 //! The steps on the words of the headers, which callers find in [`crate::steps`].
 ghost use Rattle.std.specs.Prelude.{◌≡◌, ℕ};
 ghost use Rattle.header_core.specs.declared.holds.HeldAs.{HeldAs};
-ghost use Rattle.header_core.specs.HeaderStep.{STATE, open_header, pin_header, unpin_header, release_header};
-ghost use Rattle.oak_core.specs.HeaderCalls.{HeaderField, field_step, NamesPin, NamesClaim, NamesField, NamesRelease, Claims, StoresField, Opens, Pins, Unpins, Releases};
+ghost use Rattle.header_core.specs.HeaderStep.{STATE, open_header, pin_header, unpin_header, release_header, lock_header, unlock_header, mark_dead, take_back};
+ghost use Rattle.oak_core.specs.HeaderCalls.{HeaderField, field_step, NamesPin, NamesClaim, NamesField, NamesRelease, NamesLock, Claims, StoresField, Opens, Pins, Unpins, Releases, Locks, Unlocks, MarksDead, TakesBack};
 ghost use Rattle.oak_core.specs.Step.{MayOnHeaders};
 ghost use Rattle.oak_core.specs.Passes.{IsPassOf, Stays, state, key, call_of};
 
-use crate::atoms::{add_said, add_wanted, exchange_said, store_said, sub_said};
+use crate::atoms::{add_said, add_wanted, exchange_said, store_said, sub_of_kind, sub_said};
 use crate::table::{OakTable, Pass};
+use oak_model::Kind;
 use std::marker::Brand;
 
 /// Claims a free header, where its pin word is still `old`: `word` is that word, and `new` is `old`
@@ -21,12 +22,14 @@ pub fn claim_header(table: &OakTable, pass: &mut Pass, word: u32, old: u64, new:
     exchange_said::<Brand>(table, pass, word as usize, old, new)
 }
 
-/// Stores a number to `word`, the place or the stamp word of a header that the pass owns.
+/// Stores a number to `word`, the place or the stamp word of a header that the pass owns or has locked.
+/// A place word that names another block than it did exchanges the two: of a locked header, the pass
+/// held the one, and then holds the other.
 pub fn store_field(table: &OakTable, pass: &mut Pass, word: u32, value: u64)
     requires own { IsPassOf table.now pass.old }
     requires names { (f : HeaderField) × (h : ℕ) × NamesField (key table.now) f h word × MayOnHeaders (key table.now) (field_step f h value) (state pass.old) }
     ensures own { Stays pass.old pass.new }
-    ensures told { (f : HeaderField) (h : ℕ) → NamesField (key table.now) f h word → StoresField (key table.now) (call_of pass.old) f h value (state pass.old) (state pass.new) }
+    ensures told { (f : HeaderField) (h : ℕ) → NamesField (key table.now) f h word → MayOnHeaders (key table.now) (field_step f h value) (state pass.old) → StoresField (key table.now) (call_of pass.old) f h value (state pass.old) (state pass.new) }
 {
     store_said::<Brand>(table, pass, word as usize, value);
 }
@@ -79,4 +82,52 @@ pub fn release_header(table: &OakTable, pass: &mut Pass, word: u32, operand: u64
 {
     let pin_word = word as usize;
     sub_said::<Brand>(table, pass, pin_word, operand)
+}
+
+/// Locks a live header without a pin, which the pass knows other than as its fresh one, where its pin
+/// word is still `old`: `word` is that word, and `new` is `old` with the state locked. The pass has the
+/// header locked where `old` was found.
+pub fn lock_header(table: &OakTable, pass: &mut Pass, word: u32, old: u64, new: u64) -> u64
+    requires own { IsPassOf table.now pass.old }
+    requires names { (h : ℕ) × NamesLock (key table.now) h word old new × MayOnHeaders (key table.now) (lock_header h old) (state pass.old) }
+    ensures own { Stays pass.old pass.new }
+    ensures told { (h : ℕ) → NamesLock (key table.now) h word old new → Locks (key table.now) (call_of pass.old) h old (state pass.old) result (state pass.new) }
+{
+    let pin_word = word as usize;
+    exchange_said::<Brand>(table, pass, pin_word, old, new)
+}
+
+/// Unlocks a header that the pass has locked: `word` is its pin word, and `operand` one state. Where it
+/// was changed under the lock, this is a write of the kind.
+pub fn unlock_header(table: &OakTable, pass: &mut Pass, word: u32, operand: u64, kind: Kind) -> u64
+    requires own { IsPassOf table.now pass.old }
+    requires names { (h : ℕ) × NamesPin (key table.now) h word × (operand ≡ STATE) × MayOnHeaders (key table.now) (unlock_header h kind) (state pass.old) }
+    ensures own { Stays pass.old pass.new }
+    ensures told { (h : ℕ) → NamesPin (key table.now) h word → Unlocks (key table.now) (call_of pass.old) h kind (state pass.old) result (state pass.new) }
+{
+    sub_of_kind::<Brand>(table, pass, word as usize, operand, kind)
+}
+
+/// Marks a header dead that the pass has locked: `word` is its pin word, and `operand` one state. The
+/// pass buries the header then.
+pub fn mark_dead(table: &OakTable, pass: &mut Pass, word: u32, operand: u64) -> u64
+    requires own { IsPassOf table.now pass.old }
+    requires names { (h : ℕ) × NamesPin (key table.now) h word × (operand ≡ STATE) × MayOnHeaders (key table.now) (mark_dead h) (state pass.old) }
+    ensures own { Stays pass.old pass.new }
+    ensures told { (h : ℕ) → NamesPin (key table.now) h word → MarksDead (key table.now) (call_of pass.old) h (state pass.old) result (state pass.new) }
+{
+    let pin_word = word as usize;
+    add_said::<Brand>(table, pass, pin_word, operand)
+}
+
+/// Takes a header back that the pass buries: `word` is its pin word, and `operand` what makes it free at
+/// the next generation, or retired where that is the last. The pass holds its block again.
+pub fn take_back(table: &OakTable, pass: &mut Pass, word: u32, operand: u64) -> u64
+    requires own { IsPassOf table.now pass.old }
+    requires names { (h : ℕ) × NamesPin (key table.now) h word × MayOnHeaders (key table.now) (take_back h operand) (state pass.old) }
+    ensures own { Stays pass.old pass.new }
+    ensures told { (h : ℕ) → NamesPin (key table.now) h word → TakesBack (key table.now) (call_of pass.old) h operand (state pass.old) result (state pass.new) }
+{
+    let header_word = word as usize;
+    add_said::<Brand>(table, pass, header_word, operand)
 }

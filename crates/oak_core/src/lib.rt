@@ -12,6 +12,7 @@ pub mod loads;
 pub mod notes;
 pub mod passes;
 pub mod schedules;
+pub mod scratch;
 pub mod states;
 pub mod steps;
 pub mod table;

@@ -4,7 +4,7 @@ ghost use Rattle.std.specs.Int.{bit_at};
 ghost use Rattle.oak_core.specs.PassState.{HoldsNothing, left_state, right_state, both_state, first_state};
 ghost use Rattle.oak_core.specs.Schedule.{MaySplit};
 ghost use Rattle.oak_core.specs.Step.{MayGive, Told, give_number};
-ghost use Rattle.oak_core.specs.Passes.{IsPassOf, Stays, Turns, state, key, call_of};
+ghost use Rattle.oak_core.specs.Passes.{IsPassOf, Stays, SearchesStay, Turns, state, key, call_of};
 ghost use Rattle.oak_core.specs.Splitting.{IsGrown, SplitsOff, FindsAllGiven, SeesLonger};
 
 use crate::atoms::or_said;
@@ -100,6 +100,7 @@ impl Pass {
         requires small { number < 64 }
         requires may { MayGive (key table.now) number (state self.old) }
         ensures own { Stays self.old self.new }
+        ensures searches { SearchesStay self.old self.new }
         ensures told { Told (key table.now) (call_of self.old) (give_number number) (state self.old) result (state self.new) }
     {
         or_said::<Brand>(table, self, 0, 1 << number)
@@ -110,6 +111,7 @@ impl Pass {
         requires own { IsPassOf table.now self.old }
         requires may { MaySplit (state self.old) }
         ensures own { Stays self.old self.new }
+        ensures searches { SearchesStay self.old self.new }
         ensures new { IsPassOf table.now result × (call_of result ≡ 0) }
         ensures cut { (state self.new ≡ left_state (state self.old)) × (state result ≡ right_state (state self.old)) }
     {
@@ -130,6 +132,7 @@ impl Pass {
         requires own { IsPassOf table.now self.old }
         requires idle { HoldsNothing (state self.old) }
         ensures own { Stays self.old self.new }
+        ensures searches { SearchesStay self.old self.new }
         ensures new { IfOk result (λ p. IsPassOf table.now p × (call_of p ≡ 0)) }
         ensures split { IfOk result (λ p. SplitsOff (key table.now) (state self.old) (state self.new) (state p)) }
         ensures refused { IfErr result (λ _. IsGrown (state self.old) (state self.new)) }
@@ -155,6 +158,7 @@ impl Pass {
         requires own { IsPassOf table.now self.old × IsPassOf table.now other }
         requires idle { HoldsNothing (state self.old) × HoldsNothing (state other) }
         ensures own { Stays self.old self.new }
+        ensures searches { SearchesStay self.old self.new }
         ensures joined { state self.new ≡ both_state (state self.old) (state other) }
         ensures seen { (k : ℕ) → SeesLonger (state self.old) (state other) (state self.new) k }
     {

@@ -46,10 +46,12 @@ pub struct KeyedWrite {
     pub write: Write,
 }
 
-/// What the pass has seen of the keys' histories, and its own writes. What it has seen of a key is the
-/// longest that one of the logs has of it: to learn is to add a log.
+/// What the pass has seen of the keys' histories, the value words that it loaded from linked entries of
+/// rooms that it had pinned, and its own writes. What it has seen of a key is the longest that one of
+/// the logs has of it: to learn is to add a log.
 pub struct Knowledge {
     pub seen: LinkedList<LinkedList<KeyedWrite>>,
+    pub loaded: LinkedList<u64>,
     pub mine: LinkedList<KeyedWrite>,
 }
 

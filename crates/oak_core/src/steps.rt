@@ -4,12 +4,13 @@ ghost use Rattle.std.specs.Prelude.{◌≡◌, ◌<◌, ℕ};
 ghost use Rattle.oak_model.specs.declared.classes.Class.{Class};
 ghost use Rattle.oak_model.specs.Class.{class_number};
 ghost use Rattle.arena_core.specs.Blocks.{HoldsBlock};
-ghost use Rattle.oak_core.specs.ArenaCalls.{NamesBit, NamesMask, NamesWord, Sets, Clears, Writes};
-ghost use Rattle.oak_core.specs.Passes.{IsPassOf, Stays, state, key, call_of};
+ghost use Rattle.oak_core.specs.ArenaCalls.{NamesBit, NamesMask, NamesWord, BlockOwner, MayStoreTo, Sets, Clears, Writes};
+ghost use Rattle.oak_core.specs.Passes.{IsPassOf, Stays, state, key, call_of, scratch_of};
 
 use crate::atoms::{and_said, or_said, store_said};
 pub use crate::header_steps::{
-    claim_header, open_header, pin_header, release_header, store_field, unpin_header,
+    claim_header, lock_header, mark_dead, open_header, pin_header, release_header, store_field,
+    take_back, unlock_header, unpin_header,
 };
 use crate::table::{OakTable, Pass};
 use std::marker::Brand;
@@ -36,12 +37,14 @@ pub fn clear_bit(table: &OakTable, pass: &mut Pass, word: u32, operand: u64) -> 
     and_said::<Brand>(table, pass, word as usize, operand)
 }
 
-/// Stores a number to `word`, one of a block that the pass holds.
+/// Stores a number to `word`, one of a block that the pass holds, or of that of a header which it has
+/// locked.
 pub fn store_word(table: &OakTable, pass: &mut Pass, word: u32, value: u64)
     requires own { IsPassOf table.now pass.old }
-    requires names { (c : Class) × (b : ℕ) × (k : ℕ) × NamesWord (key table.now) c b k word × HoldsBlock (key table.now) (class_number c) b (state pass.old).blocks }
+    requires names { (o : BlockOwner) × (c : Class) × (b : ℕ) × (k : ℕ) × NamesWord (key table.now) c b k word × MayStoreTo (key table.now) o c b (state pass.old) }
     ensures own { Stays pass.old pass.new }
-    ensures told { (c : Class) (b k : ℕ) → NamesWord (key table.now) c b k word → Writes (key table.now) (call_of pass.old) c b k value (state pass.old) (state pass.new) }
+    ensures scratch { scratch_of pass.new ≡ scratch_of pass.old }
+    ensures told { (o : BlockOwner) (c : Class) (b k : ℕ) → NamesWord (key table.now) c b k word → MayStoreTo (key table.now) o c b (state pass.old) → Writes (key table.now) (call_of pass.old) o c b k value (state pass.old) (state pass.new) }
 {
     store_said::<Brand>(table, pass, word as usize, value);
 }

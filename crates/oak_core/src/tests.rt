@@ -1,8 +1,8 @@
-ghost use Rattle.std.specs.Prelude.{◌≡◌, ◌<◌};
+ghost use Rattle.std.specs.Prelude.{◌≡◌, ◌<◌, length, slice_index};
 ghost use Rattle.std.specs.Thread.{IsSync};
 ghost use Rattle.oak_core.specs.Memory.{word_count};
 ghost use Rattle.oak_core.specs.PassState.{HoldsNothing, IsAlone, first_state};
-ghost use Rattle.oak_core.specs.Passes.{IsPassOf, Stays, state, key};
+ghost use Rattle.oak_core.specs.Passes.{IsPassOf, Stays, state, key, scratch_of};
 ghost use Rattle.oak_core.specs.Splitting.{IsGrown};
 
 use crate::{OakTable, Pass, SplitFault, Writing, load};
@@ -120,10 +120,42 @@ fn two_passes_in_two_threads(rt: HostRuntime) -> Result<(), Fail> {
     Ok(())
 }
 
+/// Writes to the scratch between two loads.
+fn write_between_loads(table: &OakTable, pass: &mut Pass)
+    requires own { IsPassOf table.now pass.old }
+    requires alone { IsAlone (state pass.old) }
+    ensures own { Stays pass.old pass.new }
+    ensures idle { HoldsNothing (state pass.old) → HoldsNothing (state pass.new) }
+    ensures alone { IsAlone (state pass.new) }
+    ensures long { length (scratch_of pass.new) ≡ 3 }
+    ensures first { slice_index (scratch_of pass.new) 0 ≡ 7 }
+{
+    load(table, pass, 0);
+    pass.scratch_mut().set_len(3);
+    pass.scratch_mut().set(0, 7);
+    load(table, pass, 0);
+}
+
+#[test]
+fn a_scratch_of_a_pass(rt: HostRuntime) -> Result<(), Fail> {
+    let shape = Shape::make(1, 1, 4, 1, [1, 1, 1, 1])?;
+    let (table, mut pass) = OakTable::create(rt.alloc(), &shape)?;
+    write_between_loads(&table, &mut pass);
+    pass.scratch_mut().bytes_mut()[2] = 9;
+    let kept = pass.scratch().bytes() == [7, 0, 9].as_slice();
+    assert!(rt; kept);
+    table.close(pass);
+    Ok(())
+}
+
 #[test]
 fn a_scratch(rt: HostRuntime) -> Result<(), Fail> {
-    let scratch = Writing::make(rt.alloc())?;
+    let mut scratch = Writing::make(rt.alloc())?;
     assert!(rt; scratch.is_empty());
-    assert_eq!(rt; scratch.len(), 0);
+    scratch.set_len(2);
+    scratch.set(1, 5);
+    assert_eq!(rt; scratch.len(), 2);
+    assert_eq!(rt; scratch.byte(1), 5);
+    assert!(rt; scratch.bytes() == [0, 5].as_slice());
     Ok(())
 }

@@ -1,4 +1,4 @@
-ghost use Rattle.std.specs.Prelude.{◌≡◌, ◌<◌, ◌↔◌, IsTrue, [], IfOk, slice_index, slice_set, length};
+ghost use Rattle.std.specs.Prelude.{◌≡◌, ℕ, ◌<◌, ◌≤◌, ◌↔◌, IsTrue, [], IfOk, slice_index, slice_set, length, take};
 ghost use Rattle.std.specs.List.{refill};
 ghost use Rattle.std.specs.Borrow.{Lends, Array, sem, u8 as byte};
 ghost use Rattle.oak_core.specs.contracts.writing.Writing.{the_row};
@@ -24,6 +24,14 @@ impl Model for Writing {
     ghost view = { λ w. take w.len w.bytes.items };
 
     ghost invariant = { λ w. (length w.bytes.items ≡ GREATEST_VALUE) × (w.len ≤ GREATEST_VALUE) };
+}
+
+/// The same bytes, which are numbers below 256.
+fn as_bytes(bytes: &[u8]) -> &[u8]
+    ensures same { result.now ≡ bytes.now }
+    ensures small { (k : ℕ) → slice_index bytes.now k < 256 }
+{
+    bytes
 }
 
 impl Writing {
@@ -57,6 +65,14 @@ impl Writing {
         self.bytes[i]
     }
 
+    /// All of its bytes.
+    pub fn bytes(&self) -> &[u8]
+        ensures bytes { result.now ≡ self.now }
+        ensures small { (k : ℕ) → slice_index self.now k < 256 }
+    {
+        as_bytes(&self.bytes[..self.len])
+    }
+
     /// All of its bytes, to be changed in place.
     pub fn bytes_mut(&mut self) -> &mut [u8]
         ensures* writes_back { sem 𝓛 (Lends the_row (Array byte 0) self.entry result
@@ -73,5 +89,14 @@ impl Writing {
         ensures { self.new ≡ slice_set self.old i b }
     {
         self.bytes[i] = b;
+    }
+    /// It becomes `len` bytes long. The bytes that it had are its first ones, as many as it keeps, and
+    /// those behind them are any.
+    pub fn set_len(&mut self, len: usize)
+        requires { len ≤ GREATEST_VALUE }
+        ensures long { length self.new ≡ len }
+        ensures kept { take (length self.old) self.new ≡ take len self.old }
+    {
+        self.len = len;
     }
 }

@@ -1,14 +1,14 @@
 use Rattle.std.proofs.Common.{◌≡◌, ◌+◌, ◌*◌, ◌/◌, ◌%◌, ◌<◌, ◌∙◌, ℕ, arith, subst, w64}
 use Rattle.std.specs.Int.{bit_at, trailing_zeros}
-use Rattle.oak_model.specs.declared.classes.Class.{Class}
 use Rattle.oak_model.specs.Class.{class_number}
 use Rattle.oak_model.specs.Limits.{Sizes}
 use Rattle.arena_core.specs.Arena.{at_bits}
-use Rattle.oak_core.specs.declared.states.PassState.{PassState}
+use Rattle.arena_core.specs.ArenaStep.{take_bit}
 use Rattle.oak_core.specs.Memory.{in_arena}
-use Rattle.oak_core.specs.ArenaCalls.{Sets}
 use Rattle.oak_core.specs.Passes.{state, key, call_of}
+use Rattle.oak_core.specs.Step.{on_arena}
 use Rattle.oak_core.proofs.KeepsArena.{class_below}
+use Rattle.oak_core.proofs.MetMore.{told_in}
 use Rattle.oak_core.proofs.Words.{index_below}
 use Rattle.arena_ops.specs.Looking.{Looked}
 use Rattle.arena_ops.proofs.BitFacts.{loaded, set_before, now_taken}
@@ -32,16 +32,12 @@ loop-clear-init c = let z : Sizes = key c.args.table.now in let mask = c.bits_of
 pub set_bit-found-requires-clause-inside : goal.set_bit-found-requires-clause-inside
 set_bit-found-requires-clause-inside c = let t = lowest c.loop-clear.clear c.loop-clear-test.true (let f = c.loop-clear.auto.clear-fits in omega arith) in c.loop-clear.invariant.within _ t.0 t.1
 
--- the step that was made, in the call
-sets : (z : Sizes) (first now : ℕ) (class : Class) (b n : ℕ) (v w : PassState) → now ≡ first → Sets z now class b v n w → Sets z first class b v n w
-sets z first now class b n v w e t = subst (λ (k : ℕ). Sets z k class b v n w) e t
-
 pub returns-then-not-is_set-clause-taken : goal.returns-then-not-is_set-clause-taken
 returns-then-not-is_set-clause-taken c = let z : Sizes = key c.args.table.now in let call = call_of c.args.pass.now in let t = lowest c.loop-clear.clear c.loop-clear-test.true (let f = c.loop-clear.auto.clear-fits in omega arith) in
     let block : ℕ = c.args.i * 64 + trailing_zeros w64 c.loop-clear.clear in let inside = c.loop-clear.invariant.within _ t.0 t.1 in
     takes_behind z call c.args.class block (state c.args.pass.now) (state c.loop-clear.pass) (state c.set_bit-found.new.pass) _ c.loop-clear.invariant.looked
     (now_taken z call c.args.class (state c.loop-clear.pass) block c.set_bit-found.result (state c.set_bit-found.new.pass) inside
-    (sets z call (call_of c.loop-clear.pass) c.args.class block c.set_bit-found.result (state c.loop-clear.pass) (state c.set_bit-found.new.pass) c.loop-clear.invariant.stays.call c.set_bit-found.ensures.told)
+    (told_in z call (call_of c.loop-clear.pass) (on_arena (take_bit c.args.class block)) (state c.loop-clear.pass) c.set_bit-found.result (state c.set_bit-found.new.pass) c.loop-clear.invariant.stays.call c.set_bit-found.ensures.told)
     c.if-not-is_set.ensures)
 
 -- the bit that was tried was found set
@@ -63,7 +59,7 @@ loop-clear-preserved c = let z : Sizes = key c.args.table.now in let call = call
       within = λ k lk e. c.loop-clear.invariant.within k lk (was_mask c.loop-clear.clear n k c.set_bit-found.type_inv lk e);
       looked = word_next z call c.args.class (state c.args.pass.now) c.args.i c.loop-clear.clear n block (state c.loop-clear.pass) (state c.set_bit-found.new.pass) c.set_bit-found.type_inv (let lt : low < 64 = t.0 in omega arith) c.loop-clear.invariant.looked
           (set_before z call c.args.class (state c.loop-clear.pass) block n (state c.set_bit-found.new.pass) inside
-          (sets z call (call_of c.loop-clear.pass) c.args.class block n (state c.loop-clear.pass) (state c.set_bit-found.new.pass) c.loop-clear.invariant.stays.call c.set_bit-found.ensures.told)
+          (told_in z call (call_of c.loop-clear.pass) (on_arena (take_bit c.args.class block)) (state c.loop-clear.pass) n (state c.set_bit-found.new.pass) c.loop-clear.invariant.stays.call c.set_bit-found.ensures.told)
           c.if-not-is_set.ensures);
     }
 
