@@ -73,6 +73,10 @@ more_bytes xs i = ap (λ (j : ℕ). take j xs) (let e : 8 * (i + 1) ≡ 8 * i + 
 pub all_bytes : (xs : List ℕ) (n : ℕ) → length xs ≤ 8 * n → take (8 * n) xs ≡ xs
 all_bytes xs n le = take_all (8 * n) xs le
 
+-- a list to which bytes are copied, one word more
+pub copied_more : (bs xs ys : List ℕ) (i : ℕ) → take (8 * i) xs ≡ take (8 * i) bs → take (8 * i + 8) ys ≡ take (8 * i) xs ++ bytes_in i bs → take (8 * (i + 1)) ys ≡ take (8 * (i + 1)) bs
+copied_more bs xs ys i before put = ap (λ (j : ℕ). take j ys) (let e : 8 * (i + 1) ≡ 8 * i + 8 = omega arith in e) ∙ (put ∙ ((λ j. before j ++ bytes_in i bs) ∙ sym (more_bytes bs i)))
+
 -- the bytes of word i are written over those of a list
 pub written : (len i k : ℕ) → Stand len i k → (xs ys : List ℕ) → length xs ≡ len → length ys ≡ k → take (8 * i + 8) (put_mid (8 * i) k xs ys) ≡ take (8 * i) xs ++ ys
 written len i k s xs ys long wide = let begun = s.begun in let within = s.within in let few = s.few in ⊎_elim

@@ -1,23 +1,25 @@
 -- Searches for a free header, one behind the other.
-use Rattle.std.proofs.Common.{◌≡◌, ℕ, ◌+◌, ◌*◌, ◌<◌, ◌≤◌, ◌⊎◌, List, [], ◌∷◌, ◌++◌, length, sym, refl, ap, ◌∙◌, subst, ⊎_elim, inl, inr, arith, Option, Some, None, IfNone, IfSome}
+use Rattle.std.proofs.Common.{◌≡◌, ℕ, ◌+◌, ◌-◌, ◌*◌, ◌<◌, ◌≤◌, ◌⊎◌, List, [], ◌∷◌, ◌++◌, sym, refl, ap, ◌∙◌, subst, ⊎_elim, inl, inr, arith, Option, Some, None, IfNone, IfSome}
 use mathlib.Core.Logic.{dite}
 use native.Mathlib.Decide.{dec_lt}
 use Rattle.oak_model.specs.Counts.{one_at}
 use Rattle.oak_model.proofs.Counting.{one_at-same}
 use Rattle.oak_model.specs.Limits.{Sizes}
-use Rattle.oak_model.proofs.Lists.{at_longer, each_append}
+use Rattle.oak_model.proofs.Lists.{each_append}
 use Rattle.header_core.specs.declared.states.TheConstants.{OWNED}
 use Rattle.header_core.specs.HeaderHolds.{in_state}
 use Rattle.header_core.proofs.HeldChanges.{rows_claimed}
 use Rattle.header_core.specs.HeaderStep.{claim_header, owned_at}
 use Rattle.oak_core.specs.declared.states.Finding.{Finding}
 use Rattle.oak_core.specs.declared.states.PassState.{PassState}
-use Rattle.oak_core.specs.Memory.{memory}
+use Rattle.oak_core.specs.HeaderCalls.{NamesPin}
+use Rattle.oak_core.specs.Memory.{headers_at, index, memory}
 use Rattle.oak_core.specs.Finding.{had, grown}
 use Rattle.oak_core.specs.Step.{on_headers}
-use Rattle.oak_core.proofs.Splits.{at_behind}
-use Rattle.value_ops.proofs.MetMore.{grown_twice, grown_none, told_of}
-use Rattle.value_ops.specs.Claiming.{pin_spot, FoundPin, FoundUnfree, FoundTwice, Looked, FindsNoneFree, ClaimsHeader}
+use Rattle.oak_core.proofs.FoundThere.{found_first, found_later}
+use Rattle.oak_core.proofs.HeaderPlaces.{pin_place}
+use Rattle.oak_core.proofs.MetMore.{grown_twice, grown_none, told_of}
+use Rattle.value_ops.specs.Claiming.{pin_spot, FoundUnfree, FoundTwice, Looked, FindsNoneFree, ClaimsHeader}
 
 module _ (z : Sizes) (call : ℕ) where
   -- nothing was looked at
@@ -27,49 +29,23 @@ module _ (z : Sizes) (call : ℕ) where
   pub looked_only : (v w : PassState) (P Q : ℕ → Type 0) → ((h : ℕ) → h < z.headers → Q h → P h) → Looked z call v w P → Looked z call v w Q
   looked_only v w P Q only l = record { more = l.more; after = l.after; calls = l.calls; found = λ h lh q. l.found h lh (only h lh q) }
 
-  abbrev found_first : (h : ℕ) (v : PassState) (first second : List Finding) (P : ℕ → Type 0) → FoundPin z call h v first P → FoundPin z call h v (first ++ second) P
-  found_first h v first second P f = record {
-    place = f.place;
-    finding = f.finding;
-    there = at_longer first second f.place f.finding f.there;
-    call_is = f.call_is;
-    word_is = f.word_is;
-    number = f.number;
-    found_is = f.found_is;
-    shows = f.shows;
-    had_is = f.had_is;
-  }
-
-  abbrev found_later : (h : ℕ) (v w : PassState) (first second : List Finding) (P : ℕ → Type 0) → w ≡ grown first v → FoundPin z call h w second P → FoundPin z call h v (first ++ second) P
-  found_later h v w first second P is f = record {
-    place = length first + f.place;
-    finding = f.finding;
-    there = at_behind first second f.place f.finding f.there;
-    call_is = f.call_is;
-    word_is = f.word_is;
-    number = f.number;
-    found_is = f.found_is;
-    shows = f.shows;
-    had_is = f.had_is ∙ ap (had (pin_spot h)) is;
-  }
-
   abbrev Unfree : ℕ → PassState → List Finding → Type 0
   Unfree h v met = FoundUnfree z call h v met ⊎ FoundTwice z call h v met
 
   unfree_first : (h : ℕ) (v : PassState) (first second : List Finding) → Unfree h v first → Unfree h v (first ++ second)
-  unfree_first h v first second = ⊎_elim (λ (f : FoundUnfree z call h v first). inl (found_first h v first second _ f))
-      (λ (t : FoundTwice z call h v first). inr (record { one = found_first h v first second _ t.one; other = found_first h v first second _ t.other; apart = t.apart }))
+  unfree_first h v first second = ⊎_elim (λ (f : FoundUnfree z call h v first). inl (found_first z call (pin_spot h) v first second _ f))
+      (λ (t : FoundTwice z call h v first). inr (record { one = found_first z call (pin_spot h) v first second _ t.one; other = found_first z call (pin_spot h) v first second _ t.other; apart = t.apart }))
 
-  unfree_later : (h : ℕ) (v w : PassState) (first second : List Finding) → w ≡ grown first v → Unfree h w second → Unfree h v (first ++ second)
-  unfree_later h v w first second is = ⊎_elim (λ (f : FoundUnfree z call h w second). inl (found_later h v w first second _ is f))
-      (λ (t : FoundTwice z call h w second). inr (record { one = found_later h v w first second _ is t.one; other = found_later h v w first second _ is t.other; apart = t.apart }))
+  unfree_later : (h : ℕ) (v w : PassState) (first second : List Finding) → had (pin_spot h) w ≡ had (pin_spot h) v → Unfree h w second → Unfree h v (first ++ second)
+  unfree_later h v w first second same = ⊎_elim (λ (f : FoundUnfree z call h w second). inl (found_later z call (pin_spot h) v w first second _ same f))
+      (λ (t : FoundTwice z call h w second). inr (record { one = found_later z call (pin_spot h) v w first second _ same t.one; other = found_later z call (pin_spot h) v w first second _ same t.other; apart = t.apart }))
 
   pub looked_both : (v w x : PassState) (P Q : ℕ → Type 0) → Looked z call v w P → Looked z call w x Q → Looked z call v x (λ h. P h ⊎ Q h)
   looked_both v w x P Q l k = record {
     more = l.more ++ k.more;
     after = k.after ∙ (ap (grown k.more) l.after ∙ grown_twice v l.more k.more);
     calls = each_append (λ (f : Finding). f.call ≡ call) l.more k.more l.calls k.calls;
-    found = λ h lh. ⊎_elim (λ (p : P h). unfree_first h v l.more k.more (l.found h lh p)) (λ (q : Q h). unfree_later h v w l.more k.more l.after (k.found h lh q));
+    found = λ h lh. ⊎_elim (λ (p : P h). unfree_first h v l.more k.more (l.found h lh p)) (λ (q : Q h). unfree_later h v w l.more k.more (ap (had (pin_spot h)) l.after) (k.found h lh q));
   }
 
   -- a header is claimed behind what was looked at
@@ -126,3 +102,15 @@ if_none (Some a) P Q f p = tt
 pub if_some : {A : Type 0} (o : Option A) (P Q : A → Type 0) → ((a : A) → P a → Q a) → IfSome o P → IfSome o Q
 if_some None P Q f p = tt
 if_some (Some a) P Q f p = f a p
+
+-- the pin words of the headers lie one behind the other
+module _ (z : Sizes) (h to last : ℕ) (lt : h < to) (le : to ≤ z.headers) (is : last ≡ index z (pin_spot (to - 1))) where
+  apart : (last ≡ index z (pin_spot h) + 3 * (to - 1 - h))
+  apart = let a : ℕ = headers_at z in let x : ℕ = index z (pin_spot h) in let y : ℕ = index z (pin_spot (to - 1)) in
+      let p : a + h * 3 ≡ x = pin_place z h in let q : a + (to - 1) * 3 ≡ y = pin_place z (to - 1) in let e : last ≡ y = is in let r : last ≡ x + 3 * (to - 1 - h) = omega arith in r
+
+  pub pin_room : 3 * (to - 1 - h) ≤ last
+  pin_room = let x : ℕ = index z (pin_spot h) in let e : last ≡ x + 3 * (to - 1 - h) = apart in omega arith
+
+  pub names_pin : NamesPin z h (last - 3 * (to - 1 - h))
+  names_pin = record { inside = omega arith; word_is = let x : ℕ = index z (pin_spot h) in let e : last ≡ x + 3 * (to - 1 - h) = apart in let r : last - 3 * (to - 1 - h) ≡ x = omega arith in r }

@@ -72,7 +72,7 @@ row_at P i (suc n) f h zero lt = subst (λ (j : ℕ). P (f j)) (let e : i ≡ i 
 row_at P i (suc n) f h (suc k) lt = subst (λ (j : ℕ). P (f j)) (let e : suc i + k ≡ i + suc k = omega arith in e) (row_at P (suc i) n f h.1 k (omega arith))
 
 -- the words of a held block are those of the table
-words_are : (m : ArenaMemory) (o : HeldBlock) → IsWhole o → AreTrueTo (read_arena m) (kept_of_block o) → rows 0 (block_words (class_number o.class)) (m.bytes (class_number o.class) o.number) ≡ o.words
+pub words_are : (m : ArenaMemory) (o : HeldBlock) → IsWhole o → AreTrueTo (read_arena m) (kept_of_block o) → rows 0 (block_words (class_number o.class)) (m.bytes (class_number o.class) o.number) ≡ o.words
 words_are m o whole t = let n : ℕ = block_words (class_number o.class) in let f : ℕ → ℕ = m.bytes (class_number o.class) o.number in let wide = rows_length 0 n f in
     same_elements (rows 0 n f) o.words 0 (wide ∙ sym whole)
     (λ k lt. let lk : k < n = omega arith in rows_at 0 n k f 0 lk

@@ -12,8 +12,8 @@ use Rattle.arena_core.specs.Place.{IsPlace, place_word, class_in, block_in, cont
 use Rattle.arena_core.proofs.PlaceLaws.{class_in-word, block_in-word}
 use Rattle.header_core.specs.declared.states.TheConstants.{OWNED}
 use Rattle.header_core.specs.Headers.{at_place, at_stamp}
-use Rattle.header_core.specs.HeaderHolds.{in_state, place_held, KnowsHeader}
-use Rattle.header_core.specs.HeaderStep.{STATE, store_stamp, open_header, placed_at, stamped_at, freshened}
+use Rattle.header_core.specs.HeaderHolds.{in_state, place_held, IsFreshAt}
+use Rattle.header_core.specs.HeaderStep.{STATE, store_place, store_stamp, open_header, placed_at, stamped_at, freshened}
 use Rattle.header_core.proofs.HeldChanges.{rows_placed, rows_stamped}
 use Rattle.header_core.proofs.HeaderFacts.{holds_some, record_of}
 use Rattle.oak_core.specs.declared.states.Finding.{Finding}
@@ -23,16 +23,19 @@ use Rattle.oak_core.specs.Finding.{finding, grown, noted}
 use Rattle.oak_core.specs.HeaderCalls.{StoresPlace, StoresStamp, Opens}
 use Rattle.oak_core.specs.PassState.{headers_held, blocks_of}
 use Rattle.oak_core.specs.Step.{found, on_headers, MayOnHeaders}
-use Rattle.oak_core.proofs.HeaderStanding.{stand, at_headers, parts, place_of}
+use Rattle.oak_core.proofs.HeaderStanding.{knows, stand, at_headers, parts, place_of}
 use Rattle.oak_core.proofs.Words.{memory_read}
 use Rattle.value_ops.specs.Claiming.{pin_spot}
 use Rattle.value_ops.specs.Filling.{words_held, filled_state, Fills}
 use Rattle.value_ops.proofs.FillFacts.{fits_class, is_place, placed_here, stamped_place, freshened_known, held_words}
-use Rattle.value_ops.proofs.MetMore.{grown_twice}
+use Rattle.oak_core.proofs.MetMore.{grown_twice}
 
 module _ (z : Sizes) (call h : ℕ) (c : Class) (b len stamp : ℕ) (v : PassState) (inside : h < z.headers) (own : 0 < in_state h OWNED v.headers) (held : HoldsBlock z (class_number c) b v.blocks) (small : b < 2 ^ 32) (fits : class_of len ≡ Some c) where
   abbrev place : ℕ
   place = place_word (class_number c) b len
+
+  pub may_place : place < 2 ^ 64 → MayOnHeaders z (store_place h place) v
+  may_place lt = record { inside = inside; headers = (own, lt); block = tt; known = tt }
 
   abbrev first : Finding
   first = finding z call (in_headers (at_place h)) None place v
@@ -48,7 +51,7 @@ module _ (z : Sizes) (call h : ℕ) (c : Class) (b len stamp : ℕ) (v : PassSta
     owned_placed = subst (λ (y : PassState). 0 < in_state h OWNED y.headers) (sym placed) (let e = rows_placed h place h OWNED v.headers.held in omega arith)
 
     pub may_stamp : stamp < 2 ^ 64 → MayOnHeaders z (store_stamp h stamp) u
-    may_stamp lt = record { inside = inside; headers = (owned_placed, lt); block = tt }
+    may_stamp lt = record { inside = inside; headers = ((let o = owned_placed in omega arith), lt); block = tt; known = tt }
 
     abbrev second : Finding
     second = finding z call (in_headers (at_stamp h)) None stamp u
@@ -89,6 +92,7 @@ module _ (z : Sizes) (call h : ℕ) (c : Class) (b len stamp : ℕ) (v : PassSta
           place = subst IsPlace (sym place_is) (is_place c b len small fits);
           block = subst (λ (k : ℕ × ℕ). HoldsBlock z k.0 k.1 y.blocks) (λ i. (sym (ap class_in place_is ∙ class_is) i, sym (ap block_in place_is ∙ number_is) i)) (subst (HoldsBlock z (class_number c) b) (sym same_blocks) held);
         };
+        known = tt;
       }
 
       module _ (n : ℕ) (w : PassState) (t3 : Opens z call h y n w) where
@@ -128,7 +132,7 @@ module _ (z : Sizes) (call h : ℕ) (c : Class) (b len stamp : ℕ) (v : PassSta
               ∙ ap (λ (s : PassState). record s { blocks = (filled_state h c b len stamp v).blocks; headers = (filled_state h c b len stamp v).headers }) (grown_twice v (first ∷ second ∷ []) (third ∷ [])));
         }
 
-        pub knows : KnowsHeader h (generation_of n) w.headers
-        knows = let r = record_of m.headers (content m.arena.bytes) IsPlace (λ _. 0) (map headers_held t3.table.states) (stand z t3.table t3.seat y t3.rule t3.here) t3.seat y.headers h OWNED (at_headers z t3.table t3.seat y t3.rule t3.here) owned_stamped in
+        pub fresh : IsFreshAt h (generation_of n) w.headers
+        fresh = let r = record_of m.headers (content m.arena.bytes) IsPlace (knows t3.table) (map headers_held t3.table.states) (stand z t3.table t3.seat y t3.rule t3.here) t3.seat y.headers h OWNED (at_headers z t3.table t3.seat y t3.rule t3.here) owned_stamped in
             let g : generation_of n ≡ r.0.generation = ap generation_of (sym (memory_read z t3.table.words (pin_spot h) inside ∙ t3.finds)) ∙ r.4 in
-            subst (λ (k : ℕ). KnowsHeader h k w.headers) (sym g) (subst (λ (s : PassState). KnowsHeader h r.0.generation s.headers) (sym t3.after) (freshened_known h (content m.arena.bytes (m.headers.place h)) y.headers.held r.0 r.1 r.2))
+            subst (λ (k : ℕ). IsFreshAt h k w.headers) (sym g) (subst (λ (s : PassState). IsFreshAt h r.0.generation s.headers) (sym t3.after) (freshened_known h (content m.arena.bytes (m.headers.place h)) y.headers.held r.0 r.1 r.2))

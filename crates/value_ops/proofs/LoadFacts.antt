@@ -39,13 +39,17 @@ found_fits n c (d ∷ ds) e = test-cases (nat_le n (class_bytes d)) (λ t. cond 
 class_fits : (n : ℕ) (c : Class) → class_of n ≡ Some c → n ≤ class_bytes c
 class_fits n c e = found_fits n c classes e
 
+-- a block that a place word names has room for the length
+pub place_room : (p : ℕ) → IsPlace p → length_in p ≤ 8 * block_words (class_in p)
+place_room p is = subst (λ (c : ℕ). length_in p ≤ 8 * (2 * 4 ^ c)) (sym is.is_in) (let f = class_fits (length_in p) is.class is.fits in let k : ℕ = 4 ^ class_number is.class in let f' : length_in p ≤ 16 * k = f in let g : length_in p ≤ 8 * (2 * k) = omega arith in g)
+
 -- a good pin of a pass, at a moment at which the rule holds
 module _ (z : Sizes) (s : TableState) (r : Rule z s) (seat : ℕ) (v : PassState) (here : get_elem? s.states seat ≡ some v) (p : PinnedHeader) (is : v.headers.pin ≡ Some p) (good : IsGood p) where
   abbrev m : Memory
   m = memory z s.words
 
   pub holds : PinHolds m.headers (content m.arena.bytes) p
-  holds = pin_fact (GoodPinHolds m.headers (content m.arena.bytes)) v.headers.pin p is (r.headers.stand.good seat v.headers (at_map headers_held s.states seat v here)) good
+  holds = pin_fact (GoodPinHolds m.headers (content m.arena.bytes)) v.headers.pin p is (r.headers.good seat v.headers (at_map headers_held s.states seat v here)) good
 
   pub live_block : has_block m.headers (class_in p.place) (block_in p.place) p.header ≡ 1
   live_block = let live = live_stocked (state_of (m.headers.pin p.header)) holds.live in (λ i. live i * names_block (class_in p.place) (block_in p.place) (holds.place i)) ∙ (λ i. 1 * names_itself p.place i)
@@ -55,13 +59,13 @@ module _ (z : Sizes) (s : TableState) (r : Rule z s) (seat : ℕ) (v : PassState
       let counts = owner_counts z m.headers p.header (class_in p.place) (block_in p.place) (live_inside z s.words p.header (omega arith)) in omega arith
 
   place_is : IsPlace p.place
-  place_is = let live = live_stocked (state_of (m.headers.pin p.header)) holds.live in subst IsPlace holds.place (r.headers.stand.placed p.header (omega arith))
+  place_is = let live = live_stocked (state_of (m.headers.pin p.header)) holds.live in subst IsPlace holds.place (r.headers.placed p.header (omega arith))
 
   pub placed : IsPlaced z p
   placed = record {
     class = let b = class_below place_is.class in let e = place_is.is_in in omega arith;
     block = dite (dec_lt (block_in p.place) (blocks z (class_in p.place))) (λ l. l) (λ n. let none = r.blocks.inside (class_in p.place) (block_in p.place) (omega arith) in let some_of = block_owned in absurd (omega arith));
-    room = subst (λ (c : ℕ). length_in p.place ≤ 8 * (2 * 4 ^ c)) (sym place_is.is_in) (let f = class_fits (length_in p.place) place_is.class place_is.fits in let k : ℕ = 4 ^ class_number place_is.class in let f' : length_in p.place ≤ 16 * k = f in let g : length_in p.place ≤ 8 * (2 * k) = omega arith in g);
+    room = place_room p.place place_is;
   }
 
   pub words_long : length p.words ≡ block_words (class_in p.place)

@@ -23,6 +23,7 @@ use Rattle.oak_core.proofs.Alone.{first_alone}
 use Rattle.arena_ops.specs.Taking.{Takes, Gives, Stores}
 use Rattle.value_ops.specs.Claiming.{ClaimsHeader}
 use Rattle.value_ops.specs.Filling.{ReleasesOwned, words_held, Fills, Withdraws}
+use Rattle.value_ops.specs.HeldValue.{words_in}
 use Rattle.value_ops.specs.OneHeader.{IsOneHeader, IsOneBlock, KeepsElse}
 
 -- without its one header it has none, and so without its one block
@@ -99,9 +100,9 @@ module _ (z : Sizes) (call : ℕ) (v w : PassState) where
 
   pub withdrawn_one : (h : ℕ) (c : Class) (b : ℕ) → v.blocks ≡ no_blocks → Withdraws z call h c b v w → IsOneBlock c b w.blocks
   withdrawn_one h c b none t = record {
-    block = block_from (memory z t.told.table.words).arena.bytes c b;
-    alone = ap (λ (y : PassState). y.blocks) t.after ∙ ap (λ (x : HeldBlocks). record x { held = block_from (memory z t.told.table.words).arena.bytes c b ∷ x.held }) none;
-    is = is_block-true (class_number c) b (block_from (memory z t.told.table.words).arena.bytes c b) refl refl;
+    block = record { class = c; number = b; words = words_in h v.headers.held };
+    alone = ap (λ (y : PassState). y.blocks) t.after ∙ ap (λ (x : HeldBlocks). record x { held = record { class = c; number = b; words = words_in h v.headers.held } ∷ x.held }) none;
+    is = is_block-true (class_number c) b (record { class = c; number = b; words = words_in h v.headers.held }) refl refl;
   }
 
   pub withdrawn_else : (h : ℕ) (c : Class) (b : ℕ) → Withdraws z call h c b v w → KeepsElse v w

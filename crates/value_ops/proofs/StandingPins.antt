@@ -11,13 +11,13 @@ use Rattle.oak_model.proofs.Lists.{set_there, set_else, at_longer}
 use Rattle.arena_core.specs.Place.{class_in, block_in}
 use Rattle.header_core.specs.declared.holds.PinnedHeader.{PinnedHeader}
 use Rattle.header_core.specs.HeaderRule.{IsGood}
-use Rattle.header_core.specs.HeaderStep.{HeaderStep, claim_header, store_place, store_stamp, open_header, pin_header, unpin_header, release_header}
+use Rattle.header_core.specs.HeaderStep.{HeaderStep, claim_header, store_place, store_stamp, change_place, open_header, pin_header, unpin_header, release_header, lock_header, unlock_header, mark_dead, take_back}
 use Rattle.oak_core.specs.declared.states.PassState.{PassState}
 use Rattle.oak_core.specs.Memory.{memory}
 use Rattle.oak_core.specs.PassState.{left_state, right_state, both_state, spent_state}
 use Rattle.oak_core.specs.Rule.{Rule}
 use Rattle.oak_core.specs.Schedule.{Event, steps, splits, joins, Goes, IsSchedule}
-use Rattle.oak_core.specs.Step.{Step, load, give_number, on_arena, on_headers, note_full, May, state_after}
+use Rattle.oak_core.specs.Step.{Step, load, give_number, on_arena, on_headers, store_locked, note_full, May, state_after}
 use Rattle.oak_core.specs.TableState.{TableState}
 use Rattle.value_ops.specs.Readers.{StandsAt, KeepsBlock, IsUnpin, Undoes}
 use Rattle.value_ops.proofs.LoadFacts.{holds, live_block, block_owned}
@@ -38,16 +38,22 @@ header_step : (z : Sizes) (call : ℕ) (x : HeaderStep) (s : TableState) (v : Pa
 header_step z call (claim_header h old) s v p may is not_undone = is
 header_step z call (store_place h x) s v p may is not_undone = is
 header_step z call (store_stamp h x) s v p may is not_undone = is
+header_step z call (change_place h x) s v p may is not_undone = is
 header_step z call (open_header h) s v p may is not_undone = is
-header_step z call (pin_header h g) s v p may is not_undone = let none = may.headers.0 in cc
+header_step z call (pin_header h g) s v p may is not_undone = let none = may.headers in cc
 header_step z call (unpin_header h) s v p may is not_undone = absurd (not_undone tt)
 header_step z call (release_header h t) s v p may is not_undone = is
+header_step z call (lock_header h old) s v p may is not_undone = is
+header_step z call (unlock_header h kind) s v p may is not_undone = is
+header_step z call (mark_dead h) s v p may is not_undone = is
+header_step z call (take_back h x) s v p may is not_undone = is
 
 own_step : (z : Sizes) (call : ℕ) (x : Step) (s : TableState) (v : PassState) (p : PinnedHeader) → May z call x v → v.headers.pin ≡ Some p → ¬ IsUnpin x → (state_after z call x s v).headers.pin ≡ Some p
 own_step z call (load q) s v p may is not_undone = is
 own_step z call (give_number k) s v p may is not_undone = is
 own_step z call (on_arena a) s v p may is not_undone = is
 own_step z call (on_headers x) s v p may is not_undone = header_step z call x s v p may is not_undone
+own_step z call (store_locked h c b k x) s v p may is not_undone = is
 own_step z call (note_full lack began) s v p may is not_undone = is
 
 -- the state of the seat after one state was exchanged, which has the pin where it is this seat's

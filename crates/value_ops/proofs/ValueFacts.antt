@@ -17,7 +17,8 @@ use Rattle.oak_core.proofs.Words.{index_below}
 use Rattle.value_ops.specs.declared.reading.Reading.{Reading}
 use Rattle.value_ops.specs.Reading.{word_bytes, bytes_of, bytes_in, value, value_pinned, words_pinned, IsReading, ReadsOn}
 use Rattle.value_ops.proofs.PinFacts.{grown_both}
-use Rattle.value_ops.proofs.ByteFacts.{Stand, stand, length-bytes_of, part_in}
+use Rattle.value_ops.proofs.ByteFacts.{length-bytes_of}
+use Rattle.value_ops.proofs.WordLaws.{word_put}
 
 below_few : (f : ℕ → ℕ) (n : ℕ) → ((k : ℕ) → k < n → f k ≤ 8388608) → below f n ≤ n * 8388608
 unfolding below
@@ -25,7 +26,7 @@ below_few f zero h = omega arith
 below_few f (suc n) h = let r = below_few f n (λ k l. h k (omega arith)) in let a = h n (omega arith) in omega arith
 
 -- the number of a word of a block is one of 32 bits
-bytes_small : (z : Sizes) → IsInLimits z → (c b i : ℕ) → c < CLASSES → b < blocks z c → i < block_words c → index z (in_arena (at_bytes c b i)) < 2 ^ 32
+pub bytes_small : (z : Sizes) → IsInLimits z → (c b i : ℕ) → c < CLASSES → b < blocks z c → i < block_words c → index z (in_arena (at_bytes c b i)) < 2 ^ 32
 bytes_small z is c b i lc lb li =
     let bits = below_few (bit_words z) CLASSES (λ k l. let f = few_bits z is k l in omega arith) in
     let bytes = below_few (byte_words z) c (λ k l. few_words z is k (omega arith)) in
@@ -33,6 +34,11 @@ bytes_small z is c b i lc lb li =
     let x : ℕ = b * block_words c + i in let y : ℕ = below (bit_words z) CLASSES in let w : ℕ = below (byte_words z) c in let j : ℕ = index z (in_arena (at_bytes c b i)) in
     let at' : x < 8388608 = at in let bits' : y ≤ CLASSES * 8388608 = bits in let bytes' : w ≤ c * 8388608 = bytes in let e' : 1 + (y + (w + x)) ≡ j = e in
     let res : j < 2 ^ 32 = omega arith in res
+
+-- the words of a block lie one behind the other
+pub spot_from : (z : Sizes) (c b first i : ℕ) → first ≡ index z (in_arena (at_bytes c b 0)) → first + i ≡ index z (in_arena (at_bytes c b i))
+spot_from z c b first i is = let x : ℕ = b * block_words c in let y : ℕ = below (bit_words z) CLASSES in let w : ℕ = below (byte_words z) c in
+    let start : 1 + (y + (w + (x + 0))) ≡ index z (in_arena (at_bytes c b 0)) = bytes_place z c b 0 in let at : 1 + (y + (w + (x + i))) ≡ index z (in_arena (at_bytes c b i)) = bytes_place z c b i in omega arith
 
 module _ (r : Reading) (is : IsReading r) where
   abbrev z : Sizes
@@ -61,8 +67,7 @@ module _ (r : Reading) (is : IsReading r) where
     word_inside = let k : ℕ = block_words c in let w : length is.pin.words ≡ k = is.words in let l = room in let e = long in let h : i < k = omega arith in h
 
     pub word_spot : r.block + i ≡ index z (in_arena (at_bytes c b i))
-    word_spot = let x : ℕ = b * block_words c in let y : ℕ = below (bit_words z) CLASSES in let w : ℕ = below (byte_words z) c in
-        let first : 1 + (y + (w + (x + 0))) ≡ index z (in_arena (at_bytes c b 0)) = bytes_place z c b 0 in let at : 1 + (y + (w + (x + i))) ≡ index z (in_arena (at_bytes c b i)) = bytes_place z c b i in let e = is.block_is in omega arith
+    word_spot = spot_from z c b r.block i is.block_is
 
     pub word_below : r.block + i < word_count z
     word_below = let e = word_spot in let l = index_below z (in_arena (at_bytes c b i)) (is.placed.class, is.placed.block, word_inside) in omega arith
@@ -71,10 +76,9 @@ module _ (r : Reading) (is : IsReading r) where
     word_small = let e = word_spot in let l = bytes_small z is.limits c b i is.placed.class is.placed.block word_inside in omega arith
 
     -- the bytes of the word that was loaded
-    pub bytes_loaded : (to n : ℕ) → to ≡ min (8 * i + 8) (length (value r)) → n ≡ get_or (words_pinned (state r.pass.now).headers.pin) i 0 → take (to - 8 * i) (word_bytes n) ≡ bytes_in i (value r)
-    bytes_loaded to n e f = let s : Stand r.length i (to - 8 * i) = subst (λ (k : ℕ). Stand k i (to - 8 * i)) long (stand (length (value r)) i to lt e) in
-        ap (λ (j : ℕ). take (to - 8 * i) (word_bytes j)) (f ∙ ap (λ (ws : List ℕ). get_or ws i 0) words_are)
-        ∙ (sym (part_in r.length i (to - 8 * i) s is.pin.words room) ∙ ap (bytes_in i) (sym value_is))
+    pub bytes_loaded : (n : ℕ) → n ≡ get_or (words_pinned (state r.pass.now).headers.pin) i 0 → take (length (value r) - 8 * i) (word_bytes n) ≡ bytes_in i (value r)
+    bytes_loaded n f = (λ j. take (long j - 8 * i) (word_bytes ((f ∙ ap (λ (ws : List ℕ). get_or ws i 0) words_are) j)))
+        ∙ (word_put is.pin.words r.length i (subst (λ (k : ℕ). 8 * i < k) long lt) room ∙ ap (bytes_in i) (sym value_is))
 
 -- readings that go on
 

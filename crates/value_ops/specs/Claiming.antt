@@ -1,7 +1,5 @@
 -- What a search for a free header finds, and what a claim does.
-use Rattle.std.specs.Prelude.{◌≡◌, ◌≢◌, ℕ, ◌<◌, ◌⊎◌, false, List, ◌∷◌, map, Some}
-use mathlib.Core.Option.{some}
-use lib.ListN.{get_elem?}
+use Rattle.std.specs.Prelude.{◌≡◌, ◌≢◌, ℕ, ◌<◌, ◌⊎◌, false, List, ◌∷◌, map}
 use Rattle.pin_word.specs.PinWord.{generation_of}
 use Rattle.oak_model.specs.Counts.{one_at, total, Each}
 use Rattle.oak_model.specs.Limits.{Sizes}
@@ -12,8 +10,8 @@ use Rattle.header_core.specs.HeaderHolds.{pins_on}
 use Rattle.header_core.specs.HeaderStep.{IsFreeWord, owned_at}
 use Rattle.oak_core.specs.declared.states.Finding.{Finding}
 use Rattle.oak_core.specs.declared.states.PassState.{PassState}
-use Rattle.oak_core.specs.Memory.{Spot, in_headers, index, memory}
-use Rattle.oak_core.specs.Finding.{had, grown}
+use Rattle.oak_core.specs.Memory.{Spot, in_headers, memory}
+use Rattle.oak_core.specs.Finding.{grown, FoundThere}
 use Rattle.oak_core.specs.HeaderCalls.{Claims}
 use Rattle.oak_core.specs.PassState.{headers_held}
 use Rattle.oak_core.specs.Usage.{is_free}
@@ -21,21 +19,13 @@ use Rattle.oak_core.specs.Usage.{is_free}
 abbrev pub pin_spot : ℕ → Spot
 pin_spot h = in_headers (at_pin h)
 
--- how often the pass holds the header, owned or fresh
+-- how often the pass holds the header, in whatever state
 abbrev pub holds_header : ℕ → HeaderHolds → ℕ
 holds_header h a = total (λ (r : HeldHeader). one_at r.header h) a.held
 
 -- one of the findings is of the call, and shows a number of the header's pin word that has P; the pass had there what v has there
-pub record FoundPin (z : Sizes) (call h : ℕ) (v : PassState) (met : List Finding) (P : ℕ → Type 0) : Type 0 where
-  pub place : ℕ
-  pub finding : Finding
-  pub there : get_elem? met place ≡ some finding
-  pub call_is : finding.call ≡ call
-  pub word_is : finding.word ≡ index z (pin_spot h)
-  pub number : ℕ
-  pub found_is : finding.found ≡ Some number
-  pub shows : P number
-  pub had_is : finding.had ≡ had (pin_spot h) v
+abbrev pub FoundPin : Sizes → ℕ → ℕ → PassState → List Finding → (ℕ → Type 0) → Type 0
+FoundPin z call h v met P = FoundThere z call (pin_spot h) v met P
 
 -- the header was found not free
 abbrev pub FoundUnfree : Sizes → ℕ → ℕ → PassState → List Finding → Type 0

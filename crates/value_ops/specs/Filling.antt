@@ -8,7 +8,7 @@ use Rattle.oak_model.specs.Class.{class_number}
 use Rattle.oak_model.specs.Counts.{Each}
 use Rattle.oak_model.specs.Limits.{Sizes}
 use Rattle.arena_core.specs.declared.blocks.HeldBlock.{HeldBlock}
-use Rattle.arena_core.specs.Blocks.{is_block, block_from, without}
+use Rattle.arena_core.specs.Blocks.{is_block, without}
 use Rattle.arena_core.specs.Place.{place_word, class_in, block_in}
 use Rattle.header_core.specs.declared.states.TheConstants.{FREE}
 use Rattle.header_core.specs.declared.holds.HeldAs.TheVariants.{Owned, Fresh}
@@ -21,15 +21,20 @@ use Rattle.oak_core.specs.Finding.{grown}
 use Rattle.oak_core.specs.HeaderCalls.{StoresPlace, StoresStamp, Opens, Releases}
 use Rattle.oak_core.specs.Rule.{Rule}
 use Rattle.oak_core.specs.TableState.{TableState}
+use Rattle.value_ops.specs.HeldValue.{words_in}
 
--- at a moment at which the rule holds, the pass is in the state w, and the header is free, with the generation and the pins that the word `number` says
-pub record IsFreed (z : Sizes) (h number seat : ℕ) (w : PassState) : Type 0 where
+-- at a moment at which the rule holds, the pass is in the state w, and the header is in the state s at the generation g, with the pins that the word `number` says
+pub record IsLeft (z : Sizes) (h s g number seat : ℕ) (w : PassState) : Type 0 where
   pub table : TableState
   pub rule : Rule z table
   pub here : get_elem? table.states seat ≡ some w
-  pub state : state_of ((memory z table.words).headers.pin h) ≡ FREE
-  pub generation : generation_of ((memory z table.words).headers.pin h) ≡ generation_of number
+  pub state : state_of ((memory z table.words).headers.pin h) ≡ s
+  pub generation : generation_of ((memory z table.words).headers.pin h) ≡ g
   pub count : count_of ((memory z table.words).headers.pin h) ≡ count_of number
+
+-- the header is free there, at its generation
+abbrev pub IsFreed : Sizes → ℕ → ℕ → ℕ → PassState → Type 0
+IsFreed z h number seat w = IsLeft z h FREE (generation_of number) number seat w
 
 -- The pass owns the header no more, and else only met more, all in the call. The header is free after the step, which left its generation and the pins on it as they were.
 pub record ReleasesOwned (z : Sizes) (call h : ℕ) (v w : PassState) : Type 0 where
@@ -65,7 +70,7 @@ pub record Fills (z : Sizes) (call h : ℕ) (c : Class) (b len stamp generation 
   pub calls : Each (λ (f : Finding). f.call ≡ call) more
   pub after : w ≡ grown more (filled_state h c b len stamp v)
 
--- The pass has the header no more, and holds the block that its place word named, with the words that it had at the step; else it only met more, all in the call. The header is free after the step, at its generation.
+-- The pass has the header no more, and holds the block that its place word named, with the words that it had under the header; else it only met more, all in the call. The header is free after the step, at its generation.
 pub record Withdraws (z : Sizes) (call h : ℕ) (c : Class) (b : ℕ) (v w : PassState) : Type 0 where
   pub class_is : class_in (place_held h v.headers.held) ≡ class_number c
   pub block_is : block_in (place_held h v.headers.held) ≡ b
@@ -75,4 +80,4 @@ pub record Withdraws (z : Sizes) (call h : ℕ) (c : Class) (b : ℕ) (v w : Pas
   pub freed : IsFreed z h number told.seat w
   pub more : List Finding
   pub calls : Each (λ (f : Finding). f.call ≡ call) more
-  pub after : w ≡ record (grown more v) { blocks = record v.blocks { held = block_from (memory z told.table.words).arena.bytes c b ∷ v.blocks.held }; headers = record v.headers { held = without_header h v.headers.held } }
+  pub after : w ≡ record (grown more v) { blocks = record v.blocks { held = record { class = c; number = b; words = words_in h v.headers.held } ∷ v.blocks.held }; headers = record v.headers { held = without_header h v.headers.held } }

@@ -1,7 +1,12 @@
 pub mod Claiming
+pub mod HeldValue
 pub mod Filling
+pub mod Locking
 pub mod OneHeader
 pub mod Pinning
 pub mod Reading
 pub mod Readers
 pub mod Recipes
+pub mod Words
+pub mod UnderLock
+pub mod Rewriting

@@ -1,16 +1,21 @@
 //! The claim of a free header.
-ghost use Rattle.std.specs.Prelude.{◌≡◌, ◌≤◌, ◌<◌, ◌+◌, true, false, IfSome, IfNone, IfOk, IfErr};
+ghost use Rattle.std.specs.Prelude.{◌≡◌, ◌≤◌, ◌<◌, ◌+◌, ℕ, true, false, IfSome, IfNone, IfOk, IfErr};
+ghost use Rattle.oak_core.specs.HeaderCalls.{NamesPin};
 ghost use Rattle.oak_core.specs.Passes.{IsPassOf, Stays, state, key, call_of, header_search};
 ghost use Rattle.oak_core.specs.Usage.{is_free};
 ghost use Rattle.value_ops.specs.Claiming.{Looked, FindsNoneFree, ClaimsHeader};
 
 use header_core::FREE;
+use header_core::layout::HEADER_WORDS;
 use oak_core::steps::claim_header;
 use oak_core::{OakTable, Pass, load};
 use thiserror::Error;
 
 /// What one more in the state adds to a pin word.
 pub(crate) const STATE: u64 = 1 << 28;
+
+/// How far the pin words of two headers lie apart, one behind the other.
+const PIN_STEP: u32 = HEADER_WORDS as u32;
 
 /// A header that the pass owns. It must be spent: it is released or filled, and can't be dropped.
 pub struct Owned {
@@ -29,15 +34,14 @@ fn is_free(word: u64) -> bool
     pin_word::state(word) == FREE && pin_word::count(word) == 0
 }
 
-/// Claims this header, if it is free and stays so until the exchange.
-fn claim_one(table: &OakTable, pass: &mut Pass, header: u32) -> bool
+/// Claims the header whose pin word is `word`, if it is free and stays so until the exchange.
+fn claim_one(table: &OakTable, pass: &mut Pass, word: u32) -> bool
     requires own { IsPassOf table.now pass.old }
-    requires inside { header < (key table.now).headers }
+    requires names { (h : ℕ) × NamesPin (key table.now) h word }
     ensures own { Stays pass.old pass.new }
-    ensures claimed { result ≡ true → ClaimsHeader (key table.now) (call_of pass.old) header (state pass.old) (state pass.new) }
-    ensures taken { result ≡ false → Looked (key table.now) (call_of pass.old) (state pass.old) (state pass.new) (λ h. h ≡ header) }
+    ensures claimed { (h : ℕ) → NamesPin (key table.now) h word → result ≡ true → ClaimsHeader (key table.now) (call_of pass.old) h (state pass.old) (state pass.new) }
+    ensures taken { (h : ℕ) → NamesPin (key table.now) h word → result ≡ false → Looked (key table.now) (call_of pass.old) (state pass.old) (state pass.new) (λ k. k ≡ h) }
 {
-    let word = table.pin_at(header);
     let seen = load(table, pass, word);
     if !is_free(seen) {
         return false;
@@ -53,8 +57,13 @@ fn claim_between(table: &OakTable, pass: &mut Pass, from: u32, to: u32) -> Optio
     ensures claimed { IfSome result (λ h. ClaimsHeader (key table.now) (call_of pass.old) h (state pass.old) (state pass.new)) }
     ensures none { IfNone result (Looked (key table.now) (call_of pass.old) (state pass.old) (state pass.new) (λ h. (from ≤ h) × (h < to))) }
 {
+    if from >= to {
+        return None;
+    }
+    let last = table.pin_at(to - 1);
     for header in from..to {
-        if claim_one(table, pass, header) {
+        let behind = to - 1 - header;
+        if claim_one(table, pass, last - PIN_STEP * behind) {
             return Some(header);
         }
     }

@@ -3,7 +3,7 @@ ghost use Rattle.std.specs.Prelude.{◌≡◌, ◌<◌, Some, None};
 ghost use Rattle.oak_model.specs.Class.{class_number, class_of};
 ghost use Rattle.arena_core.specs.Blocks.{HoldsBlock};
 ghost use Rattle.header_core.specs.declared.states.TheConstants.{OWNED};
-ghost use Rattle.header_core.specs.HeaderHolds.{in_state, KnowsHeader};
+ghost use Rattle.header_core.specs.HeaderHolds.{in_state, IsFreshAt};
 ghost use Rattle.oak_core.specs.Passes.{IsPassOf, Stays, state, key, call_of};
 ghost use Rattle.value_ops.specs.Filling.{ReleasesOwned, Fills, Withdraws};
 
@@ -45,7 +45,7 @@ pub fn fill(
     ensures own { Stays pass.old pass.new }
     ensures header { result.header ≡ owned.header }
     ensures stamp { result.stamp ≡ stamp }
-    ensures known { KnowsHeader result.header result.generation (state pass.new).headers }
+    ensures fresh { IsFreshAt result.header result.generation (state pass.new).headers }
     ensures filled { Fills (key table.now) (call_of pass.old) owned.header block.class block.number len stamp result.generation (state pass.old) (state pass.new) }
 {
     let Owned { header } = owned;
@@ -68,7 +68,7 @@ pub fn fill(
 pub fn withdraw(table: &OakTable, pass: &mut Pass, fresh: Fresh) -> Block
     requires own { IsPassOf table.now pass.old }
     requires inside { fresh.header < (key table.now).headers }
-    requires known { KnowsHeader fresh.header fresh.generation (state pass.old).headers }
+    requires fresh { IsFreshAt fresh.header fresh.generation (state pass.old).headers }
     requires unpinned { (state pass.old).headers.pin ≡ None }
     ensures own { Stays pass.old pass.new }
     ensures held { HoldsBlock (key table.now) (class_number result.class) result.number (state pass.new).blocks }

@@ -1,19 +1,26 @@
-//! Calls on value headers: claims, fillings, pins and readings, and the recipes of computes.
+//! Calls on value headers: claims, fillings, pins and readings, locks, and the recipes of computes.
 #![tactic(auto)]
 
+mod burying;
 mod claiming;
 #[cfg(test)]
 mod claiming_tests;
 mod filling;
+mod locked;
+mod locking;
 mod pinning;
 mod readers;
 mod reading;
 #[cfg(test)]
 mod reading_tests;
 mod recipes;
+mod rewriting;
+mod words;
 
+pub use burying::Buried;
 pub use claiming::{NoHeader, Owned, claim};
 pub use filling::{fill, release, withdraw};
+pub use locking::{Locked, NoLock, lock};
 pub use pinning::{BadPin, HeaderPin, pin_at};
 pub use readers::{a_pin_stands_until_it_is_undone, no_block_changes_under_a_reader};
 pub use reading::Reading;

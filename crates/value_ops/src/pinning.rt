@@ -1,6 +1,6 @@
 //! Pins of headers.
 ghost use Rattle.std.specs.Prelude.{◌≡◌, ◌<◌, IfOk, IfErr, None};
-ghost use Rattle.header_core.specs.HeaderHolds.{KnowsHeader};
+ghost use Rattle.oak_core.specs.Known.{KnowsHeader};
 ghost use Rattle.oak_core.specs.Passes.{IsPassOf, Stays, state, key, call_of};
 ghost use Rattle.value_ops.specs.Pinning.{PinsHeader, EndsPin, PinsLive, PinsDud};
 
@@ -47,7 +47,7 @@ pub fn pin_at(
 ) -> Result<HeaderPin, BadPin>
     requires own { IsPassOf table.now pass.old }
     requires inside { header < (key table.now).headers }
-    requires known { KnowsHeader header generation (state pass.old).headers }
+    requires known { KnowsHeader header generation (state pass.old) }
     requires unpinned { (state pass.old).headers.pin ≡ None }
     ensures own { Stays pass.old pass.new }
     ensures good { IfOk result (λ p. (p.header ≡ header) × (p.generation ≡ generation) × PinsLive (key table.now) (call_of pass.old) header generation (state pass.old) (state pass.new)) }

@@ -8,11 +8,9 @@ ghost use Rattle.value_ops.specs.Pinning.{HasPin, EndsPin};
 ghost use Rattle.value_ops.specs.Reading.{IsReading, ReadsOn, value, stamp, header, words_pinned, bytes_in};
 
 use crate::pinning::{HeaderPin, unpin};
+use crate::words::{WORD, put_word};
 use arena_core::place::{block_in, class_in, length_in};
 use oak_core::{OakTable, Pass, load};
-
-/// The bytes of a word.
-const WORD: usize = 8;
 
 /// A value that is read under a good pin. It borrows the pass until [`Reading::done`] undoes the pin,
 /// and can't be dropped. Its calls load words of the value's block, and change nothing.
@@ -149,10 +147,7 @@ impl Reading<'_> {
         ensures reads { ReadsOn self.old self.new }
         ensures copied { take (WORD * i + WORD) out.new ≡ take (WORD * i) out.old ++ bytes_in i (value self.old) }
     {
-        let bytes = self.word(i).to_be_bytes();
-        let from = WORD * i;
-        let to = (from + WORD).min(out.len());
-        out[from..to].copy_from_slice(&bytes[..to - from]);
+        put_word(out, i, self.word(i));
     }
 
     /// Copies the value to `out`, which is as long. Each word of the value is loaded once.

@@ -4,7 +4,7 @@ ghost use Rattle.oak_model.specs.Class.{class_number, class_of};
 ghost use Rattle.arena_core.specs.Blocks.{HoldsBlock};
 ghost use Rattle.arena_core.specs.HeldBlocks.{no_blocks};
 ghost use Rattle.header_core.specs.declared.states.TheConstants.{OWNED};
-ghost use Rattle.header_core.specs.HeaderHolds.{no_headers, in_state, KnowsHeader};
+ghost use Rattle.header_core.specs.HeaderHolds.{no_headers, in_state, IsFreshAt};
 ghost use Rattle.oak_core.specs.PassState.{HoldsNothing, IsAlone};
 ghost use Rattle.oak_core.specs.Passes.{IsPassOf, Stays, state, key};
 ghost use Rattle.oak_core.specs.Splitting.{IsGrown};
@@ -89,6 +89,18 @@ fn whole_is(rt: &impl Abort, reading: &mut Reading<'_>, bytes: &[u8], front: u64
     parts_are(rt, reading, bytes, front);
 }
 
+/// Its third byte is that of these bytes, where they are three or more.
+fn third_is(rt: &impl Abort, reading: &mut Reading<'_>, bytes: &[u8])
+    requires reading { IsReading reading.old }
+    requires long { length bytes.now ≡ length (value reading.old) }
+    ensures same_reference { reading.new.pass.ghost_name ≡ reading.old.pass.ghost_name }
+    ensures reads { ReadsOn reading.old reading.new }
+{
+    if bytes.len() > 2 {
+        byte_is(rt, reading, 2, bytes[2]);
+    }
+}
+
 /// Reads the value of a fresh header: exactly these bytes, at this stamp, which is also the number that
 /// the first eight of eight make.
 fn value_is(
@@ -101,7 +113,7 @@ fn value_is(
 )
     requires own { IsPassOf table.now pass.old }
     requires inside { at.0 < (key table.now).headers }
-    requires known { KnowsHeader at.0 at.1 (state pass.old).headers }
+    requires fresh { IsFreshAt at.0 at.1 (state pass.old).headers }
     requires unpinned { (state pass.old).headers.pin ≡ None }
     ensures own { Stays pass.old pass.new }
     ensures grown { IsGrown (state pass.old) (state pass.new) }
@@ -113,9 +125,7 @@ fn value_is(
     let mut reading = pin.reading(table, pass);
     assert_eq!(rt; reading.at(), stamp);
     assert_eq!(rt; reading.len(), bytes.len());
-    if reading.len() > 2 {
-        byte_is(rt, &mut reading, 2, bytes[2]);
-    }
+    third_is(rt, &mut reading, bytes);
     whole_is(rt, &mut reading, bytes, stamp);
     reading.done();
 }
@@ -191,7 +201,7 @@ fn fill_one(
     ensures own { Stays pass.old pass.new }
     ensures rest { KeepsElse (state pass.old) (state pass.new) }
     ensures inside { result.header < (key table.now).headers }
-    ensures known { KnowsHeader result.header result.generation (state pass.new).headers }
+    ensures fresh { IsFreshAt result.header result.generation (state pass.new).headers }
     ensures one { IsOneHeader result.header (state pass.new).headers }
     ensures none { (state pass.new).blocks ≡ no_blocks }
 {
@@ -202,7 +212,7 @@ fn fill_one(
 fn hand_back(table: &OakTable, pass: &mut Pass, fresh: Fresh)
     requires own { IsPassOf table.now pass.old }
     requires inside { fresh.header < (key table.now).headers }
-    requires known { KnowsHeader fresh.header fresh.generation (state pass.old).headers }
+    requires fresh { IsFreshAt fresh.header fresh.generation (state pass.old).headers }
     requires header { IsOneHeader fresh.header (state pass.old).headers }
     requires none { (state pass.old).blocks ≡ no_blocks }
     ensures own { Stays pass.old pass.new }
@@ -225,7 +235,7 @@ fn read_back(
 )
     requires own { IsPassOf table.now pass.old }
     requires inside { fresh.header < (key table.now).headers }
-    requires known { KnowsHeader fresh.header fresh.generation (state pass.old).headers }
+    requires fresh { IsFreshAt fresh.header fresh.generation (state pass.old).headers }
     requires header { IsOneHeader fresh.header (state pass.old).headers }
     requires none { (state pass.old).blocks ≡ no_blocks }
     ensures own { Stays pass.old pass.new }

@@ -6,38 +6,39 @@ use Rattle.oak_core.specs.Passes.{state, key, call_of}
 use Rattle.oak_core.specs.Step.{on_headers}
 use Rattle.oak_core.specs.Usage.{is_free}
 use Rattle.oak_core.proofs.HeaderNames.{pin_below}
+use Rattle.value_ops.proofs.ExchangeFacts.{state_fits}
 use Rattle.value_ops.proofs.ClaimLaws.{claims_behind}
-use Rattle.value_ops.proofs.MetMore.{told_in}
-use Rattle.value_ops.proofs.ClaimFacts.{free_word, free_fits, loaded, loaded_unfree, claims, lost}
+use Rattle.oak_core.proofs.MetMore.{told_in}
+use Rattle.value_ops.proofs.ClaimFacts.{free_word, loaded, loaded_unfree, claims, lost}
 use Rattle.value_ops.proofs.claiming.claim_one.Goals as goal
 
 pub load-seen-requires-clause-inside : goal.load-seen-requires-clause-inside
-load-seen-requires-clause-inside c = pin_below (key c.args.table.now) c.args.header c.pin_at-word.result c.requires.inside c.pin_at-word.ensures
+load-seen-requires-clause-inside c = let n = c.requires.names in pin_below (key c.args.table.now) n.0 c.args.word n.1.inside n.1.word_is
 
 pub returns-then-not-is_free-clause-taken : goal.returns-then-not-is_free-clause-taken
-returns-then-not-is_free-clause-taken c = λ _. let no : c.is_free.result ≡ false = search rules in
-    loaded_unfree (key c.args.table.now) (call_of c.args.pass.now) c.args.header c.requires.inside c.pin_at-word.result c.load-seen.result (state c.args.pass.now) (state c.load-seen.new.pass) c.pin_at-word.ensures c.load-seen.ensures.loaded (sym c.is_free.ensures ∙ no)
+returns-then-not-is_free-clause-taken c = λ h names _. let unfree : c.is_free.result ≡ false = search rules in
+    loaded_unfree (key c.args.table.now) (call_of c.args.pass.now) h names.inside c.args.word c.load-seen.result (state c.args.pass.now) (state c.load-seen.new.pass) names.word_is c.load-seen.ensures.loaded (sym c.is_free.ensures ∙ unfree)
 
 pub overflow_add-seen : goal.overflow_add-seen
-overflow_add-seen c = let yes : c.is_free.result ≡ true = search rules in let h = free_fits c.load-seen.result c.load-seen.type_inv (free_word c.load-seen.result (sym c.is_free.ensures ∙ yes)).state in omega arith
+overflow_add-seen c = let free : c.is_free.result ≡ true = search rules in let s = (free_word c.load-seen.result (sym c.is_free.ensures ∙ free)).state in let h = state_fits c.load-seen.result c.load-seen.type_inv (omega arith) in omega arith
 
 pub claim_header-requires-clause-names : goal.claim_header-requires-clause-names
-claim_header-requires-clause-names c = let yes : c.is_free.result ≡ true = search rules in
-    (c.args.header, record { inside = c.requires.inside; word_is = c.pin_at-word.ensures; free = free_word c.load-seen.result (sym c.is_free.ensures ∙ yes); new_is = (λ i. c.load-seen.result + STATE) })
+claim_header-requires-clause-names c = let free : c.is_free.result ≡ true = search rules in let n = c.requires.names in
+    (n.0, record { inside = n.1.inside; word_is = n.1.word_is; free = free_word c.load-seen.result (sym c.is_free.ensures ∙ free); new_is = (λ i. c.load-seen.result + STATE) })
 
 pub returns-clause-claimed : goal.returns-clause-claimed
-returns-clause-claimed c = λ e. let z : Sizes = key c.args.table.now in let call = call_of c.args.pass.now in let h = c.args.header in let n = c.load-seen.result in let v = state c.args.pass.now in let u = state c.load-seen.new.pass in let w = state c.claim_header.new.pass in
+returns-clause-claimed c = λ h names e. let z : Sizes = key c.args.table.now in let call = call_of c.args.pass.now in let n = c.load-seen.result in let v = state c.args.pass.now in let u = state c.load-seen.new.pass in let w = state c.claim_header.new.pass in
     let free = free_word n (sym c.is_free.ensures ∙ c.if-not-is_free.false) in
-    claims_behind z call h v u w (λ k. ⊥) (loaded z call c.pin_at-word.result n v u c.load-seen.ensures.loaded)
-    (claims z call h c.requires.inside n c.claim_header.result u w
+    claims_behind z call h v u w (λ k. ⊥) (loaded z call c.args.word n v u c.load-seen.ensures.loaded)
+    (claims z call h names.inside n c.claim_header.result u w
     (told_in z call (call_of c.load-seen.new.pass) (on_headers (claim_header h n)) u c.claim_header.result w c.load-seen.ensures.own.call
-    (c.claim_header.ensures.told h record { inside = c.requires.inside; word_is = c.pin_at-word.ensures; free = free; new_is = (λ i. n + STATE) }))
+    (c.claim_header.ensures.told h record { inside = names.inside; word_is = names.word_is; free = free; new_is = (λ i. n + STATE) }))
     (eqb-true c.claim_header.result n e) free)
 
 pub returns-clause-taken : goal.returns-clause-taken
-returns-clause-taken c = λ e. let z : Sizes = key c.args.table.now in let call = call_of c.args.pass.now in let h = c.args.header in let n = c.load-seen.result in let v = state c.args.pass.now in let u = state c.load-seen.new.pass in let w = state c.claim_header.new.pass in
-    let yes : is_free n ≡ true = sym c.is_free.ensures ∙ c.if-not-is_free.false in
-    lost z call h c.requires.inside c.pin_at-word.result n c.claim_header.result v u w c.pin_at-word.ensures c.load-seen.ensures.loaded yes
+returns-clause-taken c = λ h names e. let z : Sizes = key c.args.table.now in let call = call_of c.args.pass.now in let n = c.load-seen.result in let v = state c.args.pass.now in let u = state c.load-seen.new.pass in let w = state c.claim_header.new.pass in
+    let free : is_free n ≡ true = sym c.is_free.ensures ∙ c.if-not-is_free.false in
+    lost z call h names.inside c.args.word n c.claim_header.result v u w names.word_is c.load-seen.ensures.loaded free
     (told_in z call (call_of c.load-seen.new.pass) (on_headers (claim_header h n)) u c.claim_header.result w c.load-seen.ensures.own.call
-    (c.claim_header.ensures.told h record { inside = c.requires.inside; word_is = c.pin_at-word.ensures; free = free_word n yes; new_is = (λ i. n + STATE) }))
+    (c.claim_header.ensures.told h record { inside = names.inside; word_is = names.word_is; free = free_word n free; new_is = (λ i. n + STATE) }))
     (eqb-false c.claim_header.result n e)

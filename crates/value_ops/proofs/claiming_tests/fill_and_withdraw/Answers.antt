@@ -3,7 +3,7 @@ use Rattle.oak_model.specs.declared.classes.Class.{Class}
 use Rattle.oak_model.specs.Limits.{Sizes}
 use Rattle.header_core.specs.declared.states.TheConstants.{OWNED}
 use Rattle.header_core.specs.declared.holds.HeaderHolds.{HeaderHolds}
-use Rattle.header_core.specs.HeaderHolds.{in_state, KnowsHeader}
+use Rattle.header_core.specs.HeaderHolds.{in_state, IsFreshAt}
 use Rattle.oak_core.specs.Passes.{state, key, call_of}
 use Rattle.value_ops.specs.OneHeader.{IsOneHeader}
 use Rattle.value_ops.proofs.OneHeaderLaws.{one_same, filled_one, filled_none, filled_else, withdrawn_none, withdrawn_one, withdrawn_else, given_none, given_headers, given_else, else_on}
@@ -21,8 +21,8 @@ fill-fresh-requires-clause-fits g c = ap (λ (d : Class). Some d) (sym c.take_on
 pub withdraw-back-requires-clause-inside : goal.withdraw-back-requires-clause-inside
 withdraw-back-requires-clause-inside g c = subst (λ (h : ℕ). h < (key c.args.table.now).headers) (sym c.fill-fresh.ensures.header) c.claim_one-owned.ensures.inside
 
-pub withdraw-back-requires-clause-known : goal.withdraw-back-requires-clause-known
-withdraw-back-requires-clause-known g c = subst (KnowsHeader c.fill-fresh.result.header c.fill-fresh.result.generation) (sym c.none_left.ensures.headers) c.fill-fresh.ensures.known
+pub withdraw-back-requires-clause-fresh : goal.withdraw-back-requires-clause-fresh
+withdraw-back-requires-clause-fresh g c = subst (IsFreshAt c.fill-fresh.result.header c.fill-fresh.result.generation) (sym c.none_left.ensures.headers) c.fill-fresh.ensures.fresh
 
 pub withdraw-back-requires-clause-unpinned : goal.withdraw-back-requires-clause-unpinned
 withdraw-back-requires-clause-unpinned g c = let z : Sizes = key c.args.table.now in let h = c.claim_one-owned.result.header in let d : Class = c.take_one-block.result.class in let b = c.take_one-block.result.number in let g' = c.fill-fresh.result.generation in

@@ -1,0 +1,134 @@
+-- What a try to lock a header tells.
+use Rattle.std.proofs.Common.{◌≡◌, ◌≢◌, ◌⊎◌, ℕ, ◌+◌, ◌<◌, ◌==◌, ◌&&◌, true, false, cond, [], ◌∷◌, sym, refl, ap, ◌∙◌, subst, inl, inr, ⊎_elim, arith, Option, Some, None, eqb-true, eq-eqb}
+use mathlib.Core.Logic.{dite}
+use native.Mathlib.Decide.{ℕ_discrete, dec_lt}
+use Rattle.pin_word.specs.PinWord.{generation_of, state_of, count_of}
+use Rattle.oak_model.specs.Limits.{Sizes}
+use Rattle.oak_model.proofs.Counting.{both_true, test-cases}
+use Rattle.arena_core.specs.Place.{content}
+use Rattle.header_core.specs.declared.states.TheConstants.{LIVE, LOCKED, DEAD}
+use Rattle.header_core.specs.declared.holds.HeldHeader.{HeldHeader}
+use Rattle.header_core.specs.HeaderHolds.{fresh_at}
+use Rattle.header_core.specs.HeaderStep.{IsLiveWord, lock_header, locked_at}
+use Rattle.oak_core.specs.declared.states.Finding.{Finding}
+use Rattle.oak_core.specs.declared.states.PassState.{PassState}
+use Rattle.oak_core.specs.Finding.{finding, grown, noted}
+use Rattle.oak_core.specs.HeaderCalls.{Locks}
+use Rattle.oak_core.specs.Known.{knows_life}
+use Rattle.oak_core.specs.Memory.{Memory, index, memory}
+use Rattle.oak_core.specs.Splitting.{Loads}
+use Rattle.oak_core.specs.Step.{on_headers, MayOnHeaders}
+use Rattle.value_ops.specs.Claiming.{pin_spot}
+use Rattle.value_ops.specs.declared.locking.NoLock.TheVariants.{Busy, Dead}
+use Rattle.value_ops.specs.Locking.{LocksHeader, may_lock, IsDeadAt, refusal, LooksOnce, IsBusy, IsNoLock, FindsNoLock}
+use Rattle.value_ops.proofs.ExchangeFacts.{met_word, word_is, hit, missed}
+use Rattle.value_ops.proofs.KnownStates.{IsInUse, known_state, known_free}
+use Rattle.value_ops.proofs.LoadFacts.{found_is}
+use Rattle.oak_core.proofs.MetMore.{grown_twice, told_of}
+
+-- what may be locked
+
+pub live_word : (n g : ℕ) → may_lock n g ≡ true → IsLiveWord n × (generation_of n ≡ g)
+live_word n g is_so = let b = both_true (state_of n == LIVE) ((count_of n == 0) && (generation_of n == g)) is_so in let c = both_true (count_of n == 0) (generation_of n == g) b.1 in
+    (record { state = eqb-true (state_of n) LIVE b.0; count = eqb-true (count_of n) 0 c.0 }, eqb-true (generation_of n) g c.1)
+
+lockable : (n g : ℕ) → state_of n ≡ LIVE → count_of n ≡ 0 → generation_of n ≡ g → may_lock n g ≡ true
+lockable n g s c e = λ i. eq-eqb (state_of n) LIVE s i && (eq-eqb (count_of n) 0 c i && eq-eqb (generation_of n) g e i)
+
+-- a word that is not locked is a cause
+is_cause : (n g : ℕ) (first : Option ℕ) → (¬ IsDeadAt g n → IsBusy g first n) → IsNoLock (refusal n g) g first n
+is_cause n g first busy = test-cases ((generation_of n == g) && (state_of n == DEAD)) (λ t. ((generation_of n == g) && (state_of n == DEAD)) ≡ t → IsNoLock (cond t Dead Busy) g first n)
+    (λ _ is_so. let b = both_true (generation_of n == g) (state_of n == DEAD) is_so in (eqb-true (generation_of n) g b.0, eqb-true (state_of n) DEAD b.1))
+    (λ _ not_so. let alive = not_dead not_so in (alive, busy alive)) refl
+  where
+    not_dead : ((generation_of n == g) && (state_of n == DEAD)) ≡ false → ¬ IsDeadAt g n
+    not_dead not_so d = let is_so : ((generation_of n == g) && (state_of n == DEAD)) ≡ true = (λ i. eq-eqb (generation_of n) g d.0 i && eq-eqb (state_of n) DEAD d.1 i) in cc
+
+-- so is that of a known header
+busy_first : (n g : ℕ) → may_lock n g ≡ false → (generation_of n ≡ g → IsInUse (state_of n)) → ¬ IsDeadAt g n → IsBusy g None n
+busy_first n g not_so known alive = dite (ℕ_discrete (generation_of n) g)
+    (λ e. ⊎_elim (λ (l : state_of n ≡ LIVE). dite (dec_lt 0 (count_of n)) (λ some_of. inr (inr (inl some_of))) (λ none. let is_so = lockable n g l (omega arith) e in absurd cc))
+    (λ (o : (state_of n ≡ LOCKED) ⊎ (state_of n ≡ DEAD)). ⊎_elim (λ (k : state_of n ≡ LOCKED). inr (inl k)) (λ (d : state_of n ≡ DEAD). absurd (alive (e, d))) o) (known e))
+    (λ ne. inl ne)
+
+module _ (z : Sizes) (call h g : ℕ) (inside : h < z.headers) (word n : ℕ) (v u : PassState) (at : word ≡ index z (pin_spot h)) (known : 0 < knows_life h g v.knowledge) (l : Loads z call word v n u) where
+  abbrev f : Finding
+  f = finding z call l.spot (Some n) n v
+
+  is_loaded : n ≡ (memory z l.told.table.words).headers.pin h
+  is_loaded = found_is z call word n v u l (pin_spot h) inside at
+
+  in_use : generation_of n ≡ g → IsInUse (state_of n)
+  in_use e = subst (λ (k : ℕ). IsInUse (state_of k)) (sym is_loaded)
+      (known_state z l.told.table l.told.rule l.told.seat v l.told.here h g (ap generation_of (sym is_loaded) ∙ e) (let k : 0 < fresh_at h g v.headers + knows_life h g v.knowledge = omega arith in k))
+
+  looks : LooksOnce z call h v n u
+  looks = subst (λ (i : ℕ). Loads z call i v n u) at l
+
+  -- the load found another word than that of a live header without a pin
+  pub refused_first : may_lock n g ≡ false → FindsNoLock z call h g (refusal n g) v u
+  refused_first not_so = record {
+    first = None;
+    number = n;
+    looks = looks;
+    cause = is_cause n g None (busy_first n g not_so in_use);
+    more = f ∷ [];
+    calls = (refl, tt);
+    after = l.met;
+  }
+
+  still_known : 0 < knows_life h g u.knowledge
+  still_known = subst (λ (y : PassState). 0 < knows_life h g y.knowledge) (sym l.met) known
+
+  module _ (is_so : may_lock n g ≡ true) where
+    pub may_be_locked : MayOnHeaders z (lock_header h n) u
+    may_be_locked = let w = live_word n g is_so in record { inside = inside; headers = w.0; block = tt; known = subst (λ (k : ℕ). 0 < knows_life h k u.knowledge) (sym w.1) still_known }
+
+    module _ (k : ℕ) (w : PassState) (t : Locks z call h n u k w) where
+      abbrev m : Memory
+      m = memory z t.table.words
+
+      abbrev front : Memory → HeldHeader
+      front o = locked_at o.headers (content o.arena.bytes) h
+
+      abbrev met_now : Finding
+      met_now = met_word z call h inside n front k u
+
+      -- the exchange found another word
+      pub refused_second : k ≢ n → FindsNoLock z call h g (refusal k g) v w
+      refused_second ne = record {
+        first = Some n;
+        number = k;
+        looks = record { between = u; loads = looks; live = (live_word n g is_so).0; told = t };
+        cause = is_cause k g (Some n) (λ alive. inr (inr (inr ne)));
+        more = f ∷ met_now ∷ [];
+        calls = (refl, (refl, tt));
+        after = missed z call h inside n front t.table k u w t.finds t.after ne ∙ (ap (grown (met_now ∷ [])) l.met ∙ grown_twice v (f ∷ []) (met_now ∷ []));
+      }
+
+      -- it found the same one, and the pass has the header locked
+      module _ (same : k ≡ n) where
+        is_word : m.headers.pin h ≡ n
+        is_word = word_is z call h inside n front t.table k u w t.finds t.after ∙ same
+
+        abbrev told_hit : Locks z call h n u n w
+        told_hit = record { table = t.table; seat = t.seat; rule = t.rule; here = t.here; going = t.going; may = t.may; finds = t.finds ∙ same; after = t.after }
+
+        abbrev with_lock : PassState → PassState
+        with_lock y = record (noted met_now y) { headers = record y.headers { held = front m ∷ y.headers.held } }
+
+        pub locks : LocksHeader z call h g v w
+        locks = let live = live_word n g is_so in record {
+          inside = inside;
+          before = f ∷ [];
+          number = n;
+          live = live.0;
+          generation = live.1;
+          told = told_of z call (on_headers (lock_header h n)) u (grown (f ∷ []) v) l.met n w told_hit;
+          unheld = known_free z t.table t.rule t.seat u t.here h g (ap generation_of is_word ∙ live.1) still_known (ap state_of is_word ∙ live.0.state);
+          unpinned = t.rule.headers.counted h ∙ (ap count_of is_word ∙ live.0.count);
+          more = f ∷ met_now ∷ [];
+          calls = (refl, (refl, tt));
+          after = hit z call h inside n front t.table k u w t.finds t.after same
+              ∙ (ap with_lock l.met ∙ ap (λ (y : PassState). record y { headers = record v.headers { held = front m ∷ v.headers.held } }) (grown_twice v (f ∷ []) (met_now ∷ [])));
+        }

@@ -1,0 +1,123 @@
+-- The words in which bytes stand, and the bytes that are copied out of words.
+use Rattle.std.proofs.Common.{◌≡◌, ℕ, zero, suc, ◌+◌, ◌-◌, ◌*◌, ◌/◌, ◌^◌, ◌<◌, ◌≤◌, min, ⊎_elim, List, [], ◌∷◌, ◌++◌, length, get_or, take, drop, replicate, sym, refl, ap, ◌∙◌, subst, arith, w64}
+use Rattle.std.specs.Int.{from_be_bytes}
+use Rattle.std.specs.List.{refill}
+use Rattle.std.proofs.lemmas.List.{length-append, length-take, length-replicate, take_all, take_at, drop_all, get_or-take, get_or-drop, get_or_append_left, get_or-append_right, get_or_past, drop-replicate}
+use Rattle.std.proofs.lemmas.Nat.{be_bytes_8}
+use Rattle.std.proofs.Math.Nat.{min-eq_left}
+use borrow.Rule.Slice.PartMut.{put_mid}
+use lib.ListN.{set}
+use mathlib.Core.Logic.{dite}
+use native.Mathlib.Decide.{dec_lt}
+use Rattle.oak_model.proofs.Lists.{rows_length, rows_at}
+use Rattle.value_ops.specs.Reading.{word_bytes, bytes_of, bytes_in}
+use Rattle.value_ops.specs.Words.{filled_up, word_at, words_of}
+use Rattle.value_ops.proofs.ByteFacts.{Stand, stand, part_of, part_long, part_in, length-bytes_of, more_bytes, all_bytes, copied_more}
+
+-- how many words there are, and which
+
+pub words_long : (bs : List ℕ) → length (words_of bs) ≡ (length bs + 7) / 8
+unfolding words_of
+words_long bs = rows_length 0 ((length bs + 7) / 8) (word_at bs)
+
+pub words_at : (bs : List ℕ) (i : ℕ) → 8 * i < length bs → get_or (words_of bs) i 0 ≡ word_at bs i
+unfolding words_of
+words_at bs i lt = rows_at 0 ((length bs + 7) / 8) i (word_at bs) 0 (omega arith) ∙ ap (word_at bs) (let e : 0 + i ≡ i = omega arith in e)
+
+-- bytes written over eight zeros
+pub over_zeros : (k : ℕ) (ys : List ℕ) → length ys ≡ k → put_mid 0 k (replicate 8 0) ys ≡ filled_up ys
+over_zeros k ys e = ap (λ (zs : List ℕ). ys ++ zs) (drop-replicate k 8 0 ∙ ap (λ (n : ℕ). replicate (8 - n) 0) (sym e))
+
+-- of a word's eight bytes those are copied for which there is room
+pub as_many : (len i k : ℕ) → Stand len i k → (xs : List ℕ) → length xs ≡ 8 → take k xs ≡ take (len - 8 * i) xs
+as_many len i k s xs e = let within = s.within in ⊎_elim
+    (λ (f : k ≡ 8). take_all k xs (omega arith) ∙ sym (take_all (len - 8 * i) xs (omega arith)))
+    (λ (f : 8 * i + k ≡ len). ap (λ (n : ℕ). take n xs) (let g : k ≡ len - 8 * i = omega arith in g)) s.all
+
+pub word_put : (ws : List ℕ) (len i : ℕ) → 8 * i < len → len ≤ 8 * length ws → take (len - 8 * i) (word_bytes (get_or ws i 0)) ≡ bytes_in i (take len (bytes_of ws))
+word_put ws len i lt room = let to : ℕ = min (8 * i + 8) len in let s : Stand len i (to - 8 * i) = stand len i to lt refl in
+    sym (as_many len i (to - 8 * i) s (word_bytes (get_or ws i 0)) refl) ∙ sym (part_in len i (to - 8 * i) s ws room)
+
+-- a loop that copies the bytes of words, word by word
+pub put_more : (ws xs ys : List ℕ) (len i n : ℕ) → length xs ≡ len → 8 * i < len → len ≤ 8 * length ws → n ≡ get_or ws i 0
+    → take (8 * i) xs ≡ take (8 * i) (take len (bytes_of ws)) → take (8 * i + 8) ys ≡ take (8 * i) xs ++ take (length xs - 8 * i) (word_bytes n)
+    → take (8 * (i + 1)) ys ≡ take (8 * (i + 1)) (take len (bytes_of ws))
+put_more ws xs ys len i n long lt room is before put = copied_more (take len (bytes_of ws)) xs ys i before
+    (put ∙ ap (λ (zs : List ℕ). take (8 * i) xs ++ zs) ((λ j. take (long j - 8 * i) (word_bytes (is j))) ∙ word_put ws len i lt room))
+
+-- a whole list that was lent, and that the borrower left as ws
+pub refill_whole : (xs ws : List ℕ) → length ws ≡ length xs → refill (length xs) xs ws ≡ ws
+refill_whole xs ws e = take_at ws (drop (length ws) xs) (length xs) e
+
+-- a loop that stores words over others, one by one: us come over ws
+
+pub words_step : (us ws : List ℕ) (i : ℕ) → i < length us → length us ≤ length ws → set (take i us ++ drop i ws) i (get_or us i 0) ≡ take (suc i) us ++ drop (suc i) ws
+words_step [] ws i lt le = absurd (omega arith)
+words_step (u ∷ us) [] i lt le = absurd (omega arith)
+words_step (u ∷ us) (w ∷ ws) zero lt le = refl
+words_step (u ∷ us) (w ∷ ws) (suc i) lt le = ap (λ (xs : List ℕ). u ∷ xs) (words_step us ws i (omega arith) (omega arith))
+
+pub words_end : (us ws : List ℕ) (n : ℕ) → length us ≤ n → n ≤ length us → take n us ++ drop n ws ≡ us ++ drop (length us) ws
+words_end us ws n le ge = ap (λ (k : ℕ). take k us ++ drop k ws) (let e : n ≡ length us = omega arith in e) ∙ ap (λ (xs : List ℕ). xs ++ drop (length us) ws) (take_all (length us) us (omega arith))
+
+-- the bytes of bytes' words; bytes are numbers below 256
+
+zeros_at : (n i : ℕ) → get_or (replicate {A = ℕ} n 0) i 0 ≡ zero
+zeros_at zero i = refl
+zeros_at (suc n) zero = refl
+zeros_at (suc n) (suc i) = zeros_at n i
+
+be_small : (xs : List ℕ) → ((k : ℕ) → get_or xs k 0 < 256) → from_be_bytes w64 xs < 2 ^ 64
+be_small xs small = let a = small 0 in let b = small 1 in let c = small 2 in let d = small 3 in let e = small 4 in let f = small 5 in let g = small 6 in let h = small 7 in omega arith
+
+module _ (bs : List ℕ) (small : (k : ℕ) → get_or bs k 0 < 256) (i : ℕ) where
+  few : length (bytes_in i bs) ≤ 8
+  few = let e = length-take 8 (drop (8 * i) bs) in omega arith
+
+  full : length (filled_up (bytes_in i bs)) ≡ 8
+  full = let x : ℕ = length (bytes_in i bs) in let zs : List ℕ = replicate (8 - x) 0 in let a : length (bytes_in i bs ++ zs) ≡ x + length zs = length-append (bytes_in i bs) zs in let b : length zs ≡ 8 - x = length-replicate (8 - x) 0 in let c : x ≤ 8 = few in omega arith
+
+  part_small : (j : ℕ) → get_or (bytes_in i bs) j 0 < 256
+  part_small j = dite (dec_lt j 8)
+      (λ l. subst (λ (n : ℕ). n < 256) (sym (get_or-take 8 (drop (8 * i) bs) j 0 l ∙ get_or-drop (8 * i) bs j 0)) (small (8 * i + j)))
+      (λ n. let f = few in subst (λ (n : ℕ). n < 256) (sym (get_or_past (bytes_in i bs) j 0 (omega arith))) (omega arith))
+
+  filled_small : (j : ℕ) → get_or (filled_up (bytes_in i bs)) j 0 < 256
+  filled_small j = let xs : List ℕ = bytes_in i bs in let zs : List ℕ = replicate (8 - length xs) 0 in dite (dec_lt j (length xs))
+      (λ l. subst (λ (n : ℕ). n < 256) (sym (get_or_append_left xs zs 0 j l)) (part_small j))
+      (λ n. subst (λ (n : ℕ). n < 256) (sym (get_or-append_right xs zs (length xs) j 0 refl (omega arith) ∙ zeros_at (8 - length xs) (j - length xs))) (omega arith))
+
+  pub word_at-bytes : word_bytes (word_at bs i) ≡ filled_up (bytes_in i bs)
+  word_at-bytes = be_bytes_8 (filled_up (bytes_in i bs)) (word_at bs i) full filled_small refl
+
+  -- of the bytes of the word those that are not zeros behind the last byte
+  pub word_at-part : 8 * i < length bs → take (length bs - 8 * i) (word_bytes (word_at bs i)) ≡ bytes_in i bs
+  word_at-part lt = let len : ℕ = length bs in let k : ℕ = min (8 * i + 8) len - 8 * i in let s : Stand len i k = stand len i (min (8 * i + 8) len) lt refl in let xs : List ℕ = bytes_in i bs in
+      let long : length xs ≡ k = ap length (sym (part_of len i k s bs refl)) ∙ part_long len i k s bs refl in
+      ap (take (len - 8 * i)) word_at-bytes ∙ (sym (as_many len i k s (filled_up xs) full) ∙ take_at xs (replicate (8 - length xs) 0) k long)
+
+  pub words_small : get_or (words_of bs) i 0 < 2 ^ 64
+  words_small = dite (dec_lt (8 * i) (length bs))
+      (λ l. subst (λ (n : ℕ). n < 2 ^ 64) (sym (words_at bs i l)) (be_small (filled_up (bytes_in i bs)) filled_small))
+      (λ n. subst (λ (n : ℕ). n < 2 ^ 64) (sym (get_or_past (words_of bs) i 0 (let e = words_long bs in omega arith))) (omega arith))
+
+-- two lists with the same bytes in each word
+pub by_words : (xs ys : List ℕ) → length xs ≡ length ys → ((i : ℕ) → 8 * i < length xs → bytes_in i xs ≡ bytes_in i ys) → xs ≡ ys
+by_words xs ys e same = sym (all_bytes xs (length xs) (omega arith)) ∙ (first (length xs) ∙ all_bytes ys (length xs) (omega arith))
+  where
+    first : (n : ℕ) → take (8 * n) xs ≡ take (8 * n) ys
+    first zero = refl
+    first (suc n) = let here : bytes_in n xs ≡ bytes_in n ys = dite (dec_lt (8 * n) (length xs)) (λ l. same n l)
+        (λ m. ap (take 8) (drop_all (8 * n) xs (omega arith) ∙ sym (drop_all (8 * n) ys (omega arith)))) in
+        let f = first n in let s : 8 * suc n ≡ 8 * (n + 1) = omega arith in
+        ap (λ (j : ℕ). take j xs) s ∙ (more_bytes xs n ∙ ((λ j. f j ++ here j) ∙ (sym (more_bytes ys n) ∙ ap (λ (j : ℕ). take j ys) (sym s))))
+
+-- bytes that are stored as words, over others, are read again
+pub value_back : (bs rest : List ℕ) → ((k : ℕ) → get_or bs k 0 < 256) → take (length bs) (bytes_of (words_of bs ++ rest)) ≡ bs
+value_back bs rest small = let len : ℕ = length bs in let ws : List ℕ = words_of bs ++ rest in let n : ℕ = length (words_of bs) in
+    let wide : length ws ≡ n + length rest = length-append (words_of bs) rest in let many : n ≡ (len + 7) / 8 = words_long bs in let all : length (bytes_of ws) ≡ 8 * length ws = length-bytes_of ws in
+    let room : len ≤ 8 * length ws = omega arith in
+    let long : length (take len (bytes_of ws)) ≡ len = length-take len (bytes_of ws) ∙ min-eq_left (let h : len ≤ length (bytes_of ws) = omega arith in h) in
+    by_words (take len (bytes_of ws)) bs long (λ i l. let lt : 8 * i < len = subst (λ (j : ℕ). 8 * i < j) long l in
+    sym (word_put ws len i lt room)
+    ∙ (ap (λ (w : ℕ). take (len - 8 * i) (word_bytes w)) (get_or_append_left (words_of bs) rest 0 i (let h : i < n = omega arith in h) ∙ words_at bs i lt) ∙ word_at-part bs small i lt))

@@ -1,0 +1,23 @@
+use Rattle.std.proofs.Common.{arith}
+use Rattle.header_core.specs.declared.states.TheConstants.{LOCKED}
+use Rattle.header_core.specs.Headers.{at_place}
+use Rattle.oak_core.specs.Memory.{in_headers}
+use Rattle.oak_core.specs.Passes.{state, key, call_of}
+use Rattle.oak_core.proofs.Words.{index_below}
+use Rattle.value_ops.proofs.StampStores.{held_place, held_block}
+use Rattle.value_ops.proofs.locking.Locked.place.Goals as goal
+
+pub load-requires-clause-inside : goal.load-requires-clause-inside
+load-requires-clause-inside c = let e = c.place_at.ensures in let b = index_below (key c.args.table.now) (in_headers (at_place c.args.self.now.header)) c.requires.locked.inside in omega arith
+
+pub returns-clause-place : goal.returns-clause-place
+returns-clause-place c = let k = c.requires.locked in
+    held_place (key c.args.table.now) (call_of c.args.pass.now) c.args.self.now.header LOCKED c.place_at.result c.load.result (state c.args.pass.now) (state c.load.new.pass) k.inside (omega arith) (omega arith) k.locked c.load.ensures.loaded c.place_at.ensures
+
+pub returns-clause-block : goal.returns-clause-block
+returns-clause-block c = let k = c.requires.locked in
+    held_block (key c.args.table.now) (call_of c.args.pass.now) c.args.self.now.header LOCKED c.place_at.result c.load.result (state c.args.pass.now) (state c.load.new.pass) k.inside (omega arith) (omega arith) k.locked c.load.ensures.loaded
+    (held_place (key c.args.table.now) (call_of c.args.pass.now) c.args.self.now.header LOCKED c.place_at.result c.load.result (state c.args.pass.now) (state c.load.new.pass) k.inside (omega arith) (omega arith) k.locked c.load.ensures.loaded c.place_at.ensures)
+
+pub returns-clause-limits : goal.returns-clause-limits
+returns-clause-limits c = c.load.ensures.loaded.told.rule.sizes

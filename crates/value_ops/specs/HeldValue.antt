@@ -1,0 +1,20 @@
+-- What a pass keeps of a header that it holds: the stamp, the words of its block, and so the value.
+use Rattle.std.specs.Prelude.{ℕ, ◌==◌, cond, List, [], ◌∷◌, take}
+use Rattle.arena_core.specs.Place.{length_in}
+use Rattle.header_core.specs.declared.holds.HeldHeader.{HeldHeader}
+use Rattle.header_core.specs.HeaderHolds.{place_held}
+use Rattle.value_ops.specs.Reading.{bytes_of}
+
+-- the stamp of the header
+abbrev pub stamp_held : ℕ → List HeldHeader → ℕ
+stamp_held h [] = 0
+stamp_held h (r ∷ rs) = cond (r.header == h) r.stamp (stamp_held h rs)
+
+-- the words of its block
+abbrev pub words_in : ℕ → List HeldHeader → List ℕ
+words_in h [] = []
+words_in h (r ∷ rs) = cond (r.header == h) r.words (words_in h rs)
+
+-- the value: of the bytes of the block as many as the place says
+abbrev pub value_held : ℕ → List HeldHeader → List ℕ
+value_held h rs = take (length_in (place_held h rs)) (bytes_of (words_in h rs))

@@ -1,0 +1,149 @@
+//! The calls on a header of which the pass has the lock.
+ghost use Rattle.std.specs.Prelude.{◌≡◌, Some};
+ghost use Rattle.oak_model.specs.declared.classes.Class.{Class};
+ghost use Rattle.oak_model.specs.declared.writes.Kind.TheVariants.{Put};
+ghost use Rattle.oak_model.specs.Class.{class_number, class_of};
+ghost use Rattle.oak_model.specs.Limits.{IsInLimits};
+ghost use Rattle.arena_core.specs.Blocks.{HoldsBlock};
+ghost use Rattle.arena_core.specs.Place.{class_in, place_word};
+ghost use Rattle.header_core.specs.HeaderHolds.{place_held};
+ghost use Rattle.header_core.specs.HeaderStep.{stamped_at};
+ghost use Rattle.oak_core.specs.Passes.{IsPassOf, Stays, state, key, call_of};
+ghost use Rattle.value_ops.specs.HeldValue.{stamp_held};
+ghost use Rattle.value_ops.specs.UnderLock.{HasBlock, HasLock, HasBuried, IsUnchanged, next_stamp, Meets, ComesTo, Exchanges, EndsLock, Buries};
+
+use crate::burying::Buried;
+use crate::claiming::STATE;
+use crate::locking::Locked;
+use arena_core::place::{block_in, class_in, place_word};
+use oak_core::{Block, OakTable, Pass, load, steps};
+use oak_model::{Class, Kind};
+
+impl Locked {
+    /// The stamp of the write that made the value, or that was stored under the lock.
+    pub fn stamp(&self, table: &OakTable, pass: &mut Pass) -> u64
+        requires own { IsPassOf table.now pass.old }
+        requires locked { HasLock (key table.now) self.now.header self.now.generation (state pass.old) }
+        ensures own { Stays pass.old pass.new }
+        ensures met { Meets (call_of pass.old) (state pass.old) (state pass.new) }
+        ensures stamp { result ≡ stamp_held self.now.header (state pass.old).headers.held }
+    {
+        load(table, pass, table.stamp_at(self.header))
+    }
+
+    /// The class of the value's block.
+    pub fn class(&self, table: &OakTable, pass: &mut Pass) -> Class
+        requires own { IsPassOf table.now pass.old }
+        requires locked { HasLock (key table.now) self.now.header self.now.generation (state pass.old) }
+        ensures own { Stays pass.old pass.new }
+        ensures met { Meets (call_of pass.old) (state pass.old) (state pass.new) }
+        ensures class { class_number result ≡ class_in (place_held self.now.header (state pass.old).headers.held) }
+    {
+        class_in(self.place(table, pass))
+    }
+
+    /// Loads the place word.
+    pub(crate) fn place(&self, table: &OakTable, pass: &mut Pass) -> u64
+        requires own { IsPassOf table.now pass.old }
+        requires locked { HasLock (key table.now) self.now.header self.now.generation (state pass.old) }
+        ensures own { Stays pass.old pass.new }
+        ensures met { Meets (call_of pass.old) (state pass.old) (state pass.new) }
+        ensures place { result ≡ place_held self.now.header (state pass.old).headers.held }
+        ensures block { HasBlock (key table.now) self.now.header result (state pass.old).headers.held }
+        ensures limits { IsInLimits (key table.now) }
+    {
+        load(table, pass, table.place_at(self.header))
+    }
+
+    /// Exchanges the value's block for one that the pass holds, in which `len` bytes stand, at most
+    /// 1,024, and hands the old one back.
+    pub fn change(&mut self, table: &OakTable, pass: &mut Pass, block: Block, len: usize) -> Block
+        requires own { IsPassOf table.now pass.old }
+        requires locked { HasLock (key table.now) self.old.header self.old.generation (state pass.old) }
+        requires held { HoldsBlock (key table.now) (class_number block.class) block.number (state pass.old).blocks }
+        requires fits { class_of len ≡ Some block.class }
+        ensures own { Stays pass.old pass.new }
+        ensures same { self.new ≡ self.old }
+        ensures locked { HasLock (key table.now) self.new.header self.new.generation (state pass.new) }
+        ensures held { HoldsBlock (key table.now) (class_number result.class) result.number (state pass.new).blocks }
+        ensures changed { Exchanges (call_of pass.old) self.old.header block.class block.number len result.class result.number (state pass.old) (state pass.new) }
+    {
+        let Block { class, number } = block;
+        let old = self.place(table, pass);
+        let place_at = table.place_at(self.header);
+        steps::store_field(table, pass, place_at, place_word(class, number, len as u16));
+        Block {
+            class: class_in(old),
+            number: block_in(old),
+        }
+    }
+
+    /// Stores the stamp of a write behind the present one. It stands still at its type's end.
+    fn store_next_stamp(&self, table: &OakTable, pass: &mut Pass) -> u64
+        requires own { IsPassOf table.now pass.old }
+        requires locked { HasLock (key table.now) self.now.header self.now.generation (state pass.old) }
+        ensures own { Stays pass.old pass.new }
+        ensures stamp { result ≡ next_stamp (stamp_held self.now.header (state pass.old).headers.held) }
+        ensures stored { ComesTo (call_of pass.old) (state pass.old).blocks.held (stamped_at self.now.header result (state pass.old).headers.held) (state pass.old) (state pass.new) }
+    {
+        let stamp = self.stamp(table, pass).saturating_add(1);
+        steps::store_field(table, pass, table.stamp_at(self.header), stamp);
+        stamp
+    }
+
+    /// Unlocks the header, which is the write of this kind: its stamp is one more than the value's was.
+    /// The step that makes the header live is the write, and the answer is its stamp.
+    pub fn unlock(self, table: &OakTable, pass: &mut Pass, kind: Kind) -> u64
+        requires own { IsPassOf table.now pass.old }
+        requires locked { HasLock (key table.now) self.header self.generation (state pass.old) }
+        ensures own { Stays pass.old pass.new }
+        ensures stamp { result ≡ next_stamp (stamp_held self.header (state pass.old).headers.held) }
+        ensures unlocked { EndsLock (key table.now) (call_of pass.old) self.header self.generation kind result (state pass.old) (state pass.new) }
+    {
+        let stamp = self.store_next_stamp(table, pass);
+        let Locked {
+            header,
+            generation: _,
+        } = self;
+        steps::unlock_header(table, pass, table.pin_at(header), STATE, kind);
+        stamp
+    }
+
+    /// Marks the header dead, which is the removal: its stamp is one more than the value's was. The pass
+    /// buries the header then.
+    pub fn bury(self, table: &OakTable, pass: &mut Pass) -> Buried
+        requires own { IsPassOf table.now pass.old }
+        requires locked { HasLock (key table.now) self.header self.generation (state pass.old) }
+        ensures own { Stays pass.old pass.new }
+        ensures header { (result.header ≡ self.header) × (result.generation ≡ self.generation) }
+        ensures has { HasBuried (key table.now) result.header result.generation result.stamp (state pass.new) }
+        ensures stamp { result.stamp ≡ next_stamp (stamp_held self.header (state pass.old).headers.held) }
+        ensures buried { Buries (key table.now) (call_of pass.old) self.header self.generation result.stamp (state pass.old) (state pass.new) }
+    {
+        let stamp = self.store_next_stamp(table, pass);
+        let Locked { header, generation } = self;
+        steps::mark_dead(table, pass, table.pin_at(header), STATE);
+        Buried {
+            header,
+            generation,
+            stamp,
+        }
+    }
+
+    /// Unlocks the header without a write. Nothing may have been applied, filled or changed under the
+    /// lock.
+    pub fn give_up(self, table: &OakTable, pass: &mut Pass)
+        requires own { IsPassOf table.now pass.old }
+        requires locked { HasLock (key table.now) self.header self.generation (state pass.old) }
+        requires unchanged { IsUnchanged self.header (state pass.old).headers.held }
+        ensures own { Stays pass.old pass.new }
+        ensures unlocked { EndsLock (key table.now) (call_of pass.old) self.header self.generation Put (stamp_held self.header (state pass.old).headers.held) (state pass.old) (state pass.new) }
+    {
+        let Locked {
+            header,
+            generation: _,
+        } = self;
+        // Where nothing was changed, the step is no write, and the kind says nothing.
+        steps::unlock_header(table, pass, table.pin_at(header), STATE, Kind::Put);
+    }
+}
