@@ -53,3 +53,4 @@ pub mod AloneOwns
 pub mod ClosedFulls
 pub mod UsedWords
 pub mod Frames
+pub mod SamePass

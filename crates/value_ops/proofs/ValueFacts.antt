@@ -14,6 +14,7 @@ use Rattle.oak_core.specs.Memory.{in_arena, index, word_count}
 use Rattle.oak_core.specs.Passes.{state, key}
 use Rattle.oak_core.proofs.ArenaPlaces.{bytes_place, few_bits, few_bytes}
 use Rattle.oak_core.proofs.Words.{index_below}
+use Rattle.oak_core.proofs.SamePass.{stays_both}
 use Rattle.value_ops.specs.declared.reading.Reading.{Reading}
 use Rattle.value_ops.specs.Reading.{word_bytes, bytes_of, bytes_in, value, value_pinned, words_pinned, IsReading, ReadsOn}
 use Rattle.value_ops.proofs.PinFacts.{grown_both}
@@ -89,7 +90,7 @@ pub reads_both : (q r s : Reading) → ReadsOn q r → ReadsOn r s → ReadsOn q
 reads_both q r s a b = record {
   reading = b.reading;
   table = b.table ∙ a.table;
-  stays = record { table = b.stays.table ∙ a.stays.table; seat = b.stays.seat ∙ a.stays.seat; call = b.stays.call ∙ a.stays.call };
+  stays = stays_both a.stays b.stays;
   grown = grown_both (state q.pass.now) (state r.pass.now) (state s.pass.now) a.grown b.grown;
 }
 

@@ -1,16 +1,13 @@
 use Rattle.std.proofs.Common.{◌≡◌, ◌≤◌, ◌<◌, ◌/◌, ◌∙◌}
 use Rattle.oak_core.specs.Passes.{state, key, call_of}
+use Rattle.oak_core.proofs.SamePass.{stays_both}
 use Rattle.arena_ops.proofs.LookLaws.{takes_behind}
 use Rattle.arena_ops.proofs.SearchLaws.{looked_in, takes_in, next_word}
 use Rattle.arena_ops.proofs.searching.take_between.Goals as goal
 
 pub loop-i-preserved : goal.loop-i-preserved
 loop-i-preserved c = record {
-  stays = record {
-    table = c.take_in_word.ensures.own.table ∙ c.loop-i.invariant.stays.table;
-    seat = c.take_in_word.ensures.own.seat ∙ c.loop-i.invariant.stays.seat;
-    call = c.take_in_word.ensures.own.call ∙ c.loop-i.invariant.stays.call;
-  };
+  stays = stays_both c.loop-i.invariant.stays c.take_in_word.ensures.own;
   looked = next_word (key c.args.table.now) (call_of c.args.pass.now) c.args.class (state c.args.pass.now) c.args.from c.loop-i.i (state c.loop-i.pass) (state c.take_in_word.new.pass) c.loop-i.invariant.looked
       (looked_in (key c.args.table.now) (call_of c.args.pass.now) (call_of c.loop-i.pass) c.args.class (state c.loop-i.pass) (state c.take_in_word.new.pass) c.loop-i.invariant.stays.call (λ b. b / 64 ≡ c.loop-i.i) c.in_default.ensures.none);
 }

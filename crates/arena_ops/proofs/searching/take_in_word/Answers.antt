@@ -10,6 +10,7 @@ use Rattle.oak_core.specs.Step.{on_arena}
 use Rattle.oak_core.proofs.KeepsArena.{class_below}
 use Rattle.oak_core.proofs.MetMore.{told_in}
 use Rattle.oak_core.proofs.Words.{index_below}
+use Rattle.oak_core.proofs.SamePass.{stays_both}
 use Rattle.arena_ops.specs.Looking.{Looked}
 use Rattle.arena_ops.proofs.BitFacts.{loaded, set_before, now_taken}
 use Rattle.arena_ops.proofs.LookLaws.{takes_behind}
@@ -51,11 +52,7 @@ loop-clear-smaller c = let t = lowest c.loop-clear.clear c.loop-clear-test.true 
 pub loop-clear-preserved : goal.loop-clear-preserved
 loop-clear-preserved c = let z : Sizes = key c.args.table.now in let call = call_of c.args.pass.now in let t = lowest c.loop-clear.clear c.loop-clear-test.true (let f = c.loop-clear.auto.clear-fits in omega arith) in
     let low : ℕ = trailing_zeros w64 c.loop-clear.clear in let block : ℕ = c.args.i * 64 + low in let inside = c.loop-clear.invariant.within _ t.0 t.1 in let n = c.set_bit-found.result in record {
-      stays = record {
-        table = c.set_bit-found.ensures.own.table ∙ c.loop-clear.invariant.stays.table;
-        seat = c.set_bit-found.ensures.own.seat ∙ c.loop-clear.invariant.stays.seat;
-        call = c.set_bit-found.ensures.own.call ∙ c.loop-clear.invariant.stays.call;
-      };
+      stays = stays_both c.loop-clear.invariant.stays c.set_bit-found.ensures.own;
       within = λ k lk e. c.loop-clear.invariant.within k lk (was_mask c.loop-clear.clear n k c.set_bit-found.type_inv lk e);
       looked = word_next z call c.args.class (state c.args.pass.now) c.args.i c.loop-clear.clear n block (state c.loop-clear.pass) (state c.set_bit-found.new.pass) c.set_bit-found.type_inv (let lt : low < 64 = t.0 in omega arith) c.loop-clear.invariant.looked
           (set_before z call c.args.class (state c.loop-clear.pass) block n (state c.set_bit-found.new.pass) inside

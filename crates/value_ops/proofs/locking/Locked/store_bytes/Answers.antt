@@ -2,6 +2,7 @@ use Rattle.std.proofs.Common.{◌*◌, ◌<◌, length, refl, ◌∙◌}
 use Rattle.oak_model.specs.Limits.{Sizes}
 use Rattle.header_core.specs.HeaderStep.{reworded}
 use Rattle.oak_core.specs.Passes.{state, key, call_of}
+use Rattle.oak_core.proofs.SamePass.{stays_both}
 use Rattle.value_ops.proofs.ComesFurther.{comes_in}
 use Rattle.value_ops.proofs.RewriteFacts.{begins, has_words, word_inside, stored_more, all_stored}
 use Rattle.value_ops.proofs.ValueFacts.{word_of_loop}
@@ -24,7 +25,7 @@ store_word-requires-clause-inside c = let i = c.loop-i.i in let lt : 8 * i < len
 pub loop-i-preserved : goal.loop-i-preserved
 loop-i-preserved c = let z : Sizes = key c.args.table.now in let h = c.args.self.now.header in let v = state c.args.pass.now in let u = state c.loop-i.pass in let w = state c.store_word.new.pass in let bytes = c.args.bytes.now in let s = c.loop-i.invariant in let o = c.store_word.ensures in
     let i = c.loop-i.i in let lt : 8 * i < length bytes = word_of_loop (length bytes) i c.div_ceil-i-end.result c.loop-i-test.true c.div_ceil-i-end.ensures in record {
-      stays = record { table = o.own.table ∙ s.stays.table; seat = o.own.seat ∙ s.stays.seat; call = o.own.call ∙ s.stays.call };
+      stays = stays_both s.stays o.own;
       stored = stored_more z h c.args.self.now.generation c.args.first v c.requires.words bytes c.requires.room (call_of c.args.pass.now) i lt u s.stored c.word_from.result w c.word_from.ensures
           (comes_in (call_of c.args.pass.now) (call_of c.loop-i.pass) u.blocks.held (reworded h i c.word_from.result u.headers.held) u w s.stays.call o.stored);
     }

@@ -2,6 +2,7 @@ use Rattle.std.proofs.Common.{◌≡◌, ◌+◌, ◌*◌, ◌/◌, ◌%◌, ◌
 use Rattle.oak_model.specs.Limits.{Sizes}
 use Rattle.header_core.specs.HeaderStep.{reworded}
 use Rattle.oak_core.specs.Passes.{state, key, call_of, scratch_of}
+use Rattle.oak_core.proofs.SamePass.{stays_both}
 use Rattle.value_ops.specs.Words.{words_of}
 use Rattle.value_ops.proofs.ComesFurther.{comes_in}
 use Rattle.value_ops.proofs.RewriteFacts.{as_long_fits, begins, has_words, word_inside, stored_more, all_stored, rewrites}
@@ -34,7 +35,7 @@ loop-i-preserved c = let z : Sizes = key c.args.table.now in let h = c.args.self
     let s = c.loop-i.invariant in let o = c.store_word.ensures in let x = c.word_from-word.result in
     let i = c.loop-i.i in let n = c.div_ceil-i-end.result in let lt : 8 * i < length bytes = word_of_loop (length bytes) i n c.loop-i-test.true (of_scratch bytes c.bytes.result.now n c.div_ceil-i-end.ensures (c.bytes.ensures.bytes ∙ c.scratch.ensures)) in
     let same : c.bytes-in-loop-i.result.now ≡ bytes = c.bytes-in-loop-i.ensures.bytes ∙ (c.scratch-in-loop-i.ensures ∙ s.scratch) in record {
-      stays = record { table = o.own.table ∙ s.stays.table; seat = o.own.seat ∙ s.stays.seat; call = o.own.call ∙ s.stays.call };
+      stays = stays_both s.stays o.own;
       scratch = o.scratch ∙ s.scratch;
       stored = stored_more z h g c.args.first v is bytes (as_long_fits z h g c.args.first v is bytes c.requires.long) (call_of c.args.pass.now) i lt u s.stored x w (c.word_from-word.ensures ∙ ap (λ (xs : List ℕ). get_or (words_of xs) i 0) same)
           (comes_in (call_of c.args.pass.now) (call_of c.loop-i.pass) u.blocks.held (reworded h i x u.headers.held) u w s.stays.call o.stored);
