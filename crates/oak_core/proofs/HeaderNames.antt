@@ -3,6 +3,7 @@ use Rattle.std.proofs.Common.{◌≡◌, ℕ, ◌+◌, ◌-◌, ◌*◌, ◌%◌
 use prog.Atomic.{either}
 use Rattle.atomic_table.specs.Table.{Me, Allows}
 use Rattle.oak_model.specs.Limits.{Sizes}
+use Rattle.header_core.specs.declared.states.TheConstants.{FREE}
 use Rattle.header_core.specs.declared.holds.HeldAs.{HeldAs}
 use Rattle.header_core.specs.declared.holds.HeldAs.TheVariants.{Owned, Fresh, Locked, Buried}
 use Rattle.header_core.specs.declared.holds.HeaderHolds.{HeaderHolds}
@@ -11,7 +12,7 @@ use Rattle.header_core.specs.HeaderHolds.{held_state}
 use Rattle.header_core.specs.HeaderStep.{STATE, MayRelease, claim_header, open_header, pin_header, unpin_header, release_header}
 use Rattle.oak_core.specs.declared.states.PassState.{PassState}
 use Rattle.oak_core.specs.Memory.{Spot, in_headers, index, word_count}
-use Rattle.oak_core.specs.HeaderCalls.{NamesPin, NamesClaim, NamesRelease, Claims, Opens, Pins, Unpins, Releases}
+use Rattle.oak_core.specs.HeaderCalls.{NamesPin, NamesExchange, NamesClaim, NamesRelease, Claims, Opens, Pins, Unpins, Releases}
 use Rattle.oak_core.specs.Running.{Holds, KeepsSeat}
 use Rattle.oak_core.specs.Step.{on_headers, MayOnHeaders}
 use Rattle.oak_core.proofs.Allowed.{allows_at}
@@ -32,8 +33,8 @@ pin_apart z h k word lt lt' e e' = let s = index_apart z (in_headers (at_pin h))
 pub one_header : (z : Sizes) (h k word : ℕ) → NamesPin z h word → NamesPin z k word → h ≡ k
 one_header z h k word n m = pin_apart z h k word n.inside m.inside n.word_is m.word_is
 
-pub one_claim : (z : Sizes) (h k word old new : ℕ) → NamesClaim z h word old new → NamesClaim z k word old new → h ≡ k
-one_claim z h k word old new n m = pin_apart z h k word n.inside m.inside n.word_is m.word_is
+pub one_exchange : (z : Sizes) (s h k word old new : ℕ) → NamesExchange z s h word old new → NamesExchange z s k word old new → h ≡ k
+one_exchange z s h k word old new n m = pin_apart z h k word n.inside m.inside n.word_is m.word_is
 
 -- a header that may be released is owned or fresh
 one_way : (s t : HeldAs) (a : HeaderHolds) → MayRelease s a → held_state s * STATE ≡ held_state t * STATE → s ≡ t
@@ -60,8 +61,8 @@ module _ (z : Sizes) (call : ℕ) (slots id : ℕ) (me : Me (Unit {0}) PassState
   pub allows_claim : (word old new h : ℕ) → NamesClaim z h word old new
       → Allows (Holds z) slots id me word (λ n. either (n == old) new n) (λ n m. ((k : ℕ) → NamesClaim z k word old new → Claims z call k old me.0 n m.0) × KeepsSeat me m)
   allows_claim word old new h names = allows_at z call slots id me going (on_headers (claim_header h old)) (λ n w. (k : ℕ) → NamesClaim z k word old new → Claims z call k old me.0 n w) word (λ n. either (n == old) new n)
-      (sym names.word_is) (λ i n. either (n == old) (sym names.new_is i) n) record { inside = names.inside; headers = names.free; block = tt; known = tt }
-      (λ n w told k named. subst (λ (j : ℕ). Claims z call j old me.0 n w) (one_claim z h k word old new names named) told)
+      (sym names.word_is) (λ i n. either (n == old) (sym names.new_is i) n) record { inside = names.inside; headers = names.unpinned; block = tt; known = tt }
+      (λ n w told k named. subst (λ (j : ℕ). Claims z call j old me.0 n w) (one_exchange z FREE h k word old new names named) told)
 
   pub allows_open : (word operand h : ℕ) → NamesPin z h word → operand ≡ STATE → MayOnHeaders z (open_header h) me.0
       → Allows (Holds z) slots id me word (λ n. (n + operand) % 2 ^ 64) (λ n m. ((k : ℕ) → NamesPin z k word → Opens z call k me.0 n m.0) × KeepsSeat me m)

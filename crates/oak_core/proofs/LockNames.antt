@@ -4,23 +4,21 @@ use prog.Atomic.{either}
 use Rattle.atomic_table.specs.Table.{Me, Allows}
 use Rattle.oak_model.specs.declared.writes.Kind.{Kind}
 use Rattle.oak_model.specs.Limits.{Sizes}
+use Rattle.header_core.specs.declared.states.TheConstants.{LIVE}
 use Rattle.header_core.specs.HeaderStep.{STATE, lock_header, unlock_header, mark_dead, take_back}
 use Rattle.oak_core.specs.declared.states.PassState.{PassState}
 use Rattle.oak_core.specs.HeaderCalls.{NamesPin, NamesLock, Locks, Unlocks, MarksDead, TakesBack}
 use Rattle.oak_core.specs.Running.{Holds, KeepsSeat}
 use Rattle.oak_core.specs.Step.{on_headers, MayOnHeaders}
 use Rattle.oak_core.proofs.Allowed.{allows_at}
-use Rattle.oak_core.proofs.HeaderNames.{pin_apart, one_header}
-
-pub one_lock : (z : Sizes) (h k word old new : ℕ) → NamesLock z h word old new → NamesLock z k word old new → h ≡ k
-one_lock z h k word old new n m = pin_apart z h k word n.inside m.inside n.word_is m.word_is
+use Rattle.oak_core.proofs.HeaderNames.{one_header, one_exchange}
 
 module _ (z : Sizes) (call : ℕ) (slots id : ℕ) (me : Me (Unit {0}) PassState) (going : me.0.numbers.spent ≡ false) where
   pub allows_lock : (word old new h : ℕ) → NamesLock z h word old new → MayOnHeaders z (lock_header h old) me.0
       → Allows (Holds z) slots id me word (λ n. either (n == old) new n) (λ n m. ((k : ℕ) → NamesLock z k word old new → Locks z call k old me.0 n m.0) × KeepsSeat me m)
   allows_lock word old new h names may = allows_at z call slots id me going (on_headers (lock_header h old)) (λ n w. (k : ℕ) → NamesLock z k word old new → Locks z call k old me.0 n w) word (λ n. either (n == old) new n)
       (sym names.word_is) (λ i n. either (n == old) (sym names.new_is i) n) may
-      (λ n w told k named. subst (λ (j : ℕ). Locks z call j old me.0 n w) (one_lock z h k word old new names named) told)
+      (λ n w told k named. subst (λ (j : ℕ). Locks z call j old me.0 n w) (one_exchange z LIVE h k word old new names named) told)
 
   pub allows_unlock : (word operand h : ℕ) (kind : Kind) → NamesPin z h word → operand ≡ STATE → MayOnHeaders z (unlock_header h kind) me.0
       → Allows (Holds z) slots id me word (λ n. (n + (2 ^ 64 - operand)) % 2 ^ 64) (λ n m. ((k : ℕ) → NamesPin z k word → Unlocks z call k kind me.0 n m.0) × KeepsSeat me m)

@@ -2,10 +2,11 @@
 use Rattle.std.specs.Prelude.{◌≡◌, ℕ, ◌+◌, ◌*◌, ◌<◌}
 use Rattle.oak_model.specs.declared.writes.Kind.{Kind}
 use Rattle.oak_model.specs.Limits.{Sizes}
+use Rattle.header_core.specs.declared.states.TheConstants.{FREE, LIVE}
 use Rattle.header_core.specs.declared.holds.HeldAs.{HeldAs}
 use Rattle.header_core.specs.Headers.{HeaderSpot, at_pin, at_place, at_stamp}
 use Rattle.header_core.specs.HeaderHolds.{held_state}
-use Rattle.header_core.specs.HeaderStep.{STATE, HeaderStep, claim_header, store_place, store_stamp, change_place, open_header, pin_header, unpin_header, release_header, lock_header, unlock_header, mark_dead, take_back, IsFreeWord, IsLiveWord}
+use Rattle.header_core.specs.HeaderStep.{STATE, HeaderStep, claim_header, store_place, store_stamp, change_place, open_header, pin_header, unpin_header, release_header, lock_header, unlock_header, mark_dead, take_back, HasNoPin}
 use Rattle.oak_core.specs.declared.states.PassState.{PassState}
 use Rattle.oak_core.specs.Memory.{in_headers, index}
 use Rattle.oak_core.specs.Step.{on_headers, Told}
@@ -32,12 +33,20 @@ pub record NamesPin (z : Sizes) (h word : ℕ) : Type 0 where
   pub inside : h < z.headers
   pub word_is : word ≡ index z (in_headers (at_pin h))
 
--- that word, and what a free header's word becomes where the header is claimed
-pub record NamesClaim (z : Sizes) (h word old new : ℕ) : Type 0 where
+-- that word, and what the word of a header in the state s, without a pin, becomes where it is exchanged for the next state's
+pub record NamesExchange (z : Sizes) (s h word old new : ℕ) : Type 0 where
   pub inside : h < z.headers
   pub word_is : word ≡ index z (in_headers (at_pin h))
-  pub free : IsFreeWord old
+  pub unpinned : HasNoPin s old
   pub new_is : new ≡ old + STATE
+
+-- a free header is claimed, and a live one locked
+
+abbrev pub NamesClaim : Sizes → ℕ → ℕ → ℕ → ℕ → Type 0
+NamesClaim z h word old new = NamesExchange z FREE h word old new
+
+abbrev pub NamesLock : Sizes → ℕ → ℕ → ℕ → ℕ → Type 0
+NamesLock z h word old new = NamesExchange z LIVE h word old new
 
 -- the place word or the stamp word of the header
 pub record NamesField (z : Sizes) (f : HeaderField) (h word : ℕ) : Type 0 where
@@ -49,13 +58,6 @@ pub record NamesRelease (z : Sizes) (h : ℕ) (s : HeldAs) (word operand : ℕ) 
   pub inside : h < z.headers
   pub word_is : word ≡ index z (in_headers (at_pin h))
   pub operand_is : operand ≡ held_state s * STATE
-
--- that word, and what a live header's word becomes where the header is locked
-pub record NamesLock (z : Sizes) (h word old new : ℕ) : Type 0 where
-  pub inside : h < z.headers
-  pub word_is : word ≡ index z (in_headers (at_pin h))
-  pub live : IsLiveWord old
-  pub new_is : new ≡ old + STATE
 
 -- the header was claimed, where its word was the old one
 abbrev pub Claims : Sizes → ℕ → ℕ → ℕ → PassState → ℕ → PassState → Type 0

@@ -23,8 +23,8 @@ pub fn claim_header(table: &OakTable, pass: &mut Pass, word: u32, old: u64, new:
 }
 
 /// Stores a number to `word`, the place or the stamp word of a header that the pass owns or has locked.
-/// A place word that names another block than it did exchanges the two: of a locked header, the pass
-/// held the one, and then holds the other.
+/// Where the place word of a locked header comes to name another block, the two are exchanged: the pass
+/// held the new one, and holds the old one then.
 pub fn store_field(table: &OakTable, pass: &mut Pass, word: u32, value: u64)
     requires own { IsPassOf table.now pass.old }
     requires names { (f : HeaderField) × (h : ℕ) × NamesField (key table.now) f h word × MayOnHeaders (key table.now) (field_step f h value) (state pass.old) }

@@ -90,6 +90,7 @@ impl Writing {
     {
         self.bytes[i] = b;
     }
+
     /// It becomes `len` bytes long. The bytes that it had are its first ones, as many as it keeps, and
     /// those behind them are any.
     pub fn set_len(&mut self, len: usize)

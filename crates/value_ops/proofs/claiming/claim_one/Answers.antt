@@ -24,7 +24,7 @@ overflow_add-seen c = let free : c.is_free.result ≡ true = search rules in let
 
 pub claim_header-requires-clause-names : goal.claim_header-requires-clause-names
 claim_header-requires-clause-names c = let free : c.is_free.result ≡ true = search rules in let n = c.requires.names in
-    (n.0, record { inside = n.1.inside; word_is = n.1.word_is; free = free_word c.load-seen.result (sym c.is_free.ensures ∙ free); new_is = (λ i. c.load-seen.result + STATE) })
+    (n.0, record { inside = n.1.inside; word_is = n.1.word_is; unpinned = free_word c.load-seen.result (sym c.is_free.ensures ∙ free); new_is = (λ i. c.load-seen.result + STATE) })
 
 pub returns-clause-claimed : goal.returns-clause-claimed
 returns-clause-claimed c = λ h names e. let z : Sizes = key c.args.table.now in let call = call_of c.args.pass.now in let n = c.load-seen.result in let v = state c.args.pass.now in let u = state c.load-seen.new.pass in let w = state c.claim_header.new.pass in
@@ -32,7 +32,7 @@ returns-clause-claimed c = λ h names e. let z : Sizes = key c.args.table.now in
     claims_behind z call h v u w (λ k. ⊥) (loaded z call c.args.word n v u c.load-seen.ensures.loaded)
     (claims z call h names.inside n c.claim_header.result u w
     (told_in z call (call_of c.load-seen.new.pass) (on_headers (claim_header h n)) u c.claim_header.result w c.load-seen.ensures.own.call
-    (c.claim_header.ensures.told h record { inside = names.inside; word_is = names.word_is; free = free; new_is = (λ i. n + STATE) }))
+    (c.claim_header.ensures.told h record { inside = names.inside; word_is = names.word_is; unpinned = free; new_is = (λ i. n + STATE) }))
     (eqb-true c.claim_header.result n e) free)
 
 pub returns-clause-taken : goal.returns-clause-taken
@@ -40,5 +40,5 @@ returns-clause-taken c = λ h names e. let z : Sizes = key c.args.table.now in l
     let free : is_free n ≡ true = sym c.is_free.ensures ∙ c.if-not-is_free.false in
     lost z call h names.inside c.args.word n c.claim_header.result v u w names.word_is c.load-seen.ensures.loaded free
     (told_in z call (call_of c.load-seen.new.pass) (on_headers (claim_header h n)) u c.claim_header.result w c.load-seen.ensures.own.call
-    (c.claim_header.ensures.told h record { inside = names.inside; word_is = names.word_is; free = free_word n free; new_is = (λ i. n + STATE) }))
+    (c.claim_header.ensures.told h record { inside = names.inside; word_is = names.word_is; unpinned = free_word n free; new_is = (λ i. n + STATE) }))
     (eqb-false c.claim_header.result n e)

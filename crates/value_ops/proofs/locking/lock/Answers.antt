@@ -27,7 +27,7 @@ pub lock_header-found-requires-clause-names : goal.lock_header-found-requires-cl
 lock_header-found-requires-clause-names c = let z : Sizes = key c.args.table.now in let call = call_of c.args.pass.now in let h = c.args.header in let g = c.args.generation in let n = c.load-seen.result in let v = state c.args.pass.now in let u = state c.load-seen.new.pass in
     let free = sym c.may_lock.ensures ∙ c.if-not-may_lock.false in (
       h,
-      record { inside = c.requires.inside; word_is = c.pin_at-word.ensures; live = (live_word n g free).0; new_is = (λ i. n + STATE) },
+      record { inside = c.requires.inside; word_is = c.pin_at-word.ensures; unpinned = (live_word n g free).0; new_is = (λ i. n + STATE) },
       may_be_locked z call h g c.requires.inside c.pin_at-word.result n v u c.pin_at-word.ensures c.requires.known c.load-seen.ensures.loaded free,
     )
 
@@ -35,7 +35,7 @@ pub returns-then-found-seen-clause-refused : goal.returns-then-found-seen-clause
 returns-then-found-seen-clause-refused c = let z : Sizes = key c.args.table.now in let call = call_of c.args.pass.now in let h = c.args.header in let g = c.args.generation in let n = c.load-seen.result in let v = state c.args.pass.now in let u = state c.load-seen.new.pass in
     let k = c.lock_header-found.result in let w = state c.lock_header-found.new.pass in let free = sym c.may_lock.ensures ∙ c.if-not-may_lock.false in
     let t = told_in z call (call_of c.load-seen.new.pass) (on_headers (lock_header h n)) u k w c.load-seen.ensures.own.call
-    (c.lock_header-found.ensures.told h record { inside = c.requires.inside; word_is = c.pin_at-word.ensures; live = (live_word n g free).0; new_is = (λ i. n + STATE) }) in
+    (c.lock_header-found.ensures.told h record { inside = c.requires.inside; word_is = c.pin_at-word.ensures; unpinned = (live_word n g free).0; new_is = (λ i. n + STATE) }) in
     subst (λ (y : NoLock). FindsNoLock z call h g y v w) (sym c.refusal-then-found-seen.ensures)
     (refused_second z call h g c.requires.inside c.pin_at-word.result n v u c.pin_at-word.ensures c.requires.known c.load-seen.ensures.loaded free k w t c.if-found-seen.true)
 
@@ -43,7 +43,7 @@ pub returns-clause-locked : goal.returns-clause-locked
 returns-clause-locked c = let z : Sizes = key c.args.table.now in let call = call_of c.args.pass.now in let h = c.args.header in let g = c.args.generation in let n = c.load-seen.result in let v = state c.args.pass.now in let u = state c.load-seen.new.pass in
     let k = c.lock_header-found.result in let w = state c.lock_header-found.new.pass in let free = sym c.may_lock.ensures ∙ c.if-not-may_lock.false in
     let t = told_in z call (call_of c.load-seen.new.pass) (on_headers (lock_header h n)) u k w c.load-seen.ensures.own.call
-    (c.lock_header-found.ensures.told h record { inside = c.requires.inside; word_is = c.pin_at-word.ensures; live = (live_word n g free).0; new_is = (λ i. n + STATE) }) in
+    (c.lock_header-found.ensures.told h record { inside = c.requires.inside; word_is = c.pin_at-word.ensures; unpinned = (live_word n g free).0; new_is = (λ i. n + STATE) }) in
     (refl, refl, locks z call h g c.requires.inside c.pin_at-word.result n v u c.pin_at-word.ensures c.requires.known c.load-seen.ensures.loaded free k w t c.if-found-seen.false)
 
 pub returns-clause-has : goal.returns-clause-has
