@@ -43,7 +43,7 @@ module _ (z : Sizes) (call : ℕ) (c : Class) (b : ℕ) (v : PassState) (lb : b 
     gives = record {
       number = n;
       told = t;
-      more = finding z call (bit_spot c b) (Some (found z x t.table)) (bit_and (found z x t.table) (2 ^ 64 - 1 - bit_of b)) v ∷ [];
+      more = finding z call (bit_spot c b) (Some (found z x t.table)) (bit_and (found z x t.table) (2 ^ 64 - 1 - bit_of b)) t.table.words v ∷ [];
       after = t.after;
       table = after;
       rule = rule_after;
@@ -55,7 +55,7 @@ module _ (z : Sizes) (call : ℕ) (c : Class) (b : ℕ) (v : PassState) (lb : b 
     pub stores : Stores z call c b k y v w
     stores = let t = written.1 in let x : Step = on_arena (store_word c b k y) in record {
       told = written;
-      more = finding z call (in_arena (at_bytes (class_number c) b k)) None y v ∷ [];
+      more = finding z call (in_arena (at_bytes (class_number c) b k)) None y t.table.words v ∷ [];
       after = t.after;
       table = table_after z call x t.seat v t.table;
       rule = rule_keeps z t.table call t.seat v t.rule t.here t.going x t.may;

@@ -1,42 +1,23 @@
 -- Searches for a block, one behind the other.
-use Rattle.std.proofs.Common.{◌≡◌, ℕ, ◌+◌, ◌<◌, ◌⊎◌, List, [], ◌∷◌, ◌++◌, sym, ap, ◌∙◌, subst, inl, inr, ⊎_elim}
-use mathlib.Core.Option.{some}
+use Rattle.std.proofs.Common.{◌≡◌, ℕ, ◌<◌, ◌⊎◌, List, [], ◌∷◌, ◌++◌, refl, ap, ◌∙◌, subst, ⊎_elim}
 use Rattle.oak_model.specs.declared.classes.Class.{Class}
 use Rattle.oak_model.specs.Class.{class_number}
 use Rattle.oak_model.specs.Limits.{Sizes}
 use Rattle.oak_model.proofs.Lists.{each_append}
 use Rattle.arena_core.specs.Arena.{blocks}
 use Rattle.arena_core.specs.Blocks.{holds, block_from}
-use Rattle.oak_core.specs.Owners.{has_in_headers}
 use Rattle.oak_core.specs.declared.states.Finding.{Finding}
 use Rattle.oak_core.specs.declared.states.PassState.{PassState}
 use Rattle.oak_core.specs.Memory.{memory}
 use Rattle.oak_core.specs.Finding.{had, grown}
-use Rattle.oak_core.specs.OwnBlocks.{KnownHas, OwnsBlock}
-use Rattle.oak_core.specs.PassState.{IsAlone}
 use Rattle.arena_core.specs.ArenaStep.{take_bit}
 use Rattle.oak_core.specs.ArenaCalls.{Sets}
 use Rattle.oak_core.specs.Step.{on_arena}
+use Rattle.oak_core.proofs.AloneRuns.{Then, runs_then, runs_as, runs_none}
 use Rattle.oak_core.proofs.FoundThere.{found_first, found_later}
 use Rattle.oak_core.proofs.MetMore.{grown_twice, grown_none, told_of}
-use Rattle.arena_ops.specs.Looking.{bit_spot, Looked}
-use Rattle.arena_ops.specs.Taking.{Takes}
-
-alone_still : (v : PassState) (more : List Finding) → IsAlone v → IsAlone (grown more v)
-alone_still v more a = record { first = a.first; others = a.others }
-
--- what a pass owns that met more it owned before
-own_before : (z : Sizes) (c b : ℕ) (v w : PassState) (more : List Finding) → w ≡ grown more v → OwnsBlock z c b w → OwnsBlock z c b v
-own_before z c b v w more is (inl has) = inl (subst (λ (y : PassState). 0 < holds c b y.blocks + has_in_headers c b y.headers) is has)
-own_before z c b v w more is (inr l) = inr record {
-  table = l.table;
-  seat = l.seat;
-  rule = l.rule;
-  more = more ++ l.more;
-  here = l.here ∙ ap some (ap (grown l.more) is ∙ grown_twice v more l.more);
-  header = l.header;
-  has = subst (λ (y : PassState). KnownHas z (memory z l.table.words).headers c b l.header y.knowledge) is l.has;
-}
+use Rattle.arena_ops.specs.Looking.{bit_spot, IsSetIn, AllSet, Looked}
+use Rattle.arena_ops.specs.Taking.{SetsBit, Takes}
 
 module _ (z : Sizes) (call : ℕ) (c : Class) where
   -- nothing was looked at
@@ -46,11 +27,11 @@ module _ (z : Sizes) (call : ℕ) (c : Class) where
     after = grown_none v;
     calls = tt;
     set = λ b lb p. absurd (empty b p);
-    own = λ a b lb p. absurd (empty b p);
+    still = runs_none (AllSet z c P) v (λ a. (refl, λ b lb p. absurd (empty b p)));
   }
 
   pub looked_only : (v w : PassState) (P Q : ℕ → Type 0) → ((b : ℕ) → b < blocks z (class_number c) → Q b → P b) → Looked z call c v w P → Looked z call c v w Q
-  looked_only v w P Q only l = record { more = l.more; after = l.after; calls = l.calls; set = λ b lb q. l.set b lb (only b lb q); own = λ a b lb q. l.own a b lb (only b lb q) }
+  looked_only v w P Q only l = record { more = l.more; after = l.after; calls = l.calls; set = λ b lb q. l.set b lb (only b lb q); still = runs_as (AllSet z c P) (AllSet z c Q) v w (λ a a' d. (d.0, λ b lb q. d.1 b lb (only b lb q))) l.still }
 
   pub looked_both : (v w x : PassState) (P Q : ℕ → Type 0) → Looked z call c v w P → Looked z call c w x Q → Looked z call c v x (λ b. P b ⊎ Q b)
   looked_both v w x P Q l k = record {
@@ -58,8 +39,8 @@ module _ (z : Sizes) (call : ℕ) (c : Class) where
     after = k.after ∙ (ap (grown k.more) l.after ∙ grown_twice v l.more k.more);
     calls = each_append (λ (f : Finding). f.call ≡ call) l.more k.more l.calls k.calls;
     set = λ b lb. ⊎_elim (λ (p : P b). found_first z call (bit_spot c b) v l.more k.more _ (l.set b lb p)) (λ (q : Q b). found_later z call (bit_spot c b) v w l.more k.more _ (ap (had (bit_spot c b)) l.after) (k.set b lb q));
-    own = λ a b lb. ⊎_elim (λ (p : P b). l.own a b lb p)
-        (λ (q : Q b). own_before z (class_number c) b v w l.more l.after (k.own (subst IsAlone (sym l.after) (alone_still v l.more a)) b lb q));
+    still = runs_as (Then (AllSet z c P) (AllSet z c Q)) (AllSet z c (λ b. P b ⊎ Q b)) v x
+        (λ a a' d. (d.2.0 ∙ d.1.0, λ b lb. ⊎_elim (λ (p : P b). d.1.1 b lb p) (λ (q : Q b). subst (IsSetIn z c b) d.1.0 (d.2.1 b lb q)))) (runs_then (AllSet z c P) (AllSet z c Q) v w x l.still k.still);
   }
 
   -- a block is taken behind what was looked at
@@ -78,6 +59,7 @@ module _ (z : Sizes) (call : ℕ) (c : Class) where
       clear = t.clear;
       told = told_there;
       free = t.free;
+      still = runs_as (Then (AllSet z c P) (SetsBit z c b)) (SetsBit z c b) v x (λ a a' d. subst (λ (m : List ℕ). SetsBit z c b m a') d.1.0 d.2) (runs_then (AllSet z c P) (SetsBit z c b) v w x l.still t.still);
       unheld = subst (λ (y : PassState). holds (class_number c) b y.blocks ≡ 0) l.after t.unheld;
       more = l.more ++ t.more;
       calls = each_append (λ (f : Finding). f.call ≡ call) l.more t.more l.calls t.calls;

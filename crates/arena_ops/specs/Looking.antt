@@ -8,10 +8,9 @@ use Rattle.oak_model.specs.Limits.{Sizes}
 use Rattle.arena_core.specs.Arena.{at_bits, blocks}
 use Rattle.oak_core.specs.declared.states.Finding.{Finding}
 use Rattle.oak_core.specs.declared.states.PassState.{PassState}
-use Rattle.oak_core.specs.Memory.{Spot, in_arena}
+use Rattle.oak_core.specs.Memory.{Spot, in_arena, memory}
 use Rattle.oak_core.specs.Finding.{grown, FoundThere}
-use Rattle.oak_core.specs.OwnBlocks.{OwnsBlock}
-use Rattle.oak_core.specs.PassState.{IsAlone}
+use Rattle.oak_core.specs.AloneWords.{Runs}
 
 -- the word that has the bit of the block
 abbrev pub bit_spot : Class → ℕ → Spot
@@ -21,10 +20,18 @@ bit_spot c b = in_arena (at_bits (class_number c) (b / 64))
 abbrev pub FoundSet : Sizes → ℕ → Class → ℕ → PassState → List Finding → Type 0
 FoundSet z call c b v met = FoundThere z call (bit_spot c b) v met (λ n. bit_at n (b % 64) ≡ 1)
 
--- The pass only met more, all in the call, and of each block of the class with P the bit was found set. A pass that is alone has these blocks itself: it holds them, has them in headers that it holds, or knew live headers that had them.
+-- the bit of the block is set in these words
+abbrev pub IsSetIn : Sizes → Class → ℕ → List ℕ → Type 0
+IsSetIn z c b words = bit_at ((memory z words).arena.bits (class_number c) (b / 64)) (b % 64) ≡ 1
+
+-- the words stay, and in them the bit of each block of the class with P is set
+abbrev pub AllSet : Sizes → Class → (ℕ → Type 0) → List ℕ → List ℕ → Type 0
+AllSet z c P before after = (after ≡ before) × ((b : ℕ) → b < blocks z (class_number c) → P b → IsSetIn z c b before)
+
+-- The pass only met more, all in the call, and of each block of the class with P the bit was found set. To a pass that is alone all of them are set at once, in words that stay.
 pub record Looked (z : Sizes) (call : ℕ) (c : Class) (v w : PassState) (P : ℕ → Type 0) : Type 0 where
   pub more : List Finding
   pub after : w ≡ grown more v
   pub calls : Each (λ (f : Finding). f.call ≡ call) more
   pub set : (b : ℕ) → b < blocks z (class_number c) → P b → FoundSet z call c b v more
-  pub own : IsAlone v → (b : ℕ) → b < blocks z (class_number c) → P b → OwnsBlock z (class_number c) b v
+  pub still : Runs (AllSet z c P) v w

@@ -1,5 +1,5 @@
 -- What the calls on blocks do.
-use Rattle.std.specs.Prelude.{◌≡◌, ℕ, ◌+◌, ◌%◌, ◌<◌, List, ◌∷◌, map}
+use Rattle.std.specs.Prelude.{◌≡◌, ℕ, ◌+◌, ◌/◌, ◌%◌, ◌<◌, List, ◌∷◌, map, bit_or, slice_set, slice_index}
 use Rattle.std.specs.Int.{bit_at}
 use mathlib.Core.Option.{some}
 use lib.ListN.{get_elem?}
@@ -11,19 +11,24 @@ use Rattle.arena_core.specs.Arena.{at_bytes, blocks}
 use Rattle.arena_core.specs.Blocks.{holds, block_from, without, rewritten}
 use Rattle.oak_core.specs.declared.states.Finding.{Finding}
 use Rattle.oak_core.specs.declared.states.PassState.{PassState}
-use Rattle.oak_core.specs.Memory.{in_arena, memory, write}
+use Rattle.oak_core.specs.Memory.{in_arena, index, memory, write}
 use Rattle.oak_core.specs.Finding.{grown}
 use Rattle.oak_core.specs.PassState.{blocks_of}
 use Rattle.oak_core.specs.ArenaCalls.{of_pass, Sets, Clears, Writes}
 use Rattle.oak_core.specs.Owners.{other_owners}
-use Rattle.oak_core.specs.OwnBlocks.{OwnsBlock}
+use Rattle.oak_core.specs.AloneWords.{Runs}
 use Rattle.oak_core.specs.Rule.{Rule}
 use Rattle.oak_core.specs.TableState.{TableState}
-use Rattle.arena_ops.specs.Looking.{Looked}
+use Rattle.arena_core.specs.ArenaStep.{bit_of}
+use Rattle.arena_ops.specs.Looking.{bit_spot, AllSet, Looked}
 
 -- how many owners the block has
 abbrev pub owners : Sizes → Class → ℕ → TableState → ℕ
 owners z c b s = total (holds (class_number c) b) (map blocks_of s.states) + other_owners z (memory z s.words).headers (class_number c) b
+
+-- the bit of the block was clear, and is set; no other word changed
+abbrev pub SetsBit : Sizes → Class → ℕ → List ℕ → List ℕ → Type 0
+SetsBit z c b before after = (bit_at ((memory z before).arena.bits (class_number c) (b / 64)) (b % 64) ≡ 0) × (after ≡ slice_set before (index z (bit_spot c b)) (bit_or (slice_index before (index z (bit_spot c b))) (bit_of b)))
 
 -- The step that set the bit of the block, after others that only met more, found it clear. No owner had the block at that moment. The pass holds it now, with the words that it had then, and else only met more, all in the call.
 pub record Takes (z : Sizes) (call : ℕ) (c : Class) (b : ℕ) (v w : PassState) : Type 0 where
@@ -34,6 +39,8 @@ pub record Takes (z : Sizes) (call : ℕ) (c : Class) (b : ℕ) (v w : PassState
   pub told : Sets z call c b (grown before v) number w
   pub free : owners z c b told.table ≡ 0
   pub unheld : holds (class_number c) b v.blocks ≡ 0
+  -- to a pass that is alone
+  pub still : Runs (SetsBit z c b) v w
   pub more : List Finding
   pub calls : Each (λ (f : Finding). f.call ≡ call) more
   pub after : w ≡ record (grown more v) { blocks = record v.blocks { held = block_from (memory z told.table.words).arena.bytes c b ∷ v.blocks.held } }
@@ -42,9 +49,9 @@ pub record Takes (z : Sizes) (call : ℕ) (c : Class) (b : ℕ) (v w : PassState
 abbrev pub FindsNone : Sizes → ℕ → Class → PassState → PassState → Type 0
 FindsNone z call c v w = Looked z call c v w (λ b. Unit {0})
 
--- the pass has each block of the class: it holds it, has it in a header that it holds, or knew a live header that had it
-abbrev pub HasAll : Sizes → Class → PassState → Type 0
-HasAll z c v = (b : ℕ) → b < blocks z (class_number c) → OwnsBlock z (class_number c) b v
+-- each bit of the class is set, in words that stay
+abbrev pub NoneClear : Sizes → Class → PassState → PassState → Type 0
+NoneClear z c v w = Runs (AllSet z c (λ b. Unit {0})) v w
 
 -- The pass holds the block no more, and else only met more. After the step no owner has it.
 pub record Gives (z : Sizes) (call : ℕ) (c : Class) (b : ℕ) (v w : PassState) : Type 0 where

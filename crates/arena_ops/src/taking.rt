@@ -3,9 +3,8 @@ ghost use Rattle.std.specs.Prelude.{◌≡◌, ◌<◌, IfOk, IfErr, OnErr};
 ghost use Rattle.oak_model.specs.Class.{class_number};
 ghost use Rattle.arena_core.specs.Arena.{block_words};
 ghost use Rattle.arena_core.specs.Blocks.{HoldsBlock};
-ghost use Rattle.oak_core.specs.PassState.{IsAlone};
 ghost use Rattle.oak_core.specs.Passes.{IsPassOf, Stays, state, key, call_of};
-ghost use Rattle.arena_ops.specs.Taking.{Takes, FindsNone, HasAll, Gives, Stores};
+ghost use Rattle.arena_ops.specs.Taking.{Takes, FindsNone, NoneClear, Gives, Stores};
 
 use crate::searching::search;
 use oak_core::steps::{clear_bit, store_word};
@@ -19,14 +18,13 @@ use thiserror::Error;
 pub struct NoBlock(pub Class);
 
 /// Takes a block that had no owner, one whose bit was found clear. `NoBlock` comes only where every bit
-/// of the class was found set in this call; a pass that is alone then has every block of the class: it
-/// holds it, has it in a header that it holds, or knew a live header that had it.
+/// of the class was found set in this call; to a pass that is alone all of them are set then.
 pub fn take(table: &OakTable, pass: &mut Pass, class: Class) -> Result<Block, NoBlock>
     requires own { IsPassOf table.now pass.old }
     ensures own { Stays pass.old pass.new }
     ensures taken { IfOk result (λ b. (b.class ≡ class) × Takes (key table.now) (call_of pass.old) class b.number (state pass.old) (state pass.new)) }
     ensures none { IfErr result (λ e. (e.0 ≡ class) × FindsNone (key table.now) (call_of pass.old) class (state pass.old) (state pass.new)) }
-    ensures alone { OnErr result (IsAlone (state pass.old) → HasAll (key table.now) class (state pass.old)) }
+    ensures alone { OnErr result (NoneClear (key table.now) class (state pass.old) (state pass.new)) }
 {
     match search(table, pass, class) {
         Some(number) => {

@@ -7,5 +7,8 @@ pub mod states;
 #[cfg(test)]
 mod tests;
 
-pub use holds::{HeldRoom, PinnedRoom, RoomHolds};
+pub use holds::{
+    Carried, Claim, EntryWords, FoundEntry, HeldRoom, Latch, MovingRange, PinnedRoom, RoomCopy,
+    RoomHeldAs, RoomHolds,
+};
 pub use states::{FREE, FROZEN, HELD, OPEN};

@@ -47,6 +47,7 @@ module _ (m : HeaderMemory) (content : ℕ → List ℕ) (IsPlace : ℕ → Type
             settled = let n = no_row LIVE in let c = row LIVE in let o = one_at-other OWNED LIVE (λ e. omega arith) in let k = ap (known h) generation in
                 let u = unstocked (state_of (m.pin h)) (omega arith) in let v = unstocked (state_of (old + STATE)) (omega arith) in omega arith;
             rises = omega arith;
+            six = omega arith;
             retired = same_retired m content IsPlace known hs r seat a there h (old + STATE) generation (λ e. omega arith) (λ e. omega arith);
             placed = λ pos. let u = unstocked (state_of (old + STATE)) (omega arith) in absurd (omega arith);
             generations = same_generations m content IsPlace known hs r seat a there h (old + STATE) generation (owned_at m h ∷ a.held) (refl, r.generations seat a there);
@@ -55,7 +56,7 @@ module _ (m : HeaderMemory) (content : ℕ → List ℕ) (IsPlace : ℕ → Type
   pub open_keeps : 0 < in_state h OWNED a → m.pin h < 2 ^ 64 → IsPlace (m.place h) → HeadersStand (put_header m (at_pin h) (header_effect (open_header h) (m.pin h))) content IsPlace known (set hs seat (headers_after m content (open_header h) a))
   open_keeps own small place = let was = held_is m content IsPlace known hs r seat a h OWNED there (omega arith) (omega arith) own in let up = state_up (m.pin h) (omega arith) small in let x : ℕ = (m.pin h + STATE) % 2 ^ 64 in
       let now : state_of x ≡ LIVE = (let u = up.1 in omega arith) in let words : List ℕ = content (m.place h) in let one = held_one m content IsPlace known hs r seat a h OWNED there own in let f = rows_freshened-live h words a.held in
-      turned m content IsPlace known hs r seat a there h OWNED own x up.0 up.2 (λ e. omega arith) (λ e. omega arith) (freshened h words a.held)
+      turned m content IsPlace known hs r seat a there h OWNED own x up.0 up.2 (λ e. omega arith) (omega arith) (freshened h words a.held)
       (λ _ _ _ _ _ _ live _. omega arith)
       (not_over (state_of (m.pin h)) (omega arith) (omega arith))
       (λ s _ _ ne. rows_freshened-else h s words a.held ne ∙ sym (one_at-other (state_of x) s (λ q. ne (sym q ∙ now))))
@@ -71,7 +72,7 @@ module _ (m : HeaderMemory) (content : ℕ → List ℕ) (IsPlace : ℕ → Type
       → HeadersStand (put_header m (at_pin h) (header_effect (release_header h s) (m.pin h))) content IsPlace known (set hs seat (headers_after m content (release_header h s) a))
   released s own is_low small good = let pos = is_low.0 in let low = is_low.1 in let was = held_is m content IsPlace known hs r seat a h (held_state s) there (omega arith) (omega arith) own in let down = state_off s (m.pin h) was small in
       let x : ℕ = (m.pin h + (2 ^ 64 - held_state s * STATE)) % 2 ^ 64 in let free = down.1 in let u = unstocked (state_of x) (omega arith) in
-      turned m content IsPlace known hs r seat a there h (held_state s) own x down.0 down.2 (λ e. omega arith) (λ e. omega arith) (without_header h a.held)
+      turned m content IsPlace known hs r seat a there h (held_state s) own x down.0 down.2 (λ e. omega arith) (omega arith) (without_header h a.held)
       good
       (not_over (state_of (m.pin h)) (omega arith) (omega arith))
       (λ t pos low _. rows_without-here h t a.held ∙ sym (one_at-other (state_of x) t (λ e. omega arith)))

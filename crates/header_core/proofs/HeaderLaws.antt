@@ -61,7 +61,7 @@ pub headers_change : (m m' : HeaderMemory) (content content' : ℕ → List ℕ)
     → ((h : ℕ) → total (in_state h LIVE) before + total (in_state h LIVE) fresh ≤ total (in_state h LIVE) gone + one_at (state_of (m'.pin h)) LIVE)
     → ((h : ℕ) → total (in_state h LIVE) fresh + known' h (generation_of (m'.pin h)) + stocked (state_of (m.pin h)) ≡ total (in_state h LIVE) gone + known h (generation_of (m.pin h)) + stocked (state_of (m'.pin h)))
     → ((h g : ℕ) → 0 < known' h g → g ≤ generation_of (m'.pin h))
-    → ((h : ℕ) → one_at (state_of (m'.pin h)) RETIRED ≡ one_at (generation_of (m'.pin h)) LAST_GENERATION)
+    → ((h : ℕ) → (one_at (state_of (m'.pin h)) RETIRED ≡ one_at (generation_of (m'.pin h)) LAST_GENERATION) × (state_of (m'.pin h) ≤ RETIRED))
     → ((h : ℕ) → 0 < stocked (state_of (m'.pin h)) → IsPlace (m'.place h))
     → Each (OneStands m' content') fresh
     → ((j : ℕ) (a : HeaderHolds) → ch.Stays j → get_elem? before j ≡ some a → OneStands m' content' a)
@@ -72,7 +72,8 @@ headers_change m m' content content' IsPlace known known' ch r counts states liv
   fresh = λ h. let t = ch.sums (in_state h LIVE) in let k = lives h in omega arith;
   settled = λ h. let t = ch.sums (in_state h LIVE) in let c = r.settled h in let k = settled h in omega arith;
   older = older;
-  retired = retired;
+  six = λ h. (retired h).1;
+  retired = λ h. (retired h).0;
   placed = placed;
   generations = λ j a at. (ones j a at).generations;
   good = λ j a at. (ones j a at).good;
@@ -89,6 +90,7 @@ content_frame m content content' IsPlace known hs same r = record {
   fresh = r.fresh;
   settled = r.settled;
   older = r.older;
+  six = r.six;
   retired = r.retired;
   placed = r.placed;
   generations = r.generations;
@@ -104,7 +106,7 @@ pub reworded_keeps : (m : HeaderMemory) (content content' : ℕ → List ℕ) (I
 unfolding total
 reworded_keeps m content content' IsPlace known hs r seat a there h k x same = let t = content_frame m content content' IsPlace known hs same r in let b : HeaderHolds = record a { held = reworded h k x a.held } in
     headers_change m m content' content' IsPlace known known (stepped hs seat a b there) t (λ _. refl) (λ i s _ _ _. let e = rows_reworded h k x i s a.held in omega arith)
-    (λ i. let e = rows_reworded h k x i LIVE a.held in let f = r.fresh i in omega arith) (λ i. let e = rows_reworded h k x i LIVE a.held in omega arith) r.older r.retired r.placed
+    (λ i. let e = rows_reworded h k x i LIVE a.held in let f = r.fresh i in omega arith) (λ i. let e = rows_reworded h k x i LIVE a.held in omega arith) r.older (λ i. (r.retired i, r.six i)) r.placed
     (record { generations = each_reworded h k x (λ i g. generation_of (m.pin i) ≡ g) a.held (r.generations seat a there); good = t.good seat a there; dead = r.dead seat a there }, tt) (λ j u _ at. one_stands m content' IsPlace known hs t j u at)
 
 -- holds pass from one seat to another, and idle passes come and go
@@ -120,7 +122,7 @@ module _ (m : HeaderMemory) (content : ℕ → List ℕ) (IsPlace : ℕ → Type
       → ((h : ℕ) → total (pins_on h) fresh ≡ total (pins_on h) gone) → ((h s : ℕ) → total (in_state h s) fresh ≡ total (in_state h s) gone) → HeadersStand m content IsPlace known' after
   headers_frame {after} {gone} {fresh} ch among pins states = headers_change m m content content IsPlace known known' ch r
       (λ h. let e = pins h in omega arith) (λ h s _ _ _. let e = states h s in omega arith) (λ h. let e = states h LIVE in let f = r.fresh h in omega arith)
-      (λ h. let e = states h LIVE in let k = same h (generation_of (m.pin h)) in omega arith) (λ h g l. r.older h g (let k = same h g in omega arith)) r.retired r.placed
+      (λ h. let e = states h LIVE in let k = same h (generation_of (m.pin h)) in omega arith) (λ h g l. r.older h g (let k = same h g in omega arith)) (λ h. (r.retired h, r.six h)) r.placed
       (known_ones fresh among) (λ j a _ at. one_stands m content IsPlace known before r j a at)
 
   pub headers_divided : {after : List HeaderHolds} (a : HeaderHolds) (ch : Change before after (a ∷ []) (a ∷ no_headers ∷ [])) → Among before a → HeadersStand m content IsPlace known' after
@@ -141,6 +143,7 @@ headers_open m content IsPlace known none free = record {
   fresh = λ h. let f = (free h).1 in let o = one_at-other (state_of (m.pin h)) LIVE (λ e. omega arith) in omega arith;
   settled = λ h. let f = (free h).1 in let k = none h (generation_of (m.pin h)) in let u = unstocked (state_of (m.pin h)) (omega arith) in omega arith;
   older = λ h g l. let k = none h g in absurd (omega arith);
+  six = λ h. let f = (free h).1 in omega arith;
   retired = λ h. let f = (free h).1 in let g = (free h).2 in one_at-other (state_of (m.pin h)) RETIRED (λ e. omega arith) ∙ sym (one_at-other (generation_of (m.pin h)) LAST_GENERATION (λ e. omega arith));
   placed = λ h pos. let f = (free h).1 in let u = unstocked (state_of (m.pin h)) (omega arith) in absurd (omega arith);
   generations = every_one (λ (a : HeaderHolds). Each (λ (r : HeldHeader). generation_of (m.pin r.header) ≡ r.generation) a.held) no_headers tt;

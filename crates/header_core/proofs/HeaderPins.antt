@@ -1,5 +1,5 @@
 -- A pin that comes or goes keeps the points on headers.
-use Rattle.std.proofs.Common.{◌≡◌, ◌≢◌, ℕ, ◌+◌, ◌-◌, ◌%◌, ◌^◌, ◌<◌, List, set, sym, refl, ap, ◌∙◌, subst, arith, Option, Some, None, inl}
+use Rattle.std.proofs.Common.{◌≤◌, ◌≡◌, ◌≢◌, ℕ, ◌+◌, ◌-◌, ◌%◌, ◌^◌, ◌<◌, List, set, sym, refl, ap, ◌∙◌, subst, arith, Option, Some, None, inl}
 use mathlib.Core.Option.{some}
 use lib.ListN.{get_elem?}
 use Rattle.pin_word.specs.PinWord.{generation_of, state_of, count_of}
@@ -38,7 +38,7 @@ module _ (m : HeaderMemory) (content : ℕ → List ℕ) (IsPlace : ℕ → Type
         (λ k s _ _ _. let e = ap (λ (w : ℕ). one_at w s) (same_state k) in omega arith) (λ k. let e = ap (λ (w : ℕ). one_at w LIVE) (same_state k) in let f = r.fresh k in omega arith)
         (λ k. let e = ap stocked (same_state k) in let g = ap (known k) (same_generation m h x generation k) in omega arith)
         (λ k g l. let o = r.older k g l in let e = same_generation m h x generation k in omega arith)
-        (λ k. ap (λ (w : ℕ). one_at w RETIRED) (same_state k) ∙ (r.retired k ∙ ap (λ (w : ℕ). one_at w LAST_GENERATION) (sym (same_generation m h x generation k))))
+        (λ k. (ap (λ (w : ℕ). one_at w RETIRED) (same_state k) ∙ (r.retired k ∙ ap (λ (w : ℕ). one_at w LAST_GENERATION) (sym (same_generation m h x generation k))), subst (λ (w : ℕ). w ≤ RETIRED) (sym (same_state k)) (r.six k)))
         (λ k pos. r.placed k (subst (λ (w : ℕ). 0 < stocked w) (same_state k) pos)) (new, tt) (λ j u _ at. still j u at)
 
   pub pin_keeps : (g : ℕ) → a.pin ≡ None → total (pins_on h) hs + 1 < 2 ^ 28

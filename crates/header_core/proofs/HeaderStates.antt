@@ -37,6 +37,7 @@ pub record Restates (m : HeaderMemory) (IsPlace : ℕ → Type 0) (known : ℕ �
   pub lives : rows_in h LIVE rs ≤ one_at (state_of x) LIVE
   pub settled : rows_in h LIVE rs + known h (generation_of x) + stocked (state_of (m.pin h)) ≡ in_state h LIVE a + known h (generation_of (m.pin h)) + stocked (state_of x)
   pub rises : generation_of (m.pin h) ≤ generation_of x
+  pub six : state_of x ≤ RETIRED
   pub retired : one_at (state_of x) RETIRED ≡ one_at (generation_of x) LAST_GENERATION
   pub placed : 0 < stocked (state_of x) → IsPlace (m.place h)
   pub generations : Each (λ (q : HeldHeader). generation_of ((put_header m (at_pin h) x).pin q.header) ≡ q.generation) rs
@@ -87,7 +88,7 @@ module _ (m : HeaderMemory) (content : ℕ → List ℕ) (IsPlace : ℕ → Type
         (λ k. ap (λ (n : ℕ). total (pins_on k) (a ∷ []) + n) (put-cases m.pin h x k (λ w. count_of (m.pin k) ≡ count_of w) (λ e. ap (λ (i : ℕ). count_of (m.pin i)) e ∙ sym q.count) (λ _. refl)))
         (λ k s pos low n. let e = level k s pos low n in omega arith) (λ k. let e = lives k in omega arith) (λ k. let e = settled k in omega arith)
         (λ k g l. put-cases m.pin h x k (λ w. g ≤ generation_of w) (λ e. let o = r.older k g l in let w = ap (λ (i : ℕ). generation_of (m.pin i)) e in let u = q.rises in omega arith) (λ _. r.older k g l))
-        (λ k. put-cases m.pin h x k (λ w. one_at (state_of w) RETIRED ≡ one_at (generation_of w) LAST_GENERATION) (λ _. q.retired) (λ _. r.retired k))
+        (λ k. put-cases m.pin h x k (λ w. (one_at (state_of w) RETIRED ≡ one_at (generation_of w) LAST_GENERATION) × (state_of w ≤ RETIRED)) (λ _. (q.retired, q.six)) (λ _. (r.retired k, r.six k)))
         (λ k. put-cases m.pin h x k (λ w. 0 < stocked (state_of w) → IsPlace (m.place k)) (λ e pos. subst (λ (i : ℕ). IsPlace (m.place i)) (sym e) (q.placed pos)) (λ _ pos. r.placed k pos))
         (record { generations = q.generations; good = good_still seat a there; dead = dead_still seat a there }, tt) (λ j u ne at. still j u ne at)
 
@@ -104,7 +105,7 @@ module _ (m : HeaderMemory) (content : ℕ → List ℕ) (IsPlace : ℕ → Type
   same_retired x same was now = one_at-other (state_of x) RETIRED now ∙ (sym (one_at-other (state_of (m.pin h)) RETIRED was) ∙ (r.retired h ∙ ap (λ (g : ℕ). one_at g LAST_GENERATION) (sym same)))
 
   -- a header that the pass holds comes to another state, in which no pin's finding is at stake
-  pub turned : (s : ℕ) → 0 < in_state h s a → (x : ℕ) → count_of x ≡ count_of (m.pin h) → generation_of x ≡ generation_of (m.pin h) → state_of (m.pin h) ≢ RETIRED → state_of x ≢ RETIRED → (rs : List HeldHeader)
+  pub turned : (s : ℕ) → 0 < in_state h s a → (x : ℕ) → count_of x ≡ count_of (m.pin h) → generation_of x ≡ generation_of (m.pin h) → state_of (m.pin h) ≢ RETIRED → state_of x < RETIRED → (rs : List HeldHeader)
       → ((j : ℕ) (u : HeaderHolds) (p : PinnedHeader) → get_elem? hs j ≡ some u → u.pin ≡ Some p → p.header ≡ h → state_of (m.pin h) ≡ LIVE → generation_of (m.pin h) ≡ p.wanted → ⊥)
       → (IsOver (state_of (m.pin h)) → ⊥)
       → ((t : ℕ) → 0 < t → t < RETIRED → t ≢ LIVE → rows_in h t rs ≡ one_at (state_of x) t)
@@ -126,7 +127,8 @@ module _ (m : HeaderMemory) (content : ℕ → List ℕ) (IsPlace : ℕ → Type
         lives = lives;
         settled = let k = ap (known h) generation in omega arith;
         rises = omega arith;
-        retired = same_retired x generation was_used now_used;
+        six = omega arith;
+        retired = same_retired x generation was_used (λ e. omega arith);
         placed = placed;
         generations = same_generations x generation rs generations;
       }

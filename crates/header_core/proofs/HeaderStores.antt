@@ -55,7 +55,7 @@ module _ (m : HeaderMemory) (content : ℕ → List ℕ) (IsPlace : ℕ → Type
     stored : HeadersStand m' content IsPlace known (set hs seat b)
     unfolding total
     stored = headers_change m m' content content IsPlace known known (stepped hs seat a b there) r (λ _. refl) (λ k s _ _ _. let e = rows k s in omega arith)
-        (λ k. let e = rows k LIVE in let f = r.fresh k in omega arith) (λ k. let e = rows k LIVE in omega arith) r.older r.retired
+        (λ k. let e = rows k LIVE in let f = r.fresh k in omega arith) (λ k. let e = rows k LIVE in omega arith) r.older (λ k. (r.retired k, r.six k))
         (λ k pos. dite (ℕ_discrete k h) (λ e. subst (λ (i : ℕ). IsPlace (place' i)) (sym e) (placed (subst (λ (i : ℕ). 0 < stocked (state_of (m.pin i))) e pos))) (λ ne. subst IsPlace (sym (place_else k ne)) (r.placed k pos)))
         (mine, tt) (λ j u _ at. still j u at)
 

@@ -53,6 +53,7 @@ module _ (m : HeaderMemory) (content : ℕ → List ℕ) (IsPlace : ℕ → Type
             lives = let n = no_row LIVE in let c = row LIVE in let w = ap (λ (n : ℕ). one_at n LIVE) now in omega arith;
             settled = let n = no_row LIVE in let c = row LIVE in let o = one_at-other LOCKED LIVE (λ e. omega arith) in let k = ap (known h) generation in let v = stocked_high (state_of (old + STATE)) (omega arith) (omega arith) in omega arith;
             rises = omega arith;
+            six = omega arith;
             retired = same_retired m content IsPlace known hs r seat a there h (old + STATE) generation (λ e. omega arith) (λ e. omega arith);
             placed = λ _. r.placed h (omega arith);
             generations = same_generations m content IsPlace known hs r seat a there h (old + STATE) generation (locked_at m content h ∷ a.held) (refl, r.generations seat a there);
@@ -61,7 +62,7 @@ module _ (m : HeaderMemory) (content : ℕ → List ℕ) (IsPlace : ℕ → Type
   pub unlock_keeps : (kind : Kind) → 0 < in_state h LOCKED a → m.pin h < 2 ^ 64 → HeadersStand (put_header m (at_pin h) (header_effect (unlock_header h kind) (m.pin h))) content IsPlace known (set hs seat (headers_after m content (unlock_header h kind) a))
   unlock_keeps kind own small = let was = held_is m content IsPlace known hs r seat a h LOCKED there (omega arith) (omega arith) own in let down = state_down (m.pin h) (omega arith) small in let x : ℕ = (m.pin h + (2 ^ 64 - STATE)) % 2 ^ 64 in
       let now : state_of x ≡ LIVE = (let u = down.1 in omega arith) in let t = stocked_high (state_of (m.pin h)) (omega arith) (omega arith) in
-      turned m content IsPlace known hs r seat a there h LOCKED own x down.0 down.2 (λ e. omega arith) (λ e. omega arith) (without_header h a.held)
+      turned m content IsPlace known hs r seat a there h LOCKED own x down.0 down.2 (λ e. omega arith) (omega arith) (without_header h a.held)
       (λ _ _ _ _ _ _ live _. omega arith)
       (not_over (state_of (m.pin h)) (omega arith) (omega arith))
       (λ t _ _ ne. rows_without-here h t a.held ∙ sym (one_at-other (state_of x) t (λ e. ne (sym e ∙ now))))
@@ -74,7 +75,7 @@ module _ (m : HeaderMemory) (content : ℕ → List ℕ) (IsPlace : ℕ → Type
   pub bury_keeps : 0 < in_state h LOCKED a → m.pin h < 2 ^ 64 → HeadersStand (put_header m (at_pin h) (header_effect (mark_dead h) (m.pin h))) content IsPlace known (set hs seat (headers_after m content (mark_dead h) a))
   bury_keeps own small = let was = held_is m content IsPlace known hs r seat a h LOCKED there (omega arith) (omega arith) own in let up = state_up (m.pin h) (omega arith) small in let x : ℕ = (m.pin h + STATE) % 2 ^ 64 in
       let now : state_of x ≡ DEAD = (let u = up.1 in omega arith) in let one = held_one m content IsPlace known hs r seat a h LOCKED there own in let t = stocked_high (state_of (m.pin h)) (omega arith) (omega arith) in let z = rows_buried-else h LIVE a.held (λ e. omega arith) in
-      turned m content IsPlace known hs r seat a there h LOCKED own x up.0 up.2 (λ e. omega arith) (λ e. omega arith) (buried_at h a.held)
+      turned m content IsPlace known hs r seat a there h LOCKED own x up.0 up.2 (λ e. omega arith) (omega arith) (buried_at h a.held)
       (λ _ _ _ _ _ _ live _. omega arith)
       (not_over (state_of (m.pin h)) (omega arith) (omega arith))
       (λ s _ _ _. dite (ℕ_discrete s DEAD)
@@ -116,6 +117,7 @@ module _ (m : HeaderMemory) (content : ℕ → List ℕ) (IsPlace : ℕ → Type
             settled = let k = locked_known m content IsPlace known hs r seat a h DEAD there (omega arith) (omega arith) own in let f = unknown x new.1 in let b = stocked_high (state_of (m.pin h)) (omega arith) (omega arith) in
                 let l = has_all m content IsPlace known hs r seat a h LIVE there (omega arith) (omega arith) (inr held) in let o = one_at-other (state_of (m.pin h)) LIVE (λ e. omega arith) in omega arith;
             rises = let g = new.1 in omega arith;
+            six = ⊎_elim (λ (t : state_of x ≡ RETIRED). let q = t in omega arith) (λ (t : state_of x ≡ FREE). let q = t in omega arith) (end_state x new.2);
             retired = ⊎_elim (λ (t : (generation_of (m.pin h) + 1 ≡ LAST_GENERATION) × (state_of x ≡ RETIRED)). one_at-same (state_of x) RETIRED t.1 ∙ sym (one_at-same (generation_of x) LAST_GENERATION (new.1 ∙ t.0)))
                 (λ (t : (generation_of (m.pin h) + 1 ≢ LAST_GENERATION) × (state_of x ≡ FREE)). one_at-other (state_of x) RETIRED (λ e. let f = t.1 in omega arith) ∙ sym (one_at-other (generation_of x) LAST_GENERATION (λ e. t.0 (sym new.1 ∙ e)))) new.2;
             placed = λ pos. absurd (omega arith);

@@ -58,6 +58,8 @@ pub record HeadersStand (m : HeaderMemory) (content : ℕ → List ℕ) (IsPlace
   pub settled : (h : ℕ) → total (in_state h LIVE) hs + known h (generation_of (m.pin h)) ≡ stocked (state_of (m.pin h))
   -- a header that is known at a generation is at that one or at a greater one
   pub older : (h g : ℕ) → 0 < known h g → g ≤ generation_of (m.pin h)
+  -- a header is in one of the six states
+  pub six : (h : ℕ) → state_of (m.pin h) ≤ RETIRED
   -- a header is retired exactly where it is at the last generation
   pub retired : (h : ℕ) → one_at (state_of (m.pin h)) RETIRED ≡ one_at (generation_of (m.pin h)) LAST_GENERATION
   -- the place word of a header that has a block names one, with the class of its length

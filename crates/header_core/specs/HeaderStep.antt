@@ -1,5 +1,5 @@
 -- The kinds of step on the words of the headers.
-use Rattle.std.specs.Prelude.{◌≡◌, ℕ, ◌+◌, ◌-◌, ◌*◌, ◌%◌, ◌^◌, ◌<◌, ◌==◌, cond, List, [], ◌∷◌, map, Option, Some, None, slice_set}
+use Rattle.std.specs.Prelude.{◌≡◌, ℕ, ◌+◌, ◌-◌, ◌*◌, ◌%◌, ◌^◌, ◌<◌, ◌==◌, cond, true, false, List, [], ◌∷◌, map, Option, Some, None, slice_set}
 use prog.Atomic.{either}
 use Rattle.pin_word.specs.PinWord.{generation_of, state_of, count_of}
 use Rattle.oak_model.specs.declared.writes.Kind.{Kind}
@@ -138,13 +138,15 @@ abbrev pub buried_at : ℕ → List HeldHeader → List HeldHeader
 buried_at h rs = map (λ (r : HeldHeader). record r { held_as = cond (r.header == h) Buried r.held_as }) rs
 
 abbrev pub owned_at : HeaderMemory → ℕ → HeldHeader
-owned_at m h = record { header = h; generation = generation_of (m.pin h); held_as = Owned; place = m.place h; stamp = m.stamp h; words = [] }
+owned_at m h = record { header = h; generation = generation_of (m.pin h); held_as = Owned; key = []; named = false; place = m.place h; stamp = m.stamp h; words = [] }
 
 abbrev pub locked_at : HeaderMemory → (ℕ → List ℕ) → ℕ → HeldHeader
 locked_at m content h = record {
   header = h;
   generation = generation_of (m.pin h);
   held_as = Locked (record { place = m.place h; stamp = m.stamp h; words = content (m.place h) });
+  key = [];
+  named = true;
   place = m.place h;
   stamp = m.stamp h;
   words = content (m.place h);

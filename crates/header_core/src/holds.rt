@@ -1,4 +1,5 @@
 //! What a pass holds of headers: plain data for the proofs, of which no value is made.
+use oak_model::Key;
 use std::collections::LinkedList;
 
 /// What a header had when a pass locked it: the numbers of its place and stamp words, and those of the
@@ -30,11 +31,15 @@ pub struct PinnedHeader {
 }
 
 /// A header that a pass owns, has fresh, has locked or buries, with the numbers of its place and stamp
-/// words, which no other pass may change. Of all but an owned header so are those of its block.
+/// words, which no other pass may change. Of all but an owned header so are those of its block. A locked
+/// one has the key whose entry names it, and a buried one has it still; it is named until that entry's
+/// value word is a floor again. The key of another is empty.
 pub struct HeldHeader {
     pub header: u32,
     pub generation: u32,
     pub held_as: HeldAs,
+    pub key: Key,
+    pub named: bool,
     pub place: u64,
     pub stamp: u64,
     pub words: LinkedList<u64>,

@@ -49,7 +49,7 @@ module _ (z : Sizes) (call : ℕ) (slots id : ℕ) (me : Me (Unit {0}) PassState
 
   pub allows_load : (word : ℕ) → word < word_count z → Allows (Holds z) slots id me word (λ n. n) (λ n m. Loads z call word me.0 n m.0 × KeepsSeat me m)
   allows_load word lt = let t = index_covers z word lt in allows_at (load t.0) (Loads z call word me.0) word (λ n. n) t.2 refl t.1
-      (λ n w told. record { spot = t.0; inside = t.1; at = t.2; told = told; met = told.after ∙ ap (λ (k : ℕ). grown (finding z call t.0 (Some k) k me.0 ∷ []) me.0) told.finds })
+      (λ n w told. record { spot = t.0; inside = t.1; at = t.2; told = told; met = told.after ∙ ap (λ (k : ℕ). grown (finding z call t.0 (Some k) k told.table.words me.0 ∷ []) me.0) told.finds })
 
   -- the number is that which the bits name
   pub allows_give : (k bits : ℕ) → bits ≡ 2 ^ k → MayGive z k me.0 → Allows (Holds z) slots id me 0 (λ n. bit_or n bits) (λ n m. ((j : ℕ) → bits ≡ 2 ^ j → Told z call (give_number j) me.0 n m.0) × KeepsSeat me m)
@@ -59,7 +59,7 @@ module _ (z : Sizes) (call : ℕ) (slots id : ℕ) (me : Me (Unit {0}) PassState
   -- the call is noted with what it lacks
   pub allows_note : (lack : Lack) (began : ℕ) → Lacks z call lack began (length me.0.findings.met) me.0.findings → Allows (Holds z) slots id me 0 (λ n. n) (λ n m. Notes z call lack me.0 m.0 × KeepsSeat me m)
   allows_note lack began may = allows_at (note_full lack began) (λ n w. Notes z call lack me.0 w) 0 (λ n. n) (first_word z) refl may
-      (λ n w told. record { began = began; number = n; told = told; after = told.after ∙ ap (λ (k : ℕ). full_state call lack (finding z call at_given (Some k) k me.0) me.0) told.finds })
+      (λ n w told. record { began = began; number = n; told = told; after = told.after ∙ ap (λ (k : ℕ). full_state call lack (finding z call at_given (Some k) k told.table.words me.0) me.0) told.finds })
 
 pub splits : (z : Sizes) (id : ℕ) (v : PassState) → MaySplit v → Splits (Holds z) id v (left_state v) (right_state v)
 splits z id v may s r here = split_keeps z (table_of s) id v r here may

@@ -57,7 +57,7 @@ module _ (z : Sizes) (s : TableState) (r : Rule z s) (seat : ℕ) (v : PassState
       let is_v : u ≡ v.numbers = some-injective u v.numbers (sym p.2 ∙ (ap (get_elem? ns) same ∙ at)) in
       alone.others k (subst (λ (a : Numbers). 0 < total (λ (m : ℕ). one_at m k) a.made) is_v both.1))
 
-  others_spent : (j : ℕ) (u : PassState) → j ≢ seat → get_elem? s.states j ≡ some u → u.numbers.spent ≡ true
+  pub others_spent : (j : ℕ) (u : PassState) → j ≢ seat → get_elem? s.states j ≡ some u → u.numbers.spent ≡ true
   others_spent j u ne e = spent u.numbers.spent refl
     where
       spent : (b : Bool) → u.numbers.spent ≡ b → b ≡ true

@@ -14,10 +14,10 @@ use Rattle.oak_core.proofs.MetMore.{grown_met, grown_length}
 
 module _ (z : Sizes) (call : ℕ) (p : Spot) where
   -- the first of the findings is of the word
-  abbrev pub met_here : (n left : ℕ) (q : Spot) (v : PassState) (more : List Finding) (P : ℕ → Type 0) → q ≡ p → P n → FoundThere z call p v (finding z call q (Some n) left v ∷ more) P
-  met_here n left q v more P is shows = record {
+  abbrev pub met_here : (n left : ℕ) (words : List ℕ) (q : Spot) (v : PassState) (more : List Finding) (P : ℕ → Type 0) → q ≡ p → P n → FoundThere z call p v (finding z call q (Some n) left words v ∷ more) P
+  met_here n left words q v more P is shows = record {
     place = 0;
-    finding = finding z call q (Some n) left v;
+    finding = finding z call q (Some n) left words v;
     there = refl;
     call_is = refl;
     word_is = ap (index z) is;

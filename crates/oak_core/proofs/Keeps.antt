@@ -21,7 +21,7 @@ use Rattle.oak_core.specs.Memory.{Memory, Spot, at_given, same_spot, read, write
 use Rattle.oak_core.specs.Finding.{finding}
 use Rattle.oak_core.specs.PassState.{blocks_of, headers_held, numbers_of, findings_of, knowledge_of, kept_of}
 use Rattle.oak_core.specs.TableState.{TableState}
-use Rattle.oak_core.specs.Rule.{WordsStand, NumbersStand, FindingsStand, HistoriesStand, SpentIsSpent, JoinedStand, FindingsHold, Rule, PassStands}
+use Rattle.oak_core.specs.Rule.{WordsStand, NumbersStand, FindingsStand, HistoriesStand, SpentIsSpent, JoinedStand, FindingsHold, AloneStands, Rule, PassStands}
 use Rattle.oak_core.specs.Owners.{other_owners, HeadersAreHeld}
 use Rattle.oak_core.specs.Known.{known}
 use Rattle.oak_core.specs.Step.{Step, load, give_number, on_arena, on_headers, store_locked, spot, effect, found, state_after, table_after, note_full}
@@ -29,6 +29,7 @@ use Rattle.oak_core.specs.Lack.{FullsStand}
 use Rattle.oak_core.proofs.Words.{first_word, index_apart, index_below, memory_set, memory_read}
 use Rattle.oak_core.proofs.Found.{found_more}
 use Rattle.oak_core.proofs.Lacked.{fulls_met}
+use Rattle.oak_core.proofs.AloneLast.{alone_steps}
 
 pub same_number : (n k : ℕ) → Some n ≡ Some k → n ≡ k
 same_number n k e = cc
@@ -96,6 +97,7 @@ module _ (z : Sizes) (s : TableState) (call seat : ℕ) (v : PassState) (r : Rul
         blocks = subst (λ (a : Memory). BlocksAreOwned z a.arena.bits (other_owners z a.headers) (map blocks_of after)) (sym law) blocks;
         headers = subst (λ (a : Memory). HeadersAreHeld a.headers a.arena.bytes (known (map knowledge_of after)) (map headers_held after)) (sym law) headers;
         passes = passes_stay (state_after z call x s v) pin;
+        alone = alone_steps z s r seat v here going call x;
         kept = subst (λ (a : Memory). KeptNumbersStand same_spot (read a) (map kept_of after)) (sym law) kept;
       }
 
@@ -125,12 +127,12 @@ module _ (z : Sizes) (s : TableState) (call seat : ℕ) (v : PassState) (r : Rul
       (subst (λ (qs : List Knowledge). HeadersAreHeld (write m (spot x) y).headers (write m (spot x) y).arena.bytes (known qs) (map headers_held (set s.states seat w))) (sym (map_set_same knowledge_of s.states seat v w here knowledge)) headers) kept pin
 
   -- one more finding at a word that stays, in a state whose other parts stay
-  pub findings_stay : (p : Spot) (n : ℕ) (w : PassState) → w.findings.met ≡ v.findings.met ++ finding z call p (Some n) n v ∷ [] → FullsStand z w.findings → IsInside z p → n ≡ get_or s.words (index z p) 0
+  pub findings_stay : (p : Spot) (n : ℕ) (w : PassState) → w.findings.met ≡ v.findings.met ++ finding z call p (Some n) n s.words v ∷ [] → FullsStand z w.findings → IsInside z p → n ≡ get_or s.words (index z p) 0
       → FindingsStand z m.given (map findings_of (set s.states seat w))
   findings_stay p n w grew noted inside is = subst (FindingsStand z m.given) (sym (map_set findings_of s.states seat w))
       ((stepped (map findings_of s.states) seat v.findings w.findings (at_map findings_of s.states seat v here)).every (FindingsHold z m.given) (
         record {
-          found = found_more m.given v.findings w.findings (finding z call p (Some n) n v) grew
+          found = found_more m.given v.findings w.findings (finding z call p (Some n) n s.words v) grew
               (λ zero_word k e b set_bit. let same : m.given ≡ n = memory_read z s.words at_given tt ∙ (ap (λ (i : ℕ). get_or s.words i 0) (first_word z ∙ sym zero_word) ∙ sym is) in
               ap (λ (x : ℕ). bit_at x b) (same ∙ same_number n k e) ∙ set_bit)
               (r.findings seat v.findings (at_map findings_of s.states seat v here)).found;
@@ -146,12 +148,13 @@ module _ (z : Sizes) (s : TableState) (call seat : ℕ) (v : PassState) (r : Rul
         sizes = r.sizes;
         words = r.words;
         numbers = subst (NumbersStand z m.given) (sym (map_set_same numbers_of s.states seat v w here refl)) r.numbers;
-        findings = findings_stay p n w refl (fulls_met z v.findings w.findings (finding z call p (Some n) n v) refl (r.findings seat v.findings (at_map findings_of s.states seat v here)).noted) inside refl;
+        findings = findings_stay p n w refl (fulls_met z v.findings w.findings (finding z call p (Some n) n s.words v) refl (r.findings seat v.findings (at_map findings_of s.states seat v here)).noted) inside refl;
         joined = joined_stays (load p);
         histories = subst HistoriesStand (sym (map_set_same knowledge_of s.states seat v w here refl)) r.histories;
         spent = spent_stays (load p);
         blocks = subst (BlocksAreOwned z m.arena.bits (other_owners z m.headers)) (sym (map_set_same blocks_of s.states seat v w here refl)) r.blocks;
         headers = headers_stay w refl refl;
         passes = passes_stay w (r.passes seat v here);
+        alone = subst (λ (ws : List ℕ). Every (AloneStands ws) (set s.states seat w)) (set-get_or s.words (index z p) 0) (alone_steps z s r seat v here going call (load p));
         kept = subst (KeptNumbersStand same_spot (read m)) (sym (map_set_same kept_of s.states seat v w here refl)) r.kept;
       }

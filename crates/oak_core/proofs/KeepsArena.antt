@@ -88,4 +88,4 @@ module _ (z : Sizes) (s : TableState) (call seat : ℕ) (v : PassState) (r : Rul
       (arena_kept z m (other_owners z m.headers) s.states seat v here r.blocks (headers_own z s r) r.kept x may))
 
   pub arena_keeps : Rule z (table_after z call (on_arena x) seat v s)
-  arena_keeps = elsewhere_rule z s call seat v r here going (on_arena x) (finding z call p (arena_found x n) y v) inside (arena_small z x v.blocks n may (r.words.small (index z p))) refl refl refl refl refl owned_after headers_after_it kept_after (r.passes seat v here)
+  arena_keeps = elsewhere_rule z s call seat v r here going (on_arena x) (finding z call p (arena_found x n) y s.words v) inside (arena_small z x v.blocks n may (r.words.small (index z p))) refl refl refl refl refl owned_after headers_after_it kept_after (r.passes seat v here)

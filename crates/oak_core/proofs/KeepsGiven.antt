@@ -14,7 +14,7 @@ use Rattle.arena_core.specs.Blocks.{BlocksAreOwned}
 use Rattle.oak_core.specs.declared.states.Findings.{Findings}
 use Rattle.oak_core.specs.declared.states.PassState.{PassState}
 use Rattle.oak_core.specs.Memory.{Memory, at_given, same_spot, read, write, memory, index}
-use Rattle.oak_core.specs.Finding.{finding}
+use Rattle.oak_core.specs.Finding.{finding, leaving}
 use Rattle.oak_core.specs.PassState.{blocks_of, numbers_of, findings_of, knowledge_of, kept_of}
 use Rattle.oak_core.specs.TableState.{TableState}
 use Rattle.oak_core.specs.Rule.{NumbersStand, FoundStays, FindingsStand, HistoriesStand, FindingsHold, Rule}
@@ -65,9 +65,9 @@ module _ (z : Sizes) (s : TableState) (call seat : ℕ) (v : PassState) (r : Rul
   findings_after = subst (FindingsStand z x) (sym (map_set findings_of s.states seat w))
       ((stepped (map findings_of s.states) seat v.findings w.findings (at_map findings_of s.states seat v here)).every (FindingsHold z x) (
         record {
-          found = found_more x v.findings w.findings (finding z call at_given (Some n) x v) refl (λ _ j e b set_bit. up b (ap (λ (i : ℕ). bit_at i b) (same_number n j e) ∙ set_bit))
+          found = found_more x v.findings w.findings (leaving (finding z call at_given (Some n) x s.words v)) refl (λ _ j e b set_bit. up b (ap (λ (i : ℕ). bit_at i b) (same_number n j e) ∙ set_bit))
               (found_on n x v.findings up (still_found v.findings seat (at_map findings_of s.states seat v here)));
-          noted = fulls_met z v.findings w.findings (finding z call at_given (Some n) x v) refl (r.findings seat v.findings (at_map findings_of s.states seat v here)).noted;
+          noted = fulls_met z v.findings w.findings (leaving (finding z call at_given (Some n) x s.words v)) refl (r.findings seat v.findings (at_map findings_of s.states seat v here)).noted;
         },
         tt,
       )

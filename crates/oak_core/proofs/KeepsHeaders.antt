@@ -122,7 +122,7 @@ module _ (z : Sizes) (s : TableState) (seat : ℕ) (v : PassState) (r : Rule z s
     pin_known = pins_kept m.headers (content m.arena.bytes) IsPlace (knows s) hs (stand z s seat v r here) seat v.headers (at_headers z s seat v r here) (λ h g. knows_life h g v.knowledge) x may.headers (may_know x may) (r.passes seat v here).pin
 
     pub header_keeps_it : Rule z (table_after z call (on_headers x) seat v s)
-    header_keeps_it = elsewhere_rule z s call seat v r here going (on_headers x) (finding z call (in_headers (header_spot x)) (header_found x n) y v) may.inside
+    header_keeps_it = elsewhere_rule z s call seat v r here going (on_headers x) (finding z call (in_headers (header_spot x)) (header_found x n) y s.words v) may.inside
         (header_fits x v.headers n may.headers (r.words.small (index z (in_headers (header_spot x))))) refl refl refl refl refl
         (subst (BlocksAreOwned z m.arena.bits (other_owners z (put_header m.headers (header_spot x) y))) (sym (map_set blocks_of s.states seat w)) holds.owned)
         (subst (HeadersAreHeld (put_header m.headers (header_spot x) y) m.arena.bytes (knows s)) (sym (map_set headers_held s.states seat w)) stands)

@@ -140,7 +140,7 @@ module _ (z : Sizes) (s : TableState) (seat : ℕ) (v : PassState) (r : Rule z s
         (λ q _ known_so. let f = fresh_reworded h k x q.header q.wanted v.headers.held in omega arith) (r.passes seat v here_is).pin
 
     pub locked_keeps_it : Rule z (table_after z call (store_locked h c b k x) seat v s)
-    locked_keeps_it = elsewhere_rule z s call seat v r here_is going (store_locked h c b k x) (finding z call p None x v) inside_it may.small refl refl refl refl refl
+    locked_keeps_it = elsewhere_rule z s call seat v r here_is going (store_locked h c b k x) (finding z call p None x s.words v) inside_it may.small refl refl refl refl refl
         (subst (BlocksAreOwned z m.arena.bits (other_owners z m.headers)) (sym (map_set_same blocks_of s.states seat v w here_is refl)) r.blocks)
         (subst (HeadersAreHeld m.headers (write m p x).arena.bytes (knows s)) (sym (map_set headers_held s.states seat w)) stands)
         (subst (KeptNumbersStand same_spot (read (write m p x))) (sym (map_set kept_of s.states seat w))

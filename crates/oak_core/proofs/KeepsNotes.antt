@@ -40,7 +40,7 @@ module _ (z : Sizes) (s : TableState) (call seat : ℕ) (v : PassState) (r : Rul
   note_keeps = stepped_rule z s call seat v r here going (note_full lack began) tt (r.words.small (index z at_given))
       (subst (λ (g : ℕ). NumbersStand z g (map numbers_of (set s.states seat w))) given_is (subst (NumbersStand z m.given) (sym (map_set_same numbers_of s.states seat v w here refl)) r.numbers))
       (subst (λ (g : ℕ). FindingsStand z g (map findings_of (set s.states seat w))) given_is
-      (findings_stay z s call seat v r here going at_given n w refl (fulls_noted z call lack began (finding z call at_given (Some n) n v) v may (r.findings seat v.findings (at_map findings_of s.states seat v here)).noted) tt refl))
+      (findings_stay z s call seat v r here going at_given n w refl (fulls_noted z call lack began (finding z call at_given (Some n) n s.words v) v may (r.findings seat v.findings (at_map findings_of s.states seat v here)).noted) tt refl))
       (subst HistoriesStand (sym (map_set_same knowledge_of s.states seat v w here refl)) r.histories)
       (subst (BlocksAreOwned z m.arena.bits (other_owners z m.headers)) (sym (map_set_same blocks_of s.states seat v w here refl)) r.blocks)
       (headers_stay z s call seat v r here going w refl refl)

@@ -9,9 +9,8 @@ use Rattle.oak_model.specs.Counts.{one_if, total}
 use Rattle.oak_model.proofs.Counting.{total_append, total_at}
 use Rattle.oak_model.proofs.Changes.{divided, joined, change_parts, change_level}
 use Rattle.oak_model.proofs.Lists.{at_map}
-use Rattle.chunk_core.specs.ValueWord.{names_life}
 use Rattle.oak_core.specs.declared.states.PassState.{PassState}
-use Rattle.oak_core.specs.Known.{lives_in, knows_life, known}
+use Rattle.oak_core.specs.Known.{lives_in, is_life, knows_life, known}
 use Rattle.oak_core.specs.PassState.{knowledge_of, left_state, right_state, both_state, spent_state}
 
 -- both counts are positive, or neither is
@@ -21,13 +20,13 @@ some_alike a b to back = dite (dec_lt 0 a) (λ l. ap one_if (lt-ltb 0 a l ∙ sy
 -- the pass that is split off knows no more than the other
 right_knows : (h g : ℕ) (v : PassState) → knows_life h g (right_state v).knowledge ≤ knows_life h g v.knowledge
 unfolding total
-right_knows h g v = let a : ℕ = total (lives_in h g) v.knowledge.seen in let b : ℕ = total (names_life h g) v.knowledge.loaded in let l : a + 0 ≤ a + b = omega arith in l
+right_knows h g v = let a : ℕ = total (lives_in h g) v.knowledge.seen in let b : ℕ = total (is_life h g) v.knowledge.loaded in let l : a + 0 ≤ a + b = omega arith in l
 
 -- the two together know what each knows
 pub both_knows : (h g : ℕ) (v w : PassState) → knows_life h g (both_state v w).knowledge ≡ knows_life h g v.knowledge + knows_life h g w.knowledge
-both_knows h g v w = let a = total_append (lives_in h g) v.knowledge.seen w.knowledge.seen in let b = total_append (names_life h g) v.knowledge.loaded w.knowledge.loaded in
-    let p : ℕ = total (lives_in h g) v.knowledge.seen in let q : ℕ = total (lives_in h g) w.knowledge.seen in let x : ℕ = total (names_life h g) v.knowledge.loaded in let y : ℕ = total (names_life h g) w.knowledge.loaded in
-    let c : ℕ = total (lives_in h g) (v.knowledge.seen ++ w.knowledge.seen) in let d : ℕ = total (names_life h g) (v.knowledge.loaded ++ w.knowledge.loaded) in
+both_knows h g v w = let a = total_append (lives_in h g) v.knowledge.seen w.knowledge.seen in let b = total_append (is_life h g) v.knowledge.loaded w.knowledge.loaded in
+    let p : ℕ = total (lives_in h g) v.knowledge.seen in let q : ℕ = total (lives_in h g) w.knowledge.seen in let x : ℕ = total (is_life h g) v.knowledge.loaded in let y : ℕ = total (is_life h g) w.knowledge.loaded in
+    let c : ℕ = total (lives_in h g) (v.knowledge.seen ++ w.knowledge.seen) in let d : ℕ = total (is_life h g) (v.knowledge.loaded ++ w.knowledge.loaded) in
     let a' : c ≡ p + q = a in let b' : d ≡ x + y = b in let e : c + d ≡ (p + x) + (q + y) = omega arith in e
 
 module _ (vs : List PassState) (seat : ℕ) (v : PassState) (here : get_elem? vs seat ≡ some v) where

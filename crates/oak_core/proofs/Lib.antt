@@ -3,6 +3,7 @@ pub mod KnownLaws
 pub mod GivenNumbers
 pub mod Histories
 pub mod Found
+pub mod Growing
 pub mod KeptWords
 pub mod MetLists
 pub mod MetMore
@@ -54,3 +55,5 @@ pub mod ClosedFulls
 pub mod UsedWords
 pub mod Frames
 pub mod SamePass
+pub mod AloneLast
+pub mod AloneRuns

@@ -16,10 +16,11 @@ use Rattle.header_core.specs.declared.layout.TheConstants.{HEADER_WORDS}
 use Rattle.header_core.specs.declared.states.TheConstants.{LAST_GENERATION}
 use Rattle.oak_core.specs.Memory.{at_given, same_spot, read, memory, headers_at, rooms_at, word_count}
 use Rattle.oak_core.specs.PassState.{first_state, kept_of}
-use Rattle.oak_core.specs.Rule.{WordsStand, NumbersStand, FindingsHold, SpentIsSpent, JoinedStand, Rule, PassStands}
+use Rattle.oak_core.specs.Rule.{AloneStands, WordsStand, NumbersStand, FindingsHold, SpentIsSpent, JoinedStand, Rule, PassStands}
 use Rattle.oak_core.specs.Schedule.{opening_number, opening}
 use Rattle.oak_core.proofs.Words.{first_word, memory_read}
 use Rattle.oak_core.proofs.Found.{none_met}
+use Rattle.oak_core.proofs.AloneLast.{alone_fresh}
 use Rattle.oak_core.proofs.OpeningBlocks.{opening_blocks, opening_headers}
 
 either_small : (b : Bool) (x y : ℕ) → x < 2 ^ 64 → y < 2 ^ 64 → cond b x y < 2 ^ 64
@@ -80,6 +81,7 @@ module _ (z : Sizes) (g : ℕ) (is : IsInLimits z) (lt : g < LAST_GENERATION) wh
     blocks = opening_blocks z g lt;
     headers = opening_headers z g lt;
     passes = every_one PassStands first_state record { pin = tt; whole = tt };
+    alone = every_one (AloneStands (opening z g).words) first_state (alone_fresh (opening z g).words first_state refl);
     kept = opening_kept;
   }
 

@@ -10,7 +10,7 @@ use Rattle.oak_model.proofs.Counting.{total_at}
 use Rattle.oak_core.specs.declared.states.Finding.{Finding}
 use Rattle.oak_core.specs.declared.states.PassState.{PassState}
 use Rattle.oak_core.specs.Memory.{at_given, memory}
-use Rattle.oak_core.specs.Finding.{finding, grown, noted, Shows}
+use Rattle.oak_core.specs.Finding.{finding, leaving, grown, noted, Shows}
 use Rattle.oak_core.specs.PassState.{has_number, numbers_of, findings_of, both_state, left_state, right_state}
 use Rattle.oak_core.specs.Splitting.{IsGrown, SplitsOff, FindsAllGiven, SeesLonger}
 use Rattle.oak_core.specs.Step.{give_number, numbered, MayGive, Told}
@@ -60,10 +60,10 @@ module _ (z : Sizes) (call k : ℕ) (v w x : PassState) (n : ℕ) (t : Tried k v
       let same : has_number k w.numbers ≡ has_number k v.numbers = ap (λ (y : PassState). has_number k y.numbers) t.after in omega arith
 
   abbrev met_now : Finding
-  met_now = finding z call at_given (Some n) (bit_or n (2 ^ k)) w
+  met_now = leaving (finding z call at_given (Some n) (bit_or n (2 ^ k)) told.table.words w)
 
   after_is : x ≡ record (noted met_now w) { numbers = numbered n k w.numbers }
-  after_is = told.after ∙ ap (λ (i : ℕ). record (noted (finding z call at_given (Some i) (bit_or i (2 ^ k)) w) w) { numbers = numbered i k w.numbers }) told.finds
+  after_is = told.after ∙ ap (λ (i : ℕ). record (noted (leaving (finding z call at_given (Some i) (bit_or i (2 ^ k)) told.table.words w)) w) { numbers = numbered i k w.numbers }) told.finds
 
   pub tried_more : bit_at n k ≡ 1 → Tried (k + 1) v x
   tried_more e = record {

@@ -25,7 +25,7 @@ use Rattle.oak_core.specs.declared.states.PassState.{PassState}
 use Rattle.oak_core.specs.Memory.{Memory, same_spot, read, memory}
 use Rattle.oak_core.specs.PassState.{blocks_of, headers_held, numbers_of, findings_of, knowledge_of, kept_of, in_hand, has_number, is_parent, of_key, seen_of, history, number_in, left_state, right_state, joined_from, both_state, spent_state}
 use Rattle.oak_core.specs.TableState.{TableState}
-use Rattle.oak_core.specs.Rule.{FindingsHold, SpentIsSpent, JoinedStand, Rule, PassStands}
+use Rattle.oak_core.specs.Rule.{AloneStands, FindingsHold, SpentIsSpent, JoinedStand, Rule, PassStands}
 use Rattle.oak_core.specs.Owners.{other_owners}
 use Rattle.oak_core.specs.Known.{knows_life, known}
 use Rattle.oak_core.specs.Lack.{FullsStand}
@@ -35,6 +35,7 @@ use Rattle.oak_core.proofs.GivenNumbers.{numbers_frame}
 use Rattle.oak_core.proofs.Found.{none_met}
 use Rattle.oak_core.proofs.Histories.{histories_frame, seen_both}
 use Rattle.oak_core.proofs.JoinedNumbers.{same_numbers_joined, more_parents_joined}
+use Rattle.oak_core.proofs.AloneLast.{alone_joins, alone_fresh}
 use Rattle.oak_core.proofs.KnownInTwo.{both_knows, known_split, known_join}
 
 -- a pass that holds nothing owns no block
@@ -93,6 +94,7 @@ module _ (z : Sizes) (s : TableState) (seat : ℕ) (v : PassState) (r : Rule z s
       blocks = blocks_frame z m.arena.bits (other_owners z m.headers) (other_owners z m.headers) (change_parts blocks_of apart) r.blocks (r.blocks.whole seat v.blocks (at_map blocks_of s.states seat v here), (tt, tt)) (λ c b. level c b (other_owners z m.headers c b) v.blocks);
       headers = headers_divided m.headers (content m.arena.bytes) IsPlace (known (map knowledge_of s.states)) (known (map knowledge_of (set s.states seat left ++ right ∷ []))) (known_split s.states seat v here)
           r.headers v.headers (change_parts headers_held apart) (seat, at_map headers_held s.states seat v here);
+      alone = apart.every (AloneStands s.words) ((λ met f e a. let h = r.alone seat v here met f e a in (h.0, record { first = h.1.first; others = h.1.others })), (alone_fresh s.words right refl, tt)) (λ j u _ at. r.alone j u at);
       passes = apart.every PassStands (r.passes seat v here, (record { pin = tt; whole = tt }, tt)) (λ j u _ at. r.passes j u at);
       spent = apart.every SpentIsSpent ((λ e. absurd (true≢false (sym e ∙ may.going))), ((λ e. absurd (true≢false (sym e))), tt)) (λ j u _ at. r.spent j u at);
       kept = subst (KeptNumbersStand same_spot (read m)) (sym same_kept) (kept_idle same_spot (read m) (map kept_of s.states) r.kept);
@@ -136,6 +138,7 @@ module _ (z : Sizes) (s : TableState) (seat : ℕ) (v : PassState) (r : Rule z s
       blocks = blocks_frame z m.arena.bits (other_owners z m.headers) (other_owners z m.headers) (change_parts blocks_of together) r.blocks (r.blocks.whole seat v.blocks (at_map blocks_of s.states seat v here), (tt, tt)) (λ c b. level-both c b (other_owners z m.headers c b) v.blocks w.blocks may.idle.blocks);
       headers = headers_joined m.headers (content m.arena.bytes) IsPlace (known (map knowledge_of s.states)) (known (map knowledge_of (set (set s.states seat both) other spent_state))) (known_join s.states seat v here other w there ne)
           r.headers v.headers w.headers (change_parts headers_held together) (seat, at_map headers_held s.states seat v here) may.idle.headers;
+      alone = together.every (AloneStands s.words) (alone_joins z s r seat v here going other w both there ne may.going refl, (alone_fresh s.words spent_state refl, tt)) (λ j u _ at. r.alone j u at);
       passes = together.every PassStands (record { pin = pin_both v w (r.passes seat v here).pin; whole = (r.passes seat v here).whole }, (record { pin = tt; whole = tt }, tt)) (λ j u _ at. r.passes j u at);
       spent = together.every SpentIsSpent ((λ e. absurd (true≢false (sym e ∙ going))), ((λ _. refl), tt)) (λ j u _ at. r.spent j u at);
       kept = subst (KeptNumbersStand same_spot (read m)) (sym same_words) r.kept;

@@ -5,6 +5,8 @@ use mathlib.Core.Path.{fun_ext}
 use native.Mathlib.Decide.{dec_lt}
 use Rattle.oak_model.specs.Limits.{Sizes}
 use Rattle.oak_model.proofs.Counting.{test-cases}
+use Rattle.arena_core.specs.Arena.{ArenaSpot, IsInArena}
+use Rattle.header_core.specs.Headers.{HeaderSpot, IsInHeaders}
 use Rattle.arena_core.proofs.ArenaWords.{same_arena_spot-is, same_arena_spot-self, read_arena-of, in_arena as arena_inside, arena_in, arena_below, arena_apart, arena_covers}
 use Rattle.header_core.proofs.HeaderWords.{same_header_spot-is, same_header_spot-self, read_header-of, in_headers as headers_inside, headers_in, headers_below, headers_apart, headers_cover}
 use Rattle.chunk_core.specs.Rooms.{at_room_pin, room_index, place_in_room}
@@ -68,6 +70,20 @@ index_below z at_given h = omega arith
 index_below z (in_arena p) h = let a = arena_below z p h in omega arith
 index_below z (in_headers p) h = let a = headers_below z p h in omega arith
 index_below z (in_rooms p) h = let a = rooms_below z p h in omega arith
+
+-- the words in front of those of the rooms
+
+pub given_before : (z : Sizes) → index z at_given < rooms_at z
+unfolding index
+given_before z = omega arith
+
+pub arena_before : (z : Sizes) (p : ArenaSpot) → IsInArena z p → index z (in_arena p) < rooms_at z
+unfolding index
+arena_before z p h = let a = arena_below z p h in omega arith
+
+pub header_before : (z : Sizes) (p : HeaderSpot) → IsInHeaders z p → index z (in_headers p) < rooms_at z
+unfolding index
+header_before z p h = let a = headers_below z p h in omega arith
 
 pub index_apart : (z : Sizes) (p q : Spot) → IsInside z p → IsInside z q → index z p ≡ index z q → p ≡ q
 unfolding index

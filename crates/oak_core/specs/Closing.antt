@@ -3,6 +3,7 @@ use Rattle.std.specs.Prelude.{ℕ, ◌==◌, cond, List, [], ◌∷◌, ◌++◌
 use Rattle.std.specs.Slots.{slots_items}
 use Rattle.oak_model.specs.Counts.{Each}
 use Rattle.oak_model.specs.Limits.{Sizes}
+use Rattle.oak_model.specs.Key.{is_key}
 use Rattle.oak_model.specs.KeyNumber.{key_number}
 use Rattle.oak_model.specs.History.{History, last_state}
 use Rattle.oak_model.specs.State.{State}
@@ -27,9 +28,9 @@ closed_state c = c.last.value.seat.me.0
 abbrev pub closed_words : Closed → List ℕ
 closed_words c = slots_items c.table.words
 
--- the history of a key
+-- The history of a key. What is no key has none: the numbers of such lists are those of keys, too.
 abbrev pub closed_history : Closed → List ℕ → History
-closed_history c k = map (λ (w : KeyedWrite). w.write) (seen_of (key_number k) (closed_state c).knowledge)
+closed_history c k = cond (is_key k) (map (λ (w : KeyedWrite). w.write) (seen_of (key_number k) (closed_state c).knowledge)) []
 
 -- what the key holds at the end
 abbrev pub closed_map : Closed → List ℕ → State

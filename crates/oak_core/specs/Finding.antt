@@ -1,7 +1,8 @@
 -- What a step notes of the word that it found.
-use Rattle.std.specs.Prelude.{◌≡◌, ℕ, List, [], ◌∷◌, ◌++◌, Option, Some}
+use Rattle.std.specs.Prelude.{◌≡◌, ℕ, ◌<◌, false, List, [], ◌∷◌, ◌++◌, slice_set, Option, Some}
 use mathlib.Core.Option.{some}
 use lib.ListN.{get_elem?}
+use Rattle.oak_model.specs.Counts.{Each}
 use Rattle.oak_model.specs.Limits.{Sizes}
 use Rattle.arena_core.specs.Arena.{ArenaSpot, at_bits}
 use Rattle.arena_core.specs.HeldBlocks.{had_bits}
@@ -11,7 +12,8 @@ use Rattle.chunk_core.specs.Rooms.{RoomSpot, at_room_pin, at_latch}
 use Rattle.chunk_core.specs.RoomHolds.{had_room, had_latch}
 use Rattle.oak_core.specs.declared.states.Finding.{Finding}
 use Rattle.oak_core.specs.declared.states.PassState.{PassState}
-use Rattle.oak_core.specs.Memory.{Spot, at_given, in_arena, in_headers, in_rooms, index}
+use Rattle.oak_core.specs.PassState.{is_alone}
+use Rattle.oak_core.specs.Memory.{Spot, at_given, in_arena, in_headers, in_rooms, index, rooms_at}
 
 abbrev pub had_in_arena : ArenaSpot → PassState → ℕ
 had_in_arena (at_bits c i) v = had_bits c i v.blocks
@@ -33,8 +35,13 @@ had (in_arena p) v = had_in_arena p v
 had (in_headers p) v = had_in_headers p v
 had (in_rooms p) v = had_in_rooms p v
 
-abbrev pub finding : Sizes → ℕ → Spot → Option ℕ → ℕ → PassState → Finding
-finding z call p found left v = record { call = call; word = index z p; found = found; left = left; had = had p v }
+-- it has the words of the table behind the step, which were `words` before, and says whether the pass is alone
+abbrev pub finding : Sizes → ℕ → Spot → Option ℕ → ℕ → List ℕ → PassState → Finding
+finding z call p found left words v = record { call = call; word = index z p; found = found; left = left; had = had p v; words = slice_set words (index z p) left; alone = is_alone v.numbers }
+
+-- the finding of a step behind which the pass need not be alone
+abbrev pub leaving : Finding → Finding
+leaving f = record f { alone = false }
 
 -- the state, with more met
 abbrev pub grown : List Finding → PassState → PassState
@@ -42,6 +49,20 @@ grown more v = record v { findings = record v.findings { met = v.findings.met ++
 
 abbrev pub noted : Finding → PassState → PassState
 noted f v = grown (f ∷ []) v
+
+-- the finding is of the call, at a word in front of those of the rooms
+abbrev pub IsOf : Sizes → ℕ → Finding → Type 0
+IsOf z call f = (f.call ≡ call) × (f.word < rooms_at z)
+
+-- and the step left the word as it was found
+abbrev pub IsLoadOf : Sizes → ℕ → Finding → Type 0
+IsLoadOf z call f = (f.call ≡ call) × (f.word < rooms_at z) × (f.found ≡ Some f.left)
+
+-- The pass only met more: loads of the call, of words in front of those of the rooms.
+pub record LoadsMore (z : Sizes) (call : ℕ) (v w : PassState) : Type 0 where
+  pub more : List Finding
+  pub loads : Each (IsLoadOf z call) more
+  pub after : w ≡ grown more v
 
 -- one of the findings shows a number of the word that has P
 abbrev pub Shows : List Finding → ℕ → (ℕ → Type 0) → Type 0

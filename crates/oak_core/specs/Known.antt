@@ -4,6 +4,7 @@ use Rattle.oak_model.specs.Counts.{one_if, total}
 use Rattle.chunk_core.specs.ValueWord.{names_life}
 use Rattle.header_core.specs.HeaderHolds.{fresh_at}
 use Rattle.oak_core.specs.declared.states.KeyedWrite.{KeyedWrite}
+use Rattle.oak_core.specs.declared.states.KnownLife.{KnownLife}
 use Rattle.oak_core.specs.declared.states.Knowledge.{Knowledge}
 use Rattle.oak_core.specs.declared.states.PassState.{PassState}
 
@@ -11,9 +12,13 @@ use Rattle.oak_core.specs.declared.states.PassState.{PassState}
 abbrev pub lives_in : ℕ → ℕ → List KeyedWrite → ℕ
 lives_in h g ws = total (λ (w : KeyedWrite). names_life h g w.home) ws
 
+-- 1 where it is that life
+abbrev pub is_life : ℕ → ℕ → KnownLife → ℕ
+is_life h g l = names_life h g l.home
+
 -- positive where the pass knows the header at the generation other than as its fresh one: both stand beside a write that it has seen, or in a value word that it loaded from an entry
 abbrev pub knows_life : ℕ → ℕ → Knowledge → ℕ
-knows_life h g q = total (lives_in h g) q.seen + total (names_life h g) q.loaded
+knows_life h g q = total (lives_in h g) q.seen + total (is_life h g) q.loaded
 
 -- 1 where one of the passes knows it so
 abbrev pub known : List Knowledge → ℕ → ℕ → ℕ

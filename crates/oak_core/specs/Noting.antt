@@ -13,4 +13,4 @@ pub record Notes (z : Sizes) (call : ℕ) (lack : Lack) (v w : PassState) : Type
   pub began : ℕ
   pub number : ℕ
   pub told : Told z call (note_full lack began) v number w
-  pub after : w ≡ full_state call lack (finding z call at_given (Some number) number v) v
+  pub after : w ≡ full_state call lack (finding z call at_given (Some number) number told.table.words v) v

@@ -1,5 +1,6 @@
 -- What a pass has seen, done and holds.
-use Rattle.std.specs.Prelude.{◌≡◌, ℕ, ◌+◌, ◌*◌, ◌<◌, ◌==◌, cond, true, false, List, [], ◌∷◌, ◌++◌, map, Option, Some, None}
+use Rattle.std.specs.Prelude.{◌≡◌, ℕ, ◌+◌, ◌*◌, ◌<◌, ◌==◌, cond, Bool, true, false, nat_lt, ◌&&◌, List, [], ◌∷◌, ◌++◌, map, Option, Some, None}
+use Rattle.std.specs.List.{list_all}
 use Rattle.oak_model.specs.Counts.{one_at, total, below, Begins, longest}
 use Rattle.oak_model.specs.KeyNumber.{key_number}
 use Rattle.oak_model.specs.Kept.{KeptWord, renamed}
@@ -62,6 +63,10 @@ pub record IsAlone (v : PassState) : Type 0 where
   pub first : 0 < rooted 0 v.numbers
   pub others : (k : ℕ) → 0 < total (λ (m : ℕ). one_at m k) v.numbers.made → 0 < rooted k v.numbers
 
+-- whether it is so
+abbrev pub is_alone : Numbers → Bool
+is_alone n = nat_lt 0 (rooted 0 n) && list_all (λ (k : ℕ). nat_lt 0 (rooted k n)) n.made
+
 -- histories; a key is given by its number
 
 unfoldable pub of_key : ℕ → List KeyedWrite → List KeyedWrite
@@ -88,14 +93,14 @@ pub record HoldsNothing (v : PassState) : Type 0 where
   pub rooms : v.rooms ≡ no_rooms
 
 abbrev pub no_findings : Findings
-no_findings = record { met = []; fulls = []; swept = [] }
+no_findings = record { met = []; fulls = []; swept = []; sights = []; gones = [] }
 
 -- the state of the pass that a table is made with
 abbrev pub first_state : PassState
 first_state = record {
   numbers = record { number = 0; spent = false; hand = None; made = []; joined = [] };
   findings = no_findings;
-  knowledge = record { seen = []; loaded = []; mine = [] };
+  knowledge = record { seen = []; heard = []; loaded = []; mine = [] };
   blocks = no_blocks;
   headers = no_headers;
   rooms = no_rooms;
@@ -111,7 +116,7 @@ abbrev pub left_state : PassState → PassState
 left_state v = record v { numbers = record v.numbers { hand = None } }
 
 abbrev pub right_state : PassState → PassState
-right_state v = record first_state { numbers = record first_state.numbers { number = number_in v.numbers.hand }; knowledge = record { seen = v.knowledge.seen; loaded = []; mine = [] } }
+right_state v = record first_state { numbers = record first_state.numbers { number = number_in v.numbers.hand }; knowledge = record { seen = v.knowledge.seen; heard = v.knowledge.heard; loaded = []; mine = [] } }
 
 -- a join: of each key the longer is seen; what the other wrote, met and noted is kept under its number
 
@@ -121,7 +126,7 @@ joined_from w = record { number = w.numbers.number; mine = w.knowledge.mine; fin
 abbrev pub both_state : PassState → PassState → PassState
 both_state v w = record v {
   numbers = record v.numbers { made = v.numbers.made ++ w.numbers.made; joined = v.numbers.joined ++ joined_from w ∷ w.numbers.joined };
-  knowledge = record v.knowledge { seen = v.knowledge.seen ++ w.knowledge.seen; loaded = v.knowledge.loaded ++ w.knowledge.loaded };
+  knowledge = record v.knowledge { seen = v.knowledge.seen ++ w.knowledge.seen; heard = v.knowledge.heard ++ w.knowledge.heard; loaded = v.knowledge.loaded ++ w.knowledge.loaded };
 }
 
 abbrev pub spent_state : PassState

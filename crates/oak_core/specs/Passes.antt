@@ -33,17 +33,17 @@ scratch_of p = p.scratch
 abbrev pub IsPassOf : OakTable → Pass → Type 0
 IsPassOf t p = p.seat.table_id ≡ t.table.shared.table_id
 
--- it is the same pass, in the same call
+-- it is the same pass, in the same call, and its scratch is as it was
 pub record Stays (p q : Pass) : Type 0 where
   pub table : q.seat.table_id ≡ p.seat.table_id
   pub seat : q.seat.id ≡ p.seat.id
   pub call : q.call ≡ p.call
+  pub scratch : q.scratch ≡ p.scratch
 
--- its next searches begin where they would have begun, and its scratch is as it was
+-- its next searches begin where they would have begun
 pub record SearchesStay (p q : Pass) : Type 0 where
   pub searches : q.searches ≡ p.searches
   pub header_search : q.header_search ≡ p.header_search
-  pub scratch : q.scratch ≡ p.scratch
 
 -- it is the same pass with all that it has seen, done and holds, in another call
 pub record Turns (p q : Pass) (next : ℕ) : Type 0 where

@@ -1,5 +1,5 @@
 -- The table's rule: what holds between any two atomic steps. It is a record of bundles of points, each over the words and the parts of the passes' states that it speaks of.
-use Rattle.std.specs.Prelude.{◌≡◌, ℕ, suc, ◌^◌, ◌<◌, ◌≤◌, List, map, length, slice_index, true}
+use Rattle.std.specs.Prelude.{◌≡◌, ℕ, suc, ◌^◌, ◌<◌, ◌≤◌, List, [], ◌∷◌, ◌++◌, map, length, slice_index, true}
 use Rattle.std.specs.Int.{bit_at}
 use Rattle.oak_model.specs.Limits.{Sizes, IsInLimits}
 use Rattle.oak_model.specs.Counts.{total, Every, Each, Begins}
@@ -7,6 +7,7 @@ use Rattle.oak_model.specs.Kept.{KeptNumbersStand}
 use Rattle.arena_core.specs.Blocks.{BlocksAreOwned}
 use Rattle.header_core.specs.declared.holds.HeaderHolds.{HeaderHolds}
 use Rattle.header_core.specs.HeaderRule.{PinsWhatItKnows}
+use Rattle.oak_core.specs.declared.states.Finding.{Finding}
 use Rattle.oak_core.specs.declared.states.Findings.{Findings}
 use Rattle.oak_core.specs.declared.states.Joined.{Joined}
 use Rattle.oak_core.specs.declared.states.KeyedWrite.{KeyedWrite}
@@ -17,7 +18,7 @@ use Rattle.oak_core.specs.Memory.{memory, read, same_spot, word_count}
 use Rattle.oak_core.specs.Finding.{Shows}
 use Rattle.oak_core.specs.Owners.{other_owners, HeadersAreWhole, HeadersAreHeld}
 use Rattle.oak_core.specs.Known.{knows_life, known}
-use Rattle.oak_core.specs.PassState.{blocks_of, headers_held, numbers_of, findings_of, knowledge_of, kept_of, has_number, is_parent, of_key, history, spent_state}
+use Rattle.oak_core.specs.PassState.{blocks_of, headers_held, numbers_of, findings_of, knowledge_of, kept_of, has_number, is_parent, IsAlone, of_key, history, spent_state}
 use Rattle.oak_core.specs.Lack.{FullsStand}
 use Rattle.oak_core.specs.TableState.{TableState}
 
@@ -67,6 +68,10 @@ pub record HoldsKnown (q : Knowledge) (a : HeaderHolds) : Type 0 where
 abbrev pub PassStands : PassState → Type 0
 PassStands v = HoldsKnown v.knowledge v.headers
 
+-- a pass that was alone at its last step is alone, and the table has the words that it left
+abbrev pub AloneStands : List ℕ → PassState → Type 0
+AloneStands words v = (met : List Finding) (f : Finding) → v.findings.met ≡ met ++ f ∷ [] → f.alone ≡ true → (words ≡ f.words) × IsAlone v
+
 pub record Rule (z : Sizes) (s : TableState) : Type 0 where
   pub sizes : IsInLimits z
   pub words : WordsStand z s.words
@@ -78,4 +83,5 @@ pub record Rule (z : Sizes) (s : TableState) : Type 0 where
   pub blocks : BlocksAreOwned z (memory z s.words).arena.bits (other_owners z (memory z s.words).headers) (map blocks_of s.states)
   pub headers : HeadersAreHeld (memory z s.words).headers (memory z s.words).arena.bytes (known (map knowledge_of s.states)) (map headers_held s.states)
   pub passes : Every PassStands s.states
+  pub alone : Every (AloneStands s.words) s.states
   pub kept : KeptNumbersStand same_spot (read (memory z s.words)) (map kept_of s.states)

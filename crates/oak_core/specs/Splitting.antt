@@ -19,7 +19,7 @@ pub record Loads (z : Sizes) (call word : ℕ) (v : PassState) (n : ℕ) (w : Pa
   pub inside : IsInside z spot
   pub at : index z spot ≡ word
   pub told : Told z call (load spot) v n w
-  pub met : w ≡ grown (finding z call spot (Some n) n v ∷ []) v
+  pub met : w ≡ grown (finding z call spot (Some n) n told.table.words v ∷ []) v
 
 -- the pass met more, and is else as it was
 pub record IsGrown (v w : PassState) : Type 0 where
@@ -32,7 +32,7 @@ pub record SplitsOff (z : Sizes) (v w x : PassState) : Type 0 where
   pub few : number < z.passes
   pub more : List Finding
   pub old : w ≡ record (grown more v) { numbers = record v.numbers { made = v.numbers.made ++ number ∷ [] } }
-  pub new : x ≡ record first_state { numbers = record first_state.numbers { number = number }; knowledge = record { seen = v.knowledge.seen; loaded = []; mine = [] } }
+  pub new : x ≡ record first_state { numbers = record first_state.numbers { number = number }; knowledge = record { seen = v.knowledge.seen; heard = v.knowledge.heard; loaded = []; mine = [] } }
   pub unowned : has_number number v.numbers ≡ 0
   pub least : Shows more 0 (λ n. (bit_at n number ≡ 0) × ((j : ℕ) → j < number → bit_at n j ≡ 1))
 

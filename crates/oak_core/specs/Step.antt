@@ -23,7 +23,7 @@ use Rattle.header_core.specs.declared.holds.HeaderHolds.{HeaderHolds}
 use Rattle.header_core.specs.HeaderHolds.{in_state, place_held}
 use Rattle.header_core.specs.HeaderStep.{HeaderStep, change_place, open_header, pin_header, release_header, lock_header, take_back, header_spot, header_effect, header_found, MayHeader, headers_after, reworded}
 use Rattle.oak_core.specs.Memory.{Memory, Spot, at_given, in_arena, in_headers, index, IsInside, memory}
-use Rattle.oak_core.specs.Finding.{finding, noted, Shows}
+use Rattle.oak_core.specs.Finding.{finding, leaving, noted, Shows}
 use Rattle.oak_core.specs.Known.{knows_life, KnowsHeader}
 use Rattle.oak_core.specs.Lack.{Lacks, full_state}
 use Rattle.oak_core.specs.TableState.{TableState}
@@ -150,16 +150,16 @@ blocks_with _ m a = a
 
 -- the state of the pass after the step
 abbrev pub state_after : Sizes → ℕ → Step → TableState → PassState → PassState
-state_after z call (load p) s v = let n = found z (load p) s in noted (finding z call p (Some n) n v) v
-state_after z call (give_number k) s v = let n = found z (give_number k) s in record (noted (finding z call at_given (Some n) (bit_or n (2 ^ k)) v) v) { numbers = numbered n k v.numbers }
+state_after z call (load p) s v = let n = found z (load p) s in noted (finding z call p (Some n) n s.words v) v
+state_after z call (give_number k) s v = let n = found z (give_number k) s in record (noted (leaving (finding z call at_given (Some n) (bit_or n (2 ^ k)) s.words v)) v) { numbers = numbered n k v.numbers }
 state_after z call (on_arena a) s v =
     let n = found z (on_arena a) s in
-    record (noted (finding z call (in_arena (arena_spot a)) (arena_found a n) (arena_effect a n) v) v) { blocks = blocks_after (memory z s.words).arena.bytes a n v.blocks }
+    record (noted (finding z call (in_arena (arena_spot a)) (arena_found a n) (arena_effect a n) s.words v) v) { blocks = blocks_after (memory z s.words).arena.bytes a n v.blocks }
 state_after z call (on_headers x) s v =
     let n = found z (on_headers x) s in let m = memory z s.words in
-    record (noted (finding z call (in_headers (header_spot x)) (header_found x n) (header_effect x n) v) v) { blocks = blocks_with x m v.blocks; headers = headers_after m.headers (content m.arena.bytes) x v.headers }
-state_after z call (store_locked h c b k x) s v = record (noted (finding z call (in_arena (at_bytes (class_number c) b k)) None x v) v) { headers = record v.headers { held = reworded h k x v.headers.held } }
-state_after z call (note_full lack began) s v = let n = found z (note_full lack began) s in full_state call lack (finding z call at_given (Some n) n v) v
+    record (noted (finding z call (in_headers (header_spot x)) (header_found x n) (header_effect x n) s.words v) v) { blocks = blocks_with x m v.blocks; headers = headers_after m.headers (content m.arena.bytes) x v.headers }
+state_after z call (store_locked h c b k x) s v = record (noted (finding z call (in_arena (at_bytes (class_number c) b k)) None x s.words v) v) { headers = record v.headers { held = reworded h k x v.headers.held } }
+state_after z call (note_full lack began) s v = let n = found z (note_full lack began) s in full_state call lack (finding z call at_given (Some n) n s.words v) v
 
 -- the state of the table after the step of one seat
 abbrev pub table_after : Sizes → ℕ → Step → ℕ → PassState → TableState → TableState

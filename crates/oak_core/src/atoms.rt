@@ -5,7 +5,7 @@ ghost use prog.Atomic.{either};
 ghost use Rattle.atomic_table.specs.Table.{Allows};
 ghost use Rattle.oak_core.specs.declared.states.PassState.{PassState};
 ghost use Rattle.oak_core.specs.Running.{Holds, KeepsSeat};
-ghost use Rattle.oak_core.specs.Passes.{IsPassOf, Stays, SearchesStay, state, key, scratch_of};
+ghost use Rattle.oak_core.specs.Passes.{IsPassOf, Stays, SearchesStay, state, key};
 
 use crate::states::PassState;
 use crate::table::{OakTable, Pass};
@@ -73,7 +73,6 @@ pub(crate) fn store_said<T: Said>(table: &OakTable, pass: &mut Pass, word: usize
     requires inside { word < table.now.table.shared.table_id.words }
     requires rule { Allows (Holds (key table.now)) table.now.table.shared.table_id.slots pass.old.seat.id pass.old.seat.me word (λ _. value) (λ _ m. T.told value m.0 × KeepsSeat pass.old.seat.me m) }
     ensures own { Stays pass.old pass.new }
-    ensures scratch { scratch_of pass.new ≡ scratch_of pass.old }
     ensures told { T.told value (state pass.new) }
 {
     table

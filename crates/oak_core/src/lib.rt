@@ -28,7 +28,8 @@ pub use loads::load;
 pub use passes::SplitFault;
 pub use schedules::every_schedule;
 pub use states::{
-    Finding, Findings, Full, Joined, KeyedWrite, Knowledge, Numbers, PassState, Swept,
+    Finding, Findings, Full, Gone, Joined, KeyedNumber, KeyedWrite, Knowledge, KnownLife, Lesson,
+    Numbers, PassState, Sight, Swept, Taught,
 };
 pub use table::{OakTable, Pass};
 pub use writing::Writing;

@@ -1,6 +1,6 @@
 ghost use Rattle.std.specs.Prelude.{◌≡◌, ◌<◌};
 ghost use Rattle.oak_core.specs.Memory.{word_count};
-ghost use Rattle.oak_core.specs.Passes.{IsPassOf, Stays, state, key, call_of, scratch_of};
+ghost use Rattle.oak_core.specs.Passes.{IsPassOf, Stays, state, key, call_of};
 ghost use Rattle.oak_core.specs.Splitting.{Loads};
 
 use crate::atoms::load_said;
@@ -12,7 +12,6 @@ pub fn load(table: &OakTable, pass: &mut Pass, word: u32) -> u64
     requires own { IsPassOf table.now pass.old }
     requires inside { word < word_count (key table.now) }
     ensures own { Stays pass.old pass.new }
-    ensures scratch { scratch_of pass.new ≡ scratch_of pass.old }
     ensures loaded { Loads (key table.now) (call_of pass.old) word (state pass.old) result (state pass.new) }
 {
     load_said::<Brand>(table, pass, word as usize)

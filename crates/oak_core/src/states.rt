@@ -2,19 +2,22 @@
 //! part belongs to one bundle of the table's rule, and those of the arena, the headers and the rooms
 //! stand in their crates.
 use arena_core::HeldBlocks;
-use chunk_core::RoomHolds;
+use chunk_core::{PinnedRoom, RoomHolds};
 use header_core::HeaderHolds;
 use oak_model::{Key, Lack, Write};
 use std::collections::LinkedList;
 
 /// A step of the pass on a word: the call that it belongs to, the word's number, what was found (none
-/// by a plain store) and what was left there, and what the pass had at the word before.
+/// by a plain store) and what was left there, what the pass had at the word before, all words of the
+/// table behind the step, and whether the pass is alone then.
 pub struct Finding {
     pub call: u32,
     pub word: u32,
     pub found: Option<u64>,
     pub left: u64,
     pub had: u64,
+    pub words: LinkedList<u64>,
+    pub alone: bool,
 }
 
 /// A call of the map that was refused for want of something.
@@ -32,26 +35,72 @@ pub struct Swept {
     pub met: usize,
 }
 
-/// What the pass met, in order, the calls that it noted as refused, and the ranges that it swept.
+/// What a step of a call taught its pass, and how many findings the pass had met before that step.
+pub struct Sight {
+    pub call: u32,
+    pub taught: Taught,
+    pub met: usize,
+}
+
+/// A life of a key that a call found to be over: the value word that names it, and the key.
+pub struct Gone {
+    pub call: u32,
+    pub home: u64,
+    pub key: Key,
+}
+
+/// What the pass met, in order, the calls that it noted as refused, the ranges that it swept, what its
+/// calls were taught, and the lives that they found to be over. No list loses anything, or its order.
+/// No step so far notes a sight or a life that is over.
 pub struct Findings {
     pub met: LinkedList<Finding>,
     pub fulls: LinkedList<Full>,
     pub swept: LinkedList<Swept>,
+    pub sights: LinkedList<Sight>,
+    pub gones: LinkedList<Gone>,
 }
 
-/// A write with its key, and the value word that names the life that it is of.
+/// A write with its key, and the value word that names the life that it is of; whether that life begins
+/// with it.
 pub struct KeyedWrite {
     pub key: Key,
     pub home: u64,
+    pub inserts: bool,
     pub write: Write,
 }
 
-/// What the pass has seen of the keys' histories, the value words that it loaded from linked entries of
-/// rooms that it had pinned, and its own writes. What it has seen of a key is the longest that one of
-/// the logs has of it: to learn is to add a log.
+/// A key, and the value word of one of its lives, as a pass loaded it from the key's linked entry.
+pub struct KnownLife {
+    pub key: Key,
+    pub home: u64,
+}
+
+/// Of which keys a step taught its pass all writes up to a number: of one key, or of each key of the
+/// range of a pinned room that has none of the entries found below its count, up to the room's base.
+pub enum Taught {
+    OfKey(KeyedNumber),
+    OfRoom(PinnedRoom),
+}
+
+/// A key, and a number up to which its writes are known.
+pub struct KeyedNumber {
+    pub key: Key,
+    pub upto: u64,
+}
+
+/// What a step taught its pass: of which keys up to which number, and logs with just those writes.
+pub struct Lesson {
+    pub taught: Taught,
+    pub logs: LinkedList<LinkedList<KeyedWrite>>,
+}
+
+/// What the pass has seen of the keys' histories, the lessons that it was taught, the lives whose value
+/// words it loaded from linked entries of rooms that it had pinned, and its own writes. What it has
+/// seen of a key is the longest that one of the logs has of it: to learn is to add a log.
 pub struct Knowledge {
     pub seen: LinkedList<LinkedList<KeyedWrite>>,
-    pub loaded: LinkedList<u64>,
+    pub heard: LinkedList<Lesson>,
+    pub loaded: LinkedList<KnownLife>,
     pub mine: LinkedList<KeyedWrite>,
 }
 

@@ -5,7 +5,7 @@ ghost use Rattle.oak_model.specs.declared.classes.Class.{Class};
 ghost use Rattle.oak_model.specs.Class.{class_number};
 ghost use Rattle.arena_core.specs.Blocks.{HoldsBlock};
 ghost use Rattle.oak_core.specs.ArenaCalls.{NamesBit, NamesMask, NamesWord, BlockOwner, MayStoreTo, Sets, Clears, Writes};
-ghost use Rattle.oak_core.specs.Passes.{IsPassOf, Stays, state, key, call_of, scratch_of};
+ghost use Rattle.oak_core.specs.Passes.{IsPassOf, Stays, state, key, call_of};
 
 use crate::atoms::{and_said, or_said, store_said};
 pub use crate::header_steps::{
@@ -43,7 +43,6 @@ pub fn store_word(table: &OakTable, pass: &mut Pass, word: u32, value: u64)
     requires own { IsPassOf table.now pass.old }
     requires names { (o : BlockOwner) × (c : Class) × (b : ℕ) × (k : ℕ) × NamesWord (key table.now) c b k word × MayStoreTo (key table.now) o c b (state pass.old) }
     ensures own { Stays pass.old pass.new }
-    ensures scratch { scratch_of pass.new ≡ scratch_of pass.old }
     ensures told { (o : BlockOwner) (c : Class) (b k : ℕ) → NamesWord (key table.now) c b k word → MayStoreTo (key table.now) o c b (state pass.old) → Writes (key table.now) (call_of pass.old) o c b k value (state pass.old) (state pass.new) }
 {
     store_said::<Brand>(table, pass, word as usize, value);

@@ -3,6 +3,7 @@ ghost use Rattle.std.specs.Thread.{IsSync};
 ghost use Rattle.oak_core.specs.Memory.{word_count};
 ghost use Rattle.oak_core.specs.PassState.{HoldsNothing, IsAlone, first_state};
 ghost use Rattle.oak_core.specs.Passes.{IsPassOf, Stays, state, key, scratch_of};
+ghost use Rattle.oak_core.specs.Scratch.{StaysButScratch};
 ghost use Rattle.oak_core.specs.Splitting.{IsGrown};
 
 use crate::{OakTable, Pass, SplitFault, Writing, load};
@@ -124,7 +125,7 @@ fn two_passes_in_two_threads(rt: HostRuntime) -> Result<(), Fail> {
 fn write_between_loads(table: &OakTable, pass: &mut Pass)
     requires own { IsPassOf table.now pass.old }
     requires alone { IsAlone (state pass.old) }
-    ensures own { Stays pass.old pass.new }
+    ensures own { StaysButScratch pass.old pass.new }
     ensures idle { HoldsNothing (state pass.old) → HoldsNothing (state pass.new) }
     ensures alone { IsAlone (state pass.new) }
     ensures long { length (scratch_of pass.new) ≡ 3 }

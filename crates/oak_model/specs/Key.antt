@@ -1,5 +1,5 @@
 -- Which bytes are keys, and their order.
-use Rattle.std.specs.Prelude.{◌≡◌, ℕ, ◌<◌, ◌≤◌, List, length, Bool}
+use Rattle.std.specs.Prelude.{◌≡◌, ℕ, ◌<◌, ◌≤◌, ◌&&◌, nat_le, nat_lt, Bool, true, List, [], ◌∷◌, length}
 use Rattle.std.specs.Ordering.{nat_cmp, is_eq}
 use Rattle.std.specs.declared.cmp.Ordering.{Ordering}
 use Rattle.std.specs.declared.cmp.Ordering.TheVariants.{Less}
@@ -8,6 +8,15 @@ use Rattle.oak_model.specs.declared.limits.TheConstants.{GREATEST_KEY}
 
 abbrev pub IsKey : List ℕ → Type 0
 IsKey bytes = (0 < length bytes) × (length bytes ≤ GREATEST_KEY)
+
+-- Which lists of numbers are keys, as a test: the length is a key's, and each number is a byte. Only of such lists does the number of a key say which it is.
+
+abbrev pub are_bytes : List ℕ → Bool
+are_bytes [] = true
+are_bytes (x ∷ xs) = nat_lt x 256 && are_bytes xs
+
+abbrev pub is_key : List ℕ → Bool
+is_key k = nat_lt 0 (length k) && (nat_le (length k) GREATEST_KEY && are_bytes k)
 
 -- at the first byte in which they differ the smaller unsigned number comes first, and a proper prefix comes first
 abbrev pub key_cmp : List ℕ → List ℕ → Ordering

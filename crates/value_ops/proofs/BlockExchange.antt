@@ -100,7 +100,7 @@ module _ (z : Sizes) (call h g : ℕ) (c : Class) (b len : ℕ) (v u : PassState
     headers_then = changed_at h x (words_held (class_number c) b u.blocks.held) u.headers.held
 
     abbrev met_then : Finding
-    met_then = finding z call (in_headers (at_place h)) None x u
+    met_then = finding z call (in_headers (at_place h)) None x t.1.table.words u
 
     came : ComesTo call held_then headers_then u w
     came = record {

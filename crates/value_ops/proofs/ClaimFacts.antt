@@ -1,10 +1,10 @@
 -- What a load of a pin word and a try to claim its header tell.
-use Rattle.std.proofs.Common.{◌≡◌, ◌≢◌, ℕ, ◌+◌, ◌<◌, ◌==◌, ◌⊎◌, true, false, List, [], ◌∷◌, map, sym, refl, ap, ◌∙◌, subst, inl, inr, Some, eqb-true}
+use Rattle.std.proofs.Common.{◌≡◌, ◌≢◌, ℕ, ◌+◌, ◌<◌, ◌==◌, ◌⊎◌, true, false, List, [], ◌∷◌, map, sym, refl, ap, ◌∙◌, subst, inl, inr, Some, eqb-true, eq-eqb, Bool, set, get_or}
 use prog.Atomic.{either}
 use Rattle.pin_word.specs.PinWord.{generation_of, state_of, count_of}
 use Rattle.pin_word.proofs.Laws.{parts_equal}
 use Rattle.oak_model.specs.Limits.{Sizes}
-use Rattle.oak_model.proofs.Counting.{both_true, test-cases}
+use Rattle.oak_model.proofs.Counting.{both_true, true_both, test-cases}
 use Rattle.arena_core.specs.Place.{IsPlace, content}
 use Rattle.header_core.specs.declared.states.TheConstants.{FREE}
 use Rattle.header_core.specs.declared.holds.HeldHeader.{HeldHeader}
@@ -13,22 +13,26 @@ use Rattle.header_core.specs.HeaderStep.{STATE, IsFreeWord, claim_header, owned_
 use Rattle.header_core.proofs.HeaderFacts.{free_unheld}
 use Rattle.oak_core.specs.declared.states.Finding.{Finding}
 use Rattle.oak_core.specs.declared.states.PassState.{PassState}
-use Rattle.oak_core.specs.Memory.{Memory, index, memory}
+use Rattle.oak_core.specs.Memory.{Memory, Spot, index, memory}
 use Rattle.oak_core.specs.Finding.{finding, had, grown, noted}
 use Rattle.oak_core.specs.HeaderCalls.{Claims}
 use Rattle.oak_core.specs.PassState.{headers_held}
 use Rattle.oak_core.specs.Splitting.{Loads}
 use Rattle.oak_core.specs.Step.{on_headers}
 use Rattle.oak_core.specs.Usage.{is_free}
+use Rattle.oak_core.proofs.AloneRuns.{DoesStep, Then, step_runs, load_runs, runs_then, runs_as}
 use Rattle.oak_core.proofs.FoundThere.{met_here, found_later}
 use Rattle.oak_core.proofs.HeaderStanding.{knows, stand}
 use Rattle.oak_core.proofs.MetMore.{grown_twice, grown_none, told_of}
-use Rattle.oak_core.proofs.Words.{index_apart}
-use Rattle.value_ops.specs.Claiming.{pin_spot, FoundPin, FoundUnfree, FoundTwice, Looked, ClaimsHeader}
+use Rattle.oak_core.proofs.Words.{index_apart, memory_read}
+use Rattle.value_ops.specs.Claiming.{NoneFree, OwnsPin, pin_spot, FoundPin, FoundUnfree, FoundTwice, Looked, ClaimsHeader}
 use Rattle.value_ops.proofs.ExchangeFacts.{met_word, word_is, hit, missed}
 
 pub free_word : (n : ℕ) → is_free n ≡ true → IsFreeWord n
 free_word n e = let b = both_true (state_of n == FREE) (count_of n == 0) e in record { state = eqb-true (state_of n) FREE b.0; count = eqb-true (count_of n) 0 b.1 }
+
+is_free-word : (n : ℕ) → IsFreeWord n → is_free n ≡ true
+is_free-word n f = true_both (state_of n == FREE) (count_of n == 0) (eq-eqb (state_of n) FREE f.state) (eq-eqb (count_of n) 0 f.count)
 
 -- two words of free headers without pins differ in their generations alone
 generations_apart : (n k : ℕ) → IsFreeWord n → IsFreeWord k → k ≢ n → generation_of n ≢ generation_of k
@@ -36,7 +40,7 @@ generations_apart n k f g ne e = ne (sym (parts_equal n k e (f.state ∙ sym g.s
 
 -- a load alone finds nothing
 pub loaded : (z : Sizes) (call word n : ℕ) (v w : PassState) → Loads z call word v n w → Looked z call v w (λ k. ⊥)
-loaded z call word n v w l = record { more = finding z call l.spot (Some n) n v ∷ []; after = l.met; calls = (refl, tt); found = λ k lk p. absurd p }
+loaded z call word n v w l = record { more = finding z call l.spot (Some n) n l.told.table.words v ∷ []; after = l.met; calls = (refl, tt); found = λ k lk p. absurd p; still = runs_as (λ a b. (n ≡ get_or a (index z l.spot) 0) × (b ≡ a)) (NoneFree z (λ k. ⊥)) v w (λ a b d. (d.1, λ h lh p. absurd p)) (load_runs z call l.spot v n w l.told) }
 
 module _ (z : Sizes) (call h : ℕ) (inside : h < z.headers) where
   abbrev Unfree : PassState → List Finding → Type 0
@@ -49,13 +53,19 @@ module _ (z : Sizes) (call h : ℕ) (inside : h < z.headers) where
   spot_is : (word n : ℕ) (v w : PassState) → word ≡ index z (pin_spot h) → (l : Loads z call word v n w) → l.spot ≡ pin_spot h
   spot_is word n v w is l = index_apart z l.spot (pin_spot h) l.inside inside (l.at ∙ is)
 
+  -- the pin word in these words
+  pin_in : (a : List ℕ) (n : ℕ) → n ≡ get_or a (index z (pin_spot h)) 0 → (memory z a).headers.pin h ≡ n
+  pin_in a n d = memory_read z a (pin_spot h) inside ∙ sym d
+
   -- the load found it not free
   pub loaded_unfree : (word n : ℕ) (v w : PassState) → word ≡ index z (pin_spot h) → Loads z call word v n w → is_free n ≡ false → Looked z call v w (λ k. k ≡ h)
   loaded_unfree word n v w is l unfree = record {
-    more = finding z call l.spot (Some n) n v ∷ [];
+    more = finding z call l.spot (Some n) n l.told.table.words v ∷ [];
     after = l.met;
     calls = (refl, tt);
-    found = this_one v (finding z call l.spot (Some n) n v ∷ []) (inl (met_here z call (pin_spot h) n n l.spot v [] (λ k. is_free k ≡ false) (spot_is word n v w is l) unfree));
+    found = this_one v (finding z call l.spot (Some n) n l.told.table.words v ∷ []) (inl (met_here z call (pin_spot h) n n l.told.table.words l.spot v [] (λ k. is_free k ≡ false) (spot_is word n v w is l) unfree));
+    still = runs_as (λ a b. (n ≡ get_or a (index z l.spot) 0) × (b ≡ a)) (NoneFree z (λ k. k ≡ h)) v w
+        (λ a b d. (d.1, λ k lk e. ap (λ (i : ℕ). is_free ((memory z a).headers.pin i)) e ∙ (ap is_free (pin_in a n (subst (λ (q : Spot). n ≡ get_or a (index z q) 0) (spot_is word n v w is l) d.0)) ∙ unfree))) (load_runs z call l.spot v n w l.told);
   }
 
   module _ (old n : ℕ) (v w : PassState) (t : Claims z call h old v n w) where
@@ -66,7 +76,7 @@ module _ (z : Sizes) (call h : ℕ) (inside : h < z.headers) where
     front k = owned_at k.headers h
 
     abbrev met_now : Finding
-    met_now = met_word z call h inside old front n v
+    met_now = met_word z call h inside old front n t.table.words v
 
     pub missed_claim : n ≢ old → w ≡ noted met_now v
     missed_claim ne = missed z call h inside old front t.table n v w t.finds t.after ne
@@ -77,6 +87,10 @@ module _ (z : Sizes) (call h : ℕ) (inside : h < z.headers) where
     abbrev told_hit : n ≡ old → Claims z call h old (grown [] v) old w
     told_hit hit_old = record { table = told_first.table; seat = told_first.seat; rule = told_first.rule; here = told_first.here; going = told_first.going; may = told_first.may; finds = told_first.finds ∙ hit_old; after = told_first.after }
 
+    -- the exchange found what it asked for
+    exchanged : (k : ℕ) → k ≡ old → either (k == old) (old + STATE) k ≡ old + STATE
+    exchanged k e = ap (λ (b : Bool). either b (old + STATE) k) (eq-eqb k old e)
+
     pub claims : n ≡ old → IsFreeWord old → ClaimsHeader z call h v w
     claims hit_old free = let hs : List HeaderHolds = map headers_held t.table.states in let here = stand z t.table t.seat v t.rule t.here in let is : m.headers.pin h ≡ old = word_is z call h inside old front t.table n v w t.finds t.after ∙ hit_old in record {
       inside = inside;
@@ -86,6 +100,8 @@ module _ (z : Sizes) (call h : ℕ) (inside : h < z.headers) where
       told = told_hit hit_old;
       unheld = free_unheld m.headers (content m.arena.bytes) IsPlace (knows t.table) hs here h (ap state_of is ∙ free.state);
       unpinned = here.counted h ∙ (ap count_of is ∙ free.count);
+      still = runs_as (DoesStep z (on_headers (claim_header h old)) n) (OwnsPin z h) v w (λ a b d. let p = pin_in a n d.0 in (ap is_free (p ∙ hit_old) ∙ is_free-word old free, d.1 ∙ ap (set a (index z (pin_spot h))) (exchanged (get_or a (index z (pin_spot h)) 0) (sym d.0 ∙ hit_old) ∙ ap (λ (i : ℕ). i + STATE) (sym (p ∙ hit_old)))))
+          (step_runs z call (on_headers (claim_header h old)) v n w tt t);
       more = met_now ∷ [];
       calls = (refl, tt);
       after = hit z call h inside old front t.table n v w t.finds t.after hit_old;
@@ -94,7 +110,7 @@ module _ (z : Sizes) (call h : ℕ) (inside : h < z.headers) where
   -- the load found it free, and the exchange another number
   module _ (word n k : ℕ) (v u w : PassState) (is : word ≡ index z (pin_spot h)) (l : Loads z call word v n u) (free : is_free n ≡ true) (t : Claims z call h n u k w) (ne : k ≢ n) where
     abbrev f : Finding
-    f = finding z call l.spot (Some n) n v
+    f = finding z call l.spot (Some n) n l.told.table.words v
 
     abbrev g : Finding
     g = met_now n k u w t
@@ -107,12 +123,12 @@ module _ (z : Sizes) (call h : ℕ) (inside : h < z.headers) where
 
     -- what the exchange found
     abbrev second : (P : ℕ → Type 0) → P k → FoundPin z call h v (f ∷ g ∷ []) P
-    second P shows = found_later z call (pin_spot h) v u (f ∷ []) (g ∷ []) P had_same (met_here z call (pin_spot h) k (either (k == n) (n + STATE) k) (pin_spot h) u [] P refl shows)
+    second P shows = found_later z call (pin_spot h) v u (f ∷ []) (g ∷ []) P had_same (met_here z call (pin_spot h) k (either (k == n) (n + STATE) k) t.table.words (pin_spot h) u [] P refl shows)
 
     two : Unfree v (f ∷ g ∷ [])
     two = test-cases (is_free k) (λ b. is_free k ≡ b → Unfree v (f ∷ g ∷ []))
         (λ _ yes. inr (record {
-          one = met_here z call (pin_spot h) n n l.spot v (g ∷ []) (λ _. Unit {0}) same tt;
+          one = met_here z call (pin_spot h) n n l.told.table.words l.spot v (g ∷ []) (λ _. Unit {0}) same tt;
           other = second (λ _. Unit {0}) tt;
           apart = generations_apart n k (free_word n free) (free_word k yes) ne;
         }))
@@ -124,4 +140,8 @@ module _ (z : Sizes) (call h : ℕ) (inside : h < z.headers) where
       after = missed_claim n k u w t ne ∙ (ap (grown (g ∷ [])) l.met ∙ grown_twice v (f ∷ []) (g ∷ []));
       calls = (refl, (refl, tt));
       found = this_one v (f ∷ g ∷ []) two;
+      -- a pass that is alone loses no exchange
+      still = runs_as (Then (λ a b. (n ≡ get_or a (index z l.spot) 0) × (b ≡ a)) (DoesStep z (on_headers (claim_header h n)) k)) (NoneFree z (λ i. i ≡ h)) v w
+          (λ a b d. absurd (ne (d.2.0 ∙ (ap (λ (x : List ℕ). get_or x (index z (pin_spot h)) 0) d.1.1 ∙ sym (subst (λ (q : Spot). n ≡ get_or a (index z q) 0) same d.1.0)))))
+          (runs_then (λ a b. (n ≡ get_or a (index z l.spot) 0) × (b ≡ a)) (DoesStep z (on_headers (claim_header h n)) k) v u w (load_runs z call l.spot v n u l.told) (step_runs z call (on_headers (claim_header h n)) u k w tt t));
     }

@@ -1,5 +1,5 @@
 -- Searches for a free header, one behind the other.
-use Rattle.std.proofs.Common.{◌≡◌, ℕ, ◌+◌, ◌-◌, ◌*◌, ◌<◌, ◌≤◌, ◌⊎◌, List, [], ◌∷◌, ◌++◌, sym, refl, ap, ◌∙◌, subst, ⊎_elim, inl, inr, arith, Option, Some, None, IfNone, IfSome}
+use Rattle.std.proofs.Common.{◌≡◌, ℕ, ◌+◌, ◌-◌, ◌*◌, ◌<◌, ◌≤◌, ◌⊎◌, List, [], ◌∷◌, ◌++◌, sym, refl, ap, ◌∙◌, subst, ⊎_elim, inl, inr, arith, Option, false, Some, None, IfNone, IfSome}
 use mathlib.Core.Logic.{dite}
 use native.Mathlib.Decide.{dec_lt}
 use Rattle.oak_model.specs.Counts.{one_at}
@@ -16,18 +16,20 @@ use Rattle.oak_core.specs.HeaderCalls.{NamesPin}
 use Rattle.oak_core.specs.Memory.{headers_at, index, memory}
 use Rattle.oak_core.specs.Finding.{had, grown}
 use Rattle.oak_core.specs.Step.{on_headers}
+use Rattle.oak_core.specs.Usage.{is_free}
+use Rattle.oak_core.proofs.AloneRuns.{Then, runs_then, runs_as, runs_none}
 use Rattle.oak_core.proofs.FoundThere.{found_first, found_later}
 use Rattle.oak_core.proofs.HeaderPlaces.{pin_place}
 use Rattle.oak_core.proofs.MetMore.{grown_twice, grown_none, told_of}
-use Rattle.value_ops.specs.Claiming.{pin_spot, FoundUnfree, FoundTwice, Looked, FindsNoneFree, ClaimsHeader}
+use Rattle.value_ops.specs.Claiming.{NoneFree, OwnsPin, pin_spot, FoundUnfree, FoundTwice, Looked, FindsNoneFree, ClaimsHeader}
 
 module _ (z : Sizes) (call : ℕ) where
   -- nothing was looked at
   pub looked_none : (v : PassState) (P : ℕ → Type 0) → ((h : ℕ) → P h → ⊥) → Looked z call v v P
-  looked_none v P empty = record { more = []; after = grown_none v; calls = tt; found = λ h lh p. absurd (empty h p) }
+  looked_none v P empty = record { more = []; after = grown_none v; calls = tt; found = λ h lh p. absurd (empty h p); still = runs_none (NoneFree z P) v (λ a. (refl, λ h lh p. absurd (empty h p))) }
 
   pub looked_only : (v w : PassState) (P Q : ℕ → Type 0) → ((h : ℕ) → h < z.headers → Q h → P h) → Looked z call v w P → Looked z call v w Q
-  looked_only v w P Q only l = record { more = l.more; after = l.after; calls = l.calls; found = λ h lh q. l.found h lh (only h lh q) }
+  looked_only v w P Q only l = record { more = l.more; after = l.after; calls = l.calls; found = λ h lh q. l.found h lh (only h lh q); still = runs_as (NoneFree z P) (NoneFree z Q) v w (λ a b d. (d.0, λ h lh q. d.1 h lh (only h lh q))) l.still }
 
   abbrev Unfree : ℕ → PassState → List Finding → Type 0
   Unfree h v met = FoundUnfree z call h v met ⊎ FoundTwice z call h v met
@@ -46,6 +48,8 @@ module _ (z : Sizes) (call : ℕ) where
     after = k.after ∙ (ap (grown k.more) l.after ∙ grown_twice v l.more k.more);
     calls = each_append (λ (f : Finding). f.call ≡ call) l.more k.more l.calls k.calls;
     found = λ h lh. ⊎_elim (λ (p : P h). unfree_first h v l.more k.more (l.found h lh p)) (λ (q : Q h). unfree_later h v w l.more k.more (ap (had (pin_spot h)) l.after) (k.found h lh q));
+    still = runs_as (Then (NoneFree z P) (NoneFree z Q)) (NoneFree z (λ h. P h ⊎ Q h)) v x
+        (λ a b d. (d.2.0 ∙ d.1.0, λ h lh. ⊎_elim (λ (p : P h). d.1.1 h lh p) (λ (q : Q h). subst (λ (m : List ℕ). is_free ((memory z m).headers.pin h) ≡ false) d.1.0 (d.2.1 h lh q)))) (runs_then (NoneFree z P) (NoneFree z Q) v w x l.still k.still);
   }
 
   -- a header is claimed behind what was looked at
@@ -62,6 +66,7 @@ module _ (z : Sizes) (call : ℕ) where
       told = told_of z call (on_headers (claim_header h t.number)) (grown t.before w) (grown (l.more ++ t.before) v) same t.number x t.told;
       unheld = t.unheld;
       unpinned = t.unpinned;
+      still = runs_as (Then (NoneFree z P) (OwnsPin z h)) (OwnsPin z h) v x (λ a b d. subst (λ (m : List ℕ). OwnsPin z h m b) d.1.0 d.2) (runs_then (NoneFree z P) (OwnsPin z h) v w x l.still t.still);
       more = l.more ++ t.more;
       calls = each_append (λ (f : Finding). f.call ≡ call) l.more t.more l.calls t.calls;
       after = t.after

@@ -37,13 +37,13 @@ module _ (z : Sizes) (call h : ℕ) (c : Class) (b len stamp : ℕ) (v : PassSta
   pub may_place : place < 2 ^ 64 → MayOnHeaders z (store_place h place) v
   may_place lt = record { inside = inside; headers = (own, lt); block = tt; known = tt }
 
-  abbrev first : Finding
-  first = finding z call (in_headers (at_place h)) None place v
-
-  abbrev with_place : PassState → PassState
-  with_place y = record (noted first y) { headers = record y.headers { held = placed_at h place y.headers.held } }
-
   module _ (u : PassState) (t1 : StoresPlace z call h place v u) where
+    abbrev first : Finding
+    first = finding z call (in_headers (at_place h)) None place t1.1.table.words v
+
+    abbrev with_place : PassState → PassState
+    with_place y = record (noted first y) { headers = record y.headers { held = placed_at h place y.headers.held } }
+
     placed : u ≡ with_place v
     placed = t1.1.after
 
@@ -53,13 +53,13 @@ module _ (z : Sizes) (call h : ℕ) (c : Class) (b len stamp : ℕ) (v : PassSta
     pub may_stamp : stamp < 2 ^ 64 → MayOnHeaders z (store_stamp h stamp) u
     may_stamp lt = record { inside = inside; headers = ((let o = owned_placed in omega arith), lt); block = tt; known = tt }
 
-    abbrev second : Finding
-    second = finding z call (in_headers (at_stamp h)) None stamp u
-
-    abbrev with_stamp : PassState → PassState
-    with_stamp y = record (noted second y) { headers = record y.headers { held = stamped_at h stamp y.headers.held } }
-
     module _ (y : PassState) (t2 : StoresStamp z call h stamp u y) where
+      abbrev second : Finding
+      second = finding z call (in_headers (at_stamp h)) None stamp t2.1.table.words u
+
+      abbrev with_stamp : PassState → PassState
+      with_stamp y = record (noted second y) { headers = record y.headers { held = stamped_at h stamp y.headers.held } }
+
       stamped : y ≡ with_stamp u
       stamped = t2.1.after
 
@@ -100,7 +100,7 @@ module _ (z : Sizes) (call h : ℕ) (c : Class) (b len stamp : ℕ) (v : PassSta
         m = memory z t3.table.words
 
         abbrev third : Finding
-        third = finding z call (pin_spot h) (Some (found z (on_headers (open_header h)) t3.table)) ((found z (on_headers (open_header h)) t3.table + STATE) % 2 ^ 64) y
+        third = finding z call (pin_spot h) (Some (found z (on_headers (open_header h)) t3.table)) ((found z (on_headers (open_header h)) t3.table + STATE) % 2 ^ 64) t3.table.words y
 
         named : m.headers.place h ≡ place
         named = place_of z t3.table t3.seat y t3.rule t3.here h (holds_some h OWNED y.headers owned_stamped) ∙ place_is

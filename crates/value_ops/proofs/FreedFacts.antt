@@ -39,7 +39,7 @@ releases_owned z call h v n w t = record {
   number = n;
   told = t;
   freed = freed z call h Owned v n w t;
-  more = finding z call (pin_spot h) _ _ v ∷ [];
+  more = finding z call (pin_spot h) _ _ t.table.words v ∷ [];
   calls = (refl, tt);
   after = t.after;
 }

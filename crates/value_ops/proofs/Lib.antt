@@ -26,6 +26,7 @@ pub mod HeldValues
 pub mod ComesFurther
 pub mod StampStores
 pub mod UnlockFacts
+pub mod LockEnds
 pub mod BlockExchange
 pub mod RenewFacts
 pub mod StandingPins

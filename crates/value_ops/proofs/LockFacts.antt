@@ -53,7 +53,7 @@ busy_first n g not_so known alive = dite (ℕ_discrete (generation_of n) g)
 
 module _ (z : Sizes) (call h g : ℕ) (inside : h < z.headers) (word n : ℕ) (v u : PassState) (at : word ≡ index z (pin_spot h)) (known : 0 < knows_life h g v.knowledge) (l : Loads z call word v n u) where
   abbrev f : Finding
-  f = finding z call l.spot (Some n) n v
+  f = finding z call l.spot (Some n) n l.told.table.words v
 
   is_loaded : n ≡ (memory z l.told.table.words).headers.pin h
   is_loaded = found_is z call word n v u l (pin_spot h) inside at
@@ -92,7 +92,7 @@ module _ (z : Sizes) (call h g : ℕ) (inside : h < z.headers) (word n : ℕ) (v
       front o = locked_at o.headers (content o.arena.bytes) h
 
       abbrev met_now : Finding
-      met_now = met_word z call h inside n front k u
+      met_now = met_word z call h inside n front k t.table.words u
 
       -- the exchange found another word
       pub refused_second : k ≢ n → FindsNoLock z call h g (refusal k g) v w

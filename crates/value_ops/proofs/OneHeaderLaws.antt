@@ -44,6 +44,8 @@ filled h words stamp place r = record {
   header = r.header;
   generation = r.generation;
   held_as = cond (r.header == h) Fresh r.held_as;
+  key = r.key;
+  named = r.named;
   place = cond (r.header == h) place r.place;
   stamp = cond (r.header == h) stamp r.stamp;
   words = cond (r.header == h) words r.words;

@@ -83,7 +83,7 @@ module _ (z : Sizes) (call h g first : ℕ) (v : PassState) (is : HasWords z h g
         ∙ (words_at z t.1.table t.1.rule t.1.seat u t.1.here h LOCKED (omega arith) (omega arith) locked.locked ∙ words_now z h g first v is call over u s)
 
     abbrev met_then : Finding
-    met_then = finding z call (in_headers (at_place h)) None x u
+    met_then = finding z call (in_headers (at_place h)) None x t.1.table.words u
 
     came : ComesTo call u.blocks.held (changed_at h x over u.headers.held) u w
     came = record {

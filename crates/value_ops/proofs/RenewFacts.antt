@@ -87,7 +87,7 @@ module _ (z : Sizes) (call h g stamp : ℕ) (v u : PassState) (has : HasBuried z
     given = record { class = class_from (class_in place); number = block_in place; words = words_in h u.headers.held }
 
     abbrev met_then : Finding
-    met_then = let k = found z (on_headers (take_back h (renewal g))) t.table in finding z call (pin_spot h) (Some k) ((k + renewal g) % 2 ^ 64) u
+    met_then = let k = found z (on_headers (take_back h (renewal g))) t.table in finding z call (pin_spot h) (Some k) ((k + renewal g) % 2 ^ 64) t.table.words u
 
     came : ComesTo call (given ∷ u.blocks.held) (without_header h u.headers.held) u w
     came = record {

@@ -1,5 +1,7 @@
 -- The stamp of a locked header, loaded, and stored before the lock ends.
-use Rattle.std.proofs.Common.{◌≡◌, ℕ, ◌^◌, ◌<◌, ◌≤◌, List, [], ◌∷◌, sym, refl, ap, ◌∙◌, subst, arith}
+use Rattle.std.proofs.Common.{◌≡◌, ℕ, suc, ◌+◌, ◌-◌, ◌^◌, ◌<◌, ◌≤◌, nat_lt, cond, Bool, min, List, [], ◌∷◌, sym, refl, ap, ◌∙◌, subst, arith}
+use Rattle.std.proofs.lemmas.Bool.{ltb-true, ltb-false}
+use Rattle.oak_model.proofs.Counting.{test-cases}
 use Rattle.oak_model.specs.Limits.{Sizes}
 use Rattle.arena_core.specs.Arena.{block_words, blocks}
 use Rattle.arena_core.specs.Place.{IsPlace, class_in, block_in}
@@ -16,7 +18,7 @@ use Rattle.oak_core.specs.HeaderCalls.{StoresStamp}
 use Rattle.oak_core.specs.Splitting.{Loads}
 use Rattle.oak_core.specs.Step.{MayOnHeaders}
 use Rattle.value_ops.specs.HeldValue.{stamp_held, words_in}
-use Rattle.value_ops.specs.UnderLock.{HasBlock, HasLock, ComesTo, Meets}
+use Rattle.value_ops.specs.UnderLock.{HasBlock, HasLock, next_stamp, ComesTo, Meets}
 use Rattle.value_ops.proofs.ComesFurther.{meets_none, comes_both, comes_as, headers_come, lock_met}
 use Rattle.value_ops.proofs.FillFacts.{stamped_place}
 use Rattle.value_ops.proofs.HeldParts.{stamped_words, stamped_generation, stamped_here, without_stamped}
@@ -53,6 +55,10 @@ pub stored_since : (z : Sizes) (call h g x : ℕ) (v u w : PassState) → HasLoc
 stored_since z call h g x v u w lock met small t = let same = ap (λ (y : PassState). y.blocks.held) met.after in let rs = ap (λ (y : PassState). y.headers.held) met.after in
     comes_as call u.blocks.held v.blocks.held (stamped_at h x u.headers.held) (stamped_at h x v.headers.held) v w same (ap (stamped_at h x) rs)
     (comes_both call v.blocks.held u.blocks.held v.headers.held (stamped_at h x u.headers.held) v u w met (stamp_stored z call h g x u (lock_met call v u met z h g lock) small w t))
+
+-- the stamp behind one, as it is reckoned
+pub next_is : (n : ℕ) → n < 2 ^ 64 → min (n + 1) (2 ^ 64 - 1) ≡ next_stamp n
+next_is n small = test-cases (nat_lt n (2 ^ 64 - 1)) (λ (t : Bool). min (n + 1) (2 ^ 64 - 1) ≡ cond t (suc n) n) (λ t. let l = ltb-true n (2 ^ 64 - 1) t in omega arith) (λ f. let l = ltb-false n (2 ^ 64 - 1) f in omega arith)
 
 -- The pass has the header locked still; the stamp is this one, and place, words and the other headers are as before.
 pub record IsStamped (z : Sizes) (call h g stamp : ℕ) (v w : PassState) : Type 0 where

@@ -16,7 +16,7 @@ use Rattle.oak_core.specs.Memory.{memory}
 use Rattle.oak_core.specs.HeaderCalls.{Unlocks, MarksDead}
 use Rattle.oak_core.specs.Step.{on_headers, MayOnHeaders, Told}
 use Rattle.value_ops.specs.HeldValue.{stamp_held}
-use Rattle.value_ops.specs.UnderLock.{HasBuried, ComesTo, HasValue, EndsLock, Buries}
+use Rattle.value_ops.specs.UnderLock.{HasBuried, ComesTo, HasValue, StoresNext, EndsLock, Buries}
 use Rattle.value_ops.proofs.ComesFurther.{comes_both, comes_as, blocks_come, headers_come}
 use Rattle.value_ops.proofs.HeldParts.{buried_stamp, buried_generation}
 use Rattle.value_ops.proofs.HeldValues.{state_is, generation_at, place_at, stamp_at, words_at}
@@ -46,12 +46,12 @@ module _ (z : Sizes) (call h g stamp : ℕ) (v u : PassState) (i : IsStamped z c
       words_are = (λ j. content (bytes_left z call x h is u n w t j) (sym i.place_is j)) ∙ (words_at z t.table t.rule t.seat u t.here h LOCKED (omega arith) (omega arith) i.lock.locked ∙ i.words_are);
     }
 
-  pub ends_lock : (kind : Kind) (n : ℕ) (w : PassState) → Unlocks z call h kind u n w → EndsLock z call h g kind stamp v w
+  pub ends_lock : (kind : Kind) (n : ℕ) (w : PassState) → Unlocks z call h kind u n w → EndsLock z call h g kind stamp u v w
   ends_lock kind n w t = let x = unlock_header h kind in let down = state_down n (let e = was_locked x refl n w t in omega arith) (small z call x h refl u n w t) in record {
-    before = u;
     number = n;
     told = t;
     left = left z call x h refl u n w t LIVE g (let d = down.1 in let e = was_locked x refl n w t in omega arith) (down.2 ∙ generation_was x refl n w t) down.0;
+    table_is = refl;
     value = value_left x refl n w t;
     comes = comes_as call u.blocks.held v.blocks.held (without_header h u.headers.held) (without_header h v.headers.held) v w (blocks_come call v.blocks.held u.headers.held v u i.comes) i.others
         (comes_both call v.blocks.held u.blocks.held u.headers.held (without_header h u.headers.held) v u w i.comes record { more = _ ∷ []; calls = (refl, tt); after = t.after });
@@ -62,12 +62,14 @@ module _ (z : Sizes) (call h g stamp : ℕ) (v u : PassState) (i : IsStamped z c
     marked = comes_as call u.blocks.held v.blocks.held (buried_at h u.headers.held) (buried_at h u.headers.held) v w (blocks_come call v.blocks.held u.headers.held v u i.comes) refl
         (comes_both call v.blocks.held u.blocks.held u.headers.held (buried_at h u.headers.held) v u w i.comes record { more = _ ∷ []; calls = (refl, tt); after = t.after })
 
-    pub buries : u.headers.held ≡ stamped_at h stamp v.headers.held → Buries z call h g stamp v w
-    buries e = let x = mark_dead h in let up = state_up n (let l = was_locked x refl n w t in omega arith) (small z call x h refl u n w t) in record {
-      before = u;
+    pub buries : StoresNext z call h stamp v u → u.headers.held ≡ stamped_at h stamp v.headers.held → Buries z call h g stamp v w
+    buries next e = let x = mark_dead h in let up = state_up n (let l = was_locked x refl n w t in omega arith) (small z call x h refl u n w t) in record {
+      stamped = u;
+      stores = next;
       number = n;
       told = t;
       left = left z call x h refl u n w t DEAD g (let d = up.1 in let l = was_locked x refl n w t in omega arith) (up.2 ∙ generation_was x refl n w t) up.0;
+      table_is = refl;
       value = value_left x refl n w t;
       comes = comes_as call v.blocks.held v.blocks.held (buried_at h u.headers.held) (buried_at h (stamped_at h stamp v.headers.held)) v w refl (ap (buried_at h) e) marked;
     }

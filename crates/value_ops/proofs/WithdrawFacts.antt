@@ -36,7 +36,7 @@ module _ (z : Sizes) (call h g : ℕ) (v : PassState) (inside : h < z.headers) (
 
   module _ (word n : ℕ) (u : PassState) (is : word ≡ index z (in_headers (at_place h))) (l : Loads z call word v n u) where
     abbrev first : Finding
-    first = finding z call l.spot (Some n) n v
+    first = finding z call l.spot (Some n) n l.told.table.words v
 
     named : n ≡ place_held h v.headers.held
     named = held_place z call h LIVE word n v u inside (omega arith) (omega arith) fresh l is
@@ -77,7 +77,7 @@ module _ (z : Sizes) (call h g : ℕ) (v : PassState) (inside : h < z.headers) (
           ∙ (λ i. record { class = class_from (class_in (named_still i)); number = block_in (named_still i); words = words_in h (l.met i).headers.held })
 
       abbrev second : Finding
-      second = finding z call (pin_spot h) (Some (found z (on_headers (release_header h Fresh)) t.table)) (header_effect (release_header h Fresh) (found z (on_headers (release_header h Fresh)) t.table)) u
+      second = finding z call (pin_spot h) (Some (found z (on_headers (release_header h Fresh)) t.table)) (header_effect (release_header h Fresh) (found z (on_headers (release_header h Fresh)) t.table)) t.table.words u
 
       abbrev with_block : HeldBlock → PassState → PassState
       with_block o y = record (noted second y) { blocks = record y.blocks { held = o ∷ y.blocks.held }; headers = record y.headers { held = without_header h y.headers.held } }

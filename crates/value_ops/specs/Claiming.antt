@@ -1,5 +1,5 @@
 -- What a search for a free header finds, and what a claim does.
-use Rattle.std.specs.Prelude.{◌≡◌, ◌≢◌, ℕ, ◌<◌, ◌⊎◌, false, List, ◌∷◌, map}
+use Rattle.std.specs.Prelude.{◌≡◌, ◌≢◌, ℕ, ◌+◌, ◌<◌, ◌⊎◌, true, false, slice_set, List, ◌∷◌, map}
 use Rattle.pin_word.specs.PinWord.{generation_of}
 use Rattle.oak_model.specs.Counts.{one_at, total, Each}
 use Rattle.oak_model.specs.Limits.{Sizes}
@@ -7,10 +7,11 @@ use Rattle.header_core.specs.declared.holds.HeldHeader.{HeldHeader}
 use Rattle.header_core.specs.declared.holds.HeaderHolds.{HeaderHolds}
 use Rattle.header_core.specs.Headers.{at_pin}
 use Rattle.header_core.specs.HeaderHolds.{pins_on}
-use Rattle.header_core.specs.HeaderStep.{IsFreeWord, owned_at}
+use Rattle.header_core.specs.HeaderStep.{STATE, IsFreeWord, owned_at}
 use Rattle.oak_core.specs.declared.states.Finding.{Finding}
 use Rattle.oak_core.specs.declared.states.PassState.{PassState}
-use Rattle.oak_core.specs.Memory.{Spot, in_headers, memory}
+use Rattle.oak_core.specs.AloneWords.{Runs}
+use Rattle.oak_core.specs.Memory.{Spot, in_headers, index, memory}
 use Rattle.oak_core.specs.Finding.{grown, FoundThere}
 use Rattle.oak_core.specs.HeaderCalls.{Claims}
 use Rattle.oak_core.specs.PassState.{headers_held}
@@ -37,12 +38,21 @@ pub record FoundTwice (z : Sizes) (call h : ℕ) (v : PassState) (met : List Fin
   pub other : FoundPin z call h v met (λ _. Unit {0})
   pub apart : generation_of one.number ≢ generation_of other.number
 
--- The pass only met more, all in the call, and each header with P was found not free, or in two generations.
+-- the words stay, and in them no header with P is free
+abbrev pub NoneFree : Sizes → (ℕ → Type 0) → List ℕ → List ℕ → Type 0
+NoneFree z P before after = (after ≡ before) × ((h : ℕ) → h < z.headers → P h → is_free ((memory z before).headers.pin h) ≡ false)
+
+-- the header was free, and is owned; no other word changed
+abbrev pub OwnsPin : Sizes → ℕ → List ℕ → List ℕ → Type 0
+OwnsPin z h before after = (is_free ((memory z before).headers.pin h) ≡ true) × (after ≡ slice_set before (index z (pin_spot h)) ((memory z before).headers.pin h + STATE))
+
+-- The pass only met more, all in the call, and each header with P was found not free, or in two generations. To a pass that is alone none of them is free, all at once.
 pub record Looked (z : Sizes) (call : ℕ) (v w : PassState) (P : ℕ → Type 0) : Type 0 where
   pub more : List Finding
   pub after : w ≡ grown more v
   pub calls : Each (λ (f : Finding). f.call ≡ call) more
   pub found : (h : ℕ) → h < z.headers → P h → FoundUnfree z call h v more ⊎ FoundTwice z call h v more
+  pub still : Runs (NoneFree z P) v w
 
 -- the pass only met more, and each header was found not free, or in two generations
 abbrev pub FindsNoneFree : Sizes → ℕ → PassState → PassState → Type 0
@@ -57,6 +67,8 @@ pub record ClaimsHeader (z : Sizes) (call h : ℕ) (v w : PassState) : Type 0 wh
   pub told : Claims z call h number (grown before v) number w
   pub unheld : total (holds_header h) (map headers_held told.table.states) ≡ 0
   pub unpinned : total (pins_on h) (map headers_held told.table.states) ≡ 0
+  -- to a pass that is alone
+  pub still : Runs (OwnsPin z h) v w
   pub more : List Finding
   pub calls : Each (λ (f : Finding). f.call ≡ call) more
   pub after : w ≡ record (grown more v) { headers = record v.headers { held = owned_at (memory z told.table.words).headers h ∷ v.headers.held } }

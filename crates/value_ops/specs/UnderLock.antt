@@ -2,6 +2,7 @@
 use Rattle.std.specs.Prelude.{◌≡◌, ℕ, suc, ◌-◌, ◌^◌, ◌<◌, ◌==◌, nat_lt, cond, List, ◌∷◌, ◌++◌, drop, length, map}
 use Rattle.oak_model.specs.declared.classes.Class.{Class}
 use Rattle.oak_model.specs.declared.writes.Kind.{Kind}
+use Rattle.oak_model.specs.declared.writes.Kind.TheVariants.{Put}
 use Rattle.oak_model.specs.Class.{class_number}
 use Rattle.oak_model.specs.Counts.{one_at, total, Each}
 use Rattle.oak_model.specs.Limits.{Sizes}
@@ -14,12 +15,15 @@ use Rattle.header_core.specs.declared.holds.HeldAs.{HeldAs}
 use Rattle.header_core.specs.declared.holds.HeldAs.TheVariants.{Owned, Fresh, Locked, Buried}
 use Rattle.header_core.specs.declared.holds.HeldHeader.{HeldHeader}
 use Rattle.header_core.specs.HeaderHolds.{in_state, place_held, generation_held, without_header}
-use Rattle.header_core.specs.HeaderStep.{stamped_at, changed_at, buried_at}
+use Rattle.header_core.specs.HeaderStep.{unlock_header, mark_dead, stamped_at, changed_at, buried_at}
+use Rattle.header_core.specs.Headers.{at_stamp}
 use Rattle.oak_core.specs.declared.states.Finding.{Finding}
 use Rattle.oak_core.specs.declared.states.PassState.{PassState}
-use Rattle.oak_core.specs.Memory.{Memory, memory}
+use Rattle.oak_core.specs.Memory.{Memory, in_headers, index, memory}
 use Rattle.oak_core.specs.Finding.{grown}
-use Rattle.oak_core.specs.HeaderCalls.{Unlocks, MarksDead, TakesBack}
+use Rattle.oak_core.specs.HeaderCalls.{StoresStamp, Unlocks, MarksDead, TakesBack}
+use Rattle.oak_core.specs.Splitting.{Loads}
+use Rattle.oak_core.specs.Step.{on_headers, table_after}
 use Rattle.value_ops.specs.Filling.{words_held, IsLeft}
 use Rattle.value_ops.specs.HeldValue.{stamp_held, words_in, value_held}
 use Rattle.value_ops.specs.Words.{words_of}
@@ -101,21 +105,41 @@ pub record HasValue (m : Memory) (h stamp : ℕ) (rs : List HeldHeader) : Type 0
   pub place_is : m.headers.place h ≡ place_held h rs
   pub words_are : content m.arena.bytes (place_held h rs) ≡ words_in h rs
 
--- The step that unlocked the header, with this stamp and what else it had under the lock. It is live after the step, at its generation and with its pins, and the pass holds it no more.
-pub record EndsLock (z : Sizes) (call h g : ℕ) (kind : Kind) (stamp : ℕ) (v w : PassState) : Type 0 where
-  pub before : PassState
+-- The stamp word of the header was loaded, and then the stamp behind the one found was stored there.
+pub record StoresNext (z : Sizes) (call h stamp : ℕ) (v w : PassState) : Type 0 where
+  pub number : ℕ
+  pub between : PassState
+  pub loads : Loads z call (index z (in_headers (at_stamp h))) v number between
+  pub next : stamp ≡ next_stamp number
+  pub stores : StoresStamp z call h stamp between w
+
+-- The step that unlocked the header, made of the state `before`. Right after it the header has this stamp and what else it had under the lock, and is live at its generation and with its pins; the pass holds it no more.
+pub record EndsLock (z : Sizes) (call h g : ℕ) (kind : Kind) (stamp : ℕ) (before v w : PassState) : Type 0 where
   pub number : ℕ
   pub told : Unlocks z call h kind before number w
   pub left : IsLeft z h LIVE g number told.seat w
+  pub table_is : left.table ≡ table_after z call (on_headers (unlock_header h kind)) told.seat before told.table
   pub value : HasValue (memory z left.table.words) h stamp v.headers.held
   pub comes : ComesTo call v.blocks.held (without_header h v.headers.held) v w
 
--- The step that marked the header dead, with this stamp. It is dead after the step, at its generation and with its pins, and the pass buries it.
+-- The three steps of a write under the lock: the stamp was loaded, the next one stored, and the header unlocked.
+pub record WritesOver (z : Sizes) (call h g : ℕ) (kind : Kind) (stamp : ℕ) (v w : PassState) : Type 0 where
+  pub stamped : PassState
+  pub stores : StoresNext z call h stamp v stamped
+  pub ends : EndsLock z call h g kind stamp stamped v w
+
+-- The one step that unlocked the header without a write.
+abbrev pub GivesUp : (z : Sizes) (call h g stamp : ℕ) (v w : PassState) → Type 0
+GivesUp z call h g stamp v w = EndsLock z call h g Put stamp v v w
+
+-- The three steps of a removal: the stamp was loaded, the next one stored, and the header marked dead. Right after it the header has that stamp, and is dead at its generation and with its pins; the pass buries it.
 pub record Buries (z : Sizes) (call h g stamp : ℕ) (v w : PassState) : Type 0 where
-  pub before : PassState
+  pub stamped : PassState
+  pub stores : StoresNext z call h stamp v stamped
   pub number : ℕ
-  pub told : MarksDead z call h before number w
+  pub told : MarksDead z call h stamped number w
   pub left : IsLeft z h DEAD g number told.seat w
+  pub table_is : left.table ≡ table_after z call (on_headers (mark_dead h)) told.seat stamped told.table
   pub value : HasValue (memory z left.table.words) h stamp v.headers.held
   pub comes : ComesTo call v.blocks.held (buried_at h (stamped_at h stamp v.headers.held)) v w
 

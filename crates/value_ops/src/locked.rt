@@ -1,16 +1,18 @@
 //! The calls on a header of which the pass has the lock.
 ghost use Rattle.std.specs.Prelude.{◌≡◌, Some};
 ghost use Rattle.oak_model.specs.declared.classes.Class.{Class};
-ghost use Rattle.oak_model.specs.declared.writes.Kind.TheVariants.{Put};
 ghost use Rattle.oak_model.specs.Class.{class_number, class_of};
 ghost use Rattle.oak_model.specs.Limits.{IsInLimits};
 ghost use Rattle.arena_core.specs.Blocks.{HoldsBlock};
 ghost use Rattle.arena_core.specs.Place.{class_in, place_word};
 ghost use Rattle.header_core.specs.HeaderHolds.{place_held};
 ghost use Rattle.header_core.specs.HeaderStep.{stamped_at};
+ghost use Rattle.header_core.specs.Headers.{at_stamp};
+ghost use Rattle.oak_core.specs.Memory.{in_headers, index};
 ghost use Rattle.oak_core.specs.Passes.{IsPassOf, Stays, state, key, call_of};
+ghost use Rattle.oak_core.specs.Splitting.{Loads};
 ghost use Rattle.value_ops.specs.HeldValue.{stamp_held};
-ghost use Rattle.value_ops.specs.UnderLock.{HasBlock, HasLock, HasBuried, IsUnchanged, next_stamp, Meets, ComesTo, Exchanges, EndsLock, Buries};
+ghost use Rattle.value_ops.specs.UnderLock.{HasBlock, HasLock, HasBuried, IsUnchanged, next_stamp, Meets, ComesTo, Exchanges, StoresNext, WritesOver, GivesUp, Buries};
 
 use crate::burying::Buried;
 use crate::claiming::STATE;
@@ -26,6 +28,7 @@ impl Locked {
         requires locked { HasLock (key table.now) self.now.header self.now.generation (state pass.old) }
         ensures own { Stays pass.old pass.new }
         ensures met { Meets (call_of pass.old) (state pass.old) (state pass.new) }
+        ensures loaded { Loads (key table.now) (call_of pass.old) (index (key table.now) (in_headers (at_stamp self.now.header))) (state pass.old) result (state pass.new) }
         ensures stamp { result ≡ stamp_held self.now.header (state pass.old).headers.held }
     {
         load(table, pass, table.stamp_at(self.header))
@@ -84,6 +87,7 @@ impl Locked {
         requires locked { HasLock (key table.now) self.now.header self.now.generation (state pass.old) }
         ensures own { Stays pass.old pass.new }
         ensures stamp { result ≡ next_stamp (stamp_held self.now.header (state pass.old).headers.held) }
+        ensures next { StoresNext (key table.now) (call_of pass.old) self.now.header result (state pass.old) (state pass.new) }
         ensures stored { ComesTo (call_of pass.old) (state pass.old).blocks.held (stamped_at self.now.header result (state pass.old).headers.held) (state pass.old) (state pass.new) }
     {
         let stamp = self.stamp(table, pass).saturating_add(1);
@@ -98,15 +102,15 @@ impl Locked {
         requires locked { HasLock (key table.now) self.header self.generation (state pass.old) }
         ensures own { Stays pass.old pass.new }
         ensures stamp { result ≡ next_stamp (stamp_held self.header (state pass.old).headers.held) }
-        ensures unlocked { EndsLock (key table.now) (call_of pass.old) self.header self.generation kind result (state pass.old) (state pass.new) }
+        ensures unlocked { WritesOver (key table.now) (call_of pass.old) self.header self.generation kind result (state pass.old) (state pass.new) }
     {
-        let stamp = self.store_next_stamp(table, pass);
+        let written = self.store_next_stamp(table, pass);
         let Locked {
             header,
             generation: _,
         } = self;
         steps::unlock_header(table, pass, table.pin_at(header), STATE, kind);
-        stamp
+        written
     }
 
     /// Marks the header dead, which is the removal: its stamp is one more than the value's was. The pass
@@ -137,7 +141,7 @@ impl Locked {
         requires locked { HasLock (key table.now) self.header self.generation (state pass.old) }
         requires unchanged { IsUnchanged self.header (state pass.old).headers.held }
         ensures own { Stays pass.old pass.new }
-        ensures unlocked { EndsLock (key table.now) (call_of pass.old) self.header self.generation Put (stamp_held self.header (state pass.old).headers.held) (state pass.old) (state pass.new) }
+        ensures unlocked { GivesUp (key table.now) (call_of pass.old) self.header self.generation (stamp_held self.header (state pass.old).headers.held) (state pass.old) (state pass.new) }
     {
         let Locked {
             header,

@@ -7,6 +7,7 @@ ghost use Rattle.arena_core.specs.Place.{class_in, length_in};
 ghost use Rattle.header_core.specs.HeaderHolds.{place_held};
 ghost use Rattle.header_core.specs.HeaderStep.{reworded};
 ghost use Rattle.oak_core.specs.Passes.{IsPassOf, Stays, state, key, call_of, scratch_of};
+ghost use Rattle.oak_core.specs.Scratch.{StaysButScratch};
 ghost use Rattle.value_ops.specs.Rewriting.{HasWords};
 ghost use Rattle.value_ops.specs.HeldValue.{words_in, value_held};
 ghost use Rattle.value_ops.specs.UnderLock.{HasLock, Meets, ComesTo, Rewrites, Refills, words_over, with_words};
@@ -24,7 +25,6 @@ impl Locked {
         requires words { HasWords (key table.now) self.now.header self.now.generation first (state pass.old) }
         requires inside { i < length (words_in self.now.header (state pass.old).headers.held) }
         ensures own { Stays pass.old pass.new }
-        ensures scratch { scratch_of pass.new ≡ scratch_of pass.old }
         ensures met { Meets (call_of pass.old) (state pass.old) (state pass.new) }
         ensures word { result ≡ slice_index (words_in self.now.header (state pass.old).headers.held) i }
     {
@@ -37,7 +37,6 @@ impl Locked {
         requires words { HasWords (key table.now) self.now.header self.now.generation first (state pass.old) }
         requires inside { i < length (words_in self.now.header (state pass.old).headers.held) }
         ensures own { Stays pass.old pass.new }
-        ensures scratch { scratch_of pass.new ≡ scratch_of pass.old }
         ensures stored { ComesTo (call_of pass.old) (state pass.old).blocks.held (reworded self.now.header i word (state pass.old).headers.held) (state pass.old) (state pass.new) }
     {
         steps::store_word(table, pass, first + i as u32, word);
@@ -48,7 +47,7 @@ impl Locked {
         requires own { IsPassOf table.now pass.old }
         requires words { HasWords (key table.now) self.now.header self.now.generation first (state pass.old) }
         requires long { len ≡ length_in (place_held self.now.header (state pass.old).headers.held) }
-        ensures own { Stays pass.old pass.new }
+        ensures own { StaysButScratch pass.old pass.new }
         ensures met { Meets (call_of pass.old) (state pass.old) (state pass.new) }
         ensures value { scratch_of pass.new ≡ value_held self.now.header (state pass.old).headers.held }
     {
@@ -92,7 +91,7 @@ impl Locked {
         requires own { IsPassOf table.now pass.old }
         requires locked { HasLock (key table.now) self.old.header self.old.generation (state pass.old) }
         requires few { calls recipe.old < 2 ^ 64 - 1 }
-        ensures own { Stays pass.old pass.new }
+        ensures own { StaysButScratch pass.old pass.new }
         ensures same { self.new ≡ self.old }
         ensures locked { HasLock (key table.now) self.new.header self.new.generation (state pass.new) }
         ensures applied { Rewrites (call_of pass.old) self.old.header (recipe_result (told_kind recipe.old) (told_argument recipe.old) (value_held self.old.header (state pass.old).headers.held)) (state pass.old) (state pass.new) }

@@ -1,4 +1,4 @@
-use Rattle.std.proofs.Common.{◌≡◌, ◌+◌, ◌*◌, ◌/◌, ◌%◌, ◌<◌, ◌∙◌, ℕ, arith, subst, w64}
+use Rattle.std.proofs.Common.{◌≡◌, ◌+◌, ◌*◌, ◌/◌, ◌%◌, ◌<◌, ℕ, arith, subst, w64}
 use Rattle.std.specs.Int.{bit_at, trailing_zeros}
 use Rattle.oak_model.specs.Class.{class_number}
 use Rattle.oak_model.specs.Limits.{Sizes}

@@ -1,8 +1,8 @@
-use Rattle.std.proofs.Common.{◌≡◌, ◌≤◌, ◌<◌, ◌∙◌, arith}
+use Rattle.std.proofs.Common.{◌≡◌, ◌≤◌, ◌<◌, arith}
 use Rattle.oak_model.specs.Limits.{Sizes}
 use Rattle.oak_core.specs.Passes.{state, key, call_of}
 use Rattle.oak_core.proofs.SamePass.{stays_both}
-use Rattle.value_ops.proofs.ClaimLaws.{claims_behind, looked_in, claims_in, next_header, names_pin, pin_room}
+use Rattle.value_ops.proofs.ClaimLaws.{claims_behind, looked_in, claims_in, next_header, names_pin, pin_room, looked_only, looked_none}
 use Rattle.value_ops.proofs.claiming.claim_between.Goals as goal
 
 pub loop-header-preserved : goal.loop-header-preserved
@@ -25,3 +25,10 @@ overflow_sub-last c = let room = pin_room (key c.args.table.now) c.loop-header.h
 
 pub claim_one-requires-clause-names : goal.claim_one-requires-clause-names
 claim_one-requires-clause-names c = (c.loop-header.header, names_pin (key c.args.table.now) c.loop-header.header c.args.to c.pin_at-last.result (omega arith) c.requires.inside c.pin_at-last.ensures)
+
+pub returns-clause-none : goal.returns-clause-none
+returns-clause-none c = looked_only (key c.args.table.now) (call_of c.args.pass.now) (state c.args.pass.now) (state c.loop-header.pass) (λ h. (c.args.from ≤ h) × (h < c.loop-header.header)) (λ h. (c.args.from ≤ h) × (h < c.args.to))
+    (λ h lh q. let t = c.loop-header-test.false in (q.0, (let l = q.1 in omega arith))) c.loop-header.invariant.looked
+
+pub returns-then-from-to-clause-none : goal.returns-then-from-to-clause-none
+returns-then-from-to-clause-none c = looked_none (key c.args.table.now) (call_of c.args.pass.now) (state c.args.pass.now) (λ h. (c.args.from ≤ h) × (h < c.args.to)) (λ h q. let t = c.if-from-to.true in let a = q.0 in let b = q.1 in omega arith)

@@ -1,4 +1,4 @@
-use Rattle.std.proofs.Common.{◌≡◌, ◌*◌, ◌+◌, ◌<◌, ℕ, List, length, get_or, take, ap, ◌∙◌, subst}
+use Rattle.std.proofs.Common.{◌≡◌, ◌*◌, ◌+◌, ◌<◌, ℕ, List, length, get_or, take, refl, ap, ◌∙◌, subst}
 use Rattle.std.specs.List.{refill}
 use Rattle.oak_model.specs.Limits.{Sizes}
 use Rattle.arena_core.specs.Place.{length_in}
@@ -17,11 +17,11 @@ loop-i-preserved c = let z : Sizes = key c.args.table.now in let call = call_of 
     let out : List ℕ = c.put_word.new.out in let lent : List ℕ = c.scratch_mut-in-loop-i.result.now in
     let wide : length out ≡ length lent = c.put_word.auto.out ∙ ap length c.bytes_mut.ensures.value in
     let whole : refill (length lent) lent out ≡ out = refill_whole lent out wide in
-    let was : lent ≡ scratch_of c.loop-i.pass = c.scratch_mut-in-loop-i.ensures.value ∙ o.scratch in
+    let was : lent ≡ scratch_of c.loop-i.pass = c.scratch_mut-in-loop-i.ensures.value ∙ o.own.scratch in
     let old : c.bytes_mut.result.now ≡ scratch_of c.loop-i.pass = c.bytes_mut.ensures.value ∙ was in let i = c.loop-i.i in let rs = v.headers.held in let same = headers_come call v.blocks.held rs v u s.met in
     let lt : 8 * i < length_in (place_held h rs) = subst (λ (n : ℕ). 8 * i < n) c.requires.long (word_of_loop c.args.len i c.div_ceil-i-end.result c.loop-i-test.true c.div_ceil-i-end.ensures) in
     record {
-      stays = record { table = o.own.table ∙ s.stays.table; seat = o.own.seat ∙ s.stays.seat; call = o.own.call ∙ s.stays.call };
+      stays = record { table = o.own.table ∙ s.stays.table; seat = o.own.seat ∙ s.stays.seat; call = o.own.call ∙ s.stays.call; scratch = refl };
       met = meets_both call v u w s.met (comes_in call (call_of c.loop-i.pass) u.blocks.held u.headers.held u w s.stays.call o.met);
       long = ap length whole ∙ (wide ∙ (ap length was ∙ s.long));
       loaded = ap (take (8 * (i + 1))) whole ∙ put_more (words_in h rs) c.bytes_mut.result.now out (length_in (place_held h rs)) i c.load_word-word.result (ap length old ∙ (s.long ∙ c.requires.long)) lt

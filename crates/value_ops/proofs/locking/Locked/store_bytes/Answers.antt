@@ -1,4 +1,4 @@
-use Rattle.std.proofs.Common.{◌*◌, ◌<◌, length, refl, ◌∙◌}
+use Rattle.std.proofs.Common.{◌*◌, ◌<◌, length, refl}
 use Rattle.oak_model.specs.Limits.{Sizes}
 use Rattle.header_core.specs.HeaderStep.{reworded}
 use Rattle.oak_core.specs.Passes.{state, key, call_of}
@@ -10,7 +10,7 @@ use Rattle.value_ops.proofs.locking.Locked.store_bytes.Goals as goal
 
 pub loop-i-init : goal.loop-i-init
 loop-i-init c = let v = state c.args.pass.now in record {
-  stays = record { table = refl; seat = refl; call = refl };
+  stays = record { table = refl; seat = refl; call = refl; scratch = refl };
   stored = begins (key c.args.table.now) c.args.self.now.header c.args.self.now.generation c.args.first v c.requires.words c.args.bytes.now c.requires.room (call_of c.args.pass.now);
 }
 

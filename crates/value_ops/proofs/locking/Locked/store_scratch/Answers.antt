@@ -11,8 +11,7 @@ use Rattle.value_ops.proofs.locking.Locked.store_scratch.Goals as goal
 
 pub loop-i-init : goal.loop-i-init
 loop-i-init c = let z : Sizes = key c.args.table.now in let h = c.args.self.now.header in let g = c.args.self.now.generation in let v = state c.args.pass.now in let bytes = scratch_of c.args.pass.now in let is = c.requires.words in record {
-  stays = record { table = refl; seat = refl; call = refl };
-  scratch = refl;
+  stays = record { table = refl; seat = refl; call = refl; scratch = refl };
   stored = begins z h g c.args.first v is bytes (as_long_fits z h g c.args.first v is bytes c.requires.long) (call_of c.args.pass.now);
 }
 
@@ -34,9 +33,8 @@ pub loop-i-preserved : goal.loop-i-preserved
 loop-i-preserved c = let z : Sizes = key c.args.table.now in let h = c.args.self.now.header in let g = c.args.self.now.generation in let v = state c.args.pass.now in let u = state c.loop-i.pass in let w = state c.store_word.new.pass in let bytes = scratch_of c.args.pass.now in let is = c.requires.words in
     let s = c.loop-i.invariant in let o = c.store_word.ensures in let x = c.word_from-word.result in
     let i = c.loop-i.i in let n = c.div_ceil-i-end.result in let lt : 8 * i < length bytes = word_of_loop (length bytes) i n c.loop-i-test.true (of_scratch bytes c.bytes.result.now n c.div_ceil-i-end.ensures (c.bytes.ensures.bytes ∙ c.scratch.ensures)) in
-    let same : c.bytes-in-loop-i.result.now ≡ bytes = c.bytes-in-loop-i.ensures.bytes ∙ (c.scratch-in-loop-i.ensures ∙ s.scratch) in record {
+    let same : c.bytes-in-loop-i.result.now ≡ bytes = c.bytes-in-loop-i.ensures.bytes ∙ (c.scratch-in-loop-i.ensures ∙ s.stays.scratch) in record {
       stays = stays_both s.stays o.own;
-      scratch = o.scratch ∙ s.scratch;
       stored = stored_more z h g c.args.first v is bytes (as_long_fits z h g c.args.first v is bytes c.requires.long) (call_of c.args.pass.now) i lt u s.stored x w (c.word_from-word.ensures ∙ ap (λ (xs : List ℕ). get_or (words_of xs) i 0) same)
           (comes_in (call_of c.args.pass.now) (call_of c.loop-i.pass) u.blocks.held (reworded h i x u.headers.held) u w s.stays.call o.stored);
     }

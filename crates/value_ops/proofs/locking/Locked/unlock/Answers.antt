@@ -8,11 +8,15 @@ use Rattle.value_ops.proofs.UnlockFacts.{may_unlock, ends_lock}
 use Rattle.value_ops.proofs.locking.Locked.unlock.Goals as goal
 
 pub unlock_header-requires-clause-names : goal.unlock_header-requires-clause-names
-unlock_header-requires-clause-names c = let z : Sizes = key c.args.table.now in let call = call_of c.args.pass.now in let h = c.args.self.header in let g = c.args.self.generation in let x = c.store_next_stamp-stamp.result in let v = state c.args.pass.now in let u = state c.store_next_stamp-stamp.new.pass in
-    (h, record { inside = c.requires.locked.inside; word_is = c.pin_at.ensures }, (λ i. STATE), may_unlock z call h g x v u (is_stamped z call h g v c.requires.locked x u c.store_next_stamp-stamp.ensures.stored) c.args.kind)
+unlock_header-requires-clause-names c = let z : Sizes = key c.args.table.now in let call = call_of c.args.pass.now in let h = c.args.self.header in let g = c.args.self.generation in let x = c.store_next_stamp-written.result in let v = state c.args.pass.now in let u = state c.store_next_stamp-written.new.pass in
+    (h, record { inside = c.requires.locked.inside; word_is = c.pin_at.ensures }, (λ i. STATE), may_unlock z call h g x v u (is_stamped z call h g v c.requires.locked x u c.store_next_stamp-written.ensures.stored) c.args.kind)
 
 pub returns-clause-unlocked : goal.returns-clause-unlocked
-returns-clause-unlocked c = let z : Sizes = key c.args.table.now in let call = call_of c.args.pass.now in let h = c.args.self.header in let g = c.args.self.generation in let x = c.store_next_stamp-stamp.result in let v = state c.args.pass.now in let u = state c.store_next_stamp-stamp.new.pass in let w = state c.unlock_header.new.pass in let n = c.unlock_header.result in
-    ends_lock z call h g x v u (is_stamped z call h g v c.requires.locked x u c.store_next_stamp-stamp.ensures.stored) c.args.kind n w
-    (told_in z call (call_of c.store_next_stamp-stamp.new.pass) (on_headers (unlock_header h c.args.kind)) u n w c.store_next_stamp-stamp.ensures.own.call
-    (c.unlock_header.ensures.told h record { inside = c.requires.locked.inside; word_is = c.pin_at.ensures }))
+returns-clause-unlocked c = let z : Sizes = key c.args.table.now in let call = call_of c.args.pass.now in let h = c.args.self.header in let g = c.args.self.generation in let x = c.store_next_stamp-written.result in let v = state c.args.pass.now in let u = state c.store_next_stamp-written.new.pass in let w = state c.unlock_header.new.pass in let n = c.unlock_header.result in
+    record {
+      stamped = u;
+      stores = c.store_next_stamp-written.ensures.next;
+      ends = ends_lock z call h g x v u (is_stamped z call h g v c.requires.locked x u c.store_next_stamp-written.ensures.stored) c.args.kind n w
+          (told_in z call (call_of c.store_next_stamp-written.new.pass) (on_headers (unlock_header h c.args.kind)) u n w c.store_next_stamp-written.ensures.own.call
+          (c.unlock_header.ensures.told h record { inside = c.requires.locked.inside; word_is = c.pin_at.ensures }));
+    }
