@@ -50,7 +50,6 @@ pub mod HeaderPlaces
 pub mod Splits
 pub mod Owing
 pub mod Alone
-pub mod AloneOwns
 pub mod ClosedFulls
 pub mod UsedWords
 pub mod Frames
