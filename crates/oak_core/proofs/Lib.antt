@@ -47,6 +47,7 @@ pub mod HeaderNames
 pub mod FieldNames
 pub mod LockNames
 pub mod HeaderPlaces
+pub mod OffsetPlaces
 pub mod Splits
 pub mod Owing
 pub mod Alone
