@@ -51,7 +51,3 @@ module _ (z : Sizes) (bits o o' : ℕ → ℕ → ℕ) {before after gone fresh 
       inside = λ d e le. level d e (same d e (λ p. let f : blocks z d ≡ blocks z c = ap (blocks z) p.0 in let g = p.1 in omega arith)) ∙ r.inside d e le;
       whole = all_whole;
     }
-
--- the further bits of the last word of a class are clear
-pub spare_clear : (z : Sizes) (bits o : ℕ → ℕ → ℕ) (passes : List HeldBlocks) → BlocksAreOwned z bits o passes → (c b : ℕ) → blocks z c ≤ b → bit_at (bits c (b / 64)) (b % 64) ≡ 0
-spare_clear z bits o passes r c b le = r.owned c b ∙ r.inside c b le

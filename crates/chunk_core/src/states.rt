@@ -1,4 +1,5 @@
 //! The states of a room, as they stand in its pin word. The generation of a room stays 0.
+ghost use Rattle.std.specs.Prelude.{◌≡◌};
 
 /// May be claimed where no pin stands.
 pub const FREE: u8 = 0;
@@ -11,3 +12,11 @@ pub const FROZEN: u8 = 2;
 
 /// One pass has it alone.
 pub const HELD: u8 = 3;
+
+/// A law: the numbers of the states, as the pin words have them.
+pub fn state_numbers()
+    ensures free { FREE ≡ 0 }
+    ensures open { OPEN ≡ 1 }
+    ensures frozen { FROZEN ≡ 2 }
+    ensures held { HELD ≡ 3 }
+{}

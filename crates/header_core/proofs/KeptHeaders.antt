@@ -70,10 +70,6 @@ kept_buried h (r ∷ rs) = let t = kept_buried h rs in λ i. record { spot = at_
 
 -- a header that a pass comes to hold comes with its two words
 
-pub true_taken : (m : HeaderMemory) (x : HeldHeader) (rs : List HeldHeader) → m.place x.header ≡ x.place → m.stamp x.header ≡ x.stamp → AreTrueTo (read_header m) (kept_of_headers rs) → AreTrueTo (read_header m) (kept_of_headers (x ∷ rs))
-unfolding kept_of_headers
-true_taken m x rs place stamp t = (place, (stamp, t))
-
 -- a header that is released takes them with it
 
 pub keeps_without_header : (q : HeaderSpot) (h : ℕ) (rs : List HeldHeader) → keeps same_header_spot q (kept_of_headers (without_header h rs)) ≤ keeps same_header_spot q (kept_of_headers rs)

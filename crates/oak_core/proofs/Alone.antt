@@ -88,14 +88,14 @@ module _ (z : Sizes) (s : TableState) (r : Rule z s) (seat : ℕ) (v : PassState
   ends words e = record { table = s; rule = r; words_are = e; seat = seat; here = here; others = others_are; histories = history_seen }
 
 -- A pass that was alone, that was split once, and into which what was split off is joined, is alone again. What the two met and learned between is of no matter.
-pub alone_again : (z : Sizes) (v w x w' x' : PassState) → IsAlone v → SplitsOff z v w x → w'.numbers ≡ w.numbers → x'.numbers ≡ x.numbers → IsAlone (both_state w' x')
-alone_again z v w x w' x' alone off same_w same_x =
-    let owes = subst (Owes (off.number ∷ [])) (sym same_w) (split_owes z v w x off [] (owing_alone v alone)) in
-    let its = subst (Owes []) (sym same_x) (new_owes z v w x off) in
-    let has = subst (λ (a : Numbers). 0 < rooted off.number a) (sym same_x) (new_rooted z v w x off) in
+pub alone_again : (z : Sizes) (call : ℕ) (v w x w' x' : PassState) → IsAlone v → SplitsOff z call v w x → w'.numbers ≡ w.numbers → x'.numbers ≡ x.numbers → IsAlone (both_state w' x')
+alone_again z call v w x w' x' alone off same_w same_x =
+    let owes = subst (Owes (off.number ∷ [])) (sym same_w) (split_owes z call v w x off [] (owing_alone v alone)) in
+    let its = subst (Owes []) (sym same_x) (new_owes z call v w x off) in
+    let has = subst (λ (a : Numbers). 0 < rooted off.number a) (sym same_x) (new_rooted z call v w x off) in
     let live : x'.numbers.spent ≡ false = (λ i. (same_x i).spent) ∙ (λ i. (off.new i).numbers.spent) in
     let both = both_rooted w' x' live 0 in
-    let stays : rooted 0 w'.numbers ≡ rooted 0 v.numbers = ap (rooted 0) same_w ∙ split_rooted z v w x off 0 in
+    let stays : rooted 0 w'.numbers ≡ rooted 0 v.numbers = ap (rooted 0) same_w ∙ split_rooted z call v w x off 0 in
     let a = alone.first in
     alone_owing (both_state w' x') (omega arith) (join_one w' x' live off.number [] owes its has)
 

@@ -3,6 +3,7 @@ use Rattle.std.proofs.Common.{true, Bool, ◌≡◌, ℕ, zero, suc, arith, nat_
 use Rattle.std.proofs.lemmas.Bool.{lt-ltb}
 use Rattle.std.specs.List.{list_all}
 use lib.Seq.{set-get_or}
+use Rattle.oak_model.specs.declared.replies.Lack.{Lack}
 use Rattle.oak_model.specs.Counts.{one_at}
 use Rattle.oak_model.specs.Limits.{Sizes}
 use Rattle.oak_model.proofs.Counting.{true_both, total_at, one_at-same}
@@ -11,10 +12,10 @@ use lib.ListN.{get_elem?}
 use Rattle.oak_core.specs.declared.states.Finding.{Finding}
 use Rattle.oak_core.specs.declared.states.PassState.{PassState}
 use Rattle.oak_core.specs.AloneWords.{LeavesWords, Moment, Runs, RunsTo}
-use Rattle.oak_core.specs.Memory.{Spot, index}
+use Rattle.oak_core.specs.Memory.{Spot, at_given, index}
 use Rattle.oak_core.specs.PassState.{IsAlone, is_alone, rooted}
 use Rattle.oak_core.specs.Step.{Step, load, give_number, on_arena, on_headers, store_locked, note_full, spot, effect, state_after, Told}
-use Rattle.oak_core.specs.Splitting.{Ends}
+use Rattle.oak_core.specs.Splitting.{Loads, Ends}
 use Rattle.oak_model.proofs.Lists.{set_there}
 use Rattle.oak_core.proofs.AloneLast.{last_is}
 use Rattle.oak_core.proofs.EachEvent.{rule_keeps}
@@ -113,6 +114,13 @@ runs_none P v f = record { goes = λ before l. record { after = before; leaves =
 -- a load leaves the words
 pub load_runs : (z : Sizes) (call : ℕ) (p : Spot) (v : PassState) (n : ℕ) (w : PassState) → Told z call (load p) v n w → Runs (λ a b. (n ≡ get_or a (index z p) 0) × (b ≡ a)) v w
 load_runs z call p v n w t = runs_as (DoesStep z (load p) n) (λ x y. (n ≡ get_or x (index z p) 0) × (y ≡ x)) v w (λ x y d. (d.0, d.1 ∙ set-get_or x (index z p) 0)) (step_runs z call (load p) v n w tt t)
+
+pub loads_run : (z : Sizes) (call word : ℕ) (v : PassState) (n : ℕ) (w : PassState) → Loads z call word v n w → Runs (λ a b. (n ≡ get_or a word 0) × (b ≡ a)) v w
+loads_run z call word v n w l = subst (λ (i : ℕ). Runs (λ a b. (n ≡ get_or a i 0) × (b ≡ a)) v w) l.at (load_runs z call l.spot v n w l.told)
+
+-- and so does noting a call
+pub note_runs : (z : Sizes) (call : ℕ) (lack : Lack) (began : ℕ) (v : PassState) (n : ℕ) (w : PassState) → Told z call (note_full lack began) v n w → Runs (λ a b. b ≡ a) v w
+note_runs z call lack began v n w t = runs_as (DoesStep z (note_full lack began) n) (λ x y. y ≡ x) v w (λ x y d. d.1 ∙ set-get_or x (index z at_given) 0) (step_runs z call (note_full lack began) v n w tt t)
 
 -- behind a step of any pass the rule holds, at the words that it left
 pub moment_after : (z : Sizes) (call : ℕ) (x : Step) (v : PassState) (n : ℕ) (w : PassState) → (t : Told z call x v n w) → Moment z (words_after z x t.table.words) w

@@ -11,9 +11,6 @@ use Rattle.oak_core.specs.Finding.{Shows}
 use Rattle.oak_core.specs.PassState.{no_findings}
 use Rattle.oak_core.specs.Rule.{FoundStays, FindingsHold}
 
-pub shows_longer : (met more : List Finding) (word : ℕ) (P : ℕ → Type 0) → Shows met word P → Shows (met ++ more) word P
-shows_longer met more word P s = (s.0, s.1, s.2, at_longer met more s.0 s.1 s.3, s.4, s.5, s.6)
-
 pub shows_last : (met : List Finding) (f : Finding) (word n : ℕ) (P : ℕ → Type 0) → f.word ≡ word → f.found ≡ Some n → P n → Shows (met ++ f ∷ []) word P
 shows_last met f word n P at is p = (Rattle.std.proofs.Common.length met, f, n, at_last met f, at, is, p)
 

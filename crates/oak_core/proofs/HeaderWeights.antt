@@ -109,7 +109,3 @@ module _ (F : Class → ℕ → ℕ) where
       let xf : ℕ = (1 * n + k) * f in let nf : ℕ = n * f in let o : xf ≡ nf = once_here n k f z in let xj : ℕ = (1 * n + k) * j in let nj : ℕ = n * j in let q : xj ≡ nj = once_here n k j z in let e : (nj + a) + xf ≡ (nf + b) + xj = omega arith in e)
       (λ _ l. let w : ℕ = W r in let t : a + kg ≡ b + kj = weight_changed h x words rs (omega arith) in
       let xg : ℕ = (0 * n + k) * g in let o : xg ≡ kg = not_here n k g in let xj : ℕ = (0 * n + k) * j in let q : xj ≡ kj = not_here n k j in let e : (w + a) + xg ≡ (w + b) + xj = omega arith in e) le
-
-  -- the words of a block count for nothing
-  pub weight_reworded : (h k x : ℕ) (rs : List HeldHeader) → total W (reworded h k x rs) ≡ total W rs
-  weight_reworded h k x rs = total_map (λ (r : HeldHeader). record r { words = cond (r.header == h) (set r.words k x) r.words }) W rs

@@ -47,10 +47,10 @@ pub mod HeaderNames
 pub mod FieldNames
 pub mod LockNames
 pub mod HeaderPlaces
+pub mod OffsetPlaces
 pub mod Splits
 pub mod Owing
 pub mod Alone
-pub mod AloneOwns
 pub mod ClosedFulls
 pub mod UsedWords
 pub mod Frames

@@ -18,7 +18,7 @@ alone_owing v first owes = record { first = first; others = λ k h. ⊎_elim (λ
 pub owing_alone : (v : PassState) → IsAlone v → Owes [] v.numbers
 owing_alone v alone k h = inl (alone.others k h)
 
-module _ (z : Sizes) (v w x : PassState) (off : SplitsOff z v w x) where
+module _ (z : Sizes) (call : ℕ) (v w x : PassState) (off : SplitsOff z call v w x) where
   old_is : w.numbers ≡ record v.numbers { made = v.numbers.made ++ off.number ∷ [] }
   old_is = λ i. (off.old i).numbers
 

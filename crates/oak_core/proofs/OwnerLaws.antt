@@ -73,8 +73,3 @@ owner_counts z m h c b lt = below_at (has_block m c b) z.headers h lt
 -- the word names one block
 pub names_itself : (word : ℕ) → names_block (class_in word) (block_in word) word ≡ 1
 names_itself word = let a = one_at-same (class_in word) (class_in word) refl in let b = one_at-same (block_in word) (block_in word) refl in (λ i. a i * b i)
-
-pub names_other : (c b word : ℕ) → ¬ ((class_in word ≡ c) × (block_in word ≡ b)) → names_block c b word ≡ 0
-names_other c b word ne = dite (ℕ_discrete (class_in word) c)
-    (λ e. let o = one_at-other (block_in word) b (λ f. ne (e, f)) in ap (λ (n : ℕ). one_at (class_in word) c * n) o ∙ (let x : ℕ = one_at (class_in word) c in let r : x * 0 ≡ 0 = omega arith in r))
-    (λ n. let o = one_at-other (class_in word) c n in ap (λ (i : ℕ). i * one_at (block_in word) b) o ∙ (let x : ℕ = one_at (block_in word) b in let r : 0 * x ≡ 0 = omega arith in r))

@@ -48,9 +48,6 @@ findings_by n (j ∷ js) = cond (j.number == n) j.findings (findings_by n js)
 abbrev pub closed_findings : Closed → ℕ → Findings
 closed_findings c n = findings_by n (all_passes (closed_state c))
 
-abbrev pub closed_met : Closed → ℕ → List Finding
-closed_met c n = (closed_findings c n).met
-
 -- the refused calls, each with its pass's number
 pub record FullCall : Type 0 where
   pub pass : ℕ

@@ -68,10 +68,6 @@ pub record LoadsMore (z : Sizes) (call : ℕ) (v w : PassState) : Type 0 where
 abbrev pub Shows : List Finding → ℕ → (ℕ → Type 0) → Type 0
 Shows met word P = (i : ℕ) × (f : Finding) × (n : ℕ) × (get_elem? met i ≡ some f) × (f.word ≡ word) × (f.found ≡ Some n) × P n
 
--- the call appended findings, one of which shows a number of the word that has P
-abbrev pub FoundInCall : PassState → PassState → ℕ → (ℕ → Type 0) → Type 0
-FoundInCall v w word P = (more : List Finding) × (w.findings.met ≡ v.findings.met ++ more) × Shows more word P
-
 -- one of the findings is of the call, and shows a number of the word that has P; the pass had there what v has there
 pub record FoundThere (z : Sizes) (call : ℕ) (p : Spot) (v : PassState) (met : List Finding) (P : ℕ → Type 0) : Type 0 where
   pub place : ℕ

@@ -60,10 +60,10 @@ FoundSet z behind ended met c b = FoundBehind behind ended met (index z (in_aren
 abbrev pub FoundTaken : Sizes → ℕ → ℕ → List Finding → ℕ → Type 0
 FoundTaken z behind ended met h = FoundBehind behind ended met (index z (in_headers (at_pin h))) (λ n had. (is_free n ≡ false) × (had ≡ 0))
 
--- two different generations of the header were found
+-- two different generations of the header were found, and at neither step had the pass a pin there or held it
 pub record FoundRenewed (z : Sizes) (behind ended : ℕ) (met : List Finding) (h : ℕ) : Type 0 where
-  pub one : FoundBehind behind ended met (index z (in_headers (at_pin h))) (λ _ _. Unit {0})
-  pub other : FoundBehind behind ended met (index z (in_headers (at_pin h))) (λ _ _. Unit {0})
+  pub one : FoundBehind behind ended met (index z (in_headers (at_pin h))) (λ _ had. had ≡ 0)
+  pub other : FoundBehind behind ended met (index z (in_headers (at_pin h))) (λ _ had. had ≡ 0)
   pub apart : generation_of one.number ≢ generation_of other.number
 
 -- What is lacking was found with nothing free: each block of the class, or each header. No call may be noted as one that lacks a room so far: that it held the chunk alone, with a value in every entry, is part of that, and no step holds a chunk yet.

@@ -3,6 +3,7 @@ use Rattle.std.specs.Prelude.{◌≡◌, ◌≢◌, ℕ, ◌<◌, ◌≤◌, Lis
 use Rattle.std.specs.Int.{bit_at}
 use mathlib.Core.Option.{some}
 use lib.ListN.{get_elem?}
+use Rattle.oak_model.specs.Counts.{Each}
 use Rattle.oak_model.specs.Limits.{Sizes}
 use Rattle.oak_core.specs.declared.states.Finding.{Finding}
 use Rattle.oak_core.specs.declared.states.PassState.{PassState}
@@ -26,19 +27,38 @@ pub record IsGrown (v w : PassState) : Type 0 where
   pub more : List Finding
   pub after : w ≡ grown more v
 
--- the new pass x has the number, which was the least that no pass had at its step, so none of v's, and has seen what v has seen
-pub record SplitsOff (z : Sizes) (v w x : PassState) : Type 0 where
+-- the finding is of the call, at word 0
+abbrev pub IsAtGiven : ℕ → Finding → Type 0
+IsAtGiven call f = (f.call ≡ call) × (f.word ≡ 0)
+
+-- the pass only met more, all of it in the call and at word 0
+pub record LooksAtGiven (call : ℕ) (v w : PassState) : Type 0 where
+  pub more : List Finding
+  pub at : Each (IsAtGiven call) more
+  pub after : w ≡ grown more v
+
+-- word 0 was loaded, and k is the least number that is not given there, or 64 where all of 64 are
+pub record FindsLeast (z : Sizes) (call : ℕ) (v : PassState) (k : ℕ) (w : PassState) : Type 0 where
+  pub number : ℕ
+  pub loads : Loads z call 0 v number w
+  pub lower : (j : ℕ) → j < k → bit_at number j ≡ 1
+  pub free : k < 64 → bit_at number k ≡ 0
+
+-- the new pass x has the number, which was the least that no pass had at its step, so none of v's, and has seen what v has seen; all that was met was met in the call and at word 0
+pub record SplitsOff (z : Sizes) (call : ℕ) (v w x : PassState) : Type 0 where
   pub number : ℕ
   pub few : number < z.passes
   pub more : List Finding
+  pub at : Each (IsAtGiven call) more
   pub old : w ≡ record (grown more v) { numbers = record v.numbers { made = v.numbers.made ++ number ∷ [] } }
   pub new : x ≡ record first_state { numbers = record first_state.numbers { number = number }; knowledge = record { seen = v.knowledge.seen; heard = v.knowledge.heard; loaded = []; mine = [] } }
   pub unowned : has_number number v.numbers ≡ 0
   pub least : Shows more 0 (λ n. (bit_at n number ≡ 0) × ((j : ℕ) → j < number → bit_at n j ≡ 1))
 
--- all numbers were found given at one step
-pub record FindsAllGiven (z : Sizes) (v w : PassState) : Type 0 where
+-- all numbers were found given at one step, and all that was met was met in the call and at word 0
+pub record FindsAllGiven (z : Sizes) (call : ℕ) (v w : PassState) : Type 0 where
   pub more : List Finding
+  pub at : Each (IsAtGiven call) more
   pub after : w ≡ grown more v
   pub given : Shows more 0 (λ n. (k : ℕ) → k < z.passes → bit_at n k ≡ 1)
 

@@ -6,8 +6,8 @@ ghost use Rattle.oak_core.specs.Memory.{in_arena, index};
 ghost use Rattle.oak_core.specs.Passes.{key, state, call_of, searches, header_search};
 
 use crate::table::{OakTable, Pass};
-use arena_core::layout::{bit_words, bits_below, block_words, bytes_below};
-use oak_model::{CLASSES, Class};
+use arena_core::layout::{bit_words, block_words};
+use oak_model::Class;
 
 /// A block that a pass holds. It is given back or handed on, and can't be dropped.
 pub struct Block {
@@ -36,8 +36,7 @@ impl OakTable {
         requires { i < bit_words (key self.now) (class_number class) }
         ensures { result ≡ index (key self.now) (in_arena (at_bits (class_number class) i)) }
     {
-        let shape = self.sizes();
-        (1 + (bits_below(shape, class.number()) + i as usize)) as u32
+        self.offsets.bits[class.number()] + i
     }
 
     /// The number of word `i` of a block.
@@ -46,10 +45,8 @@ impl OakTable {
         requires inside { i < block_words (class_number class) }
         ensures { result ≡ index (key self.now) (in_arena (at_bytes (class_number class) block i)) }
     {
-        let shape = self.sizes();
-        let before = bits_below(shape, CLASSES);
-        let place = block as usize * block_words(class) + i as usize;
-        (1 + (before + (bytes_below(shape, class.number()) + place))) as u32
+        let place = block * block_words(class) as u32 + i;
+        self.offsets.bytes[class.number()] + place
     }
 }
 

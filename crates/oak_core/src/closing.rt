@@ -45,7 +45,11 @@ impl OakTable {
         ensures ends { Ends (key self) (closed_words result) (state pass) }
         ensures noted { FullsLacked result }
     {
-        let OakTable { table, shape } = self;
+        let OakTable {
+            table,
+            shape,
+            offsets: _,
+        } = self;
         let last = Snapshot::of(&pass);
         let Pass {
             seat,

@@ -4,7 +4,6 @@ ghost use Rattle.header_core.specs.Headers.{at_pin, at_place, at_stamp};
 ghost use Rattle.oak_core.specs.Memory.{in_headers, index};
 ghost use Rattle.oak_core.specs.Passes.{key, state, call_of, searches, header_search};
 
-use crate::layout::headers_at;
 use crate::table::{OakTable, Pass};
 use header_core::layout::{HEADER_WORDS, header_count};
 
@@ -25,7 +24,7 @@ impl OakTable {
         requires { header < (key self.now).headers }
         ensures { result ≡ index (key self.now) (in_headers (at_pin header)) }
     {
-        (headers_at(self.sizes()) + header as usize * HEADER_WORDS) as u32
+        self.offsets.headers + header * HEADER_WORDS as u32
     }
 
     /// The number of a header's place word.
@@ -33,7 +32,7 @@ impl OakTable {
         requires { header < (key self.now).headers }
         ensures { result ≡ index (key self.now) (in_headers (at_place header)) }
     {
-        (headers_at(self.sizes()) + (header as usize * HEADER_WORDS + 1)) as u32
+        self.pin_at(header) + 1
     }
 
     /// The number of a header's stamp word.
@@ -41,7 +40,7 @@ impl OakTable {
         requires { header < (key self.now).headers }
         ensures { result ≡ index (key self.now) (in_headers (at_stamp header)) }
     {
-        (headers_at(self.sizes()) + (header as usize * HEADER_WORDS + 2)) as u32
+        self.pin_at(header) + 2
     }
 }
 

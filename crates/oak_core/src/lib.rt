@@ -10,6 +10,7 @@ pub mod headers;
 pub mod layout;
 pub mod loads;
 pub mod notes;
+mod offsets;
 pub mod passes;
 pub mod schedules;
 pub mod scratch;

@@ -1,6 +1,7 @@
 //! Calls of the map that are refused for want of something, as their passes note them.
-ghost use Rattle.std.specs.Prelude.{ℕ, ◌<◌, length};
+ghost use Rattle.std.specs.Prelude.{◌≡◌, ℕ, ◌<◌, length};
 ghost use Rattle.atomic_table.specs.Table.{Allows};
+ghost use Rattle.oak_core.specs.AloneWords.{Runs};
 ghost use Rattle.oak_core.specs.Lack.{Lacks};
 ghost use Rattle.oak_core.specs.Noting.{Notes};
 ghost use Rattle.oak_core.specs.Passes.{IsPassOf, Stays, SearchesStay, state, key, call_of};
@@ -25,13 +26,15 @@ fn note_said<T: Said>(table: &OakTable, pass: &mut Pass, _lack: Lack)
 
 impl Pass {
     /// Notes the present call as one that lacks something: ranges that it swept cover every key, and
-    /// behind these it found nothing free of what it lacks. It loads word 0.
+    /// behind these it found nothing free of what it lacks. It loads word 0, so to a pass that is alone
+    /// the words stay.
     pub fn note_full(&mut self, table: &OakTable, lack: Lack)
         requires own { IsPassOf table.now self.old }
         requires lacks { (began : ℕ) × Lacks (key table.now) (call_of self.old) lack began (length (state self.old).findings.met) (state self.old).findings }
         ensures own { Stays self.old self.new }
         ensures searches { SearchesStay self.old self.new }
         ensures noted { Notes (key table.now) (call_of self.old) lack (state self.old) (state self.new) }
+        ensures runs { Runs (λ a b. b ≡ a) (state self.old) (state self.new) }
     {
         note_said::<Brand>(table, self, lack);
     }

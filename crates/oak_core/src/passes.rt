@@ -5,10 +5,12 @@ ghost use Rattle.oak_core.specs.PassState.{HoldsNothing, left_state, right_state
 ghost use Rattle.oak_core.specs.Schedule.{MaySplit};
 ghost use Rattle.oak_core.specs.Step.{MayGive, Told, give_number};
 ghost use Rattle.oak_core.specs.Passes.{IsPassOf, Stays, SearchesStay, Turns, state, key, call_of};
-ghost use Rattle.oak_core.specs.Splitting.{IsGrown, SplitsOff, FindsAllGiven, SeesLonger};
+ghost use Rattle.oak_core.specs.Splitting.{LooksAtGiven, FindsLeast, SplitsOff, FindsAllGiven, SeesLonger};
 
 use crate::atoms::or_said;
 use crate::layout::{rooms_at, word_count};
+use crate::loads::load;
+use crate::offsets::Offsets;
 use crate::states::PassState;
 use crate::table::{OakTable, Pass};
 use crate::writing::Writing;
@@ -73,7 +75,12 @@ impl OakTable {
         words[rooms_at(&shape)] = pack(0, OPEN, 0);
         let scratch = Writing::make(alloc)?;
         let (table, seat) = Table::of_words(alloc, words.as_slice(), &shape)?;
-        let table = OakTable { table, shape };
+        let offsets = Offsets::of(&shape);
+        let table = OakTable {
+            table,
+            shape,
+            offsets,
+        };
         let pass = Pass {
             seat,
             call: 0,
@@ -92,6 +99,16 @@ impl Pass {
         ensures { Turns self.old self.new call }
     {
         self.call = call;
+    }
+
+    /// Loads word 0, for the least number that is not given there: 64 where all are.
+    fn least_free(&mut self, table: &OakTable) -> u32
+        requires own { IsPassOf table.now self.old }
+        ensures own { Stays self.old self.new }
+        ensures searches { SearchesStay self.old self.new }
+        ensures least { FindsLeast (key table.now) (call_of self.old) (state self.old) result (state self.new) }
+    {
+        load(table, self, 0).trailing_ones()
     }
 
     /// Sets the bit of a number in word 0, which gives the number where it was clear.
@@ -126,28 +143,32 @@ impl Pass {
     }
 
     /// Splits off a pass for another caller, with the least number that no pass has. It has seen what
-    /// this one has seen. `Limit` comes exactly where all numbers of the shape were found given. All
-    /// memory is taken before the number.
+    /// this one has seen. `Limit` comes exactly where one load found all numbers of the shape given. All
+    /// memory is taken before the number. It loads word 0, and sets one bit there; it does so again only
+    /// where another pass took the number between the two.
     pub fn split(&mut self, alloc: Global, table: &OakTable) -> Result<Pass, SplitFault>
         requires own { IsPassOf table.now self.old }
         requires idle { HoldsNothing (state self.old) }
         ensures own { Stays self.old self.new }
         ensures searches { SearchesStay self.old self.new }
         ensures new { IfOk result (λ p. IsPassOf table.now p × (call_of p ≡ 0)) }
-        ensures split { IfOk result (λ p. SplitsOff (key table.now) (state self.old) (state self.new) (state p)) }
-        ensures refused { IfErr result (λ _. IsGrown (state self.old) (state self.new)) }
-        ensures limit { (made : ℕ) → result ≡ Err (SplitFault.Limit made) → (made ≡ (key table.now).passes) × FindsAllGiven (key table.now) (state self.old) (state self.new) }
+        ensures split { IfOk result (λ p. SplitsOff (key table.now) (call_of self.old) (state self.old) (state self.new) (state p)) }
+        ensures refused { IfErr result (λ _. LooksAtGiven (call_of self.old) (state self.old) (state self.new)) }
+        ensures limit { (made : ℕ) → result ≡ Err (SplitFault.Limit made) → (made ≡ (key table.now).passes) × FindsAllGiven (key table.now) (call_of self.old) (state self.old) (state self.new) }
         ensures memory { result ≡ Err SplitFault.OutOfMemory → state self.new ≡ state self.old }
     {
         let Ok(scratch) = Writing::make(alloc) else {
             return Err(SplitFault::OutOfMemory);
         };
         let passes = table.passes();
-        for number in 0..passes {
+        let mut number = self.least_free(table);
+        while number < passes {
             let found = self.give_number(table, number);
             if !is_set(found, number) {
                 return Ok(self.cut(table, scratch));
             }
+            // Another pass took the number meanwhile.
+            number = self.least_free(table);
         }
         Err(SplitFault::Limit { made: passes })
     }

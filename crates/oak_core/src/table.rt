@@ -1,7 +1,9 @@
 //! The table, and the passes that step on it.
-ghost use Rattle.std.specs.Prelude.{◌≡◌, [], false};
+ghost use Rattle.std.specs.Prelude.{◌≡◌, ◌<◌, ◌^◌, [], false};
 ghost use Rattle.oak_core.specs.Memory.{word_count};
+ghost use Rattle.oak_core.specs.Offsets.{offsets_of};
 
+use crate::offsets::Offsets;
 use crate::states::PassState;
 use crate::writing::Writing;
 use atomic_table::{Seat, Table, TableRule};
@@ -24,7 +26,10 @@ impl TableRule<(), PassState, Shape> for OakRule {
 pub struct OakTable {
     pub(crate) table: Table<(), PassState, Shape, OakRule, Global>,
     pub(crate) shape: Shape,
+    pub(crate) offsets: Offsets,
     ghost shape_is: { shape ≡ table.shared.key },
+    ghost offsets_are: { offsets ≡ offsets_of shape },
+    ghost few: { word_count shape < 2 ^ 32 },
     ghost counted: { table.shared.table_id.words ≡ word_count shape },
     ghost bare: { table.shared.table_id.slots ≡ 0 },
 }
@@ -42,7 +47,7 @@ pub struct Pass {
 }
 
 impl OakTable {
-    ghost use Rattle.std.specs.Prelude.{◌<◌, ◌≤◌};
+    ghost use Rattle.std.specs.Prelude.{◌≤◌};
     ghost use Rattle.oak_model.specs.declared.limits.TheConstants.{GREATEST_PASSES};
     ghost use Rattle.oak_model.specs.Limits.{IsInLimits};
     ghost use Rattle.oak_core.specs.Passes.{key};

@@ -2,9 +2,9 @@ ghost use Rattle.std.specs.Prelude.{◌≡◌, ◌<◌, length, slice_index};
 ghost use Rattle.std.specs.Thread.{IsSync};
 ghost use Rattle.oak_core.specs.Memory.{word_count};
 ghost use Rattle.oak_core.specs.PassState.{HoldsNothing, IsAlone, first_state};
-ghost use Rattle.oak_core.specs.Passes.{IsPassOf, Stays, state, key, scratch_of};
+ghost use Rattle.oak_core.specs.Passes.{IsPassOf, Stays, state, key, call_of, scratch_of};
 ghost use Rattle.oak_core.specs.Scratch.{StaysButScratch};
-ghost use Rattle.oak_core.specs.Splitting.{IsGrown};
+ghost use Rattle.oak_core.specs.Splitting.{LooksAtGiven};
 
 use crate::{OakTable, Pass, SplitFault, Writing, load};
 use oak_model::{BadShape, Shape, ShapeField, Usage};
@@ -23,7 +23,7 @@ fn split_no_more(rt: &impl Abort, alloc: Global, table: &OakTable, pass: &mut Pa
     requires own { IsPassOf table.now pass.old }
     requires idle { HoldsNothing (state pass.old) }
     ensures own { Stays pass.old pass.new }
-    ensures same { IsGrown (state pass.old) (state pass.new) }
+    ensures same { LooksAtGiven (call_of pass.old) (state pass.old) (state pass.new) }
 {
     match pass.split(alloc, table) {
         Ok(third) => {

@@ -26,7 +26,7 @@ module _ (z : Sizes) (call : ℕ) (v w : PassState) (idle : v.headers ≡ no_hea
 
   unfree_for_all : (h : ℕ) → h < z.headers → FoundTaken z (length v.findings.met) (length w.findings.met) w.findings.met h ⊎ FoundRenewed z (length v.findings.met) (length w.findings.met) w.findings.met h
   unfree_for_all h lh = ⊎_elim (λ (f : FoundUnfree z call h v none.more). inl (behind h _ _ f (f.shows, f.had_is ∙ had_none h)))
-      (λ (t : FoundTwice z call h v none.more). inr (record { one = behind h _ (λ _ _. Unit {0}) t.one tt; other = behind h _ (λ _ _. Unit {0}) t.other tt; apart = t.apart })) (none.found h lh tt)
+      (λ (t : FoundTwice z call h v none.more). inr (record { one = behind h _ (λ _ had. had ≡ 0) t.one (t.one.had_is ∙ had_none h); other = behind h _ (λ _ had. had ≡ 0) t.other (t.other.had_is ∙ had_none h); apart = t.apart })) (none.found h lh tt)
 
   -- so where the call swept every key before it, and met nothing of another call, it may be noted
   pub headers_lack : (began : ℕ) → began ≤ length v.findings.met → ((i : ℕ) (f : Finding) → began ≤ i → get_elem? v.findings.met i ≡ some f → f.call ≡ call)

@@ -1,10 +1,15 @@
-use Rattle.std.proofs.Common.{◌+◌, ◌*◌, ℕ, ap, ◌∙◌}
-use Rattle.oak_model.specs.Limits.{Sizes}
-use Rattle.header_core.specs.declared.layout.TheConstants.{HEADER_WORDS}
-use Rattle.oak_core.specs.Memory.{headers_at}
+use Rattle.std.proofs.Common.{◌≡◌, ◌+◌, ◌*◌, ℕ, arith}
+use Rattle.header_core.specs.Headers.{at_pin}
+use Rattle.oak_core.specs.Memory.{in_headers, index}
 use Rattle.oak_core.specs.Passes.{key}
-use Rattle.oak_core.proofs.HeaderPlaces.{pin_place}
+use Rattle.oak_core.proofs.OffsetPlaces.{fits, pin_number}
 use Rattle.oak_core.proofs.table.OakTable.pin_at.Goals as goal
 
 pub returns : goal.returns
-returns c = ap (λ (n : ℕ). n + c.args.header * HEADER_WORDS) c.headers_at.ensures.is ∙ (ap (λ (z : Sizes). headers_at z + c.args.header * HEADER_WORDS) c.sizes.ensures.is ∙ pin_place (key c.args.self.now) c.args.header)
+returns c = pin_number (key c.args.self.now) c.args.self.now.shape c.args.self.now.offsets c.args.self.now.shape_is c.args.self.now.offsets_are c.args.self.now.few c.args.header
+
+pub overflow_add-result : goal.overflow_add-result
+overflow_add-result c = let e = pin_number (key c.args.self.now) c.args.self.now.shape c.args.self.now.offsets c.args.self.now.shape_is c.args.self.now.offsets_are c.args.self.now.few c.args.header in let f = fits (key c.args.self.now) c.args.self.now.shape c.args.self.now.offsets c.args.self.now.shape_is c.args.self.now.offsets_are c.args.self.now.few (in_headers (at_pin c.args.header)) c.requires in omega arith
+
+pub overflow_mul-result : goal.overflow_mul-result
+overflow_mul-result c = let e = pin_number (key c.args.self.now) c.args.self.now.shape c.args.self.now.offsets c.args.self.now.shape_is c.args.self.now.offsets_are c.args.self.now.few c.args.header in let f = fits (key c.args.self.now) c.args.self.now.shape c.args.self.now.offsets c.args.self.now.shape_is c.args.self.now.offsets_are c.args.self.now.few (in_headers (at_pin c.args.header)) c.requires in omega arith

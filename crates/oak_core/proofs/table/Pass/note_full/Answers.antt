@@ -1,5 +1,6 @@
-use Rattle.oak_core.specs.Passes.{key, call_of}
+use Rattle.oak_core.specs.Passes.{state, key, call_of}
 use Rattle.oak_core.proofs.Allowed.{allows_note}
+use Rattle.oak_core.proofs.AloneRuns.{note_runs}
 use Rattle.oak_core.proofs.table.Pass.note_full.Goals as goal
 
 pub note_said-requires-clause-rule : goal.note_said-requires-clause-rule
@@ -7,3 +8,6 @@ note_said-requires-clause-rule c = allows_note (key c.args.table.now) (call_of c
 
 pub returns-clause-noted : goal.returns-clause-noted
 returns-clause-noted c = c.note_said.ensures.told.1
+
+pub returns-clause-runs : goal.returns-clause-runs
+returns-clause-runs c = let n = c.note_said.ensures.told.1 in note_runs (key c.args.table.now) (call_of c.args.self.now) c.args.lack n.began (state c.args.self.now) n.number _ n.told
