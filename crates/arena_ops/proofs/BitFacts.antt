@@ -17,7 +17,7 @@ use Rattle.arena_core.specs.ArenaStep.{bit_of, take_bit}
 use Rattle.arena_core.proofs.ArenaSteps.{none_owns}
 use Rattle.oak_core.specs.declared.states.Finding.{Finding}
 use Rattle.oak_core.specs.declared.states.PassState.{PassState}
-use Rattle.oak_core.specs.Memory.{Spot, in_arena, index, memory}
+use Rattle.oak_core.specs.Memory.{Spot, in_arena, index, rooms_at, memory}
 use Rattle.oak_core.specs.Finding.{finding, noted, grown}
 use Rattle.oak_core.specs.PassState.{blocks_of}
 use Rattle.oak_core.specs.Owners.{other_owners}
@@ -29,7 +29,7 @@ use Rattle.oak_core.proofs.ArenaNames.{bit_inside}
 use Rattle.oak_core.proofs.FoundThere.{met_here}
 use Rattle.oak_core.proofs.KeepsArena.{class_below}
 use Rattle.oak_core.proofs.MetMore.{grown_none, told_of}
-use Rattle.oak_core.proofs.Words.{index_apart, memory_read}
+use Rattle.oak_core.proofs.Words.{index_apart, memory_read, arena_before}
 use Rattle.arena_ops.specs.Looking.{bit_spot, FoundSet, IsSetIn, AllSet, Looked}
 use Rattle.arena_ops.specs.Taking.{SetsBit, Takes}
 
@@ -61,7 +61,7 @@ module _ (z : Sizes) (call : ℕ) (c : Class) (v : PassState) where
       let t = l.told in record {
         more = finding z call l.spot (Some n) n t.table.words v ∷ [];
         after = l.met;
-        calls = (refl, tt);
+        looks = ((refl, subst (λ (q : Spot). index z q < rooms_at z) (sym same) (arena_before z (at_bits (class_number c) i) (class_below c, li)), refl), tt);
         set = λ b lb p. found_here t.table.words i n l.spot n same b p.0 p.1;
         still = runs_as (λ a b. (n ≡ get_or a (index z l.spot) 0) × (b ≡ a)) (AllSet z c (λ b. (b / 64 ≡ i) × (bit_at n (b % 64) ≡ 1))) v w
             (λ a a' d. (d.1, λ b lb p. set_in a i n (subst (λ (q : Spot). n ≡ get_or a (index z q) 0) same d.0) li b p.0 p.1)) (load_runs z call l.spot v n w t);
@@ -83,13 +83,16 @@ module _ (z : Sizes) (call : ℕ) (c : Class) (v : PassState) where
     same_words : (a : List ℕ) → n ≡ get_or a (index z (bit_spot c block)) 0 → bit_at n (block % 64) ≡ 1 → set a (index z (bit_spot c block)) (bit_or (get_or a (index z (bit_spot c block)) 0) (bit_of block)) ≡ a
     same_words a d e = ap (λ (m : ℕ). set a (index z (bit_spot c block)) (bit_or m (bit_of block))) (sym d) ∙ (ap (λ (m : ℕ). set a (index z (bit_spot c block)) m) (or_set (block % 64) n e ∙ d) ∙ set-get_or a (index z (bit_spot c block)) 0)
 
+    in_front : index z (bit_spot c block) < rooms_at z
+    in_front = arena_before z (at_bits (class_number c) (block / 64)) (bit_inside z c block lb)
+
     word_is : (memory z t.table.words).arena.bits (class_number c) (block / 64) ≡ n
     word_is = memory_read z t.table.words (bit_spot c block) (bit_inside z c block lb) ∙ t.finds
 
     pub set_before : bit_at n (block % 64) ≡ 1 → Looked z call c v w (λ b. (b / 64 ≡ block / 64) × (bit_at n (b % 64) ≡ 1))
     set_before e = record {
       more = met_now ∷ [];
-      calls = (refl, tt);
+      looks = ((refl, in_front, ap Some (sym (or_set (block % 64) n e))), tt);
       after = after_is ∙ ap with_test (ne_eqb (bit_at n (block % 64)) 0 (λ q. omega arith));
       set = λ b l p. found_here t.table.words (block / 64) n (bit_spot c block) (bit_or n (bit_of block)) refl b p.0 p.1;
       still = runs_as (DoesStep z (on_arena (take_bit c block)) n) (AllSet z c (λ b. (b / 64 ≡ block / 64) × (bit_at n (b % 64) ≡ 1))) v w
@@ -104,6 +107,7 @@ module _ (z : Sizes) (call : ℕ) (c : Class) (v : PassState) where
         (ap (λ (m : ℕ). bit_at m (block % 64)) word_is ∙ e) in let n0 = none.0 in let n1 = none.1 in record {
           inside = lb;
           before = [];
+          looks = tt;
           number = n;
           clear = e;
           told = told_first;
@@ -112,6 +116,6 @@ module _ (z : Sizes) (call : ℕ) (c : Class) (v : PassState) where
           still = runs_as (DoesStep z (on_arena (take_bit c block)) n) (SetsBit z c block) v w
               (λ a a' d. (ap (λ (m : ℕ). bit_at m (block % 64)) (memory_read z a (bit_spot c block) (bit_inside z c block lb) ∙ sym d.0) ∙ e, d.1)) (step_runs z call (on_arena (take_bit c block)) v n w tt t);
           more = met_now ∷ [];
-          calls = (refl, tt);
+          calls = ((refl, in_front), tt);
           after = after_is ∙ ap with_test (eq-eqb (bit_at n (block % 64)) 0 e);
         }

@@ -11,9 +11,10 @@ use Rattle.oak_model.specs.Key.{IsKey}
 use Rattle.oak_model.specs.Limits.{Sizes}
 use Rattle.arena_core.specs.Arena.{blocks}
 use Rattle.arena_core.specs.HeldBlocks.{no_blocks, had_bits}
+use Rattle.oak_model.proofs.Lists.{each_map}
 use Rattle.oak_core.specs.declared.states.Finding.{Finding}
 use Rattle.oak_core.specs.declared.states.PassState.{PassState}
-use Rattle.oak_core.specs.Finding.{had}
+use Rattle.oak_core.specs.Finding.{had, IsLoadOf}
 use Rattle.oak_core.specs.Lack.{FoundSet, KeySwept, Lacks}
 use Rattle.oak_core.proofs.FoundThere.{found_behind}
 use Rattle.oak_core.proofs.Lacked.{lacks_then}
@@ -33,4 +34,4 @@ module _ (z : Sizes) (call : ℕ) (c : Class) (v w : PassState) (idle : v.blocks
   -- so where the call swept every key before it, and met nothing of another call, it may be noted
   pub class_lacks : (began : ℕ) → began ≤ length v.findings.met → ((i : ℕ) (f : Finding) → began ≤ i → get_elem? v.findings.met i ≡ some f → f.call ≡ call)
       → ((k : List ℕ) → IsKey k → KeySwept began (length v.findings.met) v.findings.swept k) → Lacks z call (Block c) began (length w.findings.met) w.findings
-  class_lacks began le own swept = lacks_then z call v w found.more found.after found.calls (Block c) began le own swept set_for_all
+  class_lacks began le own swept = lacks_then z call v w found.more found.after (each_map (IsLoadOf z call) (λ (f : Finding). f.call ≡ call) found.more (λ f l. l.0) found.looks) (Block c) began le own swept set_for_all

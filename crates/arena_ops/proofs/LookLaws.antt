@@ -3,13 +3,12 @@ use Rattle.std.proofs.Common.{◌≡◌, ℕ, ◌<◌, ◌⊎◌, List, [], ◌�
 use Rattle.oak_model.specs.declared.classes.Class.{Class}
 use Rattle.oak_model.specs.Class.{class_number}
 use Rattle.oak_model.specs.Limits.{Sizes}
-use Rattle.oak_model.proofs.Lists.{each_append}
+use Rattle.oak_model.proofs.Lists.{each_append, each_map}
 use Rattle.arena_core.specs.Arena.{blocks}
 use Rattle.arena_core.specs.Blocks.{holds, block_from}
-use Rattle.oak_core.specs.declared.states.Finding.{Finding}
 use Rattle.oak_core.specs.declared.states.PassState.{PassState}
 use Rattle.oak_core.specs.Memory.{memory}
-use Rattle.oak_core.specs.Finding.{had, grown}
+use Rattle.oak_core.specs.Finding.{had, grown, IsOf, IsLoadOf}
 use Rattle.arena_core.specs.ArenaStep.{take_bit}
 use Rattle.oak_core.specs.ArenaCalls.{Sets}
 use Rattle.oak_core.specs.Step.{on_arena}
@@ -25,19 +24,19 @@ module _ (z : Sizes) (call : ℕ) (c : Class) where
   looked_none v P empty = record {
     more = [];
     after = grown_none v;
-    calls = tt;
+    looks = tt;
     set = λ b lb p. absurd (empty b p);
     still = runs_none (AllSet z c P) v (λ a. (refl, λ b lb p. absurd (empty b p)));
   }
 
   pub looked_only : (v w : PassState) (P Q : ℕ → Type 0) → ((b : ℕ) → b < blocks z (class_number c) → Q b → P b) → Looked z call c v w P → Looked z call c v w Q
-  looked_only v w P Q only l = record { more = l.more; after = l.after; calls = l.calls; set = λ b lb q. l.set b lb (only b lb q); still = runs_as (AllSet z c P) (AllSet z c Q) v w (λ a a' d. (d.0, λ b lb q. d.1 b lb (only b lb q))) l.still }
+  looked_only v w P Q only l = record { more = l.more; after = l.after; looks = l.looks; set = λ b lb q. l.set b lb (only b lb q); still = runs_as (AllSet z c P) (AllSet z c Q) v w (λ a a' d. (d.0, λ b lb q. d.1 b lb (only b lb q))) l.still }
 
   pub looked_both : (v w x : PassState) (P Q : ℕ → Type 0) → Looked z call c v w P → Looked z call c w x Q → Looked z call c v x (λ b. P b ⊎ Q b)
   looked_both v w x P Q l k = record {
     more = l.more ++ k.more;
     after = k.after ∙ (ap (grown k.more) l.after ∙ grown_twice v l.more k.more);
-    calls = each_append (λ (f : Finding). f.call ≡ call) l.more k.more l.calls k.calls;
+    looks = each_append (IsLoadOf z call) l.more k.more l.looks k.looks;
     set = λ b lb. ⊎_elim (λ (p : P b). found_first z call (bit_spot c b) v l.more k.more _ (l.set b lb p)) (λ (q : Q b). found_later z call (bit_spot c b) v w l.more k.more _ (ap (had (bit_spot c b)) l.after) (k.set b lb q));
     still = runs_as (Then (AllSet z c P) (AllSet z c Q)) (AllSet z c (λ b. P b ⊎ Q b)) v x
         (λ a a' d. (d.2.0 ∙ d.1.0, λ b lb. ⊎_elim (λ (p : P b). d.1.1 b lb p) (λ (q : Q b). subst (IsSetIn z c b) d.1.0 (d.2.1 b lb q)))) (runs_then (AllSet z c P) (AllSet z c Q) v w x l.still k.still);
@@ -55,6 +54,7 @@ module _ (z : Sizes) (call : ℕ) (c : Class) where
     takes_behind = record {
       inside = t.inside;
       before = l.more ++ t.before;
+      looks = each_append (IsLoadOf z call) l.more t.before l.looks t.looks;
       number = t.number;
       clear = t.clear;
       told = told_there;
@@ -62,7 +62,7 @@ module _ (z : Sizes) (call : ℕ) (c : Class) where
       still = runs_as (Then (AllSet z c P) (SetsBit z c b)) (SetsBit z c b) v x (λ a a' d. subst (λ (m : List ℕ). SetsBit z c b m a') d.1.0 d.2) (runs_then (AllSet z c P) (SetsBit z c b) v w x l.still t.still);
       unheld = subst (λ (y : PassState). holds (class_number c) b y.blocks ≡ 0) l.after t.unheld;
       more = l.more ++ t.more;
-      calls = each_append (λ (f : Finding). f.call ≡ call) l.more t.more l.calls t.calls;
+      calls = each_append (IsOf z call) l.more t.more (each_map (IsLoadOf z call) (IsOf z call) l.more (λ f k. (k.0, k.1)) l.looks) t.calls;
       after = t.after
           ∙ (ap (λ (y : PassState). record (grown t.more y) { blocks = record y.blocks { held = block_from (memory z t.told.table.words).arena.bytes c b ∷ y.blocks.held } }) l.after
           ∙ ap (λ (y : PassState). record y { blocks = record v.blocks { held = block_from (memory z t.told.table.words).arena.bytes c b ∷ v.blocks.held } }) (grown_twice v l.more t.more));

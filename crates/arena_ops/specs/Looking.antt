@@ -9,7 +9,7 @@ use Rattle.arena_core.specs.Arena.{at_bits, blocks}
 use Rattle.oak_core.specs.declared.states.Finding.{Finding}
 use Rattle.oak_core.specs.declared.states.PassState.{PassState}
 use Rattle.oak_core.specs.Memory.{Spot, in_arena, memory}
-use Rattle.oak_core.specs.Finding.{grown, FoundThere}
+use Rattle.oak_core.specs.Finding.{grown, IsLoadOf, FoundThere}
 use Rattle.oak_core.specs.AloneWords.{Runs}
 
 -- the word that has the bit of the block
@@ -28,10 +28,10 @@ IsSetIn z c b words = bit_at ((memory z words).arena.bits (class_number c) (b / 
 abbrev pub AllSet : Sizes → Class → (ℕ → Type 0) → List ℕ → List ℕ → Type 0
 AllSet z c P before after = (after ≡ before) × ((b : ℕ) → b < blocks z (class_number c) → P b → IsSetIn z c b before)
 
--- The pass only met more, all in the call, and of each block of the class with P the bit was found set. To a pass that is alone all of them are set at once, in words that stay.
+-- The pass only met more, all in the call and by steps that left their words as they were found, and of each block of the class with P the bit was found set. To a pass that is alone all of them are set at once, in words that stay.
 pub record Looked (z : Sizes) (call : ℕ) (c : Class) (v w : PassState) (P : ℕ → Type 0) : Type 0 where
   pub more : List Finding
   pub after : w ≡ grown more v
-  pub calls : Each (λ (f : Finding). f.call ≡ call) more
+  pub looks : Each (IsLoadOf z call) more
   pub set : (b : ℕ) → b < blocks z (class_number c) → P b → FoundSet z call c b v more
   pub still : Runs (AllSet z c P) v w
