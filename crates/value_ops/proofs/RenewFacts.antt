@@ -13,14 +13,16 @@ use Rattle.arena_core.specs.Place.{class_in, block_in, class_from}
 use Rattle.arena_core.proofs.PlaceLaws.{class_number-from}
 use Rattle.header_core.specs.declared.states.TheConstants.{FREE, DEAD, RETIRED, LAST_GENERATION}
 use Rattle.header_core.specs.declared.holds.HeldHeader.{HeldHeader}
+use Rattle.header_core.specs.Headers.{at_place}
 use Rattle.header_core.specs.HeaderHolds.{place_held, without_header}
 use Rattle.header_core.specs.HeaderStep.{STATE, take_back, renewal}
 use Rattle.header_core.proofs.PinWordChanges.{renewed, generation_small}
 use Rattle.oak_core.specs.declared.states.Finding.{Finding}
 use Rattle.oak_core.specs.declared.states.PassState.{PassState}
-use Rattle.oak_core.specs.Memory.{Memory, memory}
+use Rattle.oak_core.specs.Memory.{Memory, in_headers, index, memory}
 use Rattle.oak_core.specs.Finding.{finding, noted}
 use Rattle.oak_core.specs.HeaderCalls.{TakesBack}
+use Rattle.oak_core.specs.Splitting.{Loads}
 use Rattle.oak_core.specs.Step.{found, on_headers, MayOnHeaders}
 use Rattle.value_ops.specs.Claiming.{pin_spot}
 use Rattle.value_ops.specs.HeldValue.{words_in}
@@ -99,12 +101,12 @@ module _ (z : Sizes) (call h g stamp : ℕ) (v u : PassState) (has : HasBuried z
       });
     }
 
-    pub renews : Renews z call h g (class_from (class_in place)) (block_in place) v w
-    renews = let bs : u.blocks.held ≡ v.blocks.held = ap (λ (s : PassState). s.blocks.held) met.after in let hs : u.headers.held ≡ v.headers.held = ap (λ (s : PassState). s.headers.held) met.after in record {
+    pub renews : Loads z call (index z (in_headers (at_place h))) v (place_held h v.headers.held) u → Renews z call h g (class_from (class_in place)) (block_in place) v w
+    renews loads = let bs : u.blocks.held ≡ v.blocks.held = ap (λ (s : PassState). s.blocks.held) met.after in let hs : u.headers.held ≡ v.headers.held = ap (λ (s : PassState). s.headers.held) met.after in record {
       class_is = ap (λ (rs : List HeldHeader). class_in (place_held h rs)) (sym hs) ∙ sym (class_number-from (class_in place) (class_low z t.table t.rule t.seat u t.here h DEAD (omega arith) (omega arith) buried.buried));
       block_is = ap (λ (rs : List HeldHeader). block_in (place_held h rs)) (sym hs);
-      before = u;
-      operand = renewal g;
+      between = u;
+      loads = loads;
       number = n;
       told = t;
       left = left z call (take_back h (renewal g)) h refl u n w t (state_taken_back (suc g)) (suc g) became.2 became.1 became.0;

@@ -51,7 +51,6 @@ module _ (z : Sizes) (call h g stamp : ℕ) (v u : PassState) (i : IsStamped z c
     number = n;
     told = t;
     left = left z call x h refl u n w t LIVE g (let d = down.1 in let e = was_locked x refl n w t in omega arith) (down.2 ∙ generation_was x refl n w t) down.0;
-    table_is = refl;
     value = value_left x refl n w t;
     comes = comes_as call u.blocks.held v.blocks.held (without_header h u.headers.held) (without_header h v.headers.held) v w (blocks_come call v.blocks.held u.headers.held v u i.comes) i.others
         (comes_both call v.blocks.held u.blocks.held u.headers.held (without_header h u.headers.held) v u w i.comes record { more = _ ∷ []; calls = (refl, tt); after = t.after });
@@ -69,7 +68,6 @@ module _ (z : Sizes) (call h g stamp : ℕ) (v u : PassState) (i : IsStamped z c
       number = n;
       told = t;
       left = left z call x h refl u n w t DEAD g (let d = up.1 in let l = was_locked x refl n w t in omega arith) (up.2 ∙ generation_was x refl n w t) up.0;
-      table_is = refl;
       value = value_left x refl n w t;
       comes = comes_as call v.blocks.held v.blocks.held (buried_at h u.headers.held) (buried_at h (stamped_at h stamp v.headers.held)) v w refl (ap (buried_at h) e) marked;
     }

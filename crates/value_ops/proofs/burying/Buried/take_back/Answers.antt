@@ -8,8 +8,9 @@ use Rattle.header_core.specs.declared.states.TheConstants.{DEAD}
 use Rattle.header_core.specs.Headers.{at_place}
 use Rattle.header_core.specs.HeaderHolds.{place_held}
 use Rattle.header_core.specs.HeaderStep.{take_back, renewal}
-use Rattle.oak_core.specs.Memory.{in_headers}
+use Rattle.oak_core.specs.Memory.{in_headers, index}
 use Rattle.oak_core.specs.HeaderCalls.{TakesBack}
+use Rattle.oak_core.specs.Splitting.{Loads}
 use Rattle.oak_core.specs.Passes.{state, key, call_of}
 use Rattle.oak_core.specs.Step.{on_headers, MayOnHeaders}
 use Rattle.oak_core.proofs.Words.{index_below}
@@ -31,6 +32,12 @@ take_back-requires-clause-names c = let z : Sizes = key c.args.table.now in let 
       (may_renew z call h g c.args.self.stamp v u c.requires.buried (meets_loaded z call c.place_at.result c.load-place.result v u c.load-place.ensures.loaded)),
 )
 
+-- the place word was loaded
+loaded : (c : goal.After-block_in) → Loads (key c.args.table.now) (call_of c.args.pass.now) (index (key c.args.table.now) (in_headers (at_place c.args.self.header))) (state c.args.pass.now) (place_held c.args.self.header (state c.args.pass.now).headers.held) (state c.load-place.new.pass)
+loaded c = let z : Sizes = key c.args.table.now in let call = call_of c.args.pass.now in let h = c.args.self.header in let v = state c.args.pass.now in let u = state c.load-place.new.pass in let k = c.requires.buried in let l = c.load-place.ensures.loaded in
+    let is = held_place z call h DEAD c.place_at.result c.load-place.result v u k.inside (omega arith) (omega arith) k.buried l c.place_at.ensures in
+    subst (λ (p : ℕ × ℕ). Loads z call p.0 v p.1 u) (λ i. (c.place_at.ensures i, is i)) l
+
 -- the step, in the call
 taken : (c : goal.After-block_in) → TakesBack (key c.args.table.now) (call_of c.args.pass.now) c.args.self.header (renewal c.args.self.generation) (state c.load-place.new.pass) c.take_back.result (state c.take_back.new.pass)
 taken c = let z : Sizes = key c.args.table.now in let call = call_of c.args.pass.now in let h = c.args.self.header in let u = state c.load-place.new.pass in let n = c.take_back.result in let w = state c.take_back.new.pass in
@@ -47,7 +54,7 @@ given c = let z : Sizes = key c.args.table.now in let call = call_of c.args.pass
 pub returns-clause-renewed : goal.returns-clause-renewed
 returns-clause-renewed c = let z : Sizes = key c.args.table.now in let call = call_of c.args.pass.now in let h = c.args.self.header in let g = c.args.self.generation in let v = state c.args.pass.now in let u = state c.load-place.new.pass in let w = state c.take_back.new.pass in let e = given c in
     subst (λ (p : Class × ℕ). Renews z call h g p.0 p.1 v w) (λ i. (e.0 i, e.1 i))
-    (renews z call h g c.args.self.stamp v u c.requires.buried (meets_loaded z call c.place_at.result c.load-place.result v u c.load-place.ensures.loaded) c.take_back.result w (taken c))
+    (renews z call h g c.args.self.stamp v u c.requires.buried (meets_loaded z call c.place_at.result c.load-place.result v u c.load-place.ensures.loaded) c.take_back.result w (taken c) (loaded c))
 
 pub returns-clause-held : goal.returns-clause-held
 returns-clause-held c = let z : Sizes = key c.args.table.now in let call = call_of c.args.pass.now in let h = c.args.self.header in let g = c.args.self.generation in let v = state c.args.pass.now in let u = state c.load-place.new.pass in let w = state c.take_back.new.pass in let e = given c in
