@@ -1,5 +1,5 @@
 -- What the ends of a lock leave in the findings: a write is three steps, the second of which stores the stamp, and a lock given up is one. So no body that stores none has the first clause, and none that stores one has the second.
-use Rattle.std.proofs.Common.{◌≡◌, ℕ, ◌+◌, List, [], ◌∷◌, ◌++◌, length, length-append, append_assoc, Some, sym, refl, ap, ◌∙◌, arith}
+use Rattle.std.proofs.Common.{◌≡◌, ℕ, ◌+◌, List, [], ◌∷◌, ◌++◌, length, length-append, append_assoc, Some, refl, ap, ◌∙◌, arith}
 use Rattle.oak_model.specs.declared.writes.Kind.{Kind}
 use Rattle.oak_model.specs.declared.writes.Kind.TheVariants.{Put}
 use Rattle.oak_model.specs.Limits.{Sizes}
