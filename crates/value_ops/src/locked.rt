@@ -7,11 +7,13 @@ ghost use Rattle.arena_core.specs.Blocks.{HoldsBlock};
 ghost use Rattle.arena_core.specs.Place.{class_in, place_word};
 ghost use Rattle.header_core.specs.HeaderHolds.{place_held};
 ghost use Rattle.header_core.specs.HeaderStep.{stamped_at};
-ghost use Rattle.header_core.specs.Headers.{at_stamp};
+ghost use Rattle.header_core.specs.Headers.{at_place, at_stamp};
+ghost use Rattle.oak_core.specs.AloneWords.{Runs};
 ghost use Rattle.oak_core.specs.Memory.{in_headers, index};
 ghost use Rattle.oak_core.specs.Finding.{LoadsMore};
 ghost use Rattle.oak_core.specs.Passes.{IsPassOf, Stays, state, key, call_of};
 ghost use Rattle.oak_core.specs.Splitting.{Loads};
+ghost use Rattle.value_ops.specs.AloneLocks.{FindsWord, FindsClass};
 ghost use Rattle.value_ops.specs.HeldValue.{stamp_held};
 ghost use Rattle.value_ops.specs.UnderLock.{HasBlock, HasLock, HasBuried, IsUnchanged, next_stamp, ComesTo, LoadsPlace, Exchanges, StoresNext, WritesOver, GivesUp, Buries};
 
@@ -31,6 +33,7 @@ impl Locked {
         ensures met { LoadsMore (key table.now) (call_of pass.old) (state pass.old) (state pass.new) }
         ensures loaded { Loads (key table.now) (call_of pass.old) (index (key table.now) (in_headers (at_stamp self.now.header))) (state pass.old) result (state pass.new) }
         ensures stamp { result ≡ stamp_held self.now.header (state pass.old).headers.held }
+        ensures alone { Runs (FindsWord (key table.now) (in_headers (at_stamp self.now.header)) result) (state pass.old) (state pass.new) }
     {
         load(table, pass, table.stamp_at(self.header))
     }
@@ -42,6 +45,7 @@ impl Locked {
         ensures own { Stays pass.old pass.new }
         ensures met { LoadsMore (key table.now) (call_of pass.old) (state pass.old) (state pass.new) }
         ensures class { class_number result ≡ class_in (place_held self.now.header (state pass.old).headers.held) }
+        ensures alone { Runs (FindsClass (key table.now) self.now.header result) (state pass.old) (state pass.new) }
     {
         class_in(self.place(table, pass))
     }
@@ -56,6 +60,7 @@ impl Locked {
         ensures place { result ≡ place_held self.now.header (state pass.old).headers.held }
         ensures block { HasBlock (key table.now) self.now.header result (state pass.old).headers.held }
         ensures limits { IsInLimits (key table.now) }
+        ensures alone { Runs (FindsWord (key table.now) (in_headers (at_place self.now.header)) result) (state pass.old) (state pass.new) }
     {
         load(table, pass, table.place_at(self.header))
     }
