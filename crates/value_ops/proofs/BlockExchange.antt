@@ -22,16 +22,17 @@ use Rattle.header_core.proofs.HeldChanges.{rows_changed}
 use Rattle.oak_core.specs.declared.states.Finding.{Finding}
 use Rattle.oak_core.specs.declared.states.PassState.{PassState}
 use Rattle.oak_core.specs.Memory.{Memory, in_headers, memory}
-use Rattle.oak_core.specs.Finding.{finding, noted}
+use Rattle.oak_core.specs.Finding.{finding, noted, LoadsMore}
 use Rattle.oak_core.specs.HeaderCalls.{ChangesPlace}
 use Rattle.oak_core.specs.PassState.{blocks_of}
 use Rattle.oak_core.specs.Step.{MayOnHeaders, same_block}
 use Rattle.oak_core.proofs.HeaderStanding.{parts}
 use Rattle.oak_core.proofs.OneOwner.{unowned_held}
+use Rattle.oak_core.proofs.Words.{header_before}
 use Rattle.value_ops.specs.Filling.{words_held}
 use Rattle.value_ops.specs.HeldValue.{words_in}
-use Rattle.value_ops.specs.UnderLock.{HasLock, ComesTo, Meets, Exchanges}
-use Rattle.value_ops.proofs.ComesFurther.{comes_both, comes_as, lock_met, headers_come}
+use Rattle.value_ops.specs.UnderLock.{HasLock, ComesTo, LoadsPlace, Exchanges}
+use Rattle.value_ops.proofs.ComesFurther.{comes_as, blocks_met, headers_met, comes_since, lock_met, headers_come}
 use Rattle.value_ops.proofs.FillFacts.{fits_class, is_place, held_words}
 use Rattle.value_ops.proofs.HeldParts.{changed_generation}
 use Rattle.value_ops.proofs.HeldValues.{place_at, block_at, has_it, block_inside, class_low}
@@ -44,7 +45,7 @@ holds_front z c b o os a e k n lt = record {
   inside = lt;
 }
 
-module _ (z : Sizes) (call h g : ℕ) (c : Class) (b len : ℕ) (v u : PassState) (lock : HasLock z h g v) (met : Meets call v u) (held : HoldsBlock z (class_number c) b v.blocks) (small : b < 2 ^ 32) (fits : class_of len ≡ Some c) where
+module _ (z : Sizes) (call h g : ℕ) (c : Class) (b len : ℕ) (v u : PassState) (lock : HasLock z h g v) (met : LoadsMore z call v u) (held : HoldsBlock z (class_number c) b v.blocks) (small : b < 2 ^ 32) (fits : class_of len ≡ Some c) where
   abbrev x : ℕ
   x = place_word (class_number c) b len
 
@@ -55,7 +56,7 @@ module _ (z : Sizes) (call h g : ℕ) (c : Class) (b len : ℕ) (v u : PassState
   number_is = let l = fits_class len c fits in block_in-word (class_number c) b len small (omega arith)
 
   locked : HasLock z h g u
-  locked = lock_met call v u met z h g lock
+  locked = lock_met z call v u met h g lock
 
   holds_still : HoldsBlock z (class_number c) b u.blocks
   holds_still = subst (λ (y : PassState). HoldsBlock z (class_number c) b y.blocks) (sym met.after) record { held = held.held; inside = held.inside }
@@ -102,24 +103,27 @@ module _ (z : Sizes) (call h g : ℕ) (c : Class) (b len : ℕ) (v u : PassState
     abbrev met_then : Finding
     met_then = finding z call (in_headers (at_place h)) None x t.1.table.words u
 
-    came : ComesTo call held_then headers_then u w
+    came : ComesTo z call held_then headers_then u w
     came = record {
       more = met_then ∷ [];
-      calls = (refl, tt);
+      calls = ((refl, header_before z (at_place h) lock.inside), tt);
       after = t.1.after ∙ (λ i. record (noted met_then u) {
         blocks = record u.blocks { held = cond (two_blocks i) u.blocks.held (block_at z t.1.table t.1.rule t.1.seat u t.1.here h LOCKED (omega arith) (omega arith) locked.locked i ∷ without (class_is i) (number_is i) u.blocks.held) };
         headers = record u.headers { held = changed_at h x (new_words i) u.headers.held };
       });
     }
 
-    pub exchanges : Exchanges call h c b len (class_from (class_in old)) (block_in old) v w
-    exchanges = let bs : u.blocks.held ≡ v.blocks.held = ap (λ (y : PassState). y.blocks.held) met.after in let hs : u.headers.held ≡ v.headers.held = ap (λ (y : PassState). y.headers.held) met.after in record {
+    pub exchanges : LoadsPlace z call h v u → Exchanges z call h c b len (class_from (class_in old)) (block_in old) v w
+    exchanges loads = let bs = blocks_met z call v u met in let hs = headers_met z call v u met in record {
+      between = u;
+      loads = loads;
+      stores = t;
       class_is = ap (λ (rs : List HeldHeader). class_in (place_held h rs)) (sym hs) ∙ sym (class_number-from (class_in old) (class_low z t.1.table t.1.rule t.1.seat u t.1.here h LOCKED (omega arith) (omega arith) locked.locked));
       block_is = ap (λ (rs : List HeldHeader). block_in (place_held h rs)) (sym hs);
-      comes = comes_as call held_then (record { class = class_from (class_in old); number = block_in old; words = words_in h v.headers.held } ∷ without (class_number c) b v.blocks.held)
+      comes = comes_as z call held_then (record { class = class_from (class_in old); number = block_in old; words = words_in h v.headers.held } ∷ without (class_number c) b v.blocks.held)
           headers_then (changed_at h x (words_held (class_number c) b v.blocks.held) v.headers.held) v w
           (λ i. record { class = class_from (class_in old); number = block_in old; words = words_in h (hs i) } ∷ without (class_number c) b (bs i)) (λ i. changed_at h x (words_held (class_number c) b (bs i)) (hs i))
-          (comes_both call v.blocks.held held_then v.headers.held headers_then v u w met came);
+          (comes_since z call v u met held_then headers_then w came);
     }
 
     pub holds_old : HoldsBlock z (class_number (class_from (class_in old))) (block_in old) w.blocks
@@ -131,5 +135,5 @@ module _ (z : Sizes) (call h g : ℕ) (c : Class) (b len : ℕ) (v u : PassState
     locked_still = let rs = u.headers.held in let ws = words_held (class_number c) b u.blocks.held in record {
       inside = lock.inside;
       locked = subst (λ (y : PassState). 0 < in_state h LOCKED y.headers) (sym came.after) (let k = rows_changed h x ws h LOCKED rs in let l = locked.locked in omega arith);
-      generation = ap (generation_held h) (headers_come call held_then headers_then u w came) ∙ (changed_generation h x ws rs ∙ locked.generation);
+      generation = ap (generation_held h) (headers_come z call held_then headers_then u w came) ∙ (changed_generation h x ws rs ∙ locked.generation);
     }

@@ -31,7 +31,7 @@ module _ (z : Sizes) (call h : ℕ) (s : HeldAs) (v : PassState) (n : ℕ) (w : 
   was = let low = held_low s in ap state_of (sym (pin_found z call (release_header h s) h refl v n w t))
       ∙ held_is (memory z t.table.words).headers (content (memory z t.table.words).arena.bytes) IsPlace (knows t.table) (map headers_held t.table.states) (stand z t.table t.seat v t.rule t.here) t.seat v.headers h (held_state s) (at_headers z t.table t.seat v t.rule t.here) low.0 low.1 t.may.headers.0
 
-  pub freed : IsFreed z h n t.seat w
+  pub freed : IsFreed z call h s v n w t
   freed = let off = state_off s n was (small z call (release_header h s) h refl v n w t) in left z call (release_header h s) h refl v n w t FREE (generation_of n) off.1 off.2 off.0
 
 pub releases_owned : (z : Sizes) (call h : ℕ) (v : PassState) (n : ℕ) (w : PassState) → Releases z call h Owned v n w → ReleasesOwned z call h v w

@@ -19,6 +19,8 @@ pub mod RewriteSteps
 pub mod RewriteFacts
 pub mod RefillFacts
 pub mod RecipeFacts
+pub mod AloneSteps
+pub mod AloneLock
 pub mod LockFacts
 pub mod LockedNow
 pub mod HeldParts

@@ -1,5 +1,5 @@
 -- What the ends of a lock leave in the findings: a write is three steps, the second of which stores the stamp, and a lock given up is one. So no body that stores none has the first clause, and none that stores one has the second.
-use Rattle.std.proofs.Common.{◌≡◌, ℕ, ◌+◌, List, [], ◌∷◌, ◌++◌, length, length-append, append_assoc, Some, sym, refl, ap, ◌∙◌, arith}
+use Rattle.std.proofs.Common.{◌≡◌, ℕ, ◌+◌, List, [], ◌∷◌, ◌++◌, length, length-append, append_assoc, Some, refl, ap, ◌∙◌, arith}
 use Rattle.oak_model.specs.declared.writes.Kind.{Kind}
 use Rattle.oak_model.specs.declared.writes.Kind.TheVariants.{Put}
 use Rattle.oak_model.specs.Limits.{Sizes}
@@ -12,7 +12,7 @@ use Rattle.oak_core.specs.HeaderCalls.{StoresStamp, Unlocks}
 use Rattle.oak_core.specs.Memory.{in_headers, index}
 use Rattle.oak_core.specs.Splitting.{Loads}
 use Rattle.oak_core.specs.Step.{on_headers, found, Told}
-use Rattle.oak_core.specs.TableState.{TableState}
+use Rattle.value_ops.specs.Filling.{table_behind}
 use Rattle.value_ops.specs.UnderLock.{StoresNext, EndsLock, WritesOver, GivesUp, Buries}
 
 -- what a step on a header leaves there
@@ -68,8 +68,8 @@ module _ (z : Sizes) (call h g stamp : ℕ) (v w : PassState) where
   given_up_met e = one_more v.findings.met w.findings.met (of_step z call (unlock_header h Put) v e.number w e.told) (step_met z call (unlock_header h Put) v e.number w e.told)
 
   -- the finding of the step that ended the lock has the words that stand behind it
-  pub ended_words : (kind : Kind) (before : PassState) (e : EndsLock z call h g kind stamp before v w) → (f : Finding) × (w.findings.met ≡ before.findings.met ++ f ∷ []) × (f.words ≡ e.left.table.words) × (f.word ≡ index z (in_headers (at_pin h)))
-  ended_words kind before e = (of_step z call (unlock_header h kind) before e.number w e.told, step_met z call (unlock_header h kind) before e.number w e.told, ap (λ (s : TableState). s.words) (sym e.table_is), refl)
+  pub ended_words : (kind : Kind) (before : PassState) (e : EndsLock z call h g kind stamp before v w) → (f : Finding) × (w.findings.met ≡ before.findings.met ++ f ∷ []) × (f.words ≡ (table_behind z call (unlock_header h kind) before e.number w e.told).words) × (f.word ≡ index z (in_headers (at_pin h)))
+  ended_words kind before e = (of_step z call (unlock_header h kind) before e.number w e.told, step_met z call (unlock_header h kind) before e.number w e.told, refl, refl)
 
   -- the steps of a body that unlocks and stores no stamp are no write
   pub no_write_unstored : (kind : Kind) (word n m : ℕ) (u : PassState) → Loads z call word v n u → Unlocks z call h kind u m w → WritesOver z call h g kind stamp v w → ⊥

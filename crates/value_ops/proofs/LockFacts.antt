@@ -8,14 +8,15 @@ use Rattle.oak_model.proofs.Counting.{both_true, test-cases}
 use Rattle.arena_core.specs.Place.{content}
 use Rattle.header_core.specs.declared.states.TheConstants.{LIVE, LOCKED, DEAD}
 use Rattle.header_core.specs.declared.holds.HeldHeader.{HeldHeader}
+use Rattle.header_core.specs.Headers.{at_pin}
 use Rattle.header_core.specs.HeaderHolds.{fresh_at}
 use Rattle.header_core.specs.HeaderStep.{IsLiveWord, lock_header, locked_at}
 use Rattle.oak_core.specs.declared.states.Finding.{Finding}
 use Rattle.oak_core.specs.declared.states.PassState.{PassState}
-use Rattle.oak_core.specs.Finding.{finding, grown, noted}
+use Rattle.oak_core.specs.Finding.{finding, grown, noted, IsOf}
 use Rattle.oak_core.specs.HeaderCalls.{Locks}
 use Rattle.oak_core.specs.Known.{knows_life}
-use Rattle.oak_core.specs.Memory.{Memory, index, memory}
+use Rattle.oak_core.specs.Memory.{Memory, rooms_at, index, memory}
 use Rattle.oak_core.specs.Splitting.{Loads}
 use Rattle.oak_core.specs.Step.{on_headers, MayOnHeaders}
 use Rattle.value_ops.specs.Claiming.{pin_spot}
@@ -24,6 +25,7 @@ use Rattle.value_ops.specs.Locking.{LocksHeader, may_lock, IsDeadAt, refusal, Lo
 use Rattle.value_ops.proofs.ExchangeFacts.{met_word, word_is, hit, missed}
 use Rattle.value_ops.proofs.KnownStates.{IsInUse, known_state, known_free}
 use Rattle.value_ops.proofs.LoadFacts.{found_is}
+use Rattle.oak_core.proofs.Words.{header_before}
 use Rattle.oak_core.proofs.MetMore.{grown_twice, told_of}
 
 -- what may be locked
@@ -65,6 +67,9 @@ module _ (z : Sizes) (call h g : ℕ) (inside : h < z.headers) (word n : ℕ) (v
   looks : LooksOnce z call h v n u
   looks = subst (λ (i : ℕ). Loads z call i v n u) at l
 
+  loaded_of : IsOf z call f
+  loaded_of = (refl, subst (λ (i : ℕ). i < rooms_at z) (sym (l.at ∙ at)) (header_before z (at_pin h) inside))
+
   -- the load found another word than that of a live header without a pin
   pub refused_first : may_lock n g ≡ false → FindsNoLock z call h g (refusal n g) v u
   refused_first not_so = record {
@@ -73,7 +78,7 @@ module _ (z : Sizes) (call h g : ℕ) (inside : h < z.headers) (word n : ℕ) (v
     looks = looks;
     cause = is_cause n g None (busy_first n g not_so in_use);
     more = f ∷ [];
-    calls = (refl, tt);
+    calls = (loaded_of, tt);
     after = l.met;
   }
 
@@ -102,7 +107,7 @@ module _ (z : Sizes) (call h g : ℕ) (inside : h < z.headers) (word n : ℕ) (v
         looks = record { between = u; loads = looks; live = (live_word n g is_so).0; told = t };
         cause = is_cause k g (Some n) (λ alive. inr (inr (inr ne)));
         more = f ∷ met_now ∷ [];
-        calls = (refl, (refl, tt));
+        calls = (loaded_of, ((refl, header_before z (at_pin h) inside), tt));
         after = missed z call h inside n front t.table k u w t.finds t.after ne ∙ (ap (grown (met_now ∷ [])) l.met ∙ grown_twice v (f ∷ []) (met_now ∷ []));
       }
 
@@ -128,7 +133,7 @@ module _ (z : Sizes) (call h g : ℕ) (inside : h < z.headers) (word n : ℕ) (v
           unheld = known_free z t.table t.rule t.seat u t.here h g (ap generation_of is_word ∙ live.1) still_known (ap state_of is_word ∙ live.0.state);
           unpinned = t.rule.headers.counted h ∙ (ap count_of is_word ∙ live.0.count);
           more = f ∷ met_now ∷ [];
-          calls = (refl, (refl, tt));
+          calls = (loaded_of, ((refl, header_before z (at_pin h) inside), tt));
           after = hit z call h inside n front t.table k u w t.finds t.after same
               ∙ (ap with_lock l.met ∙ ap (λ (y : PassState). record y { headers = record v.headers { held = front m ∷ v.headers.held } }) (grown_twice v (f ∷ []) (met_now ∷ [])));
         }

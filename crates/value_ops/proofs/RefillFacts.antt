@@ -21,6 +21,7 @@ use Rattle.oak_core.specs.Memory.{Memory, in_headers, memory}
 use Rattle.oak_core.specs.Finding.{finding, noted}
 use Rattle.oak_core.specs.HeaderCalls.{ChangesPlace}
 use Rattle.oak_core.specs.Step.{MayOnHeaders, same_block}
+use Rattle.oak_core.proofs.Words.{header_before}
 use Rattle.value_ops.specs.Reading.{bytes_of}
 use Rattle.value_ops.specs.Rewriting.{HasWords}
 use Rattle.value_ops.specs.HeldValue.{words_in}
@@ -36,7 +37,7 @@ use Rattle.value_ops.proofs.WordLaws.{value_back}
 
 module _ (z : Sizes) (call h g first : ℕ) (v : PassState) (is : HasWords z h g first v) (bytes : List ℕ) (c : Class) (b : ℕ) (small : b < 2 ^ 32) (fits : class_of (length bytes) ≡ Some c)
     (class : class_in (place_held h v.headers.held) ≡ class_number c) (block : block_in (place_held h v.headers.held) ≡ b) (u : PassState)
-    (s : ComesTo call v.blocks.held (with_words h (words_over bytes (words_in h v.headers.held)) v.headers.held) v u) where
+    (s : ComesTo z call v.blocks.held (with_words h (words_over bytes (words_in h v.headers.held)) v.headers.held) v u) where
   abbrev rs : List HeldHeader
   rs = v.headers.held
 
@@ -85,24 +86,24 @@ module _ (z : Sizes) (call h g first : ℕ) (v : PassState) (is : HasWords z h g
     abbrev met_then : Finding
     met_then = finding z call (in_headers (at_place h)) None x t.1.table.words u
 
-    came : ComesTo call u.blocks.held (changed_at h x over u.headers.held) u w
+    came : ComesTo z call u.blocks.held (changed_at h x over u.headers.held) u w
     came = record {
       more = met_then ∷ [];
-      calls = (refl, tt);
+      calls = ((refl, header_before z (at_place h) is.lock.inside), tt);
       after = t.1.after ∙ (λ i. record (noted met_then u) {
         blocks = record u.blocks { held = cond (block_stays i) u.blocks.held (block_from m.arena.bytes (class_from (class_in (m.headers.place h))) (block_in (m.headers.place h)) ∷ without (class_in x) (block_in x) u.blocks.held) };
         headers = record u.headers { held = changed_at h x (words_stay i) u.headers.held };
       });
     }
 
-    comes : ComesTo call v.blocks.held (changed_at h x over rs) v w
-    comes = comes_as call u.blocks.held v.blocks.held (changed_at h x over u.headers.held) (changed_at h x over rs) v w (blocks_come call v.blocks.held (with_words h over rs) v u s)
-        (ap (changed_at h x over) (held_now z h g first v is call over u s) ∙ put_changed h over x over rs) (comes_both call v.blocks.held u.blocks.held (with_words h over rs) (changed_at h x over u.headers.held) v u w s came)
+    comes : ComesTo z call v.blocks.held (changed_at h x over rs) v w
+    comes = comes_as z call u.blocks.held v.blocks.held (changed_at h x over u.headers.held) (changed_at h x over rs) v w (blocks_come z call v.blocks.held (with_words h over rs) v u s)
+        (ap (changed_at h x over) (held_now z h g first v is call over u s) ∙ put_changed h over x over rs) (comes_both z call v.blocks.held u.blocks.held (with_words h over rs) (changed_at h x over u.headers.held) v u w s came)
 
     held_w : w.headers.held ≡ changed_at h x over rs
-    held_w = headers_come call v.blocks.held (changed_at h x over rs) v w comes
+    held_w = headers_come z call v.blocks.held (changed_at h x over rs) v w comes
 
-    pub refills : ((k : ℕ) → get_or bytes k 0 < 256) → Refills call h c b bytes v w
+    pub refills : ((k : ℕ) → get_or bytes k 0 < 256) → Refills z call h c b bytes v w
     refills below = let some_of = some_held z h g first v is in record {
       class_is = class;
       block_is = block;

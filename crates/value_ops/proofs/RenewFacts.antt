@@ -13,20 +13,22 @@ use Rattle.arena_core.specs.Place.{class_in, block_in, class_from}
 use Rattle.arena_core.proofs.PlaceLaws.{class_number-from}
 use Rattle.header_core.specs.declared.states.TheConstants.{FREE, DEAD, RETIRED, LAST_GENERATION}
 use Rattle.header_core.specs.declared.holds.HeldHeader.{HeldHeader}
+use Rattle.header_core.specs.Headers.{at_pin}
 use Rattle.header_core.specs.HeaderHolds.{place_held, without_header}
 use Rattle.header_core.specs.HeaderStep.{STATE, take_back, renewal}
 use Rattle.header_core.proofs.PinWordChanges.{renewed, generation_small}
 use Rattle.oak_core.specs.declared.states.Finding.{Finding}
 use Rattle.oak_core.specs.declared.states.PassState.{PassState}
 use Rattle.oak_core.specs.Memory.{Memory, memory}
-use Rattle.oak_core.specs.Finding.{finding, noted}
+use Rattle.oak_core.specs.Finding.{finding, noted, LoadsMore}
 use Rattle.oak_core.specs.HeaderCalls.{TakesBack}
 use Rattle.oak_core.specs.Step.{found, on_headers, MayOnHeaders}
+use Rattle.oak_core.proofs.Words.{header_before}
 use Rattle.value_ops.specs.Claiming.{pin_spot}
 use Rattle.value_ops.specs.HeldValue.{words_in}
-use Rattle.value_ops.specs.UnderLock.{HasBuried, ComesTo, Meets, Renews, state_taken_back}
+use Rattle.value_ops.specs.UnderLock.{HasBuried, ComesTo, LoadsPlace, Renews, state_taken_back}
 use Rattle.value_ops.proofs.BlockExchange.{holds_front}
-use Rattle.value_ops.proofs.ComesFurther.{comes_both, comes_as, buried_met}
+use Rattle.value_ops.proofs.ComesFurther.{comes_as, blocks_met, headers_met, comes_since, buried_met}
 use Rattle.value_ops.proofs.HeldValues.{state_is, generation_at, block_at, block_inside, class_low}
 use Rattle.value_ops.proofs.StepLeft.{pin_found, small, left}
 
@@ -36,9 +38,9 @@ renewal_is g = dite (ℕ_discrete g (LAST_GENERATION - 1))
     (λ e. (λ i. cond (eq-eqb g (LAST_GENERATION - 1) e i) (2 ^ 32 + STATE) (2 ^ 32 - DEAD * STATE)) ∙ sym (ap (λ (b : Bool). cond b (2 ^ 32 + STATE) (2 ^ 32 - DEAD * STATE)) (eq-eqb (g + 2) (2 ^ 32) (omega arith))))
     (λ ne. (λ i. cond (ne_eqb g (LAST_GENERATION - 1) ne i) (2 ^ 32 + STATE) (2 ^ 32 - DEAD * STATE)) ∙ sym (ap (λ (b : Bool). cond b (2 ^ 32 + STATE) (2 ^ 32 - DEAD * STATE)) (ne_eqb (g + 2) (2 ^ 32) (λ e. ne (omega arith)))))
 
-module _ (z : Sizes) (call h g stamp : ℕ) (v u : PassState) (has : HasBuried z h g stamp v) (met : Meets call v u) where
+module _ (z : Sizes) (call h g stamp : ℕ) (v u : PassState) (has : HasBuried z h g stamp v) (met : LoadsMore z call v u) where
   buried : HasBuried z h g stamp u
-  buried = buried_met call v u met z h g stamp has
+  buried = buried_met z call v u met h g stamp has
 
   pub may_renew : MayOnHeaders z (take_back h (renewal g)) u
   may_renew = record { inside = has.inside; headers = (buried.buried, ap renewal (sym buried.generation)); block = tt; known = tt }
@@ -89,29 +91,29 @@ module _ (z : Sizes) (call h g stamp : ℕ) (v u : PassState) (has : HasBuried z
     abbrev met_then : Finding
     met_then = let k = found z (on_headers (take_back h (renewal g))) t.table in finding z call (pin_spot h) (Some k) ((k + renewal g) % 2 ^ 64) t.table.words u
 
-    came : ComesTo call (given ∷ u.blocks.held) (without_header h u.headers.held) u w
+    came : ComesTo z call (given ∷ u.blocks.held) (without_header h u.headers.held) u w
     came = record {
       more = met_then ∷ [];
-      calls = (refl, tt);
+      calls = ((refl, header_before z (at_pin h) has.inside), tt);
       after = t.after ∙ (λ i. record (noted met_then u) {
         blocks = record u.blocks { held = block_at z t.table t.rule t.seat u t.here h DEAD (omega arith) (omega arith) buried.buried i ∷ u.blocks.held };
         headers = record u.headers { held = without_header h u.headers.held };
       });
     }
 
-    pub renews : Renews z call h g (class_from (class_in place)) (block_in place) v w
-    renews = let bs : u.blocks.held ≡ v.blocks.held = ap (λ (s : PassState). s.blocks.held) met.after in let hs : u.headers.held ≡ v.headers.held = ap (λ (s : PassState). s.headers.held) met.after in record {
+    pub renews : LoadsPlace z call h v u → Renews z call h g (class_from (class_in place)) (block_in place) v w
+    renews loads = let bs = blocks_met z call v u met in let hs = headers_met z call v u met in record {
       class_is = ap (λ (rs : List HeldHeader). class_in (place_held h rs)) (sym hs) ∙ sym (class_number-from (class_in place) (class_low z t.table t.rule t.seat u t.here h DEAD (omega arith) (omega arith) buried.buried));
       block_is = ap (λ (rs : List HeldHeader). block_in (place_held h rs)) (sym hs);
-      before = u;
-      operand = renewal g;
+      between = u;
+      loads = loads;
       number = n;
       told = t;
       left = left z call (take_back h (renewal g)) h refl u n w t (state_taken_back (suc g)) (suc g) became.2 became.1 became.0;
-      comes = comes_as call (given ∷ u.blocks.held) (record { class = class_from (class_in place); number = block_in place; words = words_in h v.headers.held } ∷ v.blocks.held)
+      comes = comes_as z call (given ∷ u.blocks.held) (record { class = class_from (class_in place); number = block_in place; words = words_in h v.headers.held } ∷ v.blocks.held)
           (without_header h u.headers.held) (without_header h v.headers.held) v w
           (λ i. record { class = class_from (class_in place); number = block_in place; words = words_in h (hs i) } ∷ bs i) (λ i. without_header h (hs i))
-          (comes_both call v.blocks.held (given ∷ u.blocks.held) v.headers.held (without_header h u.headers.held) v u w met came);
+          (comes_since z call v u met (given ∷ u.blocks.held) (without_header h u.headers.held) w came);
     }
 
     pub holds_given : HoldsBlock z (class_number (class_from (class_in place))) (block_in place) w.blocks

@@ -18,15 +18,16 @@ use Rattle.header_core.specs.HeaderHolds.{place_held}
 use Rattle.header_core.specs.HeaderStep.{reworded}
 use Rattle.header_core.proofs.HeldHeaders.{held_in}
 use Rattle.oak_core.specs.declared.states.PassState.{PassState}
+use Rattle.oak_core.specs.Finding.{LoadsMore}
 use Rattle.oak_core.specs.Memory.{in_arena, index}
 use Rattle.oak_core.proofs.OwnerLaws.{place_below}
 use Rattle.value_ops.specs.Reading.{bytes_of}
 use Rattle.value_ops.specs.Rewriting.{HasWords}
 use Rattle.value_ops.specs.HeldValue.{words_in, value_held}
-use Rattle.value_ops.specs.UnderLock.{HasBlock, HasLock, ComesTo, Meets, Rewrites, words_over, with_words}
+use Rattle.value_ops.specs.UnderLock.{HasBlock, HasLock, ComesTo, Rewrites, words_over, with_words}
 use Rattle.value_ops.specs.Words.{words_of}
 use Rattle.value_ops.proofs.ByteFacts.{length-bytes_of}
-use Rattle.value_ops.proofs.ComesFurther.{meets_none, comes_both, comes_as, blocks_come, headers_come, lock_comes}
+use Rattle.value_ops.proofs.ComesFurther.{comes_none, comes_both, comes_as, blocks_come, headers_come, blocks_met, headers_met, comes_since, lock_comes}
 use Rattle.value_ops.proofs.LoadFacts.{place_room}
 use Rattle.value_ops.proofs.RewordedHeaders.{place_put, generation_put, rows_put, held_put, words_put, put_more, put_same}
 use Rattle.value_ops.proofs.WordLaws.{words_long, words_step, words_end, value_back}
@@ -35,8 +36,8 @@ use Rattle.value_ops.proofs.WordLaws.{words_long, words_step, words_end, value_b
 abbrev pub so_far : List ℕ → List ℕ → ℕ → List ℕ
 so_far bytes ws i = take i (words_of bytes) ++ drop i ws
 
-abbrev pub StoredSoFar : ℕ → ℕ → List ℕ → ℕ → PassState → PassState → Type 0
-StoredSoFar call h bytes i v w = ComesTo call v.blocks.held (with_words h (so_far bytes (words_in h v.headers.held) i) v.headers.held) v w
+abbrev pub StoredSoFar : Sizes → ℕ → ℕ → List ℕ → ℕ → PassState → PassState → Type 0
+StoredSoFar z call h bytes i v w = ComesTo z call v.blocks.held (with_words h (so_far bytes (words_in h v.headers.held) i) v.headers.held) v w
 
 -- The words of the block that the place word names, which was loaded.
 pub words_found : (z : Sizes) (h g : ℕ) (v : PassState) → IsInLimits z → HasLock z h g v → (n : ℕ) → n ≡ place_held h v.headers.held → HasBlock z h n v.headers.held → (c : Class) (b first : ℕ) → c ≡ class_from (class_in n) → b ≡ block_in n
@@ -57,15 +58,15 @@ module _ (z : Sizes) (h g first : ℕ) (v : PassState) (is : HasWords z h g firs
 
   -- the pass has them still where it only met more, and where it has as many others
 
-  pub words_met : (call : ℕ) (w : PassState) → Meets call v w → HasWords z h g first w
+  pub words_met : (call : ℕ) (w : PassState) → LoadsMore z call v w → HasWords z h g first w
   words_met call w met = subst (HasWords z h g first) (sym met.after) record { limits = is.limits; lock = record { inside = is.lock.inside; locked = is.lock.locked; generation = is.lock.generation }; block = is.block; first_is = is.first_is }
 
   pub some_held : 0 < held_in h rs
   some_held = let one = is.block.once in omega arith
 
-  module _ (call : ℕ) (us : List ℕ) (w : PassState) (c : ComesTo call v.blocks.held (with_words h us rs) v w) where
+  module _ (call : ℕ) (us : List ℕ) (w : PassState) (c : ComesTo z call v.blocks.held (with_words h us rs) v w) where
     pub held_now : w.headers.held ≡ with_words h us rs
-    held_now = headers_come call v.blocks.held (with_words h us rs) v w c
+    held_now = headers_come z call v.blocks.held (with_words h us rs) v w c
 
     pub place_now : place_held h w.headers.held ≡ place_held h rs
     place_now = ap (place_held h) held_now ∙ place_put h us rs
@@ -108,10 +109,10 @@ module _ (z : Sizes) (h g first : ℕ) (v : PassState) (is : HasWords z h g firs
     as_long : (i : ℕ) → i ≤ many → length (so_far bytes ws i) ≡ length ws
     as_long i le = let l = few in let e = length-append (take i (words_of bytes)) (drop i ws) in let f = length-take i (words_of bytes) in let k = length-drop i ws in omega arith
 
-    pub begins : (call : ℕ) → StoredSoFar call h bytes 0 v v
-    begins call = subst (λ (ks : List HeldHeader). ComesTo call v.blocks.held ks v v) (sym (put_same h rs is.block.once)) (meets_none call v)
+    pub begins : (call : ℕ) → StoredSoFar z call h bytes 0 v v
+    begins call = subst (λ (ks : List HeldHeader). ComesTo z call v.blocks.held ks v v) (sym (put_same h rs is.block.once)) (comes_none z call v)
 
-    module _ (call i : ℕ) (lt : 8 * i < length bytes) (u : PassState) (s : StoredSoFar call h bytes i v u) where
+    module _ (call i : ℕ) (lt : 8 * i < length bytes) (u : PassState) (s : StoredSoFar z call h bytes i v u) where
       inside : i < many
       inside = let e = words_long bytes in omega arith
 
@@ -121,19 +122,19 @@ module _ (z : Sizes) (h g first : ℕ) (v : PassState) (is : HasWords z h g firs
       pub word_inside : i < length (words_in h u.headers.held)
       word_inside = let e = ap length (words_now call (so_far bytes ws i) u s) in let k = as_long i (let l = inside in omega arith) in let l = inside in let m = few in omega arith
 
-      pub stored_more : (n : ℕ) (w : PassState) → n ≡ get_or (words_of bytes) i 0 → ComesTo call u.blocks.held (reworded h i n u.headers.held) u w → StoredSoFar call h bytes (i + 1) v w
+      pub stored_more : (n : ℕ) (w : PassState) → n ≡ get_or (words_of bytes) i 0 → ComesTo z call u.blocks.held (reworded h i n u.headers.held) u w → StoredSoFar z call h bytes (i + 1) v w
       stored_more n w e c = let now : List ℕ = so_far bytes ws i in let next : suc i ≡ i + 1 = omega arith in
-          comes_as call u.blocks.held v.blocks.held (reworded h i n u.headers.held) (with_words h (so_far bytes ws (i + 1)) rs) v w (blocks_come call v.blocks.held (with_words h now rs) v u s)
+          comes_as z call u.blocks.held v.blocks.held (reworded h i n u.headers.held) (with_words h (so_far bytes ws (i + 1)) rs) v w (blocks_come z call v.blocks.held (with_words h now rs) v u s)
           (ap (reworded h i n) (held_now call now u s) ∙ (put_more h now i n rs ∙ ap (λ (us : List ℕ). with_words h us rs) (ap (set now i) e ∙ (words_step (words_of bytes) ws i inside few ∙ ap (so_far bytes ws) next))))
-          (comes_both call v.blocks.held u.blocks.held (with_words h now rs) (reworded h i n u.headers.held) v u w s c)
+          (comes_both z call v.blocks.held u.blocks.held (with_words h now rs) (reworded h i n u.headers.held) v u w s c)
 
     -- the loop ends after as many words as there are
-    pub all_stored : (call i n : ℕ) (w : PassState) → i ≤ n → n ≤ i → n ≡ length bytes / 8 + min 1 (length bytes % 8) → StoredSoFar call h bytes i v w → ComesTo call v.blocks.held (with_words h (words_over bytes ws) rs) v w
+    pub all_stored : (call i n : ℕ) (w : PassState) → i ≤ n → n ≤ i → n ≡ length bytes / 8 + min 1 (length bytes % 8) → StoredSoFar z call h bytes i v w → ComesTo z call v.blocks.held (with_words h (words_over bytes ws) rs) v w
     all_stored call i n w le ge e s = let d = div_ceil_times (length bytes) 8 (omega arith) in let k : ℕ = length bytes / 8 + min 1 (length bytes % 8) in let l : length bytes ≤ k * 8 = d.0 in let m : k * 8 < length bytes + 8 = d.1 in let e' : n ≡ k = e in let f = words_long bytes in
-        subst (λ (us : List ℕ). ComesTo call v.blocks.held (with_words h us rs) v w) (words_end (words_of bytes) ws i (omega arith) (omega arith)) s
+        subst (λ (us : List ℕ). ComesTo z call v.blocks.held (with_words h us rs) v w) (words_end (words_of bytes) ws i (omega arith) (omega arith)) s
 
     -- and where they are as many as before, the value is these bytes
-    pub rewrites : (call : ℕ) (w : PassState) → length bytes ≡ length_in (place_held h rs) → ((k : ℕ) → get_or bytes k 0 < 256) → ComesTo call v.blocks.held (with_words h (words_over bytes ws) rs) v w → Rewrites call h bytes v w
+    pub rewrites : (call : ℕ) (w : PassState) → length bytes ≡ length_in (place_held h rs) → ((k : ℕ) → get_or bytes k 0 < 256) → ComesTo z call v.blocks.held (with_words h (words_over bytes ws) rs) v w → Rewrites z call h bytes v w
     rewrites call w long small c = record {
       comes = c;
       value = (λ i. take (length_in (place_now call (words_over bytes ws) w c i)) (bytes_of (words_now call (words_over bytes ws) w c i)))
@@ -142,13 +143,12 @@ module _ (z : Sizes) (h g first : ℕ) (v : PassState) (is : HasWords z h g firs
 
 -- by a pass that only met more before
 
-pub stored_since : (call h : ℕ) (bytes : List ℕ) (v u w : PassState) → Meets call v u → ComesTo call u.blocks.held (with_words h (words_over bytes (words_in h u.headers.held)) u.headers.held) u w
-    → ComesTo call v.blocks.held (with_words h (words_over bytes (words_in h v.headers.held)) v.headers.held) v w
-stored_since call h bytes v u w met c = let over : List HeldHeader → List HeldHeader = λ ks. with_words h (words_over bytes (words_in h ks)) ks in
-    comes_as call u.blocks.held v.blocks.held (over u.headers.held) (over v.headers.held) v w (blocks_come call v.blocks.held v.headers.held v u met) (ap over (headers_come call v.blocks.held v.headers.held v u met))
-    (comes_both call v.blocks.held u.blocks.held v.headers.held (over u.headers.held) v u w met c)
+pub stored_since : (z : Sizes) (call h : ℕ) (bytes : List ℕ) (v u w : PassState) → LoadsMore z call v u → ComesTo z call u.blocks.held (with_words h (words_over bytes (words_in h u.headers.held)) u.headers.held) u w
+    → ComesTo z call v.blocks.held (with_words h (words_over bytes (words_in h v.headers.held)) v.headers.held) v w
+stored_since z call h bytes v u w met c = let over : List HeldHeader → List HeldHeader = λ ks. with_words h (words_over bytes (words_in h ks)) ks in
+    comes_as z call u.blocks.held v.blocks.held (over u.headers.held) (over v.headers.held) v w (blocks_met z call v u met) (ap over (headers_met z call v u met)) (comes_since z call v u met u.blocks.held (over u.headers.held) w c)
 
 -- and with what a recipe makes of the value
-pub rewrites_by : (call h : ℕ) (k : RecipeKind) (n : ℕ) (made was : List ℕ) (v u w : PassState) → Meets call v u → made ≡ recipe_result k n was → was ≡ value_held h u.headers.held → Rewrites call h made u w → Rewrites call h (recipe_result k n (value_held h v.headers.held)) v w
-rewrites_by call h k n made was v u w met by old r = subst (λ (bs : List ℕ). Rewrites call h bs v w)
-    (by ∙ (ap (recipe_result k n) old ∙ ap (λ (ks : List HeldHeader). recipe_result k n (value_held h ks)) (headers_come call v.blocks.held v.headers.held v u met))) record { comes = stored_since call h made v u w met r.comes; value = r.value }
+pub rewrites_by : (z : Sizes) (call h : ℕ) (k : RecipeKind) (n : ℕ) (made was : List ℕ) (v u w : PassState) → LoadsMore z call v u → made ≡ recipe_result k n was → was ≡ value_held h u.headers.held → Rewrites z call h made u w → Rewrites z call h (recipe_result k n (value_held h v.headers.held)) v w
+rewrites_by z call h k n made was v u w met by old r = subst (λ (bs : List ℕ). Rewrites z call h bs v w)
+    (by ∙ (ap (recipe_result k n) old ∙ ap (λ (ks : List HeldHeader). recipe_result k n (value_held h ks)) (headers_met z call v u met))) record { comes = stored_since z call h made v u w met r.comes; value = r.value }

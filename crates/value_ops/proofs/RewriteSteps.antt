@@ -11,10 +11,12 @@ use Rattle.header_core.specs.HeaderHolds.{place_held}
 use Rattle.header_core.specs.HeaderStep.{reworded}
 use Rattle.oak_core.specs.declared.states.PassState.{PassState}
 use Rattle.oak_core.specs.ArenaCalls.{of_locked, NamesWord, MayStoreTo, Writes}
-use Rattle.oak_core.specs.Memory.{in_arena, index, word_count, memory}
+use Rattle.oak_core.specs.Memory.{in_arena, index, rooms_at, word_count, memory}
 use Rattle.oak_core.specs.Splitting.{Loads}
 use Rattle.oak_core.proofs.OwnerLaws.{place_below}
-use Rattle.oak_core.proofs.Words.{index_below}
+use Rattle.oak_core.proofs.Words.{arena_before, index_below}
+use Rattle.arena_core.proofs.PlaceLaws.{class_below}
+use Rattle.oak_model.specs.Class.{class_number}
 use Rattle.value_ops.specs.Rewriting.{HasWords}
 use Rattle.value_ops.specs.HeldValue.{words_in}
 use Rattle.value_ops.specs.UnderLock.{ComesTo}
@@ -45,6 +47,9 @@ module _ (z : Sizes) (h g first : ℕ) (v : PassState) (is : HasWords z h g firs
     pub word_below : first + i < word_count z
     word_below = let e = word_spot in let l = index_below z (in_arena (at_bytes c b i)) (class_low, is.block.inside, word_inside) in omega arith
 
+    pub word_before : first + i < rooms_at z
+    word_before = let e = word_spot in let l = arena_before z (at_bytes c b i) (class_low, is.block.inside, word_inside) in omega arith
+
     pub word_small : first + i < 2 ^ 32
     word_small = let e = word_spot in let l = bytes_small z is.limits c b i class_low is.block.inside word_inside in omega arith
 
@@ -64,5 +69,5 @@ module _ (z : Sizes) (h g first : ℕ) (v : PassState) (is : HasWords z h g firs
   pub may_store : MayStoreTo z (of_locked h) is.block.named.class b v
   may_store = record { locked = is.lock.locked; class = is.block.named.is_in; block = refl }
 
-pub stores : (z : Sizes) (call h : ℕ) (d : Class) (b i x : ℕ) (v w : PassState) → Writes z call (of_locked h) d b i x v w → ComesTo call v.blocks.held (reworded h i x v.headers.held) v w
-stores z call h d b i x v w t = record { more = _ ∷ []; calls = (refl, tt); after = t.1.after }
+pub stores : (z : Sizes) (call h : ℕ) (d : Class) (b i word x : ℕ) (v w : PassState) → NamesWord z d b i word → Writes z call (of_locked h) d b i x v w → ComesTo z call v.blocks.held (reworded h i x v.headers.held) v w
+stores z call h d b i word x v w is t = record { more = _ ∷ []; calls = ((refl, arena_before z (at_bytes (class_number d) b i) (class_below d, is.inside, is.place)), tt); after = t.1.after }

@@ -14,12 +14,14 @@ use Rattle.header_core.proofs.HeaderFacts.{holds_some}
 use Rattle.header_core.proofs.HeldChanges.{rows_stamped}
 use Rattle.oak_core.specs.declared.states.PassState.{PassState}
 use Rattle.oak_core.specs.Memory.{in_headers, index}
+use Rattle.oak_core.specs.Finding.{LoadsMore}
 use Rattle.oak_core.specs.HeaderCalls.{StoresStamp}
 use Rattle.oak_core.specs.Splitting.{Loads}
+use Rattle.oak_core.proofs.Words.{header_before}
 use Rattle.oak_core.specs.Step.{MayOnHeaders}
 use Rattle.value_ops.specs.HeldValue.{stamp_held, words_in}
-use Rattle.value_ops.specs.UnderLock.{HasBlock, HasLock, next_stamp, ComesTo, Meets}
-use Rattle.value_ops.proofs.ComesFurther.{meets_none, comes_both, comes_as, headers_come, lock_met}
+use Rattle.value_ops.specs.UnderLock.{HasBlock, HasLock, next_stamp, ComesTo}
+use Rattle.value_ops.proofs.ComesFurther.{comes_none, comes_as, headers_come, blocks_met, headers_met, comes_since, lock_met}
 use Rattle.value_ops.proofs.FillFacts.{stamped_place}
 use Rattle.value_ops.proofs.HeldParts.{stamped_words, stamped_generation, stamped_here, without_stamped}
 use Rattle.value_ops.proofs.HeldValues.{place_at, stamp_at, is_place, block_inside, words_long, once_at}
@@ -47,14 +49,14 @@ module _ (z : Sizes) (call h g x : ℕ) (v : PassState) (lock : HasLock z h g v)
   pub may_stamp : MayOnHeaders z (store_stamp h x) v
   may_stamp = record { inside = lock.inside; headers = ((let l = lock.locked in omega arith), small); block = tt; known = tt }
 
-  pub stamp_stored : (w : PassState) → StoresStamp z call h x v w → ComesTo call v.blocks.held (stamped_at h x v.headers.held) v w
-  stamp_stored w t = record { more = _ ∷ []; calls = (refl, tt); after = t.1.after }
+  pub stamp_stored : (w : PassState) → StoresStamp z call h x v w → ComesTo z call v.blocks.held (stamped_at h x v.headers.held) v w
+  stamp_stored w t = record { more = _ ∷ []; calls = ((refl, header_before z (at_stamp h) lock.inside), tt); after = t.1.after }
 
 -- by a pass that only met more since
-pub stored_since : (z : Sizes) (call h g x : ℕ) (v u w : PassState) → HasLock z h g v → Meets call v u → x < 2 ^ 64 → StoresStamp z call h x u w → ComesTo call v.blocks.held (stamped_at h x v.headers.held) v w
-stored_since z call h g x v u w lock met small t = let same = ap (λ (y : PassState). y.blocks.held) met.after in let rs = ap (λ (y : PassState). y.headers.held) met.after in
-    comes_as call u.blocks.held v.blocks.held (stamped_at h x u.headers.held) (stamped_at h x v.headers.held) v w same (ap (stamped_at h x) rs)
-    (comes_both call v.blocks.held u.blocks.held v.headers.held (stamped_at h x u.headers.held) v u w met (stamp_stored z call h g x u (lock_met call v u met z h g lock) small w t))
+pub stored_since : (z : Sizes) (call h g x : ℕ) (v u w : PassState) → HasLock z h g v → LoadsMore z call v u → x < 2 ^ 64 → StoresStamp z call h x u w → ComesTo z call v.blocks.held (stamped_at h x v.headers.held) v w
+stored_since z call h g x v u w lock met small t =
+    comes_as z call u.blocks.held v.blocks.held (stamped_at h x u.headers.held) (stamped_at h x v.headers.held) v w (blocks_met z call v u met) (ap (stamped_at h x) (headers_met z call v u met))
+    (comes_since z call v u met u.blocks.held (stamped_at h x u.headers.held) w (stamp_stored z call h g x u (lock_met z call v u met h g lock) small w t))
 
 -- the stamp behind one, as it is reckoned
 pub next_is : (n : ℕ) → n < 2 ^ 64 → min (n + 1) (2 ^ 64 - 1) ≡ next_stamp n
@@ -63,7 +65,7 @@ next_is n small = test-cases (nat_lt n (2 ^ 64 - 1)) (λ (t : Bool). min (n + 1)
 -- The pass has the header locked still; the stamp is this one, and place, words and the other headers are as before.
 pub record IsStamped (z : Sizes) (call h g stamp : ℕ) (v w : PassState) : Type 0 where
   pub lock : HasLock z h g w
-  pub comes : ComesTo call v.blocks.held w.headers.held v w
+  pub comes : ComesTo z call v.blocks.held w.headers.held v w
   pub stamp_is : stamp_held h w.headers.held ≡ stamp
   pub place_is : place_held h w.headers.held ≡ place_held h v.headers.held
   pub words_are : words_in h w.headers.held ≡ words_in h v.headers.held
@@ -71,14 +73,14 @@ pub record IsStamped (z : Sizes) (call h g stamp : ℕ) (v w : PassState) : Type
 
 module _ (z : Sizes) (call h g : ℕ) (v : PassState) (lock : HasLock z h g v) where
   -- where the stamp was stored
-  pub is_stamped : (x : ℕ) (w : PassState) → ComesTo call v.blocks.held (stamped_at h x v.headers.held) v w → IsStamped z call h g x v w
-  is_stamped x w c = let rs = v.headers.held in let e : w.headers.held ≡ stamped_at h x rs = headers_come call v.blocks.held (stamped_at h x rs) v w c in record {
+  pub is_stamped : (x : ℕ) (w : PassState) → ComesTo z call v.blocks.held (stamped_at h x v.headers.held) v w → IsStamped z call h g x v w
+  is_stamped x w c = let rs = v.headers.held in let e : w.headers.held ≡ stamped_at h x rs = headers_come z call v.blocks.held (stamped_at h x rs) v w c in record {
     lock = record {
       inside = lock.inside;
       locked = subst (λ (y : PassState). 0 < in_state h LOCKED y.headers) (sym c.after) (let k = rows_stamped h x h LOCKED rs in let l = lock.locked in omega arith);
       generation = ap (generation_held h) e ∙ (stamped_generation h x rs ∙ lock.generation);
     };
-    comes = subst (λ (ks : List HeldHeader). ComesTo call v.blocks.held ks v w) (sym e) c;
+    comes = subst (λ (ks : List HeldHeader). ComesTo z call v.blocks.held ks v w) (sym e) c;
     stamp_is = ap (stamp_held h) e ∙ stamped_here h x rs (holds_some h LOCKED v.headers lock.locked);
     place_is = ap (place_held h) e ∙ stamped_place h h x rs;
     words_are = ap (words_in h) e ∙ stamped_words h x rs;
@@ -87,4 +89,4 @@ module _ (z : Sizes) (call h g : ℕ) (v : PassState) (lock : HasLock z h g v) w
 
   -- and where none was
   pub as_stamped : IsStamped z call h g (stamp_held h v.headers.held) v v
-  as_stamped = record { lock = lock; comes = meets_none call v; stamp_is = refl; place_is = refl; words_are = refl; others = refl }
+  as_stamped = record { lock = lock; comes = comes_none z call v; stamp_is = refl; place_is = refl; words_are = refl; others = refl }

@@ -10,20 +10,20 @@ use Rattle.header_core.specs.HeaderStep.{HeaderStep, header_spot, header_effect}
 use Rattle.oak_core.specs.declared.states.PassState.{PassState}
 use Rattle.oak_core.specs.Memory.{Memory, in_headers, index, IsInside, write, memory}
 use Rattle.oak_core.specs.Rule.{Rule}
-use Rattle.oak_core.specs.Step.{on_headers, effect, spot, found, state_after, table_after, Told}
+use Rattle.oak_core.specs.Step.{on_headers, effect, spot, found, state_after, Told}
 use Rattle.oak_core.specs.TableState.{TableState}
 use Rattle.oak_core.proofs.EachEvent.{rule_keeps}
 use Rattle.oak_core.proofs.HeaderStanding.{small_pin}
 use Rattle.oak_core.proofs.Words.{memory_read, memory_set}
 use Rattle.value_ops.specs.Claiming.{pin_spot}
-use Rattle.value_ops.specs.Filling.{IsLeft}
+use Rattle.value_ops.specs.Filling.{table_behind, IsLeft}
 
 module _ (z : Sizes) (call : ℕ) (x : HeaderStep) (h : ℕ) (is : header_spot x ≡ at_pin h) (v : PassState) (n : ℕ) (w : PassState) (t : Told z call (on_headers x) v n w) where
   abbrev before : Memory
   before = memory z t.table.words
 
   abbrev pub table_left : TableState
-  table_left = table_after z call (on_headers x) t.seat v t.table
+  table_left = table_behind z call x v n w t
 
   pub inside : h < z.headers
   inside = subst (λ (q : HeaderSpot). IsInside z (in_headers q)) is t.may.inside
@@ -56,9 +56,8 @@ module _ (z : Sizes) (call : ℕ) (x : HeaderStep) (h : ℕ) (is : header_spot x
   pub small : n < 2 ^ 64
   small = let l = small_pin z t.table t.seat v t.rule t.here h in let e = pin_found in omega arith
 
-  abbrev pub left : (s g : ℕ) → state_of (header_effect x n) ≡ s → generation_of (header_effect x n) ≡ g → count_of (header_effect x n) ≡ count_of n → IsLeft z h s g n t.seat w
+  abbrev pub left : (s g : ℕ) → state_of (header_effect x n) ≡ s → generation_of (header_effect x n) ≡ g → count_of (header_effect x n) ≡ count_of n → IsLeft z h s g n t.seat w table_left
   left s g state generation count = record {
-    table = table_left;
     rule = rule_left;
     here = here_left;
     state = ap state_of pin_left ∙ state;

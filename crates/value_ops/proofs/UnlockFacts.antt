@@ -15,6 +15,7 @@ use Rattle.oak_core.specs.declared.states.PassState.{PassState}
 use Rattle.oak_core.specs.Memory.{memory}
 use Rattle.oak_core.specs.HeaderCalls.{Unlocks, MarksDead}
 use Rattle.oak_core.specs.Step.{on_headers, MayOnHeaders, Told}
+use Rattle.oak_core.proofs.Words.{header_before}
 use Rattle.value_ops.specs.HeldValue.{stamp_held}
 use Rattle.value_ops.specs.UnderLock.{HasBuried, ComesTo, HasValue, StoresNext, EndsLock, Buries}
 use Rattle.value_ops.proofs.ComesFurther.{comes_both, comes_as, blocks_come, headers_come}
@@ -51,16 +52,15 @@ module _ (z : Sizes) (call h g stamp : ℕ) (v u : PassState) (i : IsStamped z c
     number = n;
     told = t;
     left = left z call x h refl u n w t LIVE g (let d = down.1 in let e = was_locked x refl n w t in omega arith) (down.2 ∙ generation_was x refl n w t) down.0;
-    table_is = refl;
     value = value_left x refl n w t;
-    comes = comes_as call u.blocks.held v.blocks.held (without_header h u.headers.held) (without_header h v.headers.held) v w (blocks_come call v.blocks.held u.headers.held v u i.comes) i.others
-        (comes_both call v.blocks.held u.blocks.held u.headers.held (without_header h u.headers.held) v u w i.comes record { more = _ ∷ []; calls = (refl, tt); after = t.after });
+    comes = comes_as z call u.blocks.held v.blocks.held (without_header h u.headers.held) (without_header h v.headers.held) v w (blocks_come z call v.blocks.held u.headers.held v u i.comes) i.others
+        (comes_both z call v.blocks.held u.blocks.held u.headers.held (without_header h u.headers.held) v u w i.comes record { more = _ ∷ []; calls = ((refl, header_before z (at_pin h) i.lock.inside), tt); after = t.after });
   }
 
   module _ (n : ℕ) (w : PassState) (t : MarksDead z call h u n w) where
-    marked : ComesTo call v.blocks.held (buried_at h u.headers.held) v w
-    marked = comes_as call u.blocks.held v.blocks.held (buried_at h u.headers.held) (buried_at h u.headers.held) v w (blocks_come call v.blocks.held u.headers.held v u i.comes) refl
-        (comes_both call v.blocks.held u.blocks.held u.headers.held (buried_at h u.headers.held) v u w i.comes record { more = _ ∷ []; calls = (refl, tt); after = t.after })
+    marked : ComesTo z call v.blocks.held (buried_at h u.headers.held) v w
+    marked = comes_as z call u.blocks.held v.blocks.held (buried_at h u.headers.held) (buried_at h u.headers.held) v w (blocks_come z call v.blocks.held u.headers.held v u i.comes) refl
+        (comes_both z call v.blocks.held u.blocks.held u.headers.held (buried_at h u.headers.held) v u w i.comes record { more = _ ∷ []; calls = ((refl, header_before z (at_pin h) i.lock.inside), tt); after = t.after })
 
     pub buries : StoresNext z call h stamp v u → u.headers.held ≡ stamped_at h stamp v.headers.held → Buries z call h g stamp v w
     buries next e = let x = mark_dead h in let up = state_up n (let l = was_locked x refl n w t in omega arith) (small z call x h refl u n w t) in record {
@@ -69,13 +69,12 @@ module _ (z : Sizes) (call h g stamp : ℕ) (v u : PassState) (i : IsStamped z c
       number = n;
       told = t;
       left = left z call x h refl u n w t DEAD g (let d = up.1 in let l = was_locked x refl n w t in omega arith) (up.2 ∙ generation_was x refl n w t) up.0;
-      table_is = refl;
       value = value_left x refl n w t;
-      comes = comes_as call v.blocks.held v.blocks.held (buried_at h u.headers.held) (buried_at h (stamped_at h stamp v.headers.held)) v w refl (ap (buried_at h) e) marked;
+      comes = comes_as z call v.blocks.held v.blocks.held (buried_at h u.headers.held) (buried_at h (stamped_at h stamp v.headers.held)) v w refl (ap (buried_at h) e) marked;
     }
 
     pub has_buried : HasBuried z h g stamp w
-    has_buried = let rs = u.headers.held in let e : w.headers.held ≡ buried_at h rs = headers_come call v.blocks.held (buried_at h rs) v w marked in record {
+    has_buried = let rs = u.headers.held in let e : w.headers.held ≡ buried_at h rs = headers_come z call v.blocks.held (buried_at h rs) v w marked in record {
       inside = i.lock.inside;
       buried = subst (λ (y : PassState). 0 < in_state h DEAD y.headers) (sym marked.after) (let k = rows_buried-dead h rs in let l = holds_some h LOCKED u.headers i.lock.locked in omega arith);
       generation = ap (generation_held h) e ∙ (buried_generation h rs ∙ i.lock.generation);

@@ -92,7 +92,7 @@ module _ (z : Sizes) (call h g : ℕ) (v : PassState) (inside : h < z.headers) (
         before = first ∷ [];
         number = k;
         told = told_of z call (on_headers (release_header h Fresh)) u (grown (first ∷ []) v) l.met k w t;
-        freed = freed z call h Fresh u k w t;
+        freed = freed z call h Fresh (grown (first ∷ []) v) k w (told_of z call (on_headers (release_header h Fresh)) u (grown (first ∷ []) v) l.met k w t);
         more = first ∷ second ∷ [];
         calls = (refl, (refl, tt));
         after = after_is ∙ (ap (with_block given) l.met

@@ -11,36 +11,41 @@ use Rattle.arena_core.specs.declared.blocks.HeldBlock.{HeldBlock}
 use Rattle.arena_core.specs.Blocks.{is_block, without}
 use Rattle.arena_core.specs.Place.{place_word, class_in, block_in}
 use Rattle.header_core.specs.declared.states.TheConstants.{FREE}
+use Rattle.header_core.specs.declared.holds.HeldAs.{HeldAs}
 use Rattle.header_core.specs.declared.holds.HeldAs.TheVariants.{Owned, Fresh}
 use Rattle.header_core.specs.HeaderHolds.{place_held, without_header}
-use Rattle.header_core.specs.HeaderStep.{placed_at, stamped_at, freshened}
+use Rattle.header_core.specs.HeaderStep.{HeaderStep, release_header, placed_at, stamped_at, freshened}
 use Rattle.oak_core.specs.declared.states.Finding.{Finding}
 use Rattle.oak_core.specs.declared.states.PassState.{PassState}
 use Rattle.oak_core.specs.Memory.{memory}
 use Rattle.oak_core.specs.Finding.{grown}
 use Rattle.oak_core.specs.HeaderCalls.{StoresPlace, StoresStamp, Opens, Releases}
 use Rattle.oak_core.specs.Rule.{Rule}
+use Rattle.oak_core.specs.Step.{on_headers, table_after, Told}
 use Rattle.oak_core.specs.TableState.{TableState}
 use Rattle.value_ops.specs.HeldValue.{words_in}
 
--- at a moment at which the rule holds, the pass is in the state w, and the header is in the state s at the generation g, with the pins that the word `number` says
-pub record IsLeft (z : Sizes) (h s g number seat : ℕ) (w : PassState) : Type 0 where
-  pub table : TableState
+-- the table right after a step on headers
+abbrev pub table_behind : (z : Sizes) (call : ℕ) (x : HeaderStep) (v : PassState) (n : ℕ) (w : PassState) → Told z call (on_headers x) v n w → TableState
+table_behind z call x v n w told = table_after z call (on_headers x) told.seat v told.table
+
+-- In the table the rule holds, the pass is in the state w, and the header is in the state s at the generation g, with the pins that the word `number` says.
+pub record IsLeft (z : Sizes) (h s g number seat : ℕ) (w : PassState) (table : TableState) : Type 0 where
   pub rule : Rule z table
   pub here : get_elem? table.states seat ≡ some w
   pub state : state_of ((memory z table.words).headers.pin h) ≡ s
   pub generation : generation_of ((memory z table.words).headers.pin h) ≡ g
   pub count : count_of ((memory z table.words).headers.pin h) ≡ count_of number
 
--- the header is free there, at its generation
-abbrev pub IsFreed : Sizes → ℕ → ℕ → ℕ → PassState → Type 0
-IsFreed z h number seat w = IsLeft z h FREE (generation_of number) number seat w
+-- right after the step that released it, the header is free, at its generation
+abbrev pub IsFreed : (z : Sizes) (call h : ℕ) (s : HeldAs) (v : PassState) (number : ℕ) (w : PassState) → Releases z call h s v number w → Type 0
+IsFreed z call h s v number w told = IsLeft z h FREE (generation_of number) number told.seat w (table_behind z call (release_header h s) v number w told)
 
 -- The pass owns the header no more, and else only met more, all in the call. The header is free after the step, which left its generation and the pins on it as they were.
 pub record ReleasesOwned (z : Sizes) (call h : ℕ) (v w : PassState) : Type 0 where
   pub number : ℕ
   pub told : Releases z call h Owned v number w
-  pub freed : IsFreed z h number told.seat w
+  pub freed : IsFreed z call h Owned v number w told
   pub more : List Finding
   pub calls : Each (λ (f : Finding). f.call ≡ call) more
   pub after : w ≡ record (grown more v) { headers = record v.headers { held = without_header h v.headers.held } }
@@ -77,7 +82,7 @@ pub record Withdraws (z : Sizes) (call h : ℕ) (c : Class) (b : ℕ) (v w : Pas
   pub before : List Finding
   pub number : ℕ
   pub told : Releases z call h Fresh (grown before v) number w
-  pub freed : IsFreed z h number told.seat w
+  pub freed : IsFreed z call h Fresh (grown before v) number w told
   pub more : List Finding
   pub calls : Each (λ (f : Finding). f.call ≡ call) more
   pub after : w ≡ record (grown more v) { blocks = record v.blocks { held = record { class = c; number = b; words = words_in h v.headers.held } ∷ v.blocks.held }; headers = record v.headers { held = without_header h v.headers.held } }

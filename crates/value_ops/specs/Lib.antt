@@ -10,3 +10,4 @@ pub mod Recipes
 pub mod Words
 pub mod UnderLock
 pub mod Rewriting
+pub mod AloneLocks

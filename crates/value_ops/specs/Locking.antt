@@ -9,7 +9,7 @@ use Rattle.header_core.specs.HeaderHolds.{pins_on}
 use Rattle.header_core.specs.HeaderStep.{IsLiveWord, locked_at}
 use Rattle.oak_core.specs.declared.states.Finding.{Finding}
 use Rattle.oak_core.specs.declared.states.PassState.{PassState}
-use Rattle.oak_core.specs.Finding.{grown}
+use Rattle.oak_core.specs.Finding.{grown, IsOf}
 use Rattle.oak_core.specs.HeaderCalls.{Locks}
 use Rattle.oak_core.specs.Memory.{index, memory}
 use Rattle.oak_core.specs.PassState.{headers_held}
@@ -18,7 +18,7 @@ use Rattle.value_ops.specs.Claiming.{pin_spot, holds_header}
 use Rattle.value_ops.specs.declared.locking.NoLock.{NoLock}
 use Rattle.value_ops.specs.declared.locking.NoLock.TheVariants.{Busy, Dead}
 
--- The step that locked the header, after others that only met more, found it live at the generation and without a pin. No pass held it or had it pinned at that moment. The pass has it locked now, with the place, the stamp and the words of its block that it had then, and else only met more, all in the call.
+-- The step that locked the header, after others that only met more, found it live at the generation and without a pin. No pass held it or had it pinned at that moment. The pass has it locked now, with the place, the stamp and the words of its block that it had then, and else only met more, all in the call and at words in front of the rooms.
 pub record LocksHeader (z : Sizes) (call h g : ℕ) (v w : PassState) : Type 0 where
   pub inside : h < z.headers
   pub before : List Finding
@@ -29,7 +29,7 @@ pub record LocksHeader (z : Sizes) (call h g : ℕ) (v w : PassState) : Type 0 w
   pub unheld : total (holds_header h) (map headers_held told.table.states) ≡ 0
   pub unpinned : total (pins_on h) (map headers_held told.table.states) ≡ 0
   pub more : List Finding
-  pub calls : Each (λ (f : Finding). f.call ≡ call) more
+  pub calls : Each (IsOf z call) more
   pub after : w ≡ record (grown more v) { headers = record v.headers { held = locked_at (memory z told.table.words).headers (content (memory z told.table.words).arena.bytes) h ∷ v.headers.held } }
 
 -- the word is that of a live header at the generation, without a pin
@@ -74,12 +74,12 @@ abbrev pub IsNoLock : NoLock → ℕ → Option ℕ → ℕ → Type 0
 IsNoLock Dead g first n = IsDeadAt g n
 IsNoLock Busy g first n = (¬ IsDeadAt g n) × IsBusy g first n
 
--- the pass only met more, all in the call, and the number of the header's pin word that it found last is the cause
+-- the pass only met more, all in the call and at words in front of the rooms, and the number of the header's pin word that it found last is the cause
 pub record FindsNoLock (z : Sizes) (call h g : ℕ) (why : NoLock) (v w : PassState) : Type 0 where
   pub first : Option ℕ
   pub number : ℕ
   pub looks : Looks z call h first v number w
   pub cause : IsNoLock why g first number
   pub more : List Finding
-  pub calls : Each (λ (f : Finding). f.call ≡ call) more
+  pub calls : Each (IsOf z call) more
   pub after : w ≡ grown more v

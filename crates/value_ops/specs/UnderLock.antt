@@ -15,16 +15,15 @@ use Rattle.header_core.specs.declared.holds.HeldAs.{HeldAs}
 use Rattle.header_core.specs.declared.holds.HeldAs.TheVariants.{Owned, Fresh, Locked, Buried}
 use Rattle.header_core.specs.declared.holds.HeldHeader.{HeldHeader}
 use Rattle.header_core.specs.HeaderHolds.{in_state, place_held, generation_held, without_header}
-use Rattle.header_core.specs.HeaderStep.{unlock_header, mark_dead, stamped_at, changed_at, buried_at}
-use Rattle.header_core.specs.Headers.{at_stamp}
+use Rattle.header_core.specs.HeaderStep.{unlock_header, mark_dead, take_back, renewal, stamped_at, changed_at, buried_at}
+use Rattle.header_core.specs.Headers.{at_place, at_stamp}
 use Rattle.oak_core.specs.declared.states.Finding.{Finding}
 use Rattle.oak_core.specs.declared.states.PassState.{PassState}
 use Rattle.oak_core.specs.Memory.{Memory, in_headers, index, memory}
-use Rattle.oak_core.specs.Finding.{grown}
-use Rattle.oak_core.specs.HeaderCalls.{StoresStamp, Unlocks, MarksDead, TakesBack}
+use Rattle.oak_core.specs.Finding.{grown, IsOf}
+use Rattle.oak_core.specs.HeaderCalls.{StoresStamp, ChangesPlace, Unlocks, MarksDead, TakesBack}
 use Rattle.oak_core.specs.Splitting.{Loads}
-use Rattle.oak_core.specs.Step.{on_headers, table_after}
-use Rattle.value_ops.specs.Filling.{words_held, IsLeft}
+use Rattle.value_ops.specs.Filling.{words_held, table_behind, IsLeft}
 use Rattle.value_ops.specs.HeldValue.{stamp_held, words_in, value_held}
 use Rattle.value_ops.specs.Words.{words_of}
 
@@ -70,33 +69,36 @@ words_over bytes ws = words_of bytes ++ drop (length (words_of bytes)) ws
 abbrev pub with_words : ℕ → List ℕ → List HeldHeader → List HeldHeader
 with_words h words rs = map (λ (r : HeldHeader). record r { words = cond (r.header == h) words r.words }) rs
 
--- The pass only met more, all in the call, but for what it holds of blocks and headers, which is this.
-pub record ComesTo (call : ℕ) (held : List HeldBlock) (headers : List HeldHeader) (v w : PassState) : Type 0 where
+-- The pass only met more, all in the call and at words in front of the rooms, but for what it holds of blocks and headers, which is this.
+pub record ComesTo (z : Sizes) (call : ℕ) (held : List HeldBlock) (headers : List HeldHeader) (v w : PassState) : Type 0 where
   pub more : List Finding
-  pub calls : Each (λ (f : Finding). f.call ≡ call) more
+  pub calls : Each (IsOf z call) more
   pub after : w ≡ record (grown more v) { blocks = record v.blocks { held = held }; headers = record v.headers { held = headers } }
 
--- so that it holds what it held
-abbrev pub Meets : ℕ → PassState → PassState → Type 0
-Meets call v w = ComesTo call v.blocks.held v.headers.held v w
-
 -- the bytes were stored in the block of the locked header, word by word, and its value is these bytes
-pub record Rewrites (call h : ℕ) (bytes : List ℕ) (v w : PassState) : Type 0 where
-  pub comes : ComesTo call v.blocks.held (with_words h (words_over bytes (words_in h v.headers.held)) v.headers.held) v w
+pub record Rewrites (z : Sizes) (call h : ℕ) (bytes : List ℕ) (v w : PassState) : Type 0 where
+  pub comes : ComesTo z call v.blocks.held (with_words h (words_over bytes (words_in h v.headers.held)) v.headers.held) v w
   pub value : value_held h w.headers.held ≡ bytes
 
 -- so they were, and the place word of the header says their length; the block is as before, of the class c and the number b
-pub record Refills (call h : ℕ) (c : Class) (b : ℕ) (bytes : List ℕ) (v w : PassState) : Type 0 where
+pub record Refills (z : Sizes) (call h : ℕ) (c : Class) (b : ℕ) (bytes : List ℕ) (v w : PassState) : Type 0 where
   pub class_is : class_in (place_held h v.headers.held) ≡ class_number c
   pub block_is : block_in (place_held h v.headers.held) ≡ b
-  pub comes : ComesTo call v.blocks.held (changed_at h (place_word (class_number c) b (length bytes)) (words_over bytes (words_in h v.headers.held)) v.headers.held) v w
+  pub comes : ComesTo z call v.blocks.held (changed_at h (place_word (class_number c) b (length bytes)) (words_over bytes (words_in h v.headers.held)) v.headers.held) v w
   pub value : value_held h w.headers.held ≡ bytes
 
--- The locked header's block, of the class o and the number n, was exchanged for another, of the class c and the number b, in which `len` bytes stand. The pass holds the old one, with the words that it had under the header, and the header has the words that the new one had.
-pub record Exchanges (call h : ℕ) (c : Class) (b len : ℕ) (o : Class) (n : ℕ) (v w : PassState) : Type 0 where
+-- the place word of the header was loaded, and is what the pass keeps of it
+abbrev pub LoadsPlace : Sizes → ℕ → ℕ → PassState → PassState → Type 0
+LoadsPlace z call h v w = Loads z call (index z (in_headers (at_place h))) v (place_held h v.headers.held) w
+
+-- The place word of a locked header was loaded, and another stored there. So the header's block, of the class o and the number n, was exchanged for another, of the class c and the number b, in which `len` bytes stand. The pass holds the old one, with the words that it had under the header, and the header has the words that the new one had.
+pub record Exchanges (z : Sizes) (call h : ℕ) (c : Class) (b len : ℕ) (o : Class) (n : ℕ) (v w : PassState) : Type 0 where
   pub class_is : class_in (place_held h v.headers.held) ≡ class_number o
   pub block_is : block_in (place_held h v.headers.held) ≡ n
-  pub comes : ComesTo call (record { class = o; number = n; words = words_in h v.headers.held } ∷ without (class_number c) b v.blocks.held)
+  pub between : PassState
+  pub loads : LoadsPlace z call h v between
+  pub stores : ChangesPlace z call h (place_word (class_number c) b len) between w
+  pub comes : ComesTo z call (record { class = o; number = n; words = words_in h v.headers.held } ∷ without (class_number c) b v.blocks.held)
       (changed_at h (place_word (class_number c) b len) (words_held (class_number c) b v.blocks.held) v.headers.held) v w
 
 -- the header has this stamp, and the place and the words that the pass keeps for it
@@ -117,10 +119,9 @@ pub record StoresNext (z : Sizes) (call h stamp : ℕ) (v w : PassState) : Type 
 pub record EndsLock (z : Sizes) (call h g : ℕ) (kind : Kind) (stamp : ℕ) (before v w : PassState) : Type 0 where
   pub number : ℕ
   pub told : Unlocks z call h kind before number w
-  pub left : IsLeft z h LIVE g number told.seat w
-  pub table_is : left.table ≡ table_after z call (on_headers (unlock_header h kind)) told.seat before told.table
-  pub value : HasValue (memory z left.table.words) h stamp v.headers.held
-  pub comes : ComesTo call v.blocks.held (without_header h v.headers.held) v w
+  pub left : IsLeft z h LIVE g number told.seat w (table_behind z call (unlock_header h kind) before number w told)
+  pub value : HasValue (memory z (table_behind z call (unlock_header h kind) before number w told).words) h stamp v.headers.held
+  pub comes : ComesTo z call v.blocks.held (without_header h v.headers.held) v w
 
 -- The three steps of a write under the lock: the stamp was loaded, the next one stored, and the header unlocked.
 pub record WritesOver (z : Sizes) (call h g : ℕ) (kind : Kind) (stamp : ℕ) (v w : PassState) : Type 0 where
@@ -138,22 +139,21 @@ pub record Buries (z : Sizes) (call h g stamp : ℕ) (v w : PassState) : Type 0 
   pub stores : StoresNext z call h stamp v stamped
   pub number : ℕ
   pub told : MarksDead z call h stamped number w
-  pub left : IsLeft z h DEAD g number told.seat w
-  pub table_is : left.table ≡ table_after z call (on_headers (mark_dead h)) told.seat stamped told.table
-  pub value : HasValue (memory z left.table.words) h stamp v.headers.held
-  pub comes : ComesTo call v.blocks.held (buried_at h (stamped_at h stamp v.headers.held)) v w
+  pub left : IsLeft z h DEAD g number told.seat w (table_behind z call (mark_dead h) stamped number w told)
+  pub value : HasValue (memory z (table_behind z call (mark_dead h) stamped number w told).words) h stamp v.headers.held
+  pub comes : ComesTo z call v.blocks.held (buried_at h (stamped_at h stamp v.headers.held)) v w
 
 -- the state of a header that is taken back, at the generation that it then has
 abbrev pub state_taken_back : ℕ → ℕ
 state_taken_back g = cond (g == LAST_GENERATION) RETIRED FREE
 
--- The step that took the buried header back. It is free after the step, or retired, at the next generation and with its pins. The pass holds its block, of the class o and the number n, with the words that it had, and holds the header no more.
+-- The two steps that take a buried header back: its place word was loaded, and the pin word raised. Right after that the header is free, or retired, at the next generation and with its pins. The pass holds its block, of the class o and the number n, with the words that it had, and holds the header no more.
 pub record Renews (z : Sizes) (call h g : ℕ) (o : Class) (n : ℕ) (v w : PassState) : Type 0 where
   pub class_is : class_in (place_held h v.headers.held) ≡ class_number o
   pub block_is : block_in (place_held h v.headers.held) ≡ n
-  pub before : PassState
-  pub operand : ℕ
+  pub between : PassState
+  pub loads : LoadsPlace z call h v between
   pub number : ℕ
-  pub told : TakesBack z call h operand before number w
-  pub left : IsLeft z h (state_taken_back (suc g)) (suc g) number told.seat w
-  pub comes : ComesTo call (record { class = o; number = n; words = words_in h v.headers.held } ∷ v.blocks.held) (without_header h v.headers.held) v w
+  pub told : TakesBack z call h (renewal g) between number w
+  pub left : IsLeft z h (state_taken_back (suc g)) (suc g) number told.seat w (table_behind z call (take_back h (renewal g)) between number w told)
+  pub comes : ComesTo z call (record { class = o; number = n; words = words_in h v.headers.held } ∷ v.blocks.held) (without_header h v.headers.held) v w

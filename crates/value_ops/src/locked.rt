@@ -7,12 +7,15 @@ ghost use Rattle.arena_core.specs.Blocks.{HoldsBlock};
 ghost use Rattle.arena_core.specs.Place.{class_in, place_word};
 ghost use Rattle.header_core.specs.HeaderHolds.{place_held};
 ghost use Rattle.header_core.specs.HeaderStep.{stamped_at};
-ghost use Rattle.header_core.specs.Headers.{at_stamp};
+ghost use Rattle.header_core.specs.Headers.{at_place, at_stamp};
+ghost use Rattle.oak_core.specs.AloneWords.{Runs};
 ghost use Rattle.oak_core.specs.Memory.{in_headers, index};
+ghost use Rattle.oak_core.specs.Finding.{LoadsMore};
 ghost use Rattle.oak_core.specs.Passes.{IsPassOf, Stays, state, key, call_of};
 ghost use Rattle.oak_core.specs.Splitting.{Loads};
+ghost use Rattle.value_ops.specs.AloneLocks.{FindsWord, FindsClass};
 ghost use Rattle.value_ops.specs.HeldValue.{stamp_held};
-ghost use Rattle.value_ops.specs.UnderLock.{HasBlock, HasLock, HasBuried, IsUnchanged, next_stamp, Meets, ComesTo, Exchanges, StoresNext, WritesOver, GivesUp, Buries};
+ghost use Rattle.value_ops.specs.UnderLock.{HasBlock, HasLock, HasBuried, IsUnchanged, next_stamp, ComesTo, LoadsPlace, Exchanges, StoresNext, WritesOver, GivesUp, Buries};
 
 use crate::burying::Buried;
 use crate::claiming::STATE;
@@ -27,9 +30,10 @@ impl Locked {
         requires own { IsPassOf table.now pass.old }
         requires locked { HasLock (key table.now) self.now.header self.now.generation (state pass.old) }
         ensures own { Stays pass.old pass.new }
-        ensures met { Meets (call_of pass.old) (state pass.old) (state pass.new) }
+        ensures met { LoadsMore (key table.now) (call_of pass.old) (state pass.old) (state pass.new) }
         ensures loaded { Loads (key table.now) (call_of pass.old) (index (key table.now) (in_headers (at_stamp self.now.header))) (state pass.old) result (state pass.new) }
         ensures stamp { result ≡ stamp_held self.now.header (state pass.old).headers.held }
+        ensures alone { Runs (FindsWord (key table.now) (in_headers (at_stamp self.now.header)) result) (state pass.old) (state pass.new) }
     {
         load(table, pass, table.stamp_at(self.header))
     }
@@ -39,8 +43,9 @@ impl Locked {
         requires own { IsPassOf table.now pass.old }
         requires locked { HasLock (key table.now) self.now.header self.now.generation (state pass.old) }
         ensures own { Stays pass.old pass.new }
-        ensures met { Meets (call_of pass.old) (state pass.old) (state pass.new) }
+        ensures met { LoadsMore (key table.now) (call_of pass.old) (state pass.old) (state pass.new) }
         ensures class { class_number result ≡ class_in (place_held self.now.header (state pass.old).headers.held) }
+        ensures alone { Runs (FindsClass (key table.now) self.now.header result) (state pass.old) (state pass.new) }
     {
         class_in(self.place(table, pass))
     }
@@ -50,10 +55,12 @@ impl Locked {
         requires own { IsPassOf table.now pass.old }
         requires locked { HasLock (key table.now) self.now.header self.now.generation (state pass.old) }
         ensures own { Stays pass.old pass.new }
-        ensures met { Meets (call_of pass.old) (state pass.old) (state pass.new) }
+        ensures met { LoadsMore (key table.now) (call_of pass.old) (state pass.old) (state pass.new) }
+        ensures loaded { LoadsPlace (key table.now) (call_of pass.old) self.now.header (state pass.old) (state pass.new) }
         ensures place { result ≡ place_held self.now.header (state pass.old).headers.held }
         ensures block { HasBlock (key table.now) self.now.header result (state pass.old).headers.held }
         ensures limits { IsInLimits (key table.now) }
+        ensures alone { Runs (FindsWord (key table.now) (in_headers (at_place self.now.header)) result) (state pass.old) (state pass.new) }
     {
         load(table, pass, table.place_at(self.header))
     }
@@ -69,7 +76,7 @@ impl Locked {
         ensures same { self.new ≡ self.old }
         ensures locked { HasLock (key table.now) self.new.header self.new.generation (state pass.new) }
         ensures held { HoldsBlock (key table.now) (class_number result.class) result.number (state pass.new).blocks }
-        ensures changed { Exchanges (call_of pass.old) self.old.header block.class block.number len result.class result.number (state pass.old) (state pass.new) }
+        ensures changed { Exchanges (key table.now) (call_of pass.old) self.old.header block.class block.number len result.class result.number (state pass.old) (state pass.new) }
     {
         let Block { class, number } = block;
         let old = self.place(table, pass);
@@ -88,7 +95,7 @@ impl Locked {
         ensures own { Stays pass.old pass.new }
         ensures stamp { result ≡ next_stamp (stamp_held self.now.header (state pass.old).headers.held) }
         ensures next { StoresNext (key table.now) (call_of pass.old) self.now.header result (state pass.old) (state pass.new) }
-        ensures stored { ComesTo (call_of pass.old) (state pass.old).blocks.held (stamped_at self.now.header result (state pass.old).headers.held) (state pass.old) (state pass.new) }
+        ensures stored { ComesTo (key table.now) (call_of pass.old) (state pass.old).blocks.held (stamped_at self.now.header result (state pass.old).headers.held) (state pass.old) (state pass.new) }
     {
         let stamp = self.stamp(table, pass).saturating_add(1);
         steps::store_field(table, pass, table.stamp_at(self.header), stamp);

@@ -6,11 +6,12 @@ ghost use Rattle.oak_model.specs.Recipe.{recipe_result};
 ghost use Rattle.arena_core.specs.Place.{class_in, length_in};
 ghost use Rattle.header_core.specs.HeaderHolds.{place_held};
 ghost use Rattle.header_core.specs.HeaderStep.{reworded};
+ghost use Rattle.oak_core.specs.Finding.{LoadsMore};
 ghost use Rattle.oak_core.specs.Passes.{IsPassOf, Stays, state, key, call_of, scratch_of};
 ghost use Rattle.oak_core.specs.Scratch.{StaysButScratch};
 ghost use Rattle.value_ops.specs.Rewriting.{HasWords};
 ghost use Rattle.value_ops.specs.HeldValue.{words_in, value_held};
-ghost use Rattle.value_ops.specs.UnderLock.{HasLock, Meets, ComesTo, Rewrites, Refills, words_over, with_words};
+ghost use Rattle.value_ops.specs.UnderLock.{HasLock, ComesTo, Rewrites, Refills, words_over, with_words};
 
 use crate::locking::Locked;
 use crate::recipes::{Recipe, apply_once};
@@ -25,7 +26,7 @@ impl Locked {
         requires words { HasWords (key table.now) self.now.header self.now.generation first (state pass.old) }
         requires inside { i < length (words_in self.now.header (state pass.old).headers.held) }
         ensures own { Stays pass.old pass.new }
-        ensures met { Meets (call_of pass.old) (state pass.old) (state pass.new) }
+        ensures met { LoadsMore (key table.now) (call_of pass.old) (state pass.old) (state pass.new) }
         ensures word { result ≡ slice_index (words_in self.now.header (state pass.old).headers.held) i }
     {
         load(table, pass, first + i as u32)
@@ -37,7 +38,7 @@ impl Locked {
         requires words { HasWords (key table.now) self.now.header self.now.generation first (state pass.old) }
         requires inside { i < length (words_in self.now.header (state pass.old).headers.held) }
         ensures own { Stays pass.old pass.new }
-        ensures stored { ComesTo (call_of pass.old) (state pass.old).blocks.held (reworded self.now.header i word (state pass.old).headers.held) (state pass.old) (state pass.new) }
+        ensures stored { ComesTo (key table.now) (call_of pass.old) (state pass.old).blocks.held (reworded self.now.header i word (state pass.old).headers.held) (state pass.old) (state pass.new) }
     {
         steps::store_word(table, pass, first + i as u32, word);
     }
@@ -48,7 +49,7 @@ impl Locked {
         requires words { HasWords (key table.now) self.now.header self.now.generation first (state pass.old) }
         requires long { len ≡ length_in (place_held self.now.header (state pass.old).headers.held) }
         ensures own { StaysButScratch pass.old pass.new }
-        ensures met { Meets (call_of pass.old) (state pass.old) (state pass.new) }
+        ensures met { LoadsMore (key table.now) (call_of pass.old) (state pass.old) (state pass.new) }
         ensures value { scratch_of pass.new ≡ value_held self.now.header (state pass.old).headers.held }
     {
         pass.scratch_mut().set_len(len);
@@ -64,7 +65,7 @@ impl Locked {
         requires words { HasWords (key table.now) self.now.header self.now.generation first (state pass.old) }
         requires long { length (scratch_of pass.old) ≡ length_in (place_held self.now.header (state pass.old).headers.held) }
         ensures own { Stays pass.old pass.new }
-        ensures stored { Rewrites (call_of pass.old) self.now.header (scratch_of pass.old) (state pass.old) (state pass.new) }
+        ensures stored { Rewrites (key table.now) (call_of pass.old) self.now.header (scratch_of pass.old) (state pass.old) (state pass.new) }
     {
         for i in 0..pass.scratch().bytes().len().div_ceil(WORD) {
             let word = word_from(pass.scratch().bytes(), i);
@@ -78,7 +79,7 @@ impl Locked {
         requires words { HasWords (key table.now) self.now.header self.now.generation first (state pass.old) }
         requires room { length bytes.now ≤ 8 * length (words_in self.now.header (state pass.old).headers.held) }
         ensures own { Stays pass.old pass.new }
-        ensures stored { ComesTo (call_of pass.old) (state pass.old).blocks.held (with_words self.now.header (words_over bytes.now (words_in self.now.header (state pass.old).headers.held)) (state pass.old).headers.held) (state pass.old) (state pass.new) }
+        ensures stored { ComesTo (key table.now) (call_of pass.old) (state pass.old).blocks.held (with_words self.now.header (words_over bytes.now (words_in self.now.header (state pass.old).headers.held)) (state pass.old).headers.held) (state pass.old) (state pass.new) }
     {
         for i in 0..bytes.len().div_ceil(WORD) {
             self.store_word(table, pass, first, i, word_from(bytes, i));
@@ -94,7 +95,7 @@ impl Locked {
         ensures own { StaysButScratch pass.old pass.new }
         ensures same { self.new ≡ self.old }
         ensures locked { HasLock (key table.now) self.new.header self.new.generation (state pass.new) }
-        ensures applied { Rewrites (call_of pass.old) self.old.header (recipe_result (told_kind recipe.old) (told_argument recipe.old) (value_held self.old.header (state pass.old).headers.held)) (state pass.old) (state pass.new) }
+        ensures applied { Rewrites (key table.now) (call_of pass.old) self.old.header (recipe_result (told_kind recipe.old) (told_argument recipe.old) (value_held self.old.header (state pass.old).headers.held)) (state pass.old) (state pass.new) }
         ensures once { calls recipe.new ≡ calls recipe.old + 1 }
         ensures kind { told_kind recipe.new ≡ told_kind recipe.old }
         ensures argument { told_argument recipe.new ≡ told_argument recipe.old }
@@ -115,7 +116,7 @@ impl Locked {
         ensures own { Stays pass.old pass.new }
         ensures same { self.new ≡ self.old }
         ensures locked { HasLock (key table.now) self.new.header self.new.generation (state pass.new) }
-        ensures filled { (c : Class) × (b : ℕ) × Refills (call_of pass.old) self.old.header c b bytes.now (state pass.old) (state pass.new) }
+        ensures filled { (c : Class) × (b : ℕ) × Refills (key table.now) (call_of pass.old) self.old.header c b bytes.now (state pass.old) (state pass.new) }
     {
         let place = self.place(table, pass);
         let class = class_in(place);

@@ -1,6 +1,9 @@
 use Rattle.std.proofs.Common.{◌+◌, sym, refl, ◌∙◌, subst, arith}
 use Rattle.oak_model.specs.Limits.{Sizes}
 use Rattle.header_core.specs.HeaderStep.{STATE, lock_header}
+use Rattle.oak_core.specs.AloneWords.{Runs}
+use Rattle.value_ops.specs.AloneLocks.{RefusesPin}
+use Rattle.value_ops.proofs.AloneLock.{refuses_first, never_lost, locks_alone}
 use Rattle.oak_core.specs.Passes.{state, key, call_of}
 use Rattle.oak_core.specs.Step.{on_headers}
 use Rattle.oak_core.proofs.HeaderNames.{pin_below}
@@ -49,3 +52,22 @@ returns-clause-locked c = let z : Sizes = key c.args.table.now in let call = cal
 pub returns-clause-has : goal.returns-clause-has
 returns-clause-has c = let z : Sizes = key c.args.table.now in let call = call_of c.args.pass.now in let h = c.args.header in let g = c.args.generation in let v = state c.args.pass.now in let w = state c.lock_header-found.new.pass in
     let l : LocksHeader z call h g v w = (returns-clause-locked c).2 in (has_lock z call h g v w l, is_unchanged z call h g v w l)
+
+pub returns-then-not-may_lock-clause-refused_alone : goal.returns-then-not-may_lock-clause-refused_alone
+returns-then-not-may_lock-clause-refused_alone c = let z : Sizes = key c.args.table.now in let h = c.args.header in let g = c.args.generation in let n = c.load-seen.result in let v = state c.args.pass.now in let u = state c.load-seen.new.pass in
+    subst (λ (y : NoLock). Runs (RefusesPin z h g y) v u) (sym c.refusal.ensures)
+    (refuses_first z (call_of c.args.pass.now) h g c.requires.inside c.pin_at-word.result n v u c.pin_at-word.ensures c.load-seen.ensures.loaded (sym c.may_lock.ensures ∙ c.if-not-may_lock.true))
+
+pub returns-then-found-seen-clause-refused_alone : goal.returns-then-found-seen-clause-refused_alone
+returns-then-found-seen-clause-refused_alone c = let z : Sizes = key c.args.table.now in let call = call_of c.args.pass.now in let h = c.args.header in let g = c.args.generation in let n = c.load-seen.result in let v = state c.args.pass.now in let u = state c.load-seen.new.pass in
+    let k = c.lock_header-found.result in let w = state c.lock_header-found.new.pass in let free = sym c.may_lock.ensures ∙ c.if-not-may_lock.false in
+    let t = told_in z call (call_of c.load-seen.new.pass) (on_headers (lock_header h n)) u k w c.load-seen.ensures.own.call
+    (c.lock_header-found.ensures.told h record { inside = c.requires.inside; word_is = c.pin_at-word.ensures; unpinned = (live_word n g free).0; new_is = (λ i. n + STATE) }) in
+    never_lost z call h g c.requires.inside c.pin_at-word.result n v u c.pin_at-word.ensures c.load-seen.ensures.loaded k w t c.if-found-seen.true (RefusesPin z h g c.refusal-then-found-seen.result)
+
+pub returns-clause-alone : goal.returns-clause-alone
+returns-clause-alone c = let z : Sizes = key c.args.table.now in let call = call_of c.args.pass.now in let h = c.args.header in let g = c.args.generation in let n = c.load-seen.result in let v = state c.args.pass.now in let u = state c.load-seen.new.pass in
+    let k = c.lock_header-found.result in let w = state c.lock_header-found.new.pass in let free = sym c.may_lock.ensures ∙ c.if-not-may_lock.false in
+    let t = told_in z call (call_of c.load-seen.new.pass) (on_headers (lock_header h n)) u k w c.load-seen.ensures.own.call
+    (c.lock_header-found.ensures.told h record { inside = c.requires.inside; word_is = c.pin_at-word.ensures; unpinned = (live_word n g free).0; new_is = (λ i. n + STATE) }) in
+    locks_alone z call h g c.requires.inside c.pin_at-word.result n v u c.pin_at-word.ensures c.load-seen.ensures.loaded k w t c.if-found-seen.false free

@@ -16,7 +16,7 @@ mark_dead-requires-clause-names c = let z : Sizes = key c.args.table.now in let 
 pub returns-clause-buried : goal.returns-clause-buried
 returns-clause-buried c = let z : Sizes = key c.args.table.now in let call = call_of c.args.pass.now in let h = c.args.self.header in let g = c.args.self.generation in let x = c.store_next_stamp-stamp.result in let v = state c.args.pass.now in let u = state c.store_next_stamp-stamp.new.pass in let w = state c.mark_dead.new.pass in let n = c.mark_dead.result in
     let t : MarksDead z call h u n w = told_in z call (call_of c.store_next_stamp-stamp.new.pass) (on_headers (mark_dead h)) u n w c.store_next_stamp-stamp.ensures.own.call (c.mark_dead.ensures.told h record { inside = c.requires.locked.inside; word_is = c.pin_at.ensures }) in
-    buries z call h g x v u (is_stamped z call h g v c.requires.locked x u c.store_next_stamp-stamp.ensures.stored) n w t c.store_next_stamp-stamp.ensures.next (headers_come call v.blocks.held (stamped_at h x v.headers.held) v u c.store_next_stamp-stamp.ensures.stored)
+    buries z call h g x v u (is_stamped z call h g v c.requires.locked x u c.store_next_stamp-stamp.ensures.stored) n w t c.store_next_stamp-stamp.ensures.next (headers_come z call v.blocks.held (stamped_at h x v.headers.held) v u c.store_next_stamp-stamp.ensures.stored)
 
 pub returns-clause-has : goal.returns-clause-has
 returns-clause-has c = let z : Sizes = key c.args.table.now in let call = call_of c.args.pass.now in let h = c.args.self.header in let g = c.args.self.generation in let x = c.store_next_stamp-stamp.result in let v = state c.args.pass.now in let u = state c.store_next_stamp-stamp.new.pass in let w = state c.mark_dead.new.pass in let n = c.mark_dead.result in

@@ -32,12 +32,12 @@ stored c = let z : Sizes = key c.args.table.now in let call = call_of c.args.pas
 
 pub returns-clause-changed : goal.returns-clause-changed
 returns-clause-changed c = let z : Sizes = key c.args.table.now in let call = call_of c.args.pass.now in let h = c.args.self.now.header in let d : Class = c.args.block.class in let b = c.args.block.number in let v = state c.args.pass.now in let u = state c.place-old.new.pass in let w = state c.store_field.new.pass in
-    let small : b < 2 ^ 32 = omega arith in let e = block_loaded call h v u c.place-old.ensures.met c.place-old.result c.place-old.ensures.place c.class_in.result c.block_in.result c.class_in.ensures c.block_in.ensures in
-    subst (λ (p : Class × ℕ). Exchanges call h d b c.args.len p.0 p.1 v w) (λ i. (e.0 i, e.1 i)) (exchanges z call h c.args.self.now.generation d b c.args.len v u c.requires.locked c.place-old.ensures.met c.requires.held small c.requires.fits w (stored c))
+    let small : b < 2 ^ 32 = omega arith in let e = block_loaded z call v u c.place-old.ensures.met h c.place-old.result c.place-old.ensures.place c.class_in.result c.block_in.result c.class_in.ensures c.block_in.ensures in
+    subst (λ (p : Class × ℕ). Exchanges z call h d b c.args.len p.0 p.1 v w) (λ i. (e.0 i, e.1 i)) (exchanges z call h c.args.self.now.generation d b c.args.len v u c.requires.locked c.place-old.ensures.met c.requires.held small c.requires.fits w (stored c) c.place-old.ensures.loaded)
 
 pub returns-clause-held : goal.returns-clause-held
 returns-clause-held c = let z : Sizes = key c.args.table.now in let call = call_of c.args.pass.now in let h = c.args.self.now.header in let d : Class = c.args.block.class in let b = c.args.block.number in let v = state c.args.pass.now in let u = state c.place-old.new.pass in let w = state c.store_field.new.pass in
-    let small : b < 2 ^ 32 = omega arith in let e = block_loaded call h v u c.place-old.ensures.met c.place-old.result c.place-old.ensures.place c.class_in.result c.block_in.result c.class_in.ensures c.block_in.ensures in
+    let small : b < 2 ^ 32 = omega arith in let e = block_loaded z call v u c.place-old.ensures.met h c.place-old.result c.place-old.ensures.place c.class_in.result c.block_in.result c.class_in.ensures c.block_in.ensures in
     subst (λ (p : Class × ℕ). HoldsBlock z (class_number p.0) p.1 w.blocks) (λ i. (e.0 i, e.1 i)) (holds_old z call h c.args.self.now.generation d b c.args.len v u c.requires.locked c.place-old.ensures.met c.requires.held small c.requires.fits w (stored c))
 
 pub returns-clause-locked : goal.returns-clause-locked

@@ -7,13 +7,14 @@ use Rattle.arena_core.proofs.PlaceLaws.{class_number-from}
 use Rattle.header_core.specs.HeaderHolds.{place_held}
 use Rattle.header_core.specs.HeaderStep.{change_place}
 use Rattle.oak_core.specs.declared.states.PassState.{PassState}
+use Rattle.oak_core.specs.Finding.{LoadsMore}
 use Rattle.oak_core.specs.HeaderCalls.{of_locked_place, ChangesPlace}
 use Rattle.oak_core.specs.Passes.{state, key, call_of}
 use Rattle.oak_core.specs.Step.{on_headers, MayOnHeaders}
 use Rattle.oak_core.proofs.OwnerLaws.{place_below}
 use Rattle.value_ops.specs.Rewriting.{HasWords}
 use Rattle.value_ops.specs.HeldValue.{words_in}
-use Rattle.value_ops.specs.UnderLock.{HasLock, ComesTo, Meets, Refills, words_over, with_words}
+use Rattle.value_ops.specs.UnderLock.{HasLock, ComesTo, Refills, words_over, with_words}
 use Rattle.value_ops.proofs.ComesFurther.{comes_in}
 use Rattle.oak_core.proofs.MetMore.{told_in}
 use Rattle.value_ops.proofs.RefillFacts.{may_refill, refills, locked_still}
@@ -22,9 +23,9 @@ use Rattle.value_ops.proofs.locking.Locked.fill.Goals as goal
 
 -- the bytes that were stored, and the place word, in the call
 
-stored_in : (first now h : ℕ) (bytes : List ℕ) (v y u : PassState) → now ≡ first → Meets first v y → ComesTo now y.blocks.held (with_words h (words_over bytes (words_in h y.headers.held)) y.headers.held) y u
-    → ComesTo first v.blocks.held (with_words h (words_over bytes (words_in h v.headers.held)) v.headers.held) v u
-stored_in first now h bytes v y u e met c = stored_since first h bytes v y u met (comes_in first now y.blocks.held (with_words h (words_over bytes (words_in h y.headers.held)) y.headers.held) y u e c)
+stored_in : (z : Sizes) (first now h : ℕ) (bytes : List ℕ) (v y u : PassState) → now ≡ first → LoadsMore z first v y → ComesTo z now y.blocks.held (with_words h (words_over bytes (words_in h y.headers.held)) y.headers.held) y u
+    → ComesTo z first v.blocks.held (with_words h (words_over bytes (words_in h v.headers.held)) v.headers.held) v u
+stored_in z first now h bytes v y u e met c = stored_since z first h bytes v y u met (comes_in z first now y.blocks.held (with_words h (words_over bytes (words_in h y.headers.held)) y.headers.held) y u e c)
 
 stores_in : (z : Sizes) (first now h n x : ℕ) (u w : PassState) → now ≡ first → n ≡ x → ChangesPlace z now h n u w → ChangesPlace z first h x u w
 stores_in z first now h n x u w e is t = subst (λ (k : ℕ). ChangesPlace z first h k u w) is (t.0, told_in z first now (on_headers (change_place h n)) u t.0 w e t.1)
@@ -37,7 +38,7 @@ pub store_field-requires-clause-names : goal.store_field-requires-clause-names
 store_field-requires-clause-names c = let z : Sizes = key c.args.table.now in let call = call_of c.args.pass.now in let h = c.args.self.now.header in let g = c.args.self.now.generation in let bytes : List ℕ = c.args.bytes.now in let d : Class = c.requires.fits.0 in let first = c.bytes_at.result in let b = c.block_in-number.result in
     let v = state c.args.pass.now in let y = state c.place-place.new.pass in let u = state c.store_bytes.new.pass in let o = c.place-place.ensures in
     let is : HasWords z h g first v = words_found z h g v o.limits c.requires.locked c.place-place.result o.place o.block c.class_in-class.result b first c.class_in-class.ensures c.block_in-number.ensures c.bytes_at.ensures in
-    let s = stored_in call (call_of c.place-place.new.pass) h bytes v y u o.own.call o.met c.store_bytes.ensures.stored in
+    let s = stored_in z call (call_of c.place-place.new.pass) h bytes v y u o.own.call o.met c.store_bytes.ensures.stored in
     let block : block_in (place_held h v.headers.held) ≡ b = ap block_in (sym o.place) ∙ sym c.block_in-number.ensures in
     let word : c.place_word.result ≡ place_word (class_number d) b (length bytes) = c.place_word.ensures ∙ ap (λ (k : ℕ). place_word k b (length bytes)) (class_again c.place-place.result (place_held h v.headers.held) c.class_in-class.result d c.class_in-class.ensures o.place o.block.named c.requires.fits.2) in
     let may = subst (λ (x : ℕ). MayOnHeaders z (change_place h x) u) (sym word) (may_refill z call h g first v is bytes d b c.block_in-number.type_inv c.requires.fits.1 c.requires.fits.2 block u s) in
@@ -45,11 +46,11 @@ store_field-requires-clause-names c = let z : Sizes = key c.args.table.now in le
 
 -- the header is locked still, and its value is the bytes
 refilled : (c : goal.After-store_field) → HasLock (key c.args.table.now) c.args.self.now.header c.args.self.now.generation (state c.store_field.new.pass)
-    × Refills (call_of c.args.pass.now) c.args.self.now.header c.requires.fits.0 c.block_in-number.result c.args.bytes.now (state c.args.pass.now) (state c.store_field.new.pass)
+    × Refills (key c.args.table.now) (call_of c.args.pass.now) c.args.self.now.header c.requires.fits.0 c.block_in-number.result c.args.bytes.now (state c.args.pass.now) (state c.store_field.new.pass)
 refilled c = let z : Sizes = key c.args.table.now in let call = call_of c.args.pass.now in let h = c.args.self.now.header in let g = c.args.self.now.generation in let bytes : List ℕ = c.args.bytes.now in let d : Class = c.requires.fits.0 in let first = c.bytes_at.result in let b = c.block_in-number.result in
     let v = state c.args.pass.now in let y = state c.place-place.new.pass in let u = state c.store_bytes.new.pass in let o = c.place-place.ensures in
     let is : HasWords z h g first v = words_found z h g v o.limits c.requires.locked c.place-place.result o.place o.block c.class_in-class.result b first c.class_in-class.ensures c.block_in-number.ensures c.bytes_at.ensures in
-    let s = stored_in call (call_of c.place-place.new.pass) h bytes v y u o.own.call o.met c.store_bytes.ensures.stored in
+    let s = stored_in z call (call_of c.place-place.new.pass) h bytes v y u o.own.call o.met c.store_bytes.ensures.stored in
     let block : block_in (place_held h v.headers.held) ≡ b = ap block_in (sym o.place) ∙ sym c.block_in-number.ensures in
     let word : c.place_word.result ≡ place_word (class_number d) b (length bytes) = c.place_word.ensures ∙ ap (λ (k : ℕ). place_word k b (length bytes)) (class_again c.place-place.result (place_held h v.headers.held) c.class_in-class.result d c.class_in-class.ensures o.place o.block.named c.requires.fits.2) in
     let may = subst (λ (x : ℕ). MayOnHeaders z (change_place h x) u) (sym word) (may_refill z call h g first v is bytes d b c.block_in-number.type_inv c.requires.fits.1 c.requires.fits.2 block u s) in

@@ -6,7 +6,7 @@ use Rattle.header_core.specs.declared.holds.HeldHeader.{HeldHeader}
 use Rattle.header_core.specs.HeaderHolds.{place_held}
 use Rattle.oak_core.specs.Passes.{state, key, call_of, scratch_of}
 use Rattle.value_ops.specs.HeldValue.{words_in}
-use Rattle.value_ops.proofs.ComesFurther.{comes_in, meets_both, headers_come}
+use Rattle.value_ops.proofs.ComesFurther.{loads_in, loads_both, headers_met}
 use Rattle.value_ops.proofs.RewriteFacts.{room}
 use Rattle.value_ops.proofs.ValueFacts.{word_of_loop}
 use Rattle.value_ops.proofs.WordLaws.{put_more, refill_whole}
@@ -18,11 +18,11 @@ loop-i-preserved c = let z : Sizes = key c.args.table.now in let call = call_of 
     let wide : length out ≡ length lent = c.put_word.auto.out ∙ ap length c.bytes_mut.ensures.value in
     let whole : refill (length lent) lent out ≡ out = refill_whole lent out wide in
     let was : lent ≡ scratch_of c.loop-i.pass = c.scratch_mut-in-loop-i.ensures.value ∙ o.own.scratch in
-    let old : c.bytes_mut.result.now ≡ scratch_of c.loop-i.pass = c.bytes_mut.ensures.value ∙ was in let i = c.loop-i.i in let rs = v.headers.held in let same = headers_come call v.blocks.held rs v u s.met in
+    let old : c.bytes_mut.result.now ≡ scratch_of c.loop-i.pass = c.bytes_mut.ensures.value ∙ was in let i = c.loop-i.i in let rs = v.headers.held in let same = headers_met z call v u s.met in
     let lt : 8 * i < length_in (place_held h rs) = subst (λ (n : ℕ). 8 * i < n) c.requires.long (word_of_loop c.args.len i c.div_ceil-i-end.result c.loop-i-test.true c.div_ceil-i-end.ensures) in
     record {
       stays = record { table = o.own.table ∙ s.stays.table; seat = o.own.seat ∙ s.stays.seat; call = o.own.call ∙ s.stays.call; scratch = refl };
-      met = meets_both call v u w s.met (comes_in call (call_of c.loop-i.pass) u.blocks.held u.headers.held u w s.stays.call o.met);
+      met = loads_both z call v u w s.met (loads_in z call (call_of c.loop-i.pass) u w s.stays.call o.met);
       long = ap length whole ∙ (wide ∙ (ap length was ∙ s.long));
       loaded = ap (take (8 * (i + 1))) whole ∙ put_more (words_in h rs) c.bytes_mut.result.now out (length_in (place_held h rs)) i c.load_word-word.result (ap length old ∙ (s.long ∙ c.requires.long)) lt
           (room z h c.args.self.now.generation c.args.first v c.requires.words) (o.word ∙ ap (λ (ks : List HeldHeader). get_or (words_in h ks) i 0) same) (ap (take (8 * i)) old ∙ s.loaded) c.put_word.ensures.put;

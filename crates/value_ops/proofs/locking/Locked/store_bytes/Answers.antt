@@ -27,7 +27,7 @@ loop-i-preserved c = let z : Sizes = key c.args.table.now in let h = c.args.self
     let i = c.loop-i.i in let lt : 8 * i < length bytes = word_of_loop (length bytes) i c.div_ceil-i-end.result c.loop-i-test.true c.div_ceil-i-end.ensures in record {
       stays = stays_both s.stays o.own;
       stored = stored_more z h c.args.self.now.generation c.args.first v c.requires.words bytes c.requires.room (call_of c.args.pass.now) i lt u s.stored c.word_from.result w c.word_from.ensures
-          (comes_in (call_of c.args.pass.now) (call_of c.loop-i.pass) u.blocks.held (reworded h i c.word_from.result u.headers.held) u w s.stays.call o.stored);
+          (comes_in z (call_of c.args.pass.now) (call_of c.loop-i.pass) u.blocks.held (reworded h i c.word_from.result u.headers.held) u w s.stays.call o.stored);
     }
 
 pub returns-clause-stored : goal.returns-clause-stored

@@ -11,12 +11,12 @@ use Rattle.value_ops.proofs.locking.Locked.store_next_stamp.Goals as goal
 
 pub store_field-requires-clause-names : goal.store_field-requires-clause-names
 store_field-requires-clause-names c = let z : Sizes = key c.args.table.now in let call = call_of c.args.pass.now in let h = c.args.self.now.header in let g = c.args.self.now.generation in let v = state c.args.pass.now in let u = state c.stamp.new.pass in
-    (of_stamp, h, record { inside = c.requires.locked.inside; word_is = c.stamp_at.ensures }, may_stamp z call h g c.saturating_add-stamp.result u (lock_met call v u c.stamp.ensures.met z h g c.requires.locked) c.saturating_add-stamp.type_inv)
+    (of_stamp, h, record { inside = c.requires.locked.inside; word_is = c.stamp_at.ensures }, may_stamp z call h g c.saturating_add-stamp.result u (lock_met z call v u c.stamp.ensures.met h g c.requires.locked) c.saturating_add-stamp.type_inv)
 
 -- the store, in the call
 stores_of : (c : goal.After-store_field) → StoresStamp (key c.args.table.now) (call_of c.args.pass.now) c.args.self.now.header c.saturating_add-stamp.result (state c.stamp.new.pass) (state c.store_field.new.pass)
 stores_of c = let z : Sizes = key c.args.table.now in let call = call_of c.args.pass.now in let h = c.args.self.now.header in let g = c.args.self.now.generation in let v = state c.args.pass.now in let u = state c.stamp.new.pass in let w = state c.store_field.new.pass in let x = c.saturating_add-stamp.result in
-    let t = c.store_field.ensures.told of_stamp h record { inside = c.requires.locked.inside; word_is = c.stamp_at.ensures } (may_stamp z call h g x u (lock_met call v u c.stamp.ensures.met z h g c.requires.locked) c.saturating_add-stamp.type_inv) in
+    let t = c.store_field.ensures.told of_stamp h record { inside = c.requires.locked.inside; word_is = c.stamp_at.ensures } (may_stamp z call h g x u (lock_met z call v u c.stamp.ensures.met h g c.requires.locked) c.saturating_add-stamp.type_inv) in
     (t.0, told_in z call (call_of c.stamp.new.pass) (on_headers (store_stamp h x)) u t.0 w c.stamp.ensures.own.call t.1)
 
 pub returns-clause-stored : goal.returns-clause-stored

@@ -36,7 +36,7 @@ loop-i-preserved c = let z : Sizes = key c.args.table.now in let h = c.args.self
     let same : c.bytes-in-loop-i.result.now ≡ bytes = c.bytes-in-loop-i.ensures.bytes ∙ (c.scratch-in-loop-i.ensures ∙ s.stays.scratch) in record {
       stays = stays_both s.stays o.own;
       stored = stored_more z h g c.args.first v is bytes (as_long_fits z h g c.args.first v is bytes c.requires.long) (call_of c.args.pass.now) i lt u s.stored x w (c.word_from-word.ensures ∙ ap (λ (xs : List ℕ). get_or (words_of xs) i 0) same)
-          (comes_in (call_of c.args.pass.now) (call_of c.loop-i.pass) u.blocks.held (reworded h i x u.headers.held) u w s.stays.call o.stored);
+          (comes_in z (call_of c.args.pass.now) (call_of c.loop-i.pass) u.blocks.held (reworded h i x u.headers.held) u w s.stays.call o.stored);
     }
 
 pub returns-clause-stored : goal.returns-clause-stored

@@ -1,4 +1,4 @@
-use Rattle.std.proofs.Common.{ℕ, arith}
+use Rattle.std.proofs.Common.{ℕ, ◌+◌, arith}
 use Rattle.oak_model.specs.Limits.{Sizes}
 use Rattle.arena_core.specs.Place.{block_in}
 use Rattle.header_core.specs.HeaderHolds.{place_held}
@@ -16,5 +16,5 @@ store_word-requires-clause-names c = let z : Sizes = key c.args.table.now in let
 
 pub returns-clause-stored : goal.returns-clause-stored
 returns-clause-stored c = let z : Sizes = key c.args.table.now in let h = c.args.self.now.header in let g = c.args.self.now.generation in let v = state c.args.pass.now in let is = c.requires.words in let b : ℕ = block_in (place_held h v.headers.held) in
-    stores z (call_of c.args.pass.now) h is.block.named.class b c.args.i c.args.word v (state c.store_word.new.pass)
+    stores z (call_of c.args.pass.now) h is.block.named.class b c.args.i (c.args.first + c.args.i) c.args.word v (state c.store_word.new.pass) (names z h g c.args.first v is c.args.i c.requires.inside)
     (c.store_word.ensures.told (of_locked h) is.block.named.class b c.args.i (names z h g c.args.first v is c.args.i c.requires.inside) (may_store z h g c.args.first v is))
