@@ -1,5 +1,5 @@
 -- The numbers of keys are in the order of the keys, and two keys of one number are one.
-use Rattle.std.proofs.Common.{◌≡◌, ℕ, zero, suc, ◌+◌, ◌*◌, ◌^◌, ◌<◌, ◌≤◌, List, [], ◌∷◌, length, slice_index, sym, ◌∙◌, ap, refl, subst, arith, mul-le-mul_right, cond, ◌==◌, eq-eqb, ne_eqb}
+use Rattle.std.proofs.Common.{◌≡◌, ℕ, zero, suc, ◌+◌, ◌*◌, ◌^◌, ◌<◌, ◌≤◌, List, [], ◌∷◌, length, sym, ◌∙◌, ap, refl, subst, arith, mul-le-mul_right, cond, ◌==◌, eq-eqb, ne_eqb}
 use Rattle.std.proofs.lemmas.Bool.{lt-ltb, le-ltb}
 use Rattle.std.specs.Ordering.{nat_cmp, ordering_then, ordering_reverse, is_eq}
 use Rattle.std.specs.declared.cmp.Ordering.{Ordering}
@@ -8,12 +8,9 @@ use Rattle.std.specs.Cmp.Lexicographic.{nat_list_cmp_total}
 use mathlib.Core.Logic.{dite}
 use native.Mathlib.Decide.{ℕ_discrete, dec_lt}
 use Rattle.oak_model.specs.declared.limits.TheConstants.{GREATEST_KEY}
-use Rattle.oak_model.specs.Key.{IsKey, key_cmp, IsKeyBefore}
+use Rattle.oak_model.specs.Key.{IsKey, AreBytes, key_cmp, IsKeyBefore}
 use Rattle.oak_model.specs.KeyNumber.{digits_number, key_number}
 use Rattle.oak_model.proofs.KeyLaws.{same_is}
-
-abbrev pub AreBytes : List ℕ → Type 0
-AreBytes b = (i : ℕ) → slice_index b i < 256
 
 cmp-cases : (x y : ℕ) (P : Ordering → Type 0) → (x < y → P Less) → (x ≡ y → P Equal) → (y < x → P Greater) → P (nat_cmp x y)
 cmp-cases x y P less equal greater = dite (dec_lt x y)

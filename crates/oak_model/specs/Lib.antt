@@ -10,6 +10,7 @@ pub mod Cell
 pub mod History
 pub mod Life
 pub mod Fits
+pub mod Needs
 pub mod Scan
 pub mod Counts
 pub mod KeyNumber

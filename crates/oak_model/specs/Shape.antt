@@ -1,5 +1,5 @@
 -- The first field of a shape that is outside its limits.
-use Rattle.std.specs.Prelude.{ℕ, ◌&&◌, not, nat_le, Bool, List, ◌∷◌, Option, find, map, slice_index}
+use Rattle.std.specs.Prelude.{◌≡◌, ℕ, ◌&&◌, not, nat_le, Bool, List, ◌∷◌, Option, find, map, slice_index}
 use Rattle.oak_model.specs.declared.limits.TheConstants.{GREATEST_PASSES, GREATEST_CHUNKS, LEAST_ENTRIES, GREATEST_ENTRIES, GREATEST_HEADERS, GREATEST_BLOCKS}
 use Rattle.oak_model.specs.declared.shapes.ShapeField.{ShapeField}
 use Rattle.oak_model.specs.declared.shapes.ShapeField.TheVariants.{Passes, Chunks, Entries, Headers, Blocks}
@@ -23,6 +23,10 @@ greatest (Blocks c) = slice_index GREATEST_BLOCKS (class_number c)
 
 abbrev pub in_limits : ShapeField × ℕ → Bool
 in_limits f = nat_le (least f.0) f.1 && nat_le f.1 (greatest f.0)
+
+-- these two are accepted, and no number outside them
+abbrev pub HasLimits : ShapeField → ℕ → ℕ → Type 0
+HasLimits f low high = (least f ≡ low) × (greatest f ≡ high)
 
 -- the fields with their numbers, in the order of the arguments of `Shape::make`
 abbrev pub fields : Sizes → List (ShapeField × ℕ)

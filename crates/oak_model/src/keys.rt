@@ -3,7 +3,7 @@ ghost use Rattle.std.proofs.Common.{rules};
 ghost use Rattle.std.specs.Ordering.{as_partial_cmp};
 ghost use Rattle.std.specs.Cmp.Rules.{comparing};
 ghost use Rattle.std.specs.Cmp.Lexicographic.{pointwise, nat_list_cmp_total};
-ghost use Rattle.oak_model.specs.Key.{IsKey, key_cmp};
+ghost use Rattle.oak_model.specs.Key.{IsKey, is_key, key_cmp};
 
 use crate::limits::GREATEST_KEY;
 use crate::memory::OutOfMemory;
@@ -20,7 +20,8 @@ pub fn cmp_keys(a: &[u8], b: &[u8]) -> Ordering
 
 /// Whether the bytes can be a key: 1 to [`GREATEST_KEY`] of them.
 pub fn is_key(bytes: &[u8]) -> bool
-    ensures { IsTrue result ↔ IsKey bytes.now }
+    ensures test { result ≡ is_key bytes.now }
+    ensures key { IsTrue result ↔ IsKey bytes.now }
 {
     !bytes.is_empty() && bytes.len() <= GREATEST_KEY
 }

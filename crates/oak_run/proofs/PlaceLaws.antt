@@ -1,13 +1,13 @@
--- A reply's place by the replies and by the history is the same.
+-- A reply's place by the replies and by the history is the same, for all runs whose replies tell each write once.
 use Rattle.std.proofs.Common.{◌≡◌, ℕ, suc, ◌+◌, Bool, true, false, cond, leb, ◌&&◌, List, [], ◌∷◌, ◌++◌, map, Some, None, refl, sym, ap, ◌∙◌, arith, inl, inr}
 use Rattle.std.specs.Prelude.{count_by, sum_by, option_to_list}
+use Rattle.std.specs.List.Sorted.{IsPermutation}
 use Rattle.std.proofs.lemmas.Bool.{cases_Bool}
 use Rattle.std.proofs.lemmas.List.Sums.{sum_by-cons}
 use Rattle.std.proofs.lemmas.List.Recursion.{is_count_by}
 use Rattle.std.proofs.lemmas.List.Sorted.{sum_by-IsPermutation, IsPermutation-map}
 use Rattle.oak_model.specs.declared.replies.Wrote.{Wrote}
 use Rattle.oak_model.specs.declared.replies.Wrote.TheVariants as wrote
-use Rattle.oak_model.specs.declared.replies.Pair.{Pair}
 use Rattle.oak_model.specs.declared.replies.Reply.{Reply}
 use Rattle.oak_model.specs.declared.replies.Reply.TheVariants as replies
 use Rattle.oak_model.specs.Key.{same_key}
@@ -19,7 +19,7 @@ use Rattle.oak_script.specs.Places.{stamp_of, stamp_of_wrote, is_call_on, stamps
 use Rattle.oak_run.specs.Told.{ask_of, reply_at, makes_write, wrote_writes, wrote_at}
 use Rattle.oak_run.specs.Turn.{Turn}
 use Rattle.oak_run.specs.Answers.{Mark, mark_of, marks, all_marks, asks_for, writes_key}
-use Rattle.oak_run.specs.RunFits.{PlainFits, calls_of, replies_of}
+use Rattle.oak_run.specs.RunFits.{calls_of, replies_of}
 
 -- ---- the stamps that turns tell
 
@@ -110,8 +110,9 @@ place-counted (w ∷ ws) at = rw (sum_by-cons (up_to at) w.stamp (map (λ (m : M
     step true = omega arith
     step false = omega arith
 
-pub same-places : (h : Histories) (calls : List (List Call)) (said : List (List Reply)) (finals : List Pair) → PlainFits h calls said finals → (k : List ℕ) (at : ℕ) → place_of (h k) at ≡ written_upto calls said k at
-same-places h calls said finals f k at =
-    let moved = IsPermutation-map (λ (m : Mark). m.stamp) (all_marks k 1 f.threads) (map mark_of (h k)) (f.replies.once k) in
-    let sums = sum_by-IsPermutation (up_to at) (map (λ (m : Mark). m.stamp) (all_marks k 1 f.threads)) (map (λ (m : Mark). m.stamp) (map mark_of (h k))) moved in
-    rw (← f.of_calls, ← f.of_replies) (place-counted (h k) at ∙ sums ∙ ap (λ (xs : List ℕ). sum_by (up_to at) xs) (sym (stamps-all k 1 f.threads)) ∙ counted at (stamps_of (calls_of f.threads) (replies_of f.threads) k))
+pub same-places : (h : Histories) (threads : List (List Turn)) (calls : List (List Call)) (said : List (List Reply)) → calls_of threads ≡ calls → replies_of threads ≡ said → ((q : List ℕ) → IsPermutation (all_marks q 1 threads) (map mark_of (h q)))
+    → (k : List ℕ) (at : ℕ) → place_of (h k) at ≡ written_upto calls said k at
+same-places h threads calls said of_calls of_replies once k at =
+    let moved = IsPermutation-map (λ (m : Mark). m.stamp) (all_marks k 1 threads) (map mark_of (h k)) (once k) in
+    let sums = sum_by-IsPermutation (up_to at) (map (λ (m : Mark). m.stamp) (all_marks k 1 threads)) (map (λ (m : Mark). m.stamp) (map mark_of (h k))) moved in
+    rw (← of_calls, ← of_replies) (place-counted (h k) at ∙ sums ∙ ap (λ (xs : List ℕ). sum_by (up_to at) xs) (sym (stamps-all k 1 threads)) ∙ counted at (stamps_of (calls_of threads) (replies_of threads) k))

@@ -12,9 +12,9 @@ use Rattle.oak_model.specs.declared.recipes.RecipeKind.{RecipeKind}
 use Rattle.oak_model.specs.declared.recipes.RecipeKind.TheVariants.{Add, Xor, Rev}
 use Rattle.oak_model.specs.Key.{key_cmp}
 use Rattle.oak_model.specs.Recipe.{IsArgument}
-use Rattle.oak_model.specs.History.{Histories, last_state}
+use Rattle.oak_model.specs.History.{Histories, last_state, place_of}
 use Rattle.oak_model.specs.Scan.{IsRising, value_in}
-use Rattle.oak_model.proofs.LegalLaws.{dense-legal}
+use Rattle.oak_model.proofs.LegalLaws.{dense-legal, place-dense}
 use Rattle.oak_script.specs.declared.scripts.Call.{Call}
 use Rattle.oak_script.specs.declared.scripts.Call.TheVariants.{Put, Get, PutNew, Compute, Upsert, Remove, Hold, Look, Scan, Back}
 use Rattle.oak_script.specs.Grammar.{CallFits, ArgumentFits}
@@ -67,6 +67,7 @@ running-end lasts holds cs ys r = (
     of_replies = r.of_replies;
     answered = r.answered;
     legal = λ q. dense-legal (r.history q) (r.plain.dense q) (r.plain.cell q);
+    ends = λ q. place-dense (r.history q) (length (r.history q)) (r.plain.dense q) (omega arith);
     distinct = r.plain.distinct;
     answers = r.goes.answers;
     once = r.once;
@@ -121,6 +122,10 @@ each-argument (c ∷ cs) each = (has_arguments c each.0, each-argument cs each.1
 states-of : (h : Histories) (finals : List Pair) (s : ShowsRange h None None finals) (q : List ℕ) → value_in finals q ≡ last_state (h q)
 states-of h finals s q = s.reads q
 
+last-places : (h : Histories) (ps : List Pair) → ((q : List ℕ) → place_of (h q) (length (h q)) ≡ length (h q)) → AllByRecursion (λ (p : Pair). p.at ≡ length (h p.key)) ps → AllByRecursion (λ (p : Pair). place_of (h p.key) p.at ≡ length (h p.key)) ps
+last-places h [] ends each = tt
+last-places h (p ∷ ps) ends each = (rw each.0 (ends p.key), last-places h ps ends each.1)
+
 pub plain-fits : (lasts : BTreeMap (List ℕ) Last) (cs : List Call) (ys : List Reply) (finals : List Pair) → RunsThread lasts cs ys → RangeDoes lasts None None finals → IsRising finals → (h : Histories) × PlainFits h (cs ∷ []) (ys ∷ []) finals
 plain-fits lasts cs ys finals r does rising =
     let h = r.0 in
@@ -130,6 +135,7 @@ plain-fits lasts cs ys finals r does rising =
         threads = t.turns ∷ [];
         of_calls = ap (λ (x : List Call). x ∷ []) t.of_calls;
         of_replies = ap (λ (x : List Reply). x ∷ []) t.of_replies;
+        answered = (t.answered, tt);
         legal = t.legal;
         distinct = t.distinct;
         replies = record {
@@ -140,6 +146,6 @@ plain-fits lasts cs ys finals r does rising =
         views = (t.views, tt);
         scans = (t.scans, tt);
         unrefused = (t.unrefused, tt);
-        final = record { states = λ q. states-of h finals (does h r.2) q; ordered = rising };
+        final = record { states = λ q. states-of h finals (does h r.2) q; places = last-places h finals t.ends (does h r.2).each; ordered = rising };
       },
     )

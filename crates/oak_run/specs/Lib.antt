@@ -4,6 +4,10 @@ pub mod Answers
 pub mod Order
 pub mod Views
 pub mod Scans
+pub mod Closing
+pub mod Refusals
+pub mod Ending
+pub mod Findings
 pub mod RunFits
 pub mod Plain
 pub mod ThreadRuns

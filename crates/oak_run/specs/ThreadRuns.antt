@@ -1,8 +1,8 @@
 -- One thread's run over kept histories.
-use Rattle.std.specs.Prelude.{◌≡◌, ℕ, List, map}
+use Rattle.std.specs.Prelude.{◌≡◌, ℕ, List, length, map}
 use Rattle.std.specs.BTreeMap.{BTreeMap}
 use Rattle.oak_model.specs.declared.replies.Reply.{Reply}
-use Rattle.oak_model.specs.History.{Histories, IsLegal, AreDistinctCalls}
+use Rattle.oak_model.specs.History.{Histories, IsLegal, AreDistinctCalls, place_of}
 use Rattle.oak_script.specs.declared.scripts.Call.{Call}
 use Rattle.oak_script.specs.Text.{CallsAnswered}
 use Rattle.oak_run.specs.declared.lasts.Last.{Last}
@@ -14,13 +14,14 @@ use Rattle.oak_run.specs.Scans.{ScansFit}
 use Rattle.oak_run.specs.RunFits.{NoneRefused}
 use Rattle.oak_run.specs.Keeps.{KeepsLasts}
 
--- the replies of caller 1 fit the histories, which hold its writes alone
+-- the replies of caller 1 fit the histories, which hold its writes alone; the number of each key's last write is the number of its writes
 pub record ThreadRuns (h : Histories) (calls : List Call) (replies : List Reply) : Type 0 where
   pub turns : List Turn
   pub of_calls : map (λ (t : Turn). t.call) turns ≡ calls
   pub of_replies : map (λ (t : Turn). t.reply) turns ≡ replies
   pub answered : CallsAnswered calls replies
   pub legal : (q : List ℕ) → IsLegal (h q)
+  pub ends : (q : List ℕ) → place_of (h q) (length (h q)) ≡ length (h q)
   pub distinct : AreDistinctCalls h
   pub answers : AnswersFit h 1 1 turns
   pub once : (q : List ℕ) → marks q 1 1 turns ≡ map mark_of (h q)

@@ -14,7 +14,7 @@ pub prints-run : (threads : List (List Call)) (replies : List (List Reply)) (fin
     → text ≡ run_text (written_upto threads replies) threads replies finals → PrintsRun threads text
 prints-run threads replies finals text answered f is =
     let h = f.0 in
-    let places : (λ (k : List ℕ) (at : ℕ). place_of (h k) at) ≡ written_upto threads replies = λ i k at. same-places h threads replies finals f.1 k at i in
+    let places : (λ (k : List ℕ) (at : ℕ). place_of (h k) at) ≡ written_upto threads replies = λ i k at. same-places h f.1.threads threads replies f.1.of_calls f.1.of_replies f.1.replies.once k at i in
     record {
       replies = replies;
       finals = finals;
