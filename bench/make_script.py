@@ -1,12 +1,18 @@
 #!/usr/bin/env python3
-"""Writes a script of mixed calls to standard output.
+"""Writes a script of many calls to standard output.
 
 usage: make_script.py KIND CALLS KEYS
 
-KIND is `puts` (puts and gets in turn) or `mixed` (all ten calls, with 32 scans).
+KIND is `puts` (puts and gets in turn) or `mixed` (all ten calls, with 32 scans). CALLS is the number of
+calls, from 0 to 262144, and KEYS the number of different keys, from 1 to 4294967296. The same words give
+the same script each time.
 """
 import random
 import sys
+
+MOST_CALLS = 262_144
+MOST_KEYS = 2 ** 32
+MOST_SCANS = 32
 
 
 def put_and_get(random_state, key, number):
@@ -27,10 +33,9 @@ def mixed(random_state, key, number, scans):
     ])
 
 
-def main():
-    kind, calls, keys = sys.argv[1], int(sys.argv[2]), int(sys.argv[3])
+def write_script(kind, calls, keys):
     random_state = random.Random(1)
-    scans = set(random_state.sample(range(calls), min(32, calls)))
+    scans = set(random_state.sample(range(calls), min(MOST_SCANS, calls)))
     lines = ["oak 1", "thread"]
     for number in range(calls):
         key = f"{random_state.randrange(keys):08x}"
@@ -40,6 +45,29 @@ def main():
             lines.append(mixed(random_state, key, number, scans))
     lines.append("end")
     sys.stdout.write("\n".join(lines) + "\n")
+
+
+def refuse(why):
+    usage = __doc__.split("\n\n", 1)[1].strip()
+    print(f"make_script.py: {why}\n{usage}", file=sys.stderr)
+    sys.exit(2)
+
+
+def number_in(word, name, least, most):
+    if not (word.isascii() and word.isdigit()) or not least <= int(word) <= most:
+        refuse(f"{name} is a number from {least} to {most}, and not {word!r}")
+    return int(word)
+
+
+def main():
+    words = sys.argv[1:]
+    if len(words) != 3:
+        refuse("three words are wanted")
+    if words[0] not in ("puts", "mixed"):
+        refuse(f"no such kind: {words[0]!r}")
+    calls = number_in(words[1], "CALLS", 0, MOST_CALLS)
+    keys = number_in(words[2], "KEYS", 1, MOST_KEYS)
+    write_script(words[0], calls, keys)
 
 
 main()

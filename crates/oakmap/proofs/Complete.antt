@@ -14,10 +14,10 @@ use Rattle.oakmap.specs.declared.status.Status.{Status}
 use Rattle.oakmap.specs.declared.status.Status.TheVariants.{Done, Usage, NoScript, ReadFault, WriteFault, NoMemory}
 use Rattle.oakmap.specs.Ended.{Input, Output, Ended, Unrisen}
 
-calm : (before now : ℕ) → Unrisen before now → Rose before now → ⊥
+pub calm : (before now : ℕ) → Unrisen before now → Rose before now → ⊥
 calm before now u r = omega (arith, u.0, u.1)
 
-all_read : (old now : Option (List ℕ)) (text input : List ℕ) → old ≡ Some text → ReadsToEnd old now GREATEST_INPUT input → input ≡ text
+pub all_read : (old now : Option (List ℕ)) (text input : List ℕ) → old ≡ Some text → ReadsToEnd old now GREATEST_INPUT input → input ≡ text
 all_read old now text input e r = by old now e r.took r.ended
   where
     by : (a b : Option (List ℕ)) → a ≡ Some text → Consumes a b input → IsAtEnd b → input ≡ text
@@ -25,7 +25,7 @@ all_read old now text input e r = by old now e r.took r.ended
     by (Some x) None e t d = absurd t
     by (Some x) (Some y) e t d = let z : x ≡ text = cc in sym (append-nil input) ∙ sym (rw d at t) ∙ z
 
-not_past : (old now : Option (List ℕ)) (text input : List ℕ) → old ≡ Some text → length text ≤ GREATEST_INPUT → ReadsPast old now GREATEST_INPUT input → ⊥
+pub not_past : (old now : Option (List ℕ)) (text input : List ℕ) → old ≡ Some text → length text ≤ GREATEST_INPUT → ReadsPast old now GREATEST_INPUT input → ⊥
 not_past old now text input e short r = by old now e r.took
   where
     by : (a b : Option (List ℕ)) → a ≡ Some text → Consumes a b input → ⊥

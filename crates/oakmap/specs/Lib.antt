@@ -1,3 +1,4 @@
 pub mod Messages
 pub mod RunOf
 pub mod Ended
+pub mod InputLength

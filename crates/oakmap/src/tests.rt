@@ -1,7 +1,9 @@
-use crate::top::top;
+use crate::ending::top;
+use crate::process::program;
 use outside::{MemorySink, MemorySource, SureSource};
 use std::alloc::Global;
-use std::process::Abort;
+use std::env::{Env, FillError};
+use std::process::{Abort, ExitCode};
 use std::test::Fail;
 
 /// The rows of one thread: a script without its first two lines and its last, and the text of its run, with a
@@ -193,5 +195,53 @@ fn refuses_an_input_that_is_too_long(rt: HostRuntime) -> Result<(), Fail> {
     assert_eq!(rt; ended, 3);
     let says = b"oakmap: input is longer than 16777216 bytes\n";
     assert_eq!(rt; sink.written(), says.as_slice());
+    Ok(())
+}
+
+/// The words with which a process was called, its name first.
+#[derive(Clone, Copy)]
+struct Called(&'static [&'static [u8]]);
+
+impl Env for Called {
+    fn arg(&self, i: usize, buf: &mut [u8]) -> Result<usize, FillError> {
+        let Some(word) = self.0.get(i) else {
+            return Err(FillError::NotPresent);
+        };
+        if buf.len() < word.len() {
+            return Err(FillError::TooLong);
+        }
+        buf[..word.len()].copy_from_slice(word);
+        Ok(word.len())
+    }
+
+    fn var(&self, _name: &str, _buf: &mut [u8]) -> Result<usize, FillError> {
+        Err(FillError::NotPresent)
+    }
+
+    fn var_at(&self, _i: usize, _buf: &mut [u8]) -> Result<usize, FillError> {
+        Err(FillError::NotPresent)
+    }
+}
+
+/// Each way to call the program on a script of no call, the status, and the line that it says.
+const CALLS: [(&[&[u8]], u8, &str); 5] = [
+    (&[b"oakmap", b"run"], 0, "map 0"),
+    (&[b"run", b"run"], 0, "map 0"),
+    (&[b"run"], 2, "oakmap: usage: oakmap run"),
+    (&[b"oakmap", b"run", b"run"], 2, "oakmap: usage: oakmap run"),
+    (&[b"oakmap", b"run\xff"], 2, "oakmap: usage: oakmap run"),
+];
+
+#[test]
+fn takes_the_words_behind_its_name(rt: HostRuntime) -> Result<(), Fail> {
+    let alloc = rt.alloc();
+    for (words, status, says) in CALLS {
+        let mut source = SureSource::make(bytes_of(alloc, "oak 1/thread/end/")?);
+        let mut sink = sink_of(alloc, &[])?;
+        let ended = program(&(Called(words), alloc), &mut source, &mut sink);
+        assert!(rt; ended == ExitCode::from(status));
+        let said = format!(in alloc; "{says}\n")?;
+        assert_eq!(rt; sink.written(), said.as_bytes());
+    }
     Ok(())
 }

@@ -6,7 +6,7 @@ use Rattle.oak_model.specs.declared.replies.Reply.{Reply}
 use Rattle.oak_script.specs.Text.{run_text}
 use Rattle.oak_script.specs.Places.{written_upto}
 use Rattle.oakmap.proofs.Printed.{prints-run}
-use Rattle.oakmap.proofs.top.run_text.Goals as goal
+use Rattle.oakmap.proofs.ending.run_text.Goals as goal
 
 pub returns : goal.returns
 returns c =
