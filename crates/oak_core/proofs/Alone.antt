@@ -14,7 +14,8 @@ use Rattle.oak_core.specs.declared.states.KeyedWrite.{KeyedWrite}
 use Rattle.oak_core.specs.declared.states.Numbers.{Numbers}
 use Rattle.oak_core.specs.declared.states.PassState.{PassState}
 use Rattle.oak_core.specs.Memory.{memory}
-use Rattle.oak_core.specs.PassState.{first_state, both_state, numbers_of, knowledge_of, rooted, has_number, is_parent, IsAlone, seen_of, history, spent_state}
+use Rattle.oak_core.specs.PassState.{both_state, numbers_of, knowledge_of, rooted, has_number, is_parent, IsAlone, seen_of, history, spent_state}
+use Rattle.oak_core.specs.Opening.{first_state}
 use Rattle.oak_core.specs.TableState.{TableState}
 use Rattle.oak_core.specs.Rule.{Rule}
 use Rattle.oak_core.specs.Splitting.{SplitsOff, Ends}
@@ -100,6 +101,6 @@ alone_again z call v w x w' x' alone off same_w same_x =
     alone_owing (both_state w' x') (omega arith) (join_one w' x' live off.number [] owes its has)
 
 -- the first pass is alone
-pub first_alone : IsAlone first_state
+pub first_alone : (z : Sizes) (g : ℕ) → IsAlone (first_state z g)
 unfolding total
-first_alone = record { first = let o = one_at-same 0 0 refl in omega arith; others = λ k h. absurd (omega arith) }
+first_alone z g = record { first = let o = one_at-same 0 0 refl in omega arith; others = λ k h. absurd (omega arith) }

@@ -24,7 +24,7 @@ found_more g fs fs' f grew right r k s = ⊎_elim (λ (t : get_elem? fs.met s.0 
     (λ (t : f ≡ s.1). right (ap (λ (x : Finding). x.word) t ∙ s.4) s.2 (ap (λ (x : Finding). x.found) t ∙ s.5) k s.6)
     (at_snoc fs.met f s.1 s.0 (subst (λ (l : List Finding). get_elem? l s.0 ≡ some s.1) grew s.3))
 
-none_found : (g : ℕ) (fs : Findings) → fs.met ≡ [] → FoundStays g fs
+pub none_found : (g : ℕ) (fs : Findings) → fs.met ≡ [] → FoundStays g fs
 none_found g fs e k s = absurd (some-ne-none s.1 (sym (subst (λ (l : List Finding). get_elem? l s.0 ≡ some s.1) e s.3)))
 
 -- where nothing was met, nothing was found and no call was noted

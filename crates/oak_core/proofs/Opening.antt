@@ -1,6 +1,7 @@
 -- The rule holds at the start.
-use Rattle.std.proofs.Common.{set, replicate, length-set, get_or-set_same, get_or-set_other, ◌≢◌, ne_eqb, eq-eqb, true≢false, ◌≡◌, ℕ, zero, suc, ◌+◌, ◌-◌, ◌%◌, ◌^◌, ◌<◌, ◌≤◌, cond, Bool, true, false, eqb, leb, ltb, ◌&&◌, List, [], ◌∷◌, length, get_or, sym, refl, ap, ◌∙◌, subst, arith}
+use Rattle.std.proofs.Common.{set, replicate, length-set, get_or-set_same, get_or-set_other, ◌≢◌, ne_eqb, eq-eqb, true≢false, ◌≡◌, ℕ, zero, suc, ◌+◌, ◌-◌, ◌*◌, ◌%◌, ◌^◌, ◌<◌, ◌≤◌, cond, Bool, true, false, eqb, leb, ltb, ◌&&◌, List, [], ◌∷◌, length, get_or, sym, refl, ap, ◌∙◌, subst, arith}
 use Rattle.std.specs.Int.{bit_at}
+use Rattle.std.proofs.lemmas.Bool.{le-leb, le-ltb, lt-ltb}
 use Rattle.std.proofs.lemmas.Nat.Bits.{bit_at-pow_same, bit_at-pow_other}
 use mathlib.Core.Logic.{dite}
 use native.Mathlib.Decide.{ℕ_discrete, dec_lt}
@@ -9,19 +10,28 @@ use Rattle.oak_model.specs.Limits.{Sizes, IsInLimits}
 use Rattle.oak_model.specs.Counts.{one_at, total, rows}
 use Rattle.oak_model.specs.Kept.{KeptNumbersStand}
 use Rattle.oak_model.proofs.Lists.{every_one, rows_length, rows_at, same_elements}
-use Rattle.oak_model.proofs.Counting.{one_at-same, one_at-other}
+use Rattle.oak_model.proofs.Counting.{test-cases, one_at-same, one_at-other}
 use Rattle.arena_core.specs.HeldBlocks.{kept_of_blocks}
+use Rattle.chunk_core.specs.Rooms.{RoomSpot, at_room_pin}
+use Rattle.arena_core.specs.Arena.{at_bits}
 use Rattle.header_core.specs.HeaderHolds.{kept_of_headers}
+use Rattle.header_core.specs.Headers.{at_pin}
 use Rattle.header_core.specs.declared.layout.TheConstants.{HEADER_WORDS}
 use Rattle.header_core.specs.declared.states.TheConstants.{LAST_GENERATION}
-use Rattle.oak_core.specs.Memory.{at_given, same_spot, read, memory, headers_at, rooms_at, word_count}
-use Rattle.oak_core.specs.PassState.{first_state, kept_of}
-use Rattle.oak_core.specs.Rule.{AloneStands, WordsStand, NumbersStand, FindingsHold, SpentIsSpent, JoinedStand, Rule, PassStands}
-use Rattle.oak_core.specs.Schedule.{opening_number, opening}
-use Rattle.oak_core.proofs.Words.{first_word, memory_read}
-use Rattle.oak_core.proofs.Found.{none_met}
-use Rattle.oak_core.proofs.AloneLast.{alone_fresh}
-use Rattle.oak_core.proofs.OpeningBlocks.{opening_blocks, opening_headers}
+use Rattle.oak_core.specs.declared.states.PassState.{PassState}
+use Rattle.oak_core.specs.Memory.{Spot, at_given, in_headers, in_rooms, IsInside, is_inside, same_spot, index, number_at, read, memory, headers_at, rooms_at, word_count}
+use Rattle.oak_core.specs.PassState.{bare_state, no_findings, kept_of}
+use Rattle.oak_core.specs.Rule.{AloneStands, FoundStays, WordsStand, NumbersStand, FindingsHold, SpentIsSpent, JoinedStand, Rule, PassStands}
+use Rattle.oak_core.specs.AloneWords.{LeavesWords}
+use Rattle.oak_core.specs.Opening.{opening_number, opening_words, making, first_state, IsOpened}
+use Rattle.oak_core.specs.Schedule.{opening}
+use Rattle.oak_core.proofs.Words.{first_word, memory_read, read-of, inside_is, index_below, index_apart, index-rooms, rooms_from, number_at-out}
+use Rattle.oak_core.proofs.Alone.{first_alone}
+use Rattle.oak_core.proofs.Found.{found_more, none_found}
+use Rattle.oak_core.proofs.AloneLast.{alone_last}
+use Rattle.oak_core.proofs.AloneRuns.{is_alone-true}
+use Rattle.oak_core.proofs.HeaderPlaces.{pin_place}
+use Rattle.oak_core.proofs.OpeningBlocks.{arena_zero, opening_blocks, opening_headers}
 
 either_small : (b : Bool) (x y : ℕ) → x < 2 ^ 64 → y < 2 ^ 64 → cond b x y < 2 ^ 64
 either_small true x y h k = h
@@ -36,8 +46,8 @@ module _ (z : Sizes) (g : ℕ) (is : IsInLimits z) (lt : g < LAST_GENERATION) wh
   opening_small i = either_small (eqb i 0) 1 _ (omega arith) (either_small (eqb i (rooms_at z)) (packed 0 1 0) _ (omega arith)
       (either_small (leb (headers_at z) i && (ltb i (rooms_at z) && (eqb ((i - headers_at z) % HEADER_WORDS) 0))) (packed g 0 0) 0 (omega arith) (omega arith)))
 
-  pub opening_words : WordsStand z (opening z g).words
-  opening_words = record {
+  words_stand : WordsStand z (opening z g).words
+  words_stand = record {
     counted = rows_length 0 (word_count z) (opening_number z g);
     small = λ i. dite (dec_lt i (word_count z)) (λ l. subst (λ (n : ℕ). n < 2 ^ 64) (sym (rows_at 0 (word_count z) i (opening_number z g) 0 l)) (opening_small (0 + i)))
         (λ no. subst (λ (n : ℕ). n < 2 ^ 64) (sym (past (rows 0 (word_count z) (opening_number z g)) i (let e = rows_length 0 (word_count z) (opening_number z g) in omega arith))) (omega arith));
@@ -52,7 +62,7 @@ module _ (z : Sizes) (g : ℕ) (is : IsInLimits z) (lt : g < LAST_GENERATION) wh
   first_given : (memory z (opening z g).words).given ≡ 1
   first_given = memory_read z (opening z g).words at_given tt ∙ (ap (λ (i : ℕ). get_or (opening z g).words i 0) (first_word z) ∙ rows_at 0 (word_count z) 0 (opening_number z g) 0 some_word)
 
-  opening_numbers : NumbersStand z 1 (first_state.numbers ∷ [])
+  opening_numbers : NumbersStand z 1 (bare_state.numbers ∷ [])
   unfolding total
   opening_numbers = record {
     owned = one_bit;
@@ -65,25 +75,98 @@ module _ (z : Sizes) (g : ℕ) (is : IsInLimits z) (lt : g < LAST_GENERATION) wh
       one_bit zero = let a = bit_at-pow_same 0 in let b = one_at-same 0 0 refl in omega arith
       one_bit (suc k) = let a = bit_at-pow_other 0 (suc k) (λ q. omega arith) in let b = one_at-other 0 (suc k) (λ q. omega arith) in omega arith
 
-  opening_kept : KeptNumbersStand same_spot (read (memory z (opening z g).words)) (kept_of first_state ∷ [])
+  opening_kept : KeptNumbersStand same_spot (read (memory z (opening z g).words)) (kept_of bare_state ∷ [])
   unfolding kept_of_blocks kept_of_headers total
-  opening_kept = record { true_to = every_one _ (kept_of first_state) tt; once = λ p. omega arith }
+  opening_kept = record { true_to = every_one _ (kept_of bare_state) tt; once = λ p. omega arith }
+
+  abbrev first : PassState
+  first = first_state z g
+
+  -- by the making of the table the pass found nothing
+  first_found : (given : ℕ) → FoundStays given first.findings
+  first_found given = found_more given no_findings first.findings (making z g) refl (λ _ n e. absurd cc) (none_found given no_findings refl)
 
   pub opening_rule : Rule z (opening z g)
   opening_rule = record {
     sizes = is;
-    words = opening_words;
-    numbers = subst (λ (n : ℕ). NumbersStand z n (first_state.numbers ∷ [])) (sym first_given) opening_numbers;
-    findings = every_one (FindingsHold z (memory z (opening z g).words).given) first_state.findings (none_met z (memory z (opening z g).words).given);
-    joined = every_one (JoinedStand z) first_state tt;
-    histories = λ k. every_one _ first_state.knowledge tt;
-    spent = every_one SpentIsSpent first_state (λ e. absurd (true≢false (sym e)));
+    words = words_stand;
+    numbers = subst (λ (n : ℕ). NumbersStand z n (bare_state.numbers ∷ [])) (sym first_given) opening_numbers;
+    findings = every_one (FindingsHold z (memory z (opening z g).words).given) first.findings record { found = first_found (memory z (opening z g).words).given; noted = tt };
+    joined = every_one (JoinedStand z) first tt;
+    histories = λ k. every_one _ bare_state.knowledge tt;
+    spent = every_one SpentIsSpent first (λ e. absurd (true≢false (sym e)));
     blocks = opening_blocks z g lt;
     headers = opening_headers z g lt;
-    passes = every_one PassStands first_state record { pin = tt; whole = tt };
-    alone = every_one (AloneStands (opening z g).words) first_state (alone_fresh (opening z g).words first_state refl);
+    passes = every_one PassStands first record { pin = tt; whole = tt };
+    alone = every_one (AloneStands (opening z g).words) first (alone_last (opening z g).words bare_state first record { finding = making z g; met = refl; says = λ _. (refl, is_alone-true first (first_alone z g)) });
     kept = opening_kept;
   }
+
+-- what the opening words are
+
+module _ (z : Sizes) (g : ℕ) where
+  -- the number of a word that is not the first
+  abbrev pin_or_none : ℕ → ℕ
+  pin_or_none i = cond (leb (headers_at z) i && (ltb i (rooms_at z) && (eqb ((i - headers_at z) % HEADER_WORDS) 0))) (packed g 0 0) 0
+
+  number_behind : (i : ℕ) → i ≢ 0 → opening_number z g i ≡ cond (eqb i (rooms_at z)) (packed 0 1 0) (pin_or_none i)
+  number_behind i ne = ap (λ (t : Bool). cond t 1 (cond (eqb i (rooms_at z)) (packed 0 1 0) (pin_or_none i))) (ne_eqb i 0 ne)
+
+  number_of_room : opening_number z g (rooms_at z) ≡ packed 0 1 0
+  number_of_room = number_behind (rooms_at z) (λ e. omega arith) ∙ ap (λ (t : Bool). cond t (packed 0 1 0) (pin_or_none (rooms_at z))) (eq-eqb (rooms_at z) (rooms_at z) refl)
+
+  number_elsewhere : (i : ℕ) → i ≢ 0 → i ≢ rooms_at z → opening_number z g i ≡ pin_or_none i
+  number_elsewhere i ne nor = number_behind i ne ∙ ap (λ (t : Bool). cond t (packed 0 1 0) (pin_or_none i)) (ne_eqb i (rooms_at z) nor)
+
+  -- the words behind the first of the rooms are 0
+  number_in_rooms : (i : ℕ) → rooms_at z < i → opening_number z g i ≡ 0
+  number_in_rooms i hi = number_elsewhere i (λ e. omega arith) (λ e. omega arith)
+      ∙ (ap (λ (t : Bool). cond (t && (ltb i (rooms_at z) && (eqb ((i - headers_at z) % HEADER_WORDS) 0))) (packed g 0 0) 0) (le-leb (headers_at z) i (omega arith))
+      ∙ ap (λ (t : Bool). cond (true && (t && (eqb ((i - headers_at z) % HEADER_WORDS) 0))) (packed g 0 0) 0) (le-ltb i (rooms_at z) (omega arith)))
+
+  number_of_pin : (h : ℕ) → h < z.headers → opening_number z g (headers_at z + h * HEADER_WORDS) ≡ packed g 0 0
+  number_of_pin h lt = let i : ℕ = headers_at z + h * HEADER_WORDS in number_elsewhere i (λ e. omega arith) (λ e. omega arith)
+      ∙ (ap (λ (t : Bool). cond (t && (ltb i (rooms_at z) && (eqb ((i - headers_at z) % HEADER_WORDS) 0))) (packed g 0 0) 0) (le-leb (headers_at z) i (omega arith))
+      ∙ (ap (λ (t : Bool). cond (true && (t && (eqb ((i - headers_at z) % HEADER_WORDS) 0))) (packed g 0 0) 0) (lt-ltb i (rooms_at z) (omega arith))
+      ∙ ap (λ (t : Bool). cond (true && (true && t)) (packed g 0 0) 0) (eq-eqb ((i - headers_at z) % HEADER_WORDS) 0 (let a : ℕ = headers_at z in let r : (a + h * 3 - a) % 3 ≡ 0 = omega arith in r))))
+
+  -- what stands at a spot
+  stands : (p : Spot) → IsInside z p → read (memory z (opening_words z g)) p ≡ opening_number z g (index z p)
+  stands p h = memory_read z (opening_words z g) p h ∙ (rows_at 0 (word_count z) (index z p) (opening_number z g) 0 (index_below z p h) ∙ ap (opening_number z g) (let q : 0 + index z p ≡ index z p = omega arith in q))
+
+  other_words : (p : RoomSpot) → p ≢ at_room_pin 0 → read (memory z (opening_words z g)) (in_rooms p) ≡ 0
+  other_words p ne = test-cases (is_inside z (in_rooms p)) (λ t. is_inside z (in_rooms p) ≡ t → read (memory z (opening_words z g)) (in_rooms p) ≡ 0)
+      (λ _ inside. let h = inside_is z (in_rooms p) inside in stands (in_rooms p) h ∙ number_in_rooms (index z (in_rooms p)) (behind_pin h))
+      (λ _ outside. read-of (number_at z (opening_words z g)) (in_rooms p) ∙ number_at-out z (opening_words z g) (in_rooms p) outside) refl
+    where
+      room_of : Spot → RoomSpot
+      room_of (in_rooms q) = q
+      room_of _ = at_room_pin 0
+
+      behind_pin : IsInside z (in_rooms p) → rooms_at z < index z (in_rooms p)
+      behind_pin h = let from = rooms_from z p in let r = index-rooms z in
+          let apart : index z (in_rooms p) ≢ index z (in_rooms (at_room_pin 0)) = λ e. ne (ap room_of (index_apart z (in_rooms p) (in_rooms (at_room_pin 0)) h (let h0 = h.0 in (omega arith, omega arith)) e)) in omega arith
+
+  opened : 0 < z.chunks → IsOpened z g (opening_words z g)
+  opened some_room = record {
+    given = stands at_given tt ∙ ap (opening_number z g) (first_word z);
+    bits = λ c i. arena_zero z g (at_bits c i);
+    headers = λ h lt. stands (in_headers (at_pin h)) lt ∙ (ap (opening_number z g) (sym (pin_place z h)) ∙ number_of_pin h lt);
+    room = stands (in_rooms (at_room_pin 0)) (some_room, omega arith) ∙ (ap (opening_number z g) (index-rooms z) ∙ number_of_room);
+    others = other_words;
+  }
+
+  -- the first pass was alone when the table was made, and has its words
+  first_leaves : LeavesWords (opening z g).words (first_state z g)
+  first_leaves = record { met = []; finding = making z g; last = refl; alone = refl; are = refl }
+
+-- the same of a table with that key and its pass
+
+pub leaves_at : (z k : Sizes) (v : PassState) → k ≡ z → v ≡ first_state z 0 → LeavesWords (opening k 0).words v
+leaves_at z k v e s = subst (λ (j : Sizes). LeavesWords (opening j 0).words v) (sym e) (subst (LeavesWords (opening z 0).words) (sym s) (first_leaves z 0))
+
+pub opened_at : (z k : Sizes) → IsInLimits z → k ≡ z → IsOpened k 0 (opening k 0).words
+opened_at z k is e = subst (λ (j : Sizes). IsOpened j 0 (opening j 0).words) (sym e) (opened z 0 is.chunks_least)
 
 -- the words that a table is made with are those of the opening state at generation 0
 
@@ -112,23 +195,23 @@ module _ (z : Sizes) (is : IsInLimits z) where
   free_zero = refl
 
   -- the number of word k, where it is not the first, and not that of room 0
-  abbrev in_headers : ℕ → ℕ
-  in_headers k = cond (leb (headers_at z) k && (ltb k (rooms_at z) && (eqb ((k - headers_at z) % HEADER_WORDS) 0))) (packed 0 0 0) 0
+  abbrev pin_word : ℕ → ℕ
+  pin_word k = cond (leb (headers_at z) k && (ltb k (rooms_at z) && (eqb ((k - headers_at z) % HEADER_WORDS) 0))) (packed 0 0 0) 0
 
   abbrev past_first : ℕ → ℕ
-  past_first k = cond (eqb k (rooms_at z)) (packed 0 1 0) (in_headers k)
+  past_first k = cond (eqb k (rooms_at z)) (packed 0 1 0) (pin_word k)
 
-  none_in_headers : (k : ℕ) → in_headers k ≡ 0
+  none_in_headers : (k : ℕ) → pin_word k ≡ 0
   none_in_headers k = elim (leb (headers_at z) k && (ltb k (rooms_at z) && (eqb ((k - headers_at z) % HEADER_WORDS) 0))) as (λ t. cond t (packed 0 0 0) 0 ≡ 0) [ true ↦ free_zero | false ↦ refl ]
 
   number_first : (k : ℕ) → k ≡ 0 → opening_number z 0 k ≡ 1
   number_first k e = ap (λ (t : Bool). cond t 1 (past_first k)) (eq-eqb k 0 e)
 
   number_room : (k : ℕ) → k ≢ 0 → k ≡ rooms_at z → opening_number z 0 k ≡ packed 0 1 0
-  number_room k ne e = ap (λ (t : Bool). cond t 1 (past_first k)) (ne_eqb k 0 ne) ∙ ap (λ (t : Bool). cond t (packed 0 1 0) (in_headers k)) (eq-eqb k (rooms_at z) e)
+  number_room k ne e = ap (λ (t : Bool). cond t 1 (past_first k)) (ne_eqb k 0 ne) ∙ ap (λ (t : Bool). cond t (packed 0 1 0) (pin_word k)) (eq-eqb k (rooms_at z) e)
 
   number_other : (k : ℕ) → k ≢ 0 → k ≢ rooms_at z → opening_number z 0 k ≡ 0
-  number_other k ne nor = ap (λ (t : Bool). cond t 1 (past_first k)) (ne_eqb k 0 ne) ∙ (ap (λ (t : Bool). cond t (packed 0 1 0) (in_headers k)) (ne_eqb k (rooms_at z) nor) ∙ none_in_headers k)
+  number_other k ne nor = ap (λ (t : Bool). cond t 1 (past_first k)) (ne_eqb k 0 ne) ∙ (ap (λ (t : Bool). cond t (packed 0 1 0) (pin_word k)) (ne_eqb k (rooms_at z) nor) ∙ none_in_headers k)
 
   laid_at : (k : ℕ) → k < word_count z → get_or laid k 0 ≡ opening_number z 0 k
   laid_at k lt = let b = zeros_length (word_count z) in dite (ℕ_discrete k (rooms_at z))
@@ -141,6 +224,6 @@ module _ (z : Sizes) (is : IsInLimits z) where
   laid_is = same_elements laid (rows 0 (word_count z) (opening_number z 0)) 0 (long ∙ sym (rows_length 0 (word_count z) (opening_number z 0)))
       (λ k lt. let l = long in laid_at k (omega arith) ∙ (ap (opening_number z 0) (let q : k ≡ 0 + k = omega arith in q) ∙ sym (rows_at 0 (word_count z) k (opening_number z 0) 0 (omega arith))))
 
-  pub opens_at : (ws : List ℕ) (n r x : ℕ) → n ≡ word_count z → r ≡ rooms_at z → x ≡ packed 0 1 0 → ws ≡ set (set (zeros n) 0 1) r x → Rule z record { words = ws; states = first_state ∷ [] }
-  opens_at ws n r x is_n is_r is_x e = subst (λ (l : List ℕ). Rule z record { words = l; states = first_state ∷ [] })
+  pub opens_at : (ws : List ℕ) (n r x : ℕ) → n ≡ word_count z → r ≡ rooms_at z → x ≡ packed 0 1 0 → ws ≡ set (set (zeros n) 0 1) r x → Rule z record { words = ws; states = first_state z 0 ∷ [] }
+  opens_at ws n r x is_n is_r is_x e = subst (λ (l : List ℕ). Rule z record { words = l; states = first_state z 0 ∷ [] })
       (sym (e ∙ ((λ i. set (set (zeros (is_n i)) 0 1) (is_r i) (is_x i)) ∙ laid_is))) (opening_rule z 0 is (omega arith))

@@ -19,10 +19,11 @@ use Rattle.header_core.specs.Headers.{at_pin, header_index}
 use Rattle.header_core.specs.HeaderRule.{stocked}
 use Rattle.header_core.proofs.HeaderLaws.{headers_open}
 use Rattle.oak_core.specs.Memory.{in_arena, in_headers, headers_at, rooms_at, word_count, is_inside, index, number_at, memory}
-use Rattle.oak_core.specs.PassState.{first_state}
+use Rattle.oak_core.specs.PassState.{bare_state}
 use Rattle.oak_core.specs.Owners.{has_block, other_owners, HeadersAreHeld}
 use Rattle.oak_core.specs.Known.{known}
-use Rattle.oak_core.specs.Schedule.{opening_number, opening}
+use Rattle.oak_core.specs.Opening.{opening_number}
+use Rattle.oak_core.specs.Schedule.{opening}
 use Rattle.oak_core.proofs.OwnerLaws.{below_zero}
 
 -- the words between word 0 and those of the headers are 0
@@ -31,7 +32,7 @@ opening_low z g i lo hi = ap (λ (t : Bool). cond t 1 (cond (eqb i (rooms_at z))
     ∙ (ap (λ (t : Bool). cond t (packed 0 1 0) (cond (leb (headers_at z) i && (ltb i (rooms_at z) && (eqb ((i - headers_at z) % HEADER_WORDS) 0))) (packed g 0 0) 0)) (ne_eqb i (rooms_at z) (λ e. omega arith))
     ∙ ap (λ (t : Bool). cond (t && (ltb i (rooms_at z) && (eqb ((i - headers_at z) % HEADER_WORDS) 0))) (packed g 0 0) 0) (lt-leb (headers_at z) i hi))
 
-arena_zero : (z : Sizes) (g : ℕ) (p : ArenaSpot) → number_at z (opening z g).words (in_arena p) ≡ 0
+pub arena_zero : (z : Sizes) (g : ℕ) (p : ArenaSpot) → number_at z (opening z g).words (in_arena p) ≡ 0
 unfolding number_at index
 arena_zero z g p = test-cases (is_inside z (in_arena p)) (λ t. cond t (get_or (opening z g).words (index z (in_arena p)) 0) 0 ≡ 0)
     (λ t. let b = arena_below z p (arena_inside z p t) in rows_at 0 (word_count z) (index z (in_arena p)) (opening_number z g) 0 (omega arith) ∙ opening_low z g (0 + index z (in_arena p)) (omega arith) (omega arith))
@@ -67,17 +68,17 @@ none_owned z g c b lt = below_zero (has_block (memory z (opening z g).words).hea
     (λ h. unstocked_none (state_of ((memory z (opening z g).words).headers.pin h)) c b ((memory z (opening z g).words).headers.place h) (header_free z g h lt).1)
 
 -- and none is known
-none_known : (h g : ℕ) → known (first_state.knowledge ∷ []) h g ≡ 0
+none_known : (h g : ℕ) → known (bare_state.knowledge ∷ []) h g ≡ 0
 unfolding total
 none_known h g = refl
 
-pub opening_headers : (z : Sizes) (g : ℕ) → g < LAST_GENERATION → HeadersAreHeld (memory z (opening z g).words).headers (memory z (opening z g).words).arena.bytes (known (first_state.knowledge ∷ [])) (first_state.headers ∷ [])
-opening_headers z g lt = headers_open (memory z (opening z g).words).headers (content (memory z (opening z g).words).arena.bytes) IsPlace (known (first_state.knowledge ∷ [])) none_known (λ h. header_free z g h lt)
+pub opening_headers : (z : Sizes) (g : ℕ) → g < LAST_GENERATION → HeadersAreHeld (memory z (opening z g).words).headers (memory z (opening z g).words).arena.bytes (known (bare_state.knowledge ∷ [])) (bare_state.headers ∷ [])
+opening_headers z g lt = headers_open (memory z (opening z g).words).headers (content (memory z (opening z g).words).arena.bytes) IsPlace (known (bare_state.knowledge ∷ [])) none_known (λ h. header_free z g h lt)
 
-pub opening_blocks : (z : Sizes) (g : ℕ) → g < LAST_GENERATION → BlocksAreOwned z (memory z (opening z g).words).arena.bits (other_owners z (memory z (opening z g).words).headers) (first_state.blocks ∷ [])
+pub opening_blocks : (z : Sizes) (g : ℕ) → g < LAST_GENERATION → BlocksAreOwned z (memory z (opening z g).words).arena.bits (other_owners z (memory z (opening z g).words).headers) (bare_state.blocks ∷ [])
 unfolding total
 opening_blocks z g lt = record {
   owned = λ c b. let n = none_owned z g c b lt in let e : bit_at ((memory z (opening z g).words).arena.bits c (b / 64)) (b % 64) ≡ 0 = ap (λ (n : ℕ). bit_at n (b % 64)) (arena_zero z g (at_bits c (b / 64))) ∙ bit_at-zero (b % 64) in omega arith;
   inside = λ c b le. let n = none_owned z g c b lt in omega arith;
-  whole = every_one AreWhole first_state.blocks tt;
+  whole = every_one AreWhole bare_state.blocks tt;
 }

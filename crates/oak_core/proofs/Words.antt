@@ -1,5 +1,5 @@
 -- The words of the table and its memory: a number stored to one word is a number stored to one spot.
-use Rattle.std.proofs.Common.{◌≡◌, ℕ, ◌-◌, ◌<◌, Bool, true, false, cond, List, length, get_or, set, sym, refl, ap, ◌∙◌, subst, arith, get_or-set_other, get_or-set_same, true≢false}
+use Rattle.std.proofs.Common.{◌≡◌, ℕ, ◌-◌, ◌<◌, ◌≤◌, Bool, true, false, cond, List, length, get_or, set, sym, refl, ap, ◌∙◌, subst, arith, get_or-set_other, get_or-set_same, true≢false}
 use mathlib.Core.Logic.{dite}
 use mathlib.Core.Path.{fun_ext}
 use native.Mathlib.Decide.{dec_lt}
@@ -9,7 +9,7 @@ use Rattle.arena_core.specs.Arena.{ArenaSpot, IsInArena}
 use Rattle.header_core.specs.Headers.{HeaderSpot, IsInHeaders}
 use Rattle.arena_core.proofs.ArenaWords.{same_arena_spot-is, same_arena_spot-self, read_arena-of, in_arena as arena_inside, arena_in, arena_below, arena_apart, arena_covers}
 use Rattle.header_core.proofs.HeaderWords.{same_header_spot-is, same_header_spot-self, read_header-of, in_headers as headers_inside, headers_in, headers_below, headers_apart, headers_cover}
-use Rattle.chunk_core.specs.Rooms.{at_room_pin, room_index, place_in_room}
+use Rattle.chunk_core.specs.Rooms.{RoomSpot, at_room_pin, room_index, place_in_room}
 use Rattle.chunk_core.proofs.RoomWords.{same_room_spot-is, same_room_spot-self, read_room-of, in_rooms as rooms_inside, rooms_in, rooms_below, rooms_apart, rooms_cover}
 use Rattle.oak_core.specs.Memory.{Memory, Spot, at_given, in_arena, in_headers, in_rooms, same_spot, read, memory_of, write, headers_at, rooms_at, word_count, IsInside, is_inside, index, number_at, memory}
 
@@ -113,6 +113,11 @@ pub index-rooms : (z : Sizes) → index z (in_rooms (at_room_pin 0)) ≡ rooms_a
 unfolding index room_index place_in_room
 index-rooms z = omega arith
 
+-- those of the rooms lie from there on
+pub rooms_from : (z : Sizes) (p : RoomSpot) → rooms_at z ≤ index z (in_rooms p)
+unfolding index
+rooms_from z p = omega arith
+
 -- each word of the table is some spot's
 pub index_covers : (z : Sizes) (i : ℕ) → i < word_count z → (p : Spot) × IsInside z p × (index z p ≡ i)
 unfolding index
@@ -121,11 +126,11 @@ index_covers z i h = dite (dec_lt i 1) (λ l. (at_given, tt, (omega arith)))
     (λ n1. dite (dec_lt i (rooms_at z)) (λ l. let t = headers_cover z (i - headers_at z) (omega arith) in let e = t.2 in (in_headers t.0, t.1, (omega arith)))
     (λ n2. let t = rooms_cover z (i - rooms_at z) (omega arith) in let e = t.2 in (in_rooms t.0, t.1, (omega arith)))))
 
-number_at-in : (z : Sizes) (ws : List ℕ) (p : Spot) → is_inside z p ≡ true → number_at z ws p ≡ get_or ws (index z p) 0
+pub number_at-in : (z : Sizes) (ws : List ℕ) (p : Spot) → is_inside z p ≡ true → number_at z ws p ≡ get_or ws (index z p) 0
 unfolding number_at
 number_at-in z ws p e = ap (λ (b : Bool). cond b (get_or ws (index z p) 0) 0) e
 
-number_at-out : (z : Sizes) (ws : List ℕ) (p : Spot) → is_inside z p ≡ false → number_at z ws p ≡ 0
+pub number_at-out : (z : Sizes) (ws : List ℕ) (p : Spot) → is_inside z p ≡ false → number_at z ws p ≡ 0
 unfolding number_at
 number_at-out z ws p e = ap (λ (b : Bool). cond b (get_or ws (index z p) 0) 0) e
 

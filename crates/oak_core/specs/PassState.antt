@@ -95,9 +95,9 @@ pub record HoldsNothing (v : PassState) : Type 0 where
 abbrev pub no_findings : Findings
 no_findings = record { met = []; fulls = []; swept = []; sights = []; gones = [] }
 
--- the state of the pass that a table is made with
-abbrev pub first_state : PassState
-first_state = record {
+-- a pass that has the number 0, and has seen, done and holds nothing
+abbrev pub bare_state : PassState
+bare_state = record {
   numbers = record { number = 0; spent = false; hand = None; made = []; joined = [] };
   findings = no_findings;
   knowledge = record { seen = []; heard = []; loaded = []; mine = [] };
@@ -116,7 +116,7 @@ abbrev pub left_state : PassState → PassState
 left_state v = record v { numbers = record v.numbers { hand = None } }
 
 abbrev pub right_state : PassState → PassState
-right_state v = record first_state { numbers = record first_state.numbers { number = number_in v.numbers.hand }; knowledge = record { seen = v.knowledge.seen; heard = v.knowledge.heard; loaded = []; mine = [] } }
+right_state v = record bare_state { numbers = record bare_state.numbers { number = number_in v.numbers.hand }; knowledge = record { seen = v.knowledge.seen; heard = v.knowledge.heard; loaded = []; mine = [] } }
 
 -- a join: of each key the longer is seen; what the other wrote, met and noted is kept under its number
 
@@ -130,4 +130,4 @@ both_state v w = record v {
 }
 
 abbrev pub spent_state : PassState
-spent_state = record first_state { numbers = record first_state.numbers { spent = true } }
+spent_state = record bare_state { numbers = record bare_state.numbers { spent = true } }

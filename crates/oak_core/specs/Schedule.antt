@@ -1,29 +1,17 @@
 -- Lists of events from an opening state.
-use Rattle.std.specs.Prelude.{◌≡◌, ℕ, ◌-◌, ◌%◌, ◌==◌, ◌&&◌, nat_le, nat_lt, cond, false, List, [], ◌∷◌, ◌++◌, slice_set, Some, ◌≢◌}
+use Rattle.std.specs.Prelude.{◌≡◌, ℕ, false, List, [], ◌∷◌, ◌++◌, slice_set, Some, ◌≢◌}
 use mathlib.Core.Option.{some}
 use lib.ListN.{get_elem?}
-use Rattle.pin_word.specs.PinWord.{packed}
 use Rattle.oak_model.specs.Limits.{Sizes}
-use Rattle.oak_model.specs.Counts.{rows}
-use Rattle.header_core.specs.declared.layout.TheConstants.{HEADER_WORDS}
-use Rattle.header_core.specs.declared.states.TheConstants as header
-use Rattle.chunk_core.specs.declared.states.TheConstants as room
 use Rattle.oak_core.specs.declared.states.PassState.{PassState}
-use Rattle.oak_core.specs.Memory.{headers_at, rooms_at, word_count}
-use Rattle.oak_core.specs.PassState.{HoldsNothing, first_state, left_state, right_state, both_state, spent_state}
+use Rattle.oak_core.specs.PassState.{HoldsNothing, left_state, right_state, both_state, spent_state}
+use Rattle.oak_core.specs.Opening.{opening_words, first_state}
 use Rattle.oak_core.specs.TableState.{TableState}
 use Rattle.oak_core.specs.Step.{Step, May, table_after}
 
--- the number of word i at the start: 0 is given, each header is free at the generation g, and room 0 is open
-abbrev pub opening_number : Sizes → ℕ → ℕ → ℕ
-opening_number z g i =
-    cond (i == 0) 1
-    (cond (i == rooms_at z) (packed 0 room.OPEN 0)
-    (cond (nat_le (headers_at z) i && (nat_lt i (rooms_at z) && ((i - headers_at z) % HEADER_WORDS == 0))) (packed g header.FREE 0)
-    0))
-
+-- the table as it is made, with its first pass
 abbrev pub opening : Sizes → ℕ → TableState
-opening z g = record { words = rows 0 (word_count z) (opening_number z g); states = first_state ∷ [] }
+opening z g = record { words = opening_words z g; states = first_state z g ∷ [] }
 
 -- a step of a seat in a call, a split of a seat, or a join of another seat into one
 pub data Event : Type 0 where

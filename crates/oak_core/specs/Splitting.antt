@@ -9,7 +9,7 @@ use Rattle.oak_core.specs.declared.states.Finding.{Finding}
 use Rattle.oak_core.specs.declared.states.PassState.{PassState}
 use Rattle.oak_core.specs.Memory.{Spot, index, IsInside}
 use Rattle.oak_core.specs.Finding.{finding, grown, Shows}
-use Rattle.oak_core.specs.PassState.{has_number, knowledge_of, seen_of, history, first_state, spent_state}
+use Rattle.oak_core.specs.PassState.{has_number, knowledge_of, seen_of, history, bare_state, spent_state}
 use Rattle.oak_core.specs.TableState.{TableState}
 use Rattle.oak_core.specs.Rule.{Rule}
 use Rattle.oak_core.specs.Step.{load, Told}
@@ -51,7 +51,7 @@ pub record SplitsOff (z : Sizes) (call : ℕ) (v w x : PassState) : Type 0 where
   pub more : List Finding
   pub at : Each (IsAtGiven call) more
   pub old : w ≡ record (grown more v) { numbers = record v.numbers { made = v.numbers.made ++ number ∷ [] } }
-  pub new : x ≡ record first_state { numbers = record first_state.numbers { number = number }; knowledge = record { seen = v.knowledge.seen; heard = v.knowledge.heard; loaded = []; mine = [] } }
+  pub new : x ≡ record bare_state { numbers = record bare_state.numbers { number = number }; knowledge = record { seen = v.knowledge.seen; heard = v.knowledge.heard; loaded = []; mine = [] } }
   pub unowned : has_number number v.numbers ≡ 0
   pub least : Shows more 0 (λ n. (bit_at n number ≡ 0) × ((j : ℕ) → j < number → bit_at n j ≡ 1))
 

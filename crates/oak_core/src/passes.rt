@@ -1,8 +1,10 @@
 //! Passes are made, given their calls, split, joined, and at last closed with their table.
 ghost use Rattle.std.specs.Prelude.{◌≡◌, ℕ, ◌<◌, IfOk, IfErr, MatchBool};
 ghost use Rattle.std.specs.Int.{bit_at};
-ghost use Rattle.oak_core.specs.PassState.{HoldsNothing, left_state, right_state, both_state, first_state};
-ghost use Rattle.oak_core.specs.Schedule.{MaySplit};
+ghost use Rattle.oak_core.specs.PassState.{HoldsNothing, left_state, right_state, both_state};
+ghost use Rattle.oak_core.specs.AloneWords.{LeavesWords};
+ghost use Rattle.oak_core.specs.Opening.{IsOpened, first_state};
+ghost use Rattle.oak_core.specs.Schedule.{MaySplit, opening};
 ghost use Rattle.oak_core.specs.Step.{MayGive, Told, give_number};
 ghost use Rattle.oak_core.specs.Passes.{IsPassOf, Stays, SearchesStay, Turns, state, key, call_of};
 ghost use Rattle.oak_core.specs.Splitting.{LooksAtGiven, FindsLeast, SplitsOff, FindsAllGiven, SeesLonger};
@@ -61,11 +63,13 @@ fn is_set(word: u64, bit: u32) -> bool
 
 impl OakTable {
     /// A table of this shape with its first pass, which has the number 0: an empty map, in which room 0
-    /// covers every key.
+    /// covers every key. The pass is alone, and has met the making of the table, with all its words.
     pub fn create(alloc: Global, shape: &Shape) -> Result<(OakTable, Pass), OutOfMemory>
         ensures key { IfOk result (λ t. key t.0 ≡ shape.now) }
         ensures own { IfOk result (λ t. IsPassOf t.0 t.1) }
-        ensures first { IfOk result (λ t. (state t.1 ≡ first_state) × (call_of t.1 ≡ 0)) }
+        ensures first { IfOk result (λ t. (state t.1 ≡ first_state (key t.0) 0) × (call_of t.1 ≡ 0)) }
+        ensures words { IfOk result (λ t. LeavesWords (opening (key t.0) 0).words (state t.1)) }
+        ensures opened { IfOk result (λ t. IsOpened (key t.0) 0 (opening (key t.0) 0).words) }
     {
         // Reading a field shows that the sizes are within their limits.
         let _passes = shape.passes;

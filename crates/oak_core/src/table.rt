@@ -15,11 +15,11 @@ pub struct OakRule;
 
 impl TableRule<(), PassState, Shape> for OakRule {
     ghost use Rattle.oak_core.specs.Running.{Holds};
-    ghost use Rattle.oak_core.specs.PassState.{first_state};
+    ghost use Rattle.oak_core.specs.Opening.{first_state};
 
     ghost holds = { Holds };
 
-    ghost first = { λ _. first_state };
+    ghost first = { λ z. first_state z 0 };
 }
 
 /// A table of words, shared by its passes.

@@ -1,7 +1,8 @@
 ghost use Rattle.std.specs.Prelude.{◌≡◌, ◌<◌, length, slice_index};
 ghost use Rattle.std.specs.Thread.{IsSync};
 ghost use Rattle.oak_core.specs.Memory.{word_count};
-ghost use Rattle.oak_core.specs.PassState.{HoldsNothing, IsAlone, first_state};
+ghost use Rattle.oak_core.specs.PassState.{HoldsNothing, IsAlone};
+ghost use Rattle.oak_core.specs.Opening.{first_state};
 ghost use Rattle.oak_core.specs.Passes.{IsPassOf, Stays, state, key, call_of, scratch_of};
 ghost use Rattle.oak_core.specs.Scratch.{StaysButScratch};
 ghost use Rattle.oak_core.specs.Splitting.{LooksAtGiven};
@@ -42,7 +43,7 @@ fn split_no_more(rt: &impl Abort, alloc: Global, table: &OakTable, pass: &mut Pa
 fn split_twice(rt: &impl Abort, alloc: Global, table: &OakTable, pass: &mut Pass)
     requires own { IsPassOf table.now pass.old }
     requires two { (key table.now).passes ≡ 2 }
-    requires first { state pass.old ≡ first_state }
+    requires first { state pass.old ≡ first_state (key table.now) 0 }
     ensures own { Stays pass.old pass.new }
     ensures idle { HoldsNothing (state pass.new) }
     ensures alone { IsAlone (state pass.new) }
