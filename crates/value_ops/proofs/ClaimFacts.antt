@@ -1,5 +1,5 @@
 -- What a load of a pin word and a try to claim its header tell.
-use Rattle.std.proofs.Common.{◌≡◌, ◌≢◌, ℕ, ◌+◌, ◌<◌, ◌==◌, ◌⊎◌, true, false, List, [], ◌∷◌, map, sym, refl, ap, ◌∙◌, subst, inl, inr, Some, eqb-true, eq-eqb, Bool, set, get_or}
+use Rattle.std.proofs.Common.{◌≡◌, ◌≢◌, ℕ, ◌+◌, ◌<◌, ◌==◌, ◌⊎◌, true, false, List, [], ◌∷◌, map, sym, refl, ap, ◌∙◌, subst, inl, inr, Some, eqb-true, eq-eqb, ne_eqb, Bool, set, get_or}
 use prog.Atomic.{either}
 use Rattle.pin_word.specs.PinWord.{generation_of, state_of, count_of}
 use Rattle.pin_word.proofs.Laws.{parts_equal}
@@ -9,11 +9,12 @@ use Rattle.arena_core.specs.Place.{IsPlace, content}
 use Rattle.header_core.specs.declared.states.TheConstants.{FREE}
 use Rattle.header_core.specs.declared.holds.HeldHeader.{HeldHeader}
 use Rattle.header_core.specs.declared.holds.HeaderHolds.{HeaderHolds}
+use Rattle.header_core.specs.Headers.{at_pin}
 use Rattle.header_core.specs.HeaderStep.{STATE, IsFreeWord, claim_header, owned_at}
 use Rattle.header_core.proofs.HeaderFacts.{free_unheld}
 use Rattle.oak_core.specs.declared.states.Finding.{Finding}
 use Rattle.oak_core.specs.declared.states.PassState.{PassState}
-use Rattle.oak_core.specs.Memory.{Memory, Spot, index, memory}
+use Rattle.oak_core.specs.Memory.{Memory, Spot, index, rooms_at, memory}
 use Rattle.oak_core.specs.Finding.{finding, had, grown, noted}
 use Rattle.oak_core.specs.HeaderCalls.{Claims}
 use Rattle.oak_core.specs.PassState.{headers_held}
@@ -24,7 +25,7 @@ use Rattle.oak_core.proofs.AloneRuns.{DoesStep, Then, step_runs, load_runs, runs
 use Rattle.oak_core.proofs.FoundThere.{met_here, found_later}
 use Rattle.oak_core.proofs.HeaderStanding.{knows, stand}
 use Rattle.oak_core.proofs.MetMore.{grown_twice, grown_none, told_of}
-use Rattle.oak_core.proofs.Words.{index_apart, memory_read}
+use Rattle.oak_core.proofs.Words.{index_apart, memory_read, header_before}
 use Rattle.value_ops.specs.Claiming.{NoneFree, OwnsPin, pin_spot, FoundPin, FoundUnfree, FoundTwice, Looked, ClaimsHeader}
 use Rattle.value_ops.proofs.ExchangeFacts.{met_word, word_is, hit, missed}
 
@@ -39,8 +40,8 @@ generations_apart : (n k : ℕ) → IsFreeWord n → IsFreeWord k → k ≢ n �
 generations_apart n k f g ne e = ne (sym (parts_equal n k e (f.state ∙ sym g.state) (f.count ∙ sym g.count)))
 
 -- a load alone finds nothing
-pub loaded : (z : Sizes) (call word n : ℕ) (v w : PassState) → Loads z call word v n w → Looked z call v w (λ k. ⊥)
-loaded z call word n v w l = record { more = finding z call l.spot (Some n) n l.told.table.words v ∷ []; after = l.met; calls = (refl, tt); found = λ k lk p. absurd p; still = runs_as (λ a b. (n ≡ get_or a (index z l.spot) 0) × (b ≡ a)) (NoneFree z (λ k. ⊥)) v w (λ a b d. (d.1, λ h lh p. absurd p)) (load_runs z call l.spot v n w l.told) }
+pub loaded : (z : Sizes) (call word n : ℕ) (v w : PassState) → word < rooms_at z → Loads z call word v n w → Looked z call v w (λ k. ⊥)
+loaded z call word n v w front l = record { more = finding z call l.spot (Some n) n l.told.table.words v ∷ []; after = l.met; looks = ((refl, subst (λ (i : ℕ). i < rooms_at z) (sym l.at) front, refl), tt); found = λ k lk p. absurd p; still = runs_as (λ a b. (n ≡ get_or a (index z l.spot) 0) × (b ≡ a)) (NoneFree z (λ k. ⊥)) v w (λ a b d. (d.1, λ h lh p. absurd p)) (load_runs z call l.spot v n w l.told) }
 
 module _ (z : Sizes) (call h : ℕ) (inside : h < z.headers) where
   abbrev Unfree : PassState → List Finding → Type 0
@@ -53,6 +54,9 @@ module _ (z : Sizes) (call h : ℕ) (inside : h < z.headers) where
   spot_is : (word n : ℕ) (v w : PassState) → word ≡ index z (pin_spot h) → (l : Loads z call word v n w) → l.spot ≡ pin_spot h
   spot_is word n v w is l = index_apart z l.spot (pin_spot h) l.inside inside (l.at ∙ is)
 
+  in_front : index z (pin_spot h) < rooms_at z
+  in_front = header_before z (at_pin h) inside
+
   -- the pin word in these words
   pin_in : (a : List ℕ) (n : ℕ) → n ≡ get_or a (index z (pin_spot h)) 0 → (memory z a).headers.pin h ≡ n
   pin_in a n d = memory_read z a (pin_spot h) inside ∙ sym d
@@ -62,7 +66,7 @@ module _ (z : Sizes) (call h : ℕ) (inside : h < z.headers) where
   loaded_unfree word n v w is l unfree = record {
     more = finding z call l.spot (Some n) n l.told.table.words v ∷ [];
     after = l.met;
-    calls = (refl, tt);
+    looks = ((refl, subst (λ (i : ℕ). i < rooms_at z) (sym (l.at ∙ is)) in_front, refl), tt);
     found = this_one v (finding z call l.spot (Some n) n l.told.table.words v ∷ []) (inl (met_here z call (pin_spot h) n n l.told.table.words l.spot v [] (λ k. is_free k ≡ false) (spot_is word n v w is l) unfree));
     still = runs_as (λ a b. (n ≡ get_or a (index z l.spot) 0) × (b ≡ a)) (NoneFree z (λ k. k ≡ h)) v w
         (λ a b d. (d.1, λ k lk e. ap (λ (i : ℕ). is_free ((memory z a).headers.pin i)) e ∙ (ap is_free (pin_in a n (subst (λ (q : Spot). n ≡ get_or a (index z q) 0) (spot_is word n v w is l) d.0)) ∙ unfree))) (load_runs z call l.spot v n w l.told);
@@ -95,6 +99,7 @@ module _ (z : Sizes) (call h : ℕ) (inside : h < z.headers) where
     claims hit_old free = let hs : List HeaderHolds = map headers_held t.table.states in let here = stand z t.table t.seat v t.rule t.here in let is : m.headers.pin h ≡ old = word_is z call h inside old front t.table n v w t.finds t.after ∙ hit_old in record {
       inside = inside;
       before = [];
+      looks = tt;
       number = old;
       free = free;
       told = told_hit hit_old;
@@ -103,7 +108,7 @@ module _ (z : Sizes) (call h : ℕ) (inside : h < z.headers) where
       still = runs_as (DoesStep z (on_headers (claim_header h old)) n) (OwnsPin z h) v w (λ a b d. let p = pin_in a n d.0 in (ap is_free (p ∙ hit_old) ∙ is_free-word old free, d.1 ∙ ap (set a (index z (pin_spot h))) (exchanged (get_or a (index z (pin_spot h)) 0) (sym d.0 ∙ hit_old) ∙ ap (λ (i : ℕ). i + STATE) (sym (p ∙ hit_old)))))
           (step_runs z call (on_headers (claim_header h old)) v n w tt t);
       more = met_now ∷ [];
-      calls = (refl, tt);
+      calls = ((refl, in_front), tt);
       after = hit z call h inside old front t.table n v w t.finds t.after hit_old;
     }
 
@@ -120,6 +125,10 @@ module _ (z : Sizes) (call h : ℕ) (inside : h < z.headers) where
 
     had_same : had (pin_spot h) u ≡ had (pin_spot h) v
     had_same = ap (had (pin_spot h)) l.met
+
+    -- an exchange that found another number left it
+    kept_word : (i j : ℕ) → i ≢ j → either (i == j) (j + STATE) i ≡ i
+    kept_word i j other = ap (λ (b : Bool). either b (j + STATE) i) (ne_eqb i j other)
 
     -- what the exchange found
     abbrev second : (P : ℕ → Type 0) → P k → FoundPin z call h v (f ∷ g ∷ []) P
@@ -138,7 +147,7 @@ module _ (z : Sizes) (call h : ℕ) (inside : h < z.headers) where
     lost = record {
       more = f ∷ g ∷ [];
       after = missed_claim n k u w t ne ∙ (ap (grown (g ∷ [])) l.met ∙ grown_twice v (f ∷ []) (g ∷ []));
-      calls = (refl, (refl, tt));
+      looks = ((refl, subst (λ (i : ℕ). i < rooms_at z) (sym (l.at ∙ is)) in_front, refl), ((refl, in_front, ap Some (sym (kept_word k n ne))), tt));
       found = this_one v (f ∷ g ∷ []) two;
       -- a pass that is alone loses no exchange
       still = runs_as (Then (λ a b. (n ≡ get_or a (index z l.spot) 0) × (b ≡ a)) (DoesStep z (on_headers (claim_header h n)) k)) (NoneFree z (λ i. i ≡ h)) v w

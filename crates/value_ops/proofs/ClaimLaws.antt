@@ -5,7 +5,7 @@ use native.Mathlib.Decide.{dec_lt}
 use Rattle.oak_model.specs.Counts.{one_at}
 use Rattle.oak_model.proofs.Counting.{one_at-same}
 use Rattle.oak_model.specs.Limits.{Sizes}
-use Rattle.oak_model.proofs.Lists.{each_append}
+use Rattle.oak_model.proofs.Lists.{each_append, each_map}
 use Rattle.header_core.specs.declared.states.TheConstants.{OWNED}
 use Rattle.header_core.specs.HeaderHolds.{in_state}
 use Rattle.header_core.proofs.HeldChanges.{rows_claimed}
@@ -14,7 +14,7 @@ use Rattle.oak_core.specs.declared.states.Finding.{Finding}
 use Rattle.oak_core.specs.declared.states.PassState.{PassState}
 use Rattle.oak_core.specs.HeaderCalls.{NamesPin}
 use Rattle.oak_core.specs.Memory.{headers_at, index, memory}
-use Rattle.oak_core.specs.Finding.{had, grown}
+use Rattle.oak_core.specs.Finding.{had, grown, IsOf, IsLoadOf}
 use Rattle.oak_core.specs.Step.{on_headers}
 use Rattle.oak_core.specs.Usage.{is_free}
 use Rattle.oak_core.proofs.AloneRuns.{Then, runs_then, runs_as, runs_none}
@@ -26,10 +26,10 @@ use Rattle.value_ops.specs.Claiming.{NoneFree, OwnsPin, pin_spot, FoundUnfree, F
 module _ (z : Sizes) (call : ℕ) where
   -- nothing was looked at
   pub looked_none : (v : PassState) (P : ℕ → Type 0) → ((h : ℕ) → P h → ⊥) → Looked z call v v P
-  looked_none v P empty = record { more = []; after = grown_none v; calls = tt; found = λ h lh p. absurd (empty h p); still = runs_none (NoneFree z P) v (λ a. (refl, λ h lh p. absurd (empty h p))) }
+  looked_none v P empty = record { more = []; after = grown_none v; looks = tt; found = λ h lh p. absurd (empty h p); still = runs_none (NoneFree z P) v (λ a. (refl, λ h lh p. absurd (empty h p))) }
 
   pub looked_only : (v w : PassState) (P Q : ℕ → Type 0) → ((h : ℕ) → h < z.headers → Q h → P h) → Looked z call v w P → Looked z call v w Q
-  looked_only v w P Q only l = record { more = l.more; after = l.after; calls = l.calls; found = λ h lh q. l.found h lh (only h lh q); still = runs_as (NoneFree z P) (NoneFree z Q) v w (λ a b d. (d.0, λ h lh q. d.1 h lh (only h lh q))) l.still }
+  looked_only v w P Q only l = record { more = l.more; after = l.after; looks = l.looks; found = λ h lh q. l.found h lh (only h lh q); still = runs_as (NoneFree z P) (NoneFree z Q) v w (λ a b d. (d.0, λ h lh q. d.1 h lh (only h lh q))) l.still }
 
   abbrev Unfree : ℕ → PassState → List Finding → Type 0
   Unfree h v met = FoundUnfree z call h v met ⊎ FoundTwice z call h v met
@@ -46,7 +46,7 @@ module _ (z : Sizes) (call : ℕ) where
   looked_both v w x P Q l k = record {
     more = l.more ++ k.more;
     after = k.after ∙ (ap (grown k.more) l.after ∙ grown_twice v l.more k.more);
-    calls = each_append (λ (f : Finding). f.call ≡ call) l.more k.more l.calls k.calls;
+    looks = each_append (IsLoadOf z call) l.more k.more l.looks k.looks;
     found = λ h lh. ⊎_elim (λ (p : P h). unfree_first h v l.more k.more (l.found h lh p)) (λ (q : Q h). unfree_later h v w l.more k.more (ap (had (pin_spot h)) l.after) (k.found h lh q));
     still = runs_as (Then (NoneFree z P) (NoneFree z Q)) (NoneFree z (λ h. P h ⊎ Q h)) v x
         (λ a b d. (d.2.0 ∙ d.1.0, λ h lh. ⊎_elim (λ (p : P h). d.1.1 h lh p) (λ (q : Q h). subst (λ (m : List ℕ). is_free ((memory z m).headers.pin h) ≡ false) d.1.0 (d.2.1 h lh q)))) (runs_then (NoneFree z P) (NoneFree z Q) v w x l.still k.still);
@@ -61,6 +61,7 @@ module _ (z : Sizes) (call : ℕ) where
     claims_behind = record {
       inside = t.inside;
       before = l.more ++ t.before;
+      looks = each_append (IsLoadOf z call) l.more t.before l.looks t.looks;
       number = t.number;
       free = t.free;
       told = told_of z call (on_headers (claim_header h t.number)) (grown t.before w) (grown (l.more ++ t.before) v) same t.number x t.told;
@@ -68,7 +69,7 @@ module _ (z : Sizes) (call : ℕ) where
       unpinned = t.unpinned;
       still = runs_as (Then (NoneFree z P) (OwnsPin z h)) (OwnsPin z h) v x (λ a b d. subst (λ (m : List ℕ). OwnsPin z h m b) d.1.0 d.2) (runs_then (NoneFree z P) (OwnsPin z h) v w x l.still t.still);
       more = l.more ++ t.more;
-      calls = each_append (λ (f : Finding). f.call ≡ call) l.more t.more l.calls t.calls;
+      calls = each_append (IsOf z call) l.more t.more (each_map (IsLoadOf z call) (IsOf z call) l.more (λ f k. (k.0, k.1)) l.looks) t.calls;
       after = t.after
           ∙ (ap (λ (y : PassState). record (grown t.more y) { headers = record y.headers { held = owned_at (memory z t.told.table.words).headers h ∷ y.headers.held } }) l.after
           ∙ ap (λ (y : PassState). record y { headers = record v.headers { held = owned_at (memory z t.told.table.words).headers h ∷ v.headers.held } }) (grown_twice v l.more t.more));

@@ -1,55 +1,106 @@
 -- What the step that pins a header leaves, and what undoing the pin does.
-use Rattle.std.proofs.Common.{◌≡◌, ◌≢◌, ◌⊎◌, ℕ, List, [], ◌++◌, sym, refl, ap, ◌∙◌, subst, ⊎_elim, Option, Some, None}
-use Rattle.pin_word.specs.PinWord.{generation_of, state_of}
+use Rattle.std.proofs.Common.{◌≡◌, ◌≢◌, ◌⊎◌, ℕ, ◌+◌, ◌-◌, ◌%◌, ◌^◌, ◌<◌, ◌≤◌, List, [], ◌∷◌, ◌++◌, map, arith, sym, refl, ap, ◌∙◌, subst, ⊎_elim, Option, Some, None, get_or, get_or-set_other}
+use Rattle.pin_word.specs.PinWord.{generation_of, state_of, count_of}
+use Rattle.oak_model.specs.Counts.{Each}
 use Rattle.oak_model.specs.Limits.{Sizes}
-use Rattle.oak_model.proofs.Counting.{one_at-same}
-use Rattle.oak_model.proofs.Lists.{at_map}
-use Rattle.header_core.specs.declared.states.TheConstants.{LIVE, LOCKED, DEAD}
+use Rattle.oak_model.proofs.Counting.{one_at-same, total_at}
+use Rattle.oak_model.proofs.Lists.{at_map, each_append, each_map}
+use Rattle.header_core.specs.declared.states.TheConstants.{LIVE, LOCKED, DEAD, RETIRED}
 use Rattle.header_core.specs.declared.holds.PinnedHeader.{PinnedHeader}
 use Rattle.header_core.specs.Headers.{at_pin, at_stamp}
-use Rattle.header_core.specs.HeaderHolds.{pins_of}
+use Rattle.header_core.specs.HeaderHolds.{pins_of, pins_on}
 use Rattle.header_core.specs.HeaderRule.{DeadPinHolds}
-use Rattle.header_core.specs.HeaderStep.{unpin_header}
+use Rattle.header_core.specs.HeaderStep.{pin_header, unpin_header, header_effect}
 use Rattle.oak_core.specs.declared.states.Finding.{Finding}
 use Rattle.oak_core.specs.declared.states.PassState.{PassState}
-use Rattle.oak_core.specs.Finding.{grown}
+use Rattle.oak_core.specs.AloneWords.{Runs}
+use Rattle.oak_core.specs.Finding.{finding, grown, IsOf, IsLoadOf, LoadsMore}
 use Rattle.oak_core.specs.HeaderCalls.{Pins, Unpins}
-use Rattle.oak_core.specs.Memory.{Memory, in_headers, index, memory}
+use Rattle.oak_core.specs.Memory.{Memory, Spot, in_headers, index, rooms_at, memory}
 use Rattle.oak_core.specs.PassState.{headers_held}
-use Rattle.oak_core.specs.Splitting.{Loads, IsGrown}
-use Rattle.oak_core.specs.Step.{MayOnHeaders}
+use Rattle.oak_core.specs.Splitting.{Loads}
+use Rattle.oak_core.specs.Step.{on_headers, found, MayOnHeaders}
 use Rattle.oak_core.proofs.HeadersInArena.{pin_fact}
 use Rattle.oak_core.proofs.MetMore.{grown_twice, grown_none}
-use Rattle.oak_core.proofs.Words.{index_apart, memory_read}
+use Rattle.oak_core.proofs.AloneRuns.{Then, runs_then, runs_as, runs_none}
+use Rattle.oak_core.proofs.Words.{index_apart, memory_read, header_before}
 use Rattle.value_ops.specs.declared.pinning.BadPin.{BadPin}
 use Rattle.value_ops.specs.declared.pinning.BadPin.TheVariants.{Locked, Dead, Other}
-use Rattle.value_ops.specs.Pinning.{pin_of, with_pin, PinsLive, IsCause, LooksUnder, PinsHeader, EndsPin, PinsDud}
+use Rattle.value_ops.specs.Claiming.{pin_spot, ChangesPin}
+use Rattle.value_ops.specs.Pinning.{pin_of, with_pin, MeetsMore, WordsStay, IsLiveAt, AddsPin, DropsPin, PinsLive, IsCause, LooksUnder, PinsHeader, EndsPin, IsStampOf, FindsDud, PinsDud}
+use Rattle.value_ops.specs.Reading.{OnlyLoads}
 use Rattle.value_ops.proofs.KnownStates.{IsInUse, known_state}
+use Rattle.value_ops.proofs.LoneSteps.{load_finds, load_stays, none_stays, both_stay, pin_changes, undone}
+use Rattle.value_ops.proofs.StepLeft.{pin_found, small}
 
 -- a pass may undo its pin
 pub may_unpin : (z : Sizes) (h : ℕ) (v : PassState) → PinsHeader z h v → MayOnHeaders z (unpin_header h) v
 may_unpin z h v p = record { inside = p.inside; headers = ap (pins_of h) p.is ∙ one_at-same p.pin.header h p.header_is; block = tt; known = tt }
 
-pub grown_both : (u v w : PassState) → IsGrown u v → IsGrown v w → IsGrown u w
-grown_both u v w a b = record { more = a.more ++ b.more; after = b.after ∙ (ap (grown b.more) a.after ∙ grown_twice u a.more b.more) }
+-- loads, one behind the other
 
-pub pin_stays : (v w : PassState) → IsGrown v w → w.headers.pin ≡ v.headers.pin
-pin_stays v w g = ap (λ (x : PassState). x.headers.pin) g.after
+pub loads_one : (z : Sizes) (call word n : ℕ) (v w : PassState) → word < rooms_at z → Loads z call word v n w → OnlyLoads z call v w
+loads_one z call word n v w front l = record {
+  loads = record { more = _ ∷ []; loads = ((refl, subst (λ (i : ℕ). i < rooms_at z) (sym l.at) front, refl), tt); after = l.met };
+  still = load_stays z call word n v w l;
+}
+
+pub loads_none : (z : Sizes) (call : ℕ) (v : PassState) → OnlyLoads z call v v
+loads_none z call v = record { loads = record { more = []; loads = tt; after = grown_none v }; still = none_stays v }
+
+pub loads_both : (z : Sizes) (call : ℕ) (u v w : PassState) → OnlyLoads z call u v → OnlyLoads z call v w → OnlyLoads z call u w
+loads_both z call u v w a b = record {
+  loads = record {
+    more = a.loads.more ++ b.loads.more;
+    loads = each_append (IsLoadOf z call) a.loads.more b.loads.more a.loads.loads b.loads.loads;
+    after = b.loads.after ∙ (ap (grown b.loads.more) a.loads.after ∙ grown_twice u a.loads.more b.loads.more);
+  };
+  still = both_stay u v w a.still b.still;
+}
+
+pub loads_in : (z : Sizes) (first now : ℕ) (v w : PassState) → now ≡ first → OnlyLoads z now v w → OnlyLoads z first v w
+loads_in z first now v w e l = subst (λ (k : ℕ). OnlyLoads z k v w) e l
+
+pub loads_meet : (z : Sizes) (call : ℕ) (v w : PassState) → OnlyLoads z call v w → MeetsMore z call v w
+loads_meet z call v w l = record { more = l.loads.more; calls = each_map (IsLoadOf z call) (IsOf z call) l.loads.more (λ f k. (k.0, k.1)) l.loads.loads; after = l.loads.after }
+
+pub pin_stays : (v w : PassState) (more : List Finding) → w ≡ grown more v → w.headers.pin ≡ v.headers.pin
+pin_stays v w more after = ap (λ (x : PassState). x.headers.pin) after
 
 pub unpinned_is : (v : PassState) → v.headers.pin ≡ None → with_pin None v ≡ v
 unpinned_is v e = ap (λ (o : Option PinnedHeader). with_pin o v) (sym e)
 
 -- a pass that had no pin, pinned, met more and undid the pin only met more
-pub grown_round : (v w x u : PassState) (o : Option PinnedHeader) (first : List Finding) → v.headers.pin ≡ None → w ≡ with_pin o (grown first v) → IsGrown w x → IsGrown (with_pin None x) u → IsGrown v u
-grown_round v w x u o first none is a b = record {
+pub meets_round : (z : Sizes) (call : ℕ) (v w x u : PassState) (o : Option PinnedHeader) (first : List Finding) → v.headers.pin ≡ None → Each (IsOf z call) first → w ≡ with_pin o (grown first v) → MeetsMore z call w x → MeetsMore z call (with_pin None x) u → MeetsMore z call v u
+meets_round z call v w x u o first none of_call is a b = record {
   more = first ++ (a.more ++ b.more);
+  calls = each_append (IsOf z call) first (a.more ++ b.more) of_call (each_append (IsOf z call) a.more b.more a.calls b.calls);
   after = b.after ∙ (ap (λ (y : PassState). grown b.more (with_pin None y)) (a.after ∙ ap (grown a.more) is)
       ∙ (grown_twice (grown first (with_pin None v)) a.more b.more ∙ (grown_twice (with_pin None v) first (a.more ++ b.more) ∙ ap (grown (first ++ (a.more ++ b.more))) (unpinned_is v none))));
 }
 
+-- one pin more, and one less, as the steps reckon them
+
+more_fits : (n : ℕ) → n < 2 ^ 64 → state_of n ≤ RETIRED → (n + 1) % 2 ^ 64 ≡ n + 1
+unfolding state_of
+more_fits n lt low = omega arith
+
+less_is : (n : ℕ) → n < 2 ^ 64 → 0 < count_of n → (n + (2 ^ 64 - 1)) % 2 ^ 64 ≡ n - 1
+unfolding count_of
+less_is n lt some_of = omega arith
+
 module _ (z : Sizes) (call h n : ℕ) (v w : PassState) (t : Unpins z call h v n w) where
+  counts : 0 < count_of n
+  counts = let a = total_at (pins_on h) (map headers_held t.table.states) t.seat v.headers (at_map headers_held t.table.states t.seat v t.here) in let c = t.rule.headers.counted h in
+      let one = t.may.headers in let e : count_of ((memory z t.table.words).headers.pin h) ≡ count_of n = ap count_of (pin_found z call (unpin_header h) h refl v n w t) in omega arith
+
   pub pin_ends : EndsPin z call h v w
-  pin_ends = record { number = n; told = t; grown = record { more = _; after = t.after } }
+  pin_ends = record {
+    number = n;
+    told = t;
+    meets = record { more = _ ∷ []; calls = ((refl, header_before z (at_pin h) t.may.inside), tt); after = t.after };
+    still = pin_changes z call (unpin_header h) h refl v n w t (λ k. 0 < count_of k) (λ k. k - 1) counts (less_is n (small z call (unpin_header h) h refl v n w t) counts);
+  }
 
 module _ (z : Sizes) (call h g n : ℕ) (v w : PassState) (t : Pins z call h g v n w) where
   abbrev m : Memory
@@ -61,8 +112,18 @@ module _ (z : Sizes) (call h g n : ℕ) (v w : PassState) (t : Pins z call h g v
   word_is : m.headers.pin h ≡ n
   word_is = memory_read z t.table.words (in_headers (at_pin h)) t.may.inside ∙ t.finds
 
-  pub pinned_grown : (more : List Finding) × (w ≡ with_pin (Some pin) (grown more v))
-  pinned_grown = (_, t.after)
+  abbrev met_pin : Finding
+  met_pin = finding z call (pin_spot h) (Some (found z (on_headers (pin_header h g)) t.table)) (header_effect (pin_header h g) (found z (on_headers (pin_header h g)) t.table)) t.table.words v
+
+  of_call : Each (IsOf z call) (met_pin ∷ [])
+  of_call = ((refl, header_before z (at_pin h) t.may.inside), tt)
+
+  pinned_is : w ≡ with_pin (Some pin) (grown (met_pin ∷ []) v)
+  pinned_is = t.after
+
+  -- what the step did to the word, of which P holds
+  changes : (P : ℕ → Type 0) → P n → Runs (ChangesPin z h P (λ k. k + 1)) v w
+  changes P p = pin_changes z call (pin_header h g) h refl v n w t P (λ k. k + 1) p (more_fits n (small z call (pin_header h g) h refl v n w t) (subst (λ (k : ℕ). state_of k ≤ RETIRED) word_is (t.rule.headers.six h)))
 
   pub pin_now : w.headers.pin ≡ Some pin
   pin_now = ap (λ (x : PassState). x.headers.pin) t.after
@@ -73,8 +134,10 @@ module _ (z : Sizes) (call h g n : ℕ) (v w : PassState) (t : Pins z call h g v
     told = t;
     live = live;
     generation = e;
-    more = pinned_grown.0;
-    after = pinned_grown.1;
+    still = changes (IsLiveAt g) (e, live);
+    more = met_pin ∷ [];
+    calls = of_call;
+    after = pinned_is;
     pin = record {
       inside = t.may.inside;
       is = pin_now;
@@ -93,19 +156,41 @@ module _ (z : Sizes) (call h g n : ℕ) (v w : PassState) (t : Pins z call h g v
   stamp_stays dead later word stamp x at l = let s = l.told.table in
       let same = index_apart z l.spot (in_headers (at_stamp h)) l.inside t.may.inside (l.at ∙ at) in
       let stands = pin_fact (DeadPinHolds (memory z s.words).headers) w.headers.pin pin pin_now (l.told.rule.headers.dead l.told.seat w.headers (at_map headers_held s.states l.told.seat w l.told.here)) (ap state_of word_is ∙ dead) in
-      sym (memory_read z s.words (in_headers (at_stamp h)) t.may.inside ∙ (ap (λ (p : _). Rattle.std.proofs.Common.get_or s.words (index z p) 0) (sym same) ∙ l.told.finds)) ∙ stands.stamp
+      sym (memory_read z s.words (in_headers (at_stamp h)) t.may.inside ∙ (ap (λ (p : Spot). get_or s.words (index z p) 0) (sym same) ∙ l.told.finds)) ∙ stands.stamp
+
+  -- what was found between the pin and the unpin, in words that stay
+  abbrev pub Between : BadPin → List ℕ → List ℕ → Type 0
+  Between why a b = (b ≡ a) × IsStampOf why ((memory z a).headers.stamp h)
+
+  -- the pin changed the pin word alone
+  stamp_in : (P : ℕ → Type 0) (a b : List ℕ) → ChangesPin z h P (λ k. k + 1) a b → (memory z b).headers.stamp h ≡ (memory z a).headers.stamp h
+  stamp_in P a b d = memory_read z b (in_headers (at_stamp h)) t.may.inside
+      ∙ (ap (λ (ws : List ℕ). get_or ws (index z (in_headers (at_stamp h))) 0) d.1
+      ∙ (get_or-set_other a (index z (pin_spot h)) (index z (in_headers (at_stamp h))) ((memory z a).headers.pin h + 1) 0 (λ e. stamp_apart (index_apart z (in_headers (at_stamp h)) (pin_spot h) t.may.inside t.may.inside e))
+      ∙ sym (memory_read z a (in_headers (at_stamp h)) t.may.inside)))
+    where
+      stamp_apart : in_headers (at_stamp h) ≡ pin_spot h → ⊥
+      stamp_apart e = cc
+
+  dud_runs : (why : BadPin) (x u : PassState) → IsCause why g n → Runs (Between why) w x → Runs (DropsPin z h) x u → Runs (FindsDud z h g why) v u
+  dud_runs why x u cause between drops = let Up = ChangesPin z h (IsCause why g) (λ k. k + 1) in
+      runs_as (Then Up (Then (Between why) (DropsPin z h))) (FindsDud z h g why) v u
+      (λ a b d. let up = d.1 in let mid = d.2.1 in let down = d.2.2 in
+      (undone z h t.may.inside a d.0 b (IsCause why g) (λ k. 0 < count_of k) up (subst (λ (ws : List ℕ). DropsPin z h ws b) mid.0 down), up.0, subst (IsStampOf why) (stamp_in (IsCause why g) a d.0 up) mid.1))
+      (runs_then Up (Then (Between why) (DropsPin z h)) v w u (changes (IsCause why g) cause) (runs_then (Between why) (DropsPin z h) w x u between drops))
 
   -- the pin is undone
-  pub pinned_dud : (why : BadPin) (x u : PassState) → v.headers.pin ≡ None → IsCause why g n → LooksUnder z call h why m w x → IsGrown w x → EndsPin z call h x u → PinsDud z call h g why v u
-  pinned_dud why x u none cause looks more undone = record {
+  pub pinned_dud : (why : BadPin) (x u : PassState) → v.headers.pin ≡ None → IsCause why g n → LooksUnder z call h why m w x → OnlyLoads z call w x → Runs (Between why) w x → EndsPin z call h x u → PinsDud z call h g why v u
+  pinned_dud why x u none cause looks only between undo = record {
     number = n;
     pinned = w;
     told = t;
     cause = cause;
     looked = x;
     looks = looks;
-    undone = undone;
-    grown = grown_round v w x u (Some pin) pinned_grown.0 none pinned_grown.1 more undone.grown;
+    undone = undo;
+    meets = meets_round z call v w x u (Some pin) (met_pin ∷ []) none of_call pinned_is (loads_meet z call w x only) undo.meets;
+    still = dud_runs why x u cause between undo.still;
   }
 
   pub pins_now : PinsHeader z h w
@@ -113,7 +198,7 @@ module _ (z : Sizes) (call h g n : ℕ) (v w : PassState) (t : Pins z call h g v
 
   -- the pin that stands after a load
   pub pins_later : (later word k : ℕ) (x : PassState) → Loads z later word w k x → PinsHeader z h x
-  pins_later later word k x l = record { inside = t.may.inside; pin = pin; is = pin_stays w x record { more = _; after = l.met } ∙ pin_now; header_is = refl }
+  pins_later later word k x l = record { inside = t.may.inside; pin = pin; is = pin_stays w x _ l.met ∙ pin_now; header_is = refl }
 
   pub dead_left : generation_of n ≡ g → state_of n ≢ LIVE → state_of n ≢ LOCKED → state_of n ≡ DEAD
   dead_left e one two = ⊎_elim (λ (l : state_of n ≡ LIVE). absurd (one l)) (λ (t : (state_of n ≡ LOCKED) ⊎ (state_of n ≡ DEAD)). ⊎_elim (λ (l : state_of n ≡ LOCKED). absurd (two l)) (λ (d : state_of n ≡ DEAD). d) t) (in_use e)
@@ -121,16 +206,18 @@ module _ (z : Sizes) (call h g n : ℕ) (v w : PassState) (t : Pins z call h g v
   -- the refusals, whose later steps are of the same call
 
   module _ (none : v.headers.pin ≡ None) (later : ℕ) where
-    at_once : (why : BadPin) (u : PassState) → later ≡ call → IsCause why g n → LooksUnder z call h why m w w → EndsPin z later h w u → PinsDud z call h g why v u
-    at_once why u e cause looks t = pinned_dud why w u none cause looks record { more = []; after = grown_none w } (subst (λ (i : ℕ). EndsPin z i h w u) e t)
+    at_once : (why : BadPin) (u : PassState) → later ≡ call → IsCause why g n → LooksUnder z call h why m w w → ((k : ℕ) → IsStampOf why k) → EndsPin z later h w u → PinsDud z call h g why v u
+    at_once why u e cause looks any undo = pinned_dud why w u none cause looks (loads_none z call w) (runs_none (Between why) w (λ a. (refl, any ((memory z a).headers.stamp h)))) (subst (λ (i : ℕ). EndsPin z i h w u) e undo)
 
     pub locked_dud : (u : PassState) → later ≡ call → generation_of n ≡ g → state_of n ≡ LOCKED → EndsPin z later h w u → PinsDud z call h g Locked v u
-    locked_dud u e same locked t = at_once Locked u e (same, locked) refl t
+    locked_dud u e same locked undo = at_once Locked u e (same, locked) refl (λ k. tt) undo
 
     pub other_dud : (u : PassState) → later ≡ call → generation_of n ≢ g → EndsPin z later h w u → PinsDud z call h g Other v u
-    other_dud u e ne t = at_once Other u e ne refl t
+    other_dud u e ne undo = at_once Other u e ne refl (λ k. tt) undo
 
     pub dead_dud : (last word stamp : ℕ) (x u : PassState) → later ≡ call → last ≡ call → generation_of n ≡ g → state_of n ≡ DEAD → word ≡ index z (in_headers (at_stamp h)) → Loads z later word w stamp x → EndsPin z last h x u → PinsDud z call h g (Dead stamp) v u
-    dead_dud last word stamp x u e f same dead at l t = pinned_dud (Dead stamp) x u none (same, dead)
+    dead_dud last word stamp x u e f same dead at l undo = pinned_dud (Dead stamp) x u none (same, dead)
         (subst (λ (i : ℕ × ℕ). Loads z i.0 i.1 w stamp x) (λ i. (e i, at i)) l, stamp_stays dead later word stamp x at l)
-        record { more = _; after = l.met } (subst (λ (i : ℕ). EndsPin z i h x u) f t)
+        (loads_in z call later w x e (loads_one z later word stamp w x (subst (λ (i : ℕ). i < rooms_at z) (sym at) (header_before z (at_stamp h) t.may.inside)) l))
+        (load_finds z later word stamp w x (in_headers (at_stamp h)) t.may.inside at l)
+        (subst (λ (i : ℕ). EndsPin z i h x u) f undo)

@@ -1,5 +1,5 @@
 -- Where the words of a value lie that is read.
-use Rattle.std.proofs.Common.{◌≡◌, ℕ, zero, suc, ◌+◌, ◌-◌, ◌*◌, ◌/◌, ◌%◌, ◌^◌, ◌<◌, ◌≤◌, min, List, length, get_or, take, sym, ap, ◌∙◌, subst, arith}
+use Rattle.std.proofs.Common.{◌≡◌, ℕ, zero, suc, ◌+◌, ◌-◌, ◌*◌, ◌/◌, ◌%◌, ◌^◌, ◌<◌, ◌≤◌, min, List, length, get_or, take, sym, ap, ◌∙◌, subst, arith, refl}
 use Rattle.std.proofs.lemmas.List.{length-take}
 use Rattle.std.proofs.lemmas.Grind.{div_ceil_times}
 use Rattle.std.proofs.Math.Nat.{min-eq_left}
@@ -10,14 +10,14 @@ use Rattle.arena_core.specs.Arena.{at_bytes, block_words, bit_words, byte_words,
 use Rattle.arena_core.specs.Place.{class_in, block_in, length_in}
 use Rattle.arena_core.proofs.ArenaSizes.{few_words}
 use Rattle.oak_core.specs.declared.states.PassState.{PassState}
-use Rattle.oak_core.specs.Memory.{in_arena, index, word_count}
-use Rattle.oak_core.specs.Passes.{state, key}
+use Rattle.oak_core.specs.Memory.{in_arena, index, rooms_at, word_count}
+use Rattle.oak_core.specs.Passes.{state, key, call_of}
 use Rattle.oak_core.proofs.ArenaPlaces.{bytes_place, few_bits, few_bytes}
-use Rattle.oak_core.proofs.Words.{index_below}
+use Rattle.oak_core.proofs.Words.{index_below, arena_before}
 use Rattle.oak_core.proofs.SamePass.{stays_both}
 use Rattle.value_ops.specs.declared.reading.Reading.{Reading}
-use Rattle.value_ops.specs.Reading.{word_bytes, bytes_of, bytes_in, value, value_pinned, words_pinned, IsReading, ReadsOn}
-use Rattle.value_ops.proofs.PinFacts.{grown_both}
+use Rattle.value_ops.specs.Reading.{word_bytes, bytes_of, bytes_in, value, value_pinned, words_pinned, IsReading, OnlyLoads, ReadsOn}
+use Rattle.value_ops.proofs.PinFacts.{loads_both, loads_none, loads_in}
 use Rattle.value_ops.proofs.ByteFacts.{length-bytes_of}
 use Rattle.value_ops.proofs.WordLaws.{word_put}
 
@@ -73,6 +73,9 @@ module _ (r : Reading) (is : IsReading r) where
     pub word_below : r.block + i < word_count z
     word_below = let e = word_spot in let l = index_below z (in_arena (at_bytes c b i)) (is.placed.class, is.placed.block, word_inside) in omega arith
 
+    pub word_in_front : r.block + i < rooms_at z
+    word_in_front = subst (λ (j : ℕ). j < rooms_at z) (sym word_spot) (arena_before z (at_bytes c b i) (is.placed.class, is.placed.block, word_inside))
+
     pub word_small : r.block + i < 2 ^ 32
     word_small = let e = word_spot in let l = bytes_small z is.limits c b i is.placed.class is.placed.block word_inside in omega arith
 
@@ -84,15 +87,19 @@ module _ (r : Reading) (is : IsReading r) where
 -- readings that go on
 
 pub value_same : (q r : Reading) → ReadsOn q r → value r ≡ value q
-value_same q r o = ap (λ (v : PassState). value_pinned v.headers.pin) o.grown.after
+value_same q r o = ap (λ (v : PassState). value_pinned v.headers.pin) o.only.loads.after
 
 pub reads_both : (q r s : Reading) → ReadsOn q r → ReadsOn r s → ReadsOn q s
 reads_both q r s a b = record {
   reading = b.reading;
   table = b.table ∙ a.table;
   stays = stays_both a.stays b.stays;
-  grown = grown_both (state q.pass.now) (state r.pass.now) (state s.pass.now) a.grown b.grown;
+  only = loads_both (key q.table.now) (call_of q.pass.now) (state q.pass.now) (state r.pass.now) (state s.pass.now) a.only
+      (subst (λ (i : Sizes × ℕ). OnlyLoads i.0 i.1 (state r.pass.now) (state s.pass.now)) (λ i. (ap (λ t. key t.now) a.table i, a.stays.call i)) b.only);
 }
+
+pub reads_none : (q : Reading) → IsReading q → ReadsOn q q
+reads_none q is = record { reading = is; table = refl; stays = record { table = refl; seat = refl; call = refl; scratch = refl }; only = loads_none (key q.table.now) (call_of q.pass.now) (state q.pass.now) }
 
 -- a word that a loop over as many as there are comes to
 pub word_of_loop : (len i n : ℕ) → i < n → n ≡ len / 8 + min 1 (len % 8) → 8 * i < len

@@ -1,6 +1,7 @@
 -- What a pin of a header finds.
-use Rattle.std.specs.Prelude.{◌≡◌, ◌≢◌, ℕ, ◌<◌, List, Option, Some, None}
-use Rattle.pin_word.specs.PinWord.{generation_of, state_of}
+use Rattle.std.specs.Prelude.{◌≡◌, ◌≢◌, ℕ, ◌+◌, ◌-◌, ◌<◌, List, Option, Some, None}
+use Rattle.pin_word.specs.PinWord.{generation_of, state_of, count_of}
+use Rattle.oak_model.specs.Counts.{Each}
 use Rattle.oak_model.specs.Limits.{Sizes}
 use Rattle.arena_core.specs.Place.{content}
 use Rattle.header_core.specs.declared.states.TheConstants.{LIVE, LOCKED, DEAD}
@@ -9,10 +10,12 @@ use Rattle.header_core.specs.Headers.{at_stamp}
 use Rattle.header_core.specs.HeaderRule.{IsGood}
 use Rattle.oak_core.specs.declared.states.Finding.{Finding}
 use Rattle.oak_core.specs.declared.states.PassState.{PassState}
-use Rattle.oak_core.specs.Finding.{grown}
+use Rattle.oak_core.specs.AloneWords.{Runs}
+use Rattle.oak_core.specs.Finding.{grown, IsOf}
 use Rattle.oak_core.specs.HeaderCalls.{Pins, Unpins}
 use Rattle.oak_core.specs.Memory.{Memory, in_headers, index, memory}
-use Rattle.oak_core.specs.Splitting.{Loads, IsGrown}
+use Rattle.oak_core.specs.Splitting.{Loads}
+use Rattle.value_ops.specs.Claiming.{ChangesPin}
 use Rattle.value_ops.specs.declared.pinning.BadPin.{BadPin}
 use Rattle.value_ops.specs.declared.pinning.BadPin.TheVariants.{Locked, Dead, Other}
 
@@ -31,13 +34,36 @@ pub record HasPin (z : Sizes) (h g : ℕ) (p : PinnedHeader) (v : PassState) : T
   pub wanted_is : p.wanted ≡ g
   pub good : IsGood p
 
--- The step that pinned the header found its word live, at the generation. The pass has the pin that records what stood there at that moment, a good one, and else only met more.
+-- the pass is as it was, but for what it met, all in the call
+pub record MeetsMore (z : Sizes) (call : ℕ) (v w : PassState) : Type 0 where
+  pub more : List Finding
+  pub calls : Each (IsOf z call) more
+  pub after : w ≡ grown more v
+
+abbrev pub WordsStay : List ℕ → List ℕ → Type 0
+WordsStay before after = after ≡ before
+
+abbrev pub IsLiveAt : ℕ → ℕ → Type 0
+IsLiveAt g n = (generation_of n ≡ g) × (state_of n ≡ LIVE)
+
+-- the header was live at the generation, and its word counts one pin more
+abbrev pub AddsPin : Sizes → ℕ → ℕ → List ℕ → List ℕ → Type 0
+AddsPin z h g = ChangesPin z h (IsLiveAt g) (λ n. n + 1)
+
+-- the word of the header counts one pin less
+abbrev pub DropsPin : Sizes → ℕ → List ℕ → List ℕ → Type 0
+DropsPin z h = ChangesPin z h (λ n. 0 < count_of n) (λ n. n - 1)
+
+-- The one step that pinned the header found its word live, at the generation. The pass has the pin that records what stood there at that moment, a good one, and else only met that step.
 pub record PinsLive (z : Sizes) (call h g : ℕ) (v w : PassState) : Type 0 where
   pub number : ℕ
   pub told : Pins z call h g v number w
   pub live : state_of number ≡ LIVE
   pub generation : generation_of number ≡ g
+  -- to a pass that is alone
+  pub still : Runs (AddsPin z h g) v w
   pub more : List Finding
+  pub calls : Each (IsOf z call) more
   pub after : w ≡ with_pin (Some (pin_of (memory z told.table.words) h g)) (grown more v)
   pub pin : HasPin z h g (pin_of (memory z told.table.words) h g) w
 
@@ -59,13 +85,24 @@ pub record PinsHeader (z : Sizes) (h : ℕ) (v : PassState) : Type 0 where
   pub is : v.headers.pin ≡ Some pin
   pub header_is : pin.header ≡ h
 
--- The step that undid the pin of the header. The pass has none now, and else only met more.
+-- The one step that undid the pin of the header. The pass has none now, and else only met that step.
 pub record EndsPin (z : Sizes) (call h : ℕ) (v w : PassState) : Type 0 where
   pub number : ℕ
   pub told : Unpins z call h v number w
-  pub grown : IsGrown (with_pin None v) w
+  pub meets : MeetsMore z call (with_pin None v) w
+  -- to a pass that is alone
+  pub still : Runs (DropsPin z h) v w
 
--- The step that pinned the header found a word that is the cause, and another undid the pin. The pass only met more.
+-- the number is the stamp of the removal
+abbrev pub IsStampOf : BadPin → ℕ → Type 0
+IsStampOf (Dead stamp) n = stamp ≡ n
+IsStampOf _ n = Unit {0}
+
+-- the words stay, and in them the word of the header is the cause, and its stamp that of the removal
+abbrev pub FindsDud : Sizes → ℕ → ℕ → BadPin → List ℕ → List ℕ → Type 0
+FindsDud z h g why before after = (after ≡ before) × IsCause why g ((memory z before).headers.pin h) × IsStampOf why ((memory z before).headers.stamp h)
+
+-- The step that pinned the header found a word that is the cause, and another undid the pin. The pass only met these steps, and the load of a dead header's stamp between them.
 pub record PinsDud (z : Sizes) (call h g : ℕ) (why : BadPin) (v w : PassState) : Type 0 where
   pub number : ℕ
   pub pinned : PassState
@@ -74,4 +111,6 @@ pub record PinsDud (z : Sizes) (call h g : ℕ) (why : BadPin) (v w : PassState)
   pub looked : PassState
   pub looks : LooksUnder z call h why (memory z told.table.words) pinned looked
   pub undone : EndsPin z call h looked w
-  pub grown : IsGrown v w
+  pub meets : MeetsMore z call v w
+  -- to a pass that is alone
+  pub still : Runs (FindsDud z h g why) v w

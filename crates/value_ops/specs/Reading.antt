@@ -7,11 +7,15 @@ use Rattle.arena_core.specs.Place.{class_in, block_in, length_in}
 use Rattle.oak_model.specs.declared.limits.TheConstants.{CLASSES}
 use Rattle.oak_model.specs.Limits.{Sizes, IsInLimits}
 use Rattle.header_core.specs.declared.holds.PinnedHeader.{PinnedHeader}
-use Rattle.oak_core.specs.Memory.{in_arena, index}
-use Rattle.oak_core.specs.Passes.{IsPassOf, Stays, state, key}
-use Rattle.oak_core.specs.Splitting.{IsGrown}
+use Rattle.header_core.specs.Headers.{at_place, at_stamp}
+use Rattle.oak_core.specs.Memory.{in_arena, in_headers, index}
+use Rattle.oak_core.specs.Passes.{IsPassOf, Stays, state, key, call_of}
+use Rattle.oak_core.specs.AloneWords.{Runs}
+use Rattle.oak_core.specs.Finding.{LoadsMore}
+use Rattle.oak_core.specs.Splitting.{Loads}
+use Rattle.oak_core.specs.declared.states.PassState.{PassState}
 use Rattle.value_ops.specs.declared.reading.Reading.{Reading}
-use Rattle.value_ops.specs.Pinning.{HasPin}
+use Rattle.value_ops.specs.Pinning.{HasPin, WordsStay}
 
 -- the eight bytes of a word, the highest first
 abbrev pub word_bytes : ℕ → List ℕ
@@ -72,9 +76,21 @@ pub record IsReading (r : Reading) : Type 0 where
   pub words : length pin.words ≡ block_words (class_in pin.place)
   pub stamp_is : r.stamp ≡ pin.stamp
 
--- the later reading is that of the same pin, and its pass only met more
+-- the pass only made loads of the call, and to a pass that is alone the words stay
+pub record OnlyLoads (z : Sizes) (call : ℕ) (v w : PassState) : Type 0 where
+  pub loads : LoadsMore z call v w
+  pub still : Runs WordsStay v w
+
+-- the place word of the header was loaded, and then its stamp word, in which this stamp was found
+pub record FindsStamp (z : Sizes) (call h stamp : ℕ) (v w : PassState) : Type 0 where
+  pub place : ℕ
+  pub between : PassState
+  pub places : Loads z call (index z (in_headers (at_place h))) v place between
+  pub stamps : Loads z call (index z (in_headers (at_stamp h))) between stamp w
+
+-- the later reading is that of the same pin, and its pass only made loads since
 pub record ReadsOn (q r : Reading) : Type 0 where
   pub reading : IsReading r
   pub table : r.table ≡ q.table
   pub stays : Stays q.pass.now r.pass.now
-  pub grown : IsGrown (state q.pass.now) (state r.pass.now)
+  pub only : OnlyLoads (key q.table.now) (call_of q.pass.now) (state q.pass.now) (state r.pass.now)

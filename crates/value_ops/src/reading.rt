@@ -2,10 +2,9 @@
 ghost use Rattle.std.specs.Prelude.{◌≡◌, ◌≢◌, ◌+◌, ◌*◌, ◌<◌, ◌≤◌, ◌++◌, ◌↔◌, IsTrue, MatchBool, length, take, slice_index, slice_range};
 ghost use Rattle.std.specs.Int.{w64, from_be_bytes};
 ghost use Rattle.header_core.specs.declared.holds.PinnedHeader.{PinnedHeader};
-ghost use Rattle.oak_core.specs.Splitting.{IsGrown};
 ghost use Rattle.oak_core.specs.Passes.{IsPassOf, Stays, state, key, call_of};
 ghost use Rattle.value_ops.specs.Pinning.{HasPin, EndsPin};
-ghost use Rattle.value_ops.specs.Reading.{IsReading, ReadsOn, value, stamp, header, words_pinned, bytes_in};
+ghost use Rattle.value_ops.specs.Reading.{IsReading, OnlyLoads, FindsStamp, ReadsOn, value, stamp, header, words_pinned, bytes_in};
 
 use crate::pinning::{HeaderPin, unpin};
 use crate::words::{WORD, put_word};
@@ -33,7 +32,8 @@ impl HeaderPin {
         ensures table { result.table ≡ table.entry }
         ensures reading { IsReading result }
         ensures own { Stays pass.old result.pass.now }
-        ensures grown { IsGrown (state pass.old) (state result.pass.now) }
+        ensures only { OnlyLoads (key table.now) (call_of pass.old) (state pass.old) (state result.pass.now) }
+        ensures found { FindsStamp (key table.now) (call_of pass.old) self.header (stamp result) (state pass.old) (state result.pass.now) }
     {
         let HeaderPin {
             header,

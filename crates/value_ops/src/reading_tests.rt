@@ -6,9 +6,9 @@ ghost use Rattle.arena_core.specs.HeldBlocks.{no_blocks};
 ghost use Rattle.header_core.specs.declared.states.TheConstants.{OWNED};
 ghost use Rattle.header_core.specs.HeaderHolds.{no_headers, in_state, IsFreshAt};
 ghost use Rattle.oak_core.specs.PassState.{HoldsNothing, IsAlone};
-ghost use Rattle.oak_core.specs.Passes.{IsPassOf, Stays, state, key};
-ghost use Rattle.oak_core.specs.Splitting.{IsGrown};
+ghost use Rattle.oak_core.specs.Passes.{IsPassOf, Stays, state, key, call_of};
 ghost use Rattle.value_ops.specs.OneHeader.{IsOneHeader, IsOneBlock, KeepsElse};
+ghost use Rattle.value_ops.specs.Pinning.{MeetsMore};
 ghost use Rattle.value_ops.specs.Reading.{IsReading, ReadsOn, value};
 
 use crate::claiming_tests::none_left;
@@ -116,7 +116,7 @@ fn value_is(
     requires fresh { IsFreshAt at.0 at.1 (state pass.old).headers }
     requires unpinned { (state pass.old).headers.pin ≡ None }
     ensures own { Stays pass.old pass.new }
-    ensures grown { IsGrown (state pass.old) (state pass.new) }
+    ensures meets { MeetsMore (key table.now) (call_of pass.old) (state pass.old) (state pass.new) }
 {
     let Ok(pin) = pin_at(table, pass, at.0, at.1) else {
         assert!(rt; false);

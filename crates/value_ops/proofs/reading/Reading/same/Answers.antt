@@ -20,3 +20,6 @@ loop-i-preserved c = let q = c.args.self.now in let r = c.loop-i.self in let i =
   name = c.same_in_word.ensures.same_reference ∙ s.name;
   same = more_bytes c.args.other.now i ∙ ((λ j. s.same j ++ c.if-not-same_in_word.ensures.same j) ∙ (ap (λ (xs : List ℕ). take (8 * i) (value q) ++ bytes_in i xs) same ∙ sym (more_bytes (value q) i)));
 }
+
+pub returns-then-not-same_in_word-clause-reads : goal.returns-then-not-same_in_word-clause-reads
+returns-then-not-same_in_word-clause-reads c = reads_both c.args.self.now c.loop-i.self c.same_in_word.new.self c.loop-i.invariant.reads c.same_in_word.ensures.reads
