@@ -31,4 +31,5 @@ pub mod UnlockFacts
 pub mod LockEnds
 pub mod BlockExchange
 pub mod RenewFacts
+pub mod AloneEnds
 pub mod StandingPins
