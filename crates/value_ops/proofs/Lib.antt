@@ -32,4 +32,7 @@ pub mod UnlockFacts
 pub mod LockEnds
 pub mod BlockExchange
 pub mod RenewFacts
+pub mod AloneEnds
+pub mod AloneWords
+pub mod AloneRewrites
 pub mod StandingPins

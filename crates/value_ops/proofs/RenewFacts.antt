@@ -62,7 +62,7 @@ module _ (z : Sizes) (call h g stamp : ℕ) (v u : PassState) (has : HasBuried z
     is_small = small z call (take_back h (renewal g)) h refl u n w t
 
     -- a dead header is not at the last generation
-    room : g + 1 < 2 ^ 32
+    pub room : g + 1 < 2 ^ 32
     room = let r = t.rule.headers.retired h in let e = pin_found z call (take_back h (renewal g)) h refl u n w t in
         let d : state_of (m.headers.pin h) ≡ DEAD = ap state_of e ∙ was_dead in let k : generation_of (m.headers.pin h) ≡ g = ap generation_of e ∙ generation_was in
         let none = one_at-other (state_of (m.headers.pin h)) RETIRED (λ q. omega arith) in let b = generation_small n is_small in let f = generation_was in

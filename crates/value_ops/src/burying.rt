@@ -3,7 +3,9 @@ ghost use Rattle.std.specs.Prelude.{◌≡◌};
 ghost use Rattle.oak_model.specs.Class.{class_number};
 ghost use Rattle.arena_core.specs.Blocks.{HoldsBlock};
 ghost use Rattle.header_core.specs.HeaderStep.{renewal};
+ghost use Rattle.oak_core.specs.AloneWords.{Runs};
 ghost use Rattle.oak_core.specs.Passes.{IsPassOf, Stays, state, key, call_of};
+ghost use Rattle.value_ops.specs.AloneLocks.{RenewsPin};
 ghost use Rattle.value_ops.specs.UnderLock.{HasBuried, Renews};
 
 use crate::claiming::STATE;
@@ -47,6 +49,7 @@ impl Buried {
         ensures own { Stays pass.old pass.new }
         ensures held { HoldsBlock (key table.now) (class_number result.class) result.number (state pass.new).blocks }
         ensures renewed { Renews (key table.now) (call_of pass.old) self.header self.generation result.class result.number (state pass.old) (state pass.new) }
+        ensures alone { Runs (RenewsPin (key table.now) self.header self.generation result.class result.number) (state pass.old) (state pass.new) }
     {
         let Buried {
             header,

@@ -13,7 +13,7 @@ ghost use Rattle.oak_core.specs.Memory.{in_headers, index};
 ghost use Rattle.oak_core.specs.Finding.{LoadsMore};
 ghost use Rattle.oak_core.specs.Passes.{IsPassOf, Stays, state, key, call_of};
 ghost use Rattle.oak_core.specs.Splitting.{Loads};
-ghost use Rattle.value_ops.specs.AloneLocks.{FindsWord, FindsClass};
+ghost use Rattle.value_ops.specs.AloneLocks.{FindsWord, FindsClass, ChangesWord, WritesWords, BuriesWords, FreesPin};
 ghost use Rattle.value_ops.specs.HeldValue.{stamp_held};
 ghost use Rattle.value_ops.specs.UnderLock.{HasBlock, HasLock, HasBuried, IsUnchanged, next_stamp, ComesTo, LoadsPlace, Exchanges, StoresNext, WritesOver, GivesUp, Buries};
 
@@ -77,6 +77,7 @@ impl Locked {
         ensures locked { HasLock (key table.now) self.new.header self.new.generation (state pass.new) }
         ensures held { HoldsBlock (key table.now) (class_number result.class) result.number (state pass.new).blocks }
         ensures changed { Exchanges (key table.now) (call_of pass.old) self.old.header block.class block.number len result.class result.number (state pass.old) (state pass.new) }
+        ensures alone { Runs (ChangesWord (key table.now) self.old.header block.class block.number len result.class result.number) (state pass.old) (state pass.new) }
     {
         let Block { class, number } = block;
         let old = self.place(table, pass);
@@ -110,6 +111,7 @@ impl Locked {
         ensures own { Stays pass.old pass.new }
         ensures stamp { result ≡ next_stamp (stamp_held self.header (state pass.old).headers.held) }
         ensures unlocked { WritesOver (key table.now) (call_of pass.old) self.header self.generation kind result (state pass.old) (state pass.new) }
+        ensures alone { Runs (WritesWords (key table.now) self.header self.generation result) (state pass.old) (state pass.new) }
     {
         let written = self.store_next_stamp(table, pass);
         let Locked {
@@ -130,6 +132,7 @@ impl Locked {
         ensures has { HasBuried (key table.now) result.header result.generation result.stamp (state pass.new) }
         ensures stamp { result.stamp ≡ next_stamp (stamp_held self.header (state pass.old).headers.held) }
         ensures buried { Buries (key table.now) (call_of pass.old) self.header self.generation result.stamp (state pass.old) (state pass.new) }
+        ensures alone { Runs (BuriesWords (key table.now) self.header self.generation result.stamp) (state pass.old) (state pass.new) }
     {
         let stamp = self.store_next_stamp(table, pass);
         let Locked { header, generation } = self;
@@ -149,6 +152,7 @@ impl Locked {
         requires unchanged { IsUnchanged self.header (state pass.old).headers.held }
         ensures own { Stays pass.old pass.new }
         ensures unlocked { GivesUp (key table.now) (call_of pass.old) self.header self.generation (stamp_held self.header (state pass.old).headers.held) (state pass.old) (state pass.new) }
+        ensures alone { Runs (FreesPin (key table.now) self.header self.generation) (state pass.old) (state pass.new) }
     {
         let Locked {
             header,

@@ -6,9 +6,11 @@ ghost use Rattle.oak_model.specs.Recipe.{recipe_result};
 ghost use Rattle.arena_core.specs.Place.{class_in, length_in};
 ghost use Rattle.header_core.specs.HeaderHolds.{place_held};
 ghost use Rattle.header_core.specs.HeaderStep.{reworded};
+ghost use Rattle.oak_core.specs.AloneWords.{Runs};
 ghost use Rattle.oak_core.specs.Finding.{LoadsMore};
 ghost use Rattle.oak_core.specs.Passes.{IsPassOf, Stays, state, key, call_of, scratch_of};
 ghost use Rattle.oak_core.specs.Scratch.{StaysButScratch};
+ghost use Rattle.value_ops.specs.AloneLocks.{AllStay, PutsWord, PutsBytes, AppliesTo};
 ghost use Rattle.value_ops.specs.Rewriting.{HasWords};
 ghost use Rattle.value_ops.specs.HeldValue.{words_in, value_held};
 ghost use Rattle.value_ops.specs.UnderLock.{HasLock, ComesTo, Rewrites, Refills, words_over, with_words};
@@ -28,6 +30,7 @@ impl Locked {
         ensures own { Stays pass.old pass.new }
         ensures met { LoadsMore (key table.now) (call_of pass.old) (state pass.old) (state pass.new) }
         ensures word { result ≡ slice_index (words_in self.now.header (state pass.old).headers.held) i }
+        ensures alone { Runs AllStay (state pass.old) (state pass.new) }
     {
         load(table, pass, first + i as u32)
     }
@@ -39,6 +42,7 @@ impl Locked {
         requires inside { i < length (words_in self.now.header (state pass.old).headers.held) }
         ensures own { Stays pass.old pass.new }
         ensures stored { ComesTo (key table.now) (call_of pass.old) (state pass.old).blocks.held (reworded self.now.header i word (state pass.old).headers.held) (state pass.old) (state pass.new) }
+        ensures alone { Runs (PutsWord (first + i) word) (state pass.old) (state pass.new) }
     {
         steps::store_word(table, pass, first + i as u32, word);
     }
@@ -51,6 +55,7 @@ impl Locked {
         ensures own { StaysButScratch pass.old pass.new }
         ensures met { LoadsMore (key table.now) (call_of pass.old) (state pass.old) (state pass.new) }
         ensures value { scratch_of pass.new ≡ value_held self.now.header (state pass.old).headers.held }
+        ensures alone { Runs AllStay (state pass.old) (state pass.new) }
     {
         pass.scratch_mut().set_len(len);
         for i in 0..len.div_ceil(WORD) {
@@ -66,6 +71,7 @@ impl Locked {
         requires long { length (scratch_of pass.old) ≡ length_in (place_held self.now.header (state pass.old).headers.held) }
         ensures own { Stays pass.old pass.new }
         ensures stored { Rewrites (key table.now) (call_of pass.old) self.now.header (scratch_of pass.old) (state pass.old) (state pass.new) }
+        ensures alone { Runs (PutsBytes first (scratch_of pass.old)) (state pass.old) (state pass.new) }
     {
         for i in 0..pass.scratch().bytes().len().div_ceil(WORD) {
             let word = word_from(pass.scratch().bytes(), i);
@@ -80,6 +86,7 @@ impl Locked {
         requires room { length bytes.now ≤ 8 * length (words_in self.now.header (state pass.old).headers.held) }
         ensures own { Stays pass.old pass.new }
         ensures stored { ComesTo (key table.now) (call_of pass.old) (state pass.old).blocks.held (with_words self.now.header (words_over bytes.now (words_in self.now.header (state pass.old).headers.held)) (state pass.old).headers.held) (state pass.old) (state pass.new) }
+        ensures alone { Runs (PutsBytes first bytes.now) (state pass.old) (state pass.new) }
     {
         for i in 0..bytes.len().div_ceil(WORD) {
             self.store_word(table, pass, first, i, word_from(bytes, i));
@@ -96,6 +103,7 @@ impl Locked {
         ensures same { self.new ≡ self.old }
         ensures locked { HasLock (key table.now) self.new.header self.new.generation (state pass.new) }
         ensures applied { Rewrites (key table.now) (call_of pass.old) self.old.header (recipe_result (told_kind recipe.old) (told_argument recipe.old) (value_held self.old.header (state pass.old).headers.held)) (state pass.old) (state pass.new) }
+        ensures alone { Runs (AppliesTo (key table.now) self.old.header (told_kind recipe.old) (told_argument recipe.old)) (state pass.old) (state pass.new) }
         ensures once { calls recipe.new ≡ calls recipe.old + 1 }
         ensures kind { told_kind recipe.new ≡ told_kind recipe.old }
         ensures argument { told_argument recipe.new ≡ told_argument recipe.old }

@@ -11,6 +11,7 @@ use Rattle.header_core.specs.HeaderStep.{take_back, renewal}
 use Rattle.oak_core.specs.Memory.{in_headers, index}
 use Rattle.oak_core.specs.HeaderCalls.{TakesBack}
 use Rattle.oak_core.specs.Splitting.{Loads}
+use Rattle.value_ops.proofs.AloneEnds.{renews_alone}
 use Rattle.oak_core.specs.Passes.{state, key, call_of}
 use Rattle.oak_core.specs.Step.{on_headers, MayOnHeaders}
 use Rattle.oak_core.proofs.Words.{index_below}
@@ -60,3 +61,6 @@ pub returns-clause-held : goal.returns-clause-held
 returns-clause-held c = let z : Sizes = key c.args.table.now in let call = call_of c.args.pass.now in let h = c.args.self.header in let g = c.args.self.generation in let v = state c.args.pass.now in let u = state c.load-place.new.pass in let w = state c.take_back.new.pass in let e = given c in
     subst (λ (p : Class × ℕ). HoldsBlock z (class_number p.0) p.1 w.blocks) (λ i. (e.0 i, e.1 i))
     (holds_given z call h g c.args.self.stamp v u c.requires.buried (header_loaded z call c.place_at.result c.load-place.result v u (at_place h) c.requires.buried.inside c.place_at.ensures c.load-place.ensures.loaded) c.take_back.result w (taken c))
+
+pub returns-clause-alone : goal.returns-clause-alone
+returns-clause-alone c = renews_alone (key c.args.table.now) (call_of c.args.pass.now) c.args.self.header c.args.self.generation c.args.self.stamp c.class_in.result c.block_in.result (state c.args.pass.now) (state c.take_back.new.pass) c.requires.buried (returns-clause-renewed c)

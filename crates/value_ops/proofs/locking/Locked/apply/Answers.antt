@@ -4,6 +4,7 @@ use Rattle.arena_core.specs.Place.{length_in}
 use Rattle.header_core.specs.declared.holds.HeldHeader.{HeldHeader}
 use Rattle.header_core.specs.HeaderHolds.{place_held}
 use Rattle.oak_core.specs.Finding.{LoadsMore}
+use Rattle.value_ops.proofs.AloneRewrites.{applies_alone}
 use Rattle.oak_core.specs.Passes.{state, key, call_of}
 use Rattle.value_ops.specs.Rewriting.{HasWords}
 use Rattle.value_ops.specs.HeldValue.{value_held, words_in}
@@ -34,3 +35,9 @@ returns-clause-applied g c = let z : Sizes = key c.args.table.now in let call = 
     rewrites_by z call h _ _ c.apply_once.new.value c.scratch_mut.result.now v u w met c.apply_once.ensures.bytes
     (c.scratch_mut.ensures.value ∙ (l.value ∙ ap (value_held h) (sym (headers_met z (call_of c.place-place.new.pass) y u l.met))))
     (subst (λ (k : ℕ). Rewrites z k h c.apply_once.new.value u w) (l.own.call ∙ o.own.call) c.store_scratch.ensures.stored)
+
+pub returns-clause-alone : goal.returns-clause-alone
+returns-clause-alone g c = let z : Sizes = key c.args.table.now in let call = call_of c.args.pass.now in let h = c.args.self.now.header in let g' = c.args.self.now.generation in let first = c.bytes_at-first.result in
+    let v = state c.args.pass.now in let y = state c.place-place.new.pass in let u = state c.load_value.new.pass in let w = state c.store_scratch.new.pass in let o = c.place-place.ensures in let l = c.load_value.ensures in
+    let is : HasWords z h g' first v = words_found z h g' v o.limits c.requires.locked c.place-place.result o.place o.block c.class_in.result c.block_in.result first c.class_in.ensures c.block_in.ensures c.bytes_at-first.ensures in
+    applies_alone z call h g' first v y u is o.loaded l.alone _ _ c.apply_once.new.value c.scratch_mut.result.now w c.apply_once.ensures.bytes (c.scratch_mut.ensures.value ∙ (l.value ∙ ap (value_held h) (headers_met z call v y o.met))) c.store_scratch.ensures.alone

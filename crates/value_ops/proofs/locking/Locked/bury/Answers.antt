@@ -1,6 +1,7 @@
 use Rattle.oak_model.specs.Limits.{Sizes}
 use Rattle.header_core.specs.HeaderStep.{STATE, mark_dead, stamped_at}
 use Rattle.oak_core.specs.HeaderCalls.{MarksDead}
+use Rattle.value_ops.proofs.AloneEnds.{buries_alone}
 use Rattle.oak_core.specs.Passes.{state, key, call_of}
 use Rattle.oak_core.specs.Step.{on_headers}
 use Rattle.value_ops.proofs.ComesFurther.{headers_come}
@@ -22,3 +23,7 @@ pub returns-clause-has : goal.returns-clause-has
 returns-clause-has c = let z : Sizes = key c.args.table.now in let call = call_of c.args.pass.now in let h = c.args.self.header in let g = c.args.self.generation in let x = c.store_next_stamp-stamp.result in let v = state c.args.pass.now in let u = state c.store_next_stamp-stamp.new.pass in let w = state c.mark_dead.new.pass in let n = c.mark_dead.result in
     let t : MarksDead z call h u n w = told_in z call (call_of c.store_next_stamp-stamp.new.pass) (on_headers (mark_dead h)) u n w c.store_next_stamp-stamp.ensures.own.call (c.mark_dead.ensures.told h record { inside = c.requires.locked.inside; word_is = c.pin_at.ensures }) in
     has_buried z call h g x v u (is_stamped z call h g v c.requires.locked x u c.store_next_stamp-stamp.ensures.stored) n w t
+
+pub returns-clause-alone : goal.returns-clause-alone
+returns-clause-alone c = let z : Sizes = key c.args.table.now in let call = call_of c.args.pass.now in let h = c.args.self.header in let g = c.args.self.generation in let x = c.store_next_stamp-stamp.result in let v = state c.args.pass.now in
+    buries_alone z call h g x v (state c.mark_dead.new.pass) (returns-clause-buried c) c.requires.locked

@@ -6,6 +6,7 @@ use Rattle.arena_core.specs.Blocks.{HoldsBlock}
 use Rattle.arena_core.specs.Place.{place_word}
 use Rattle.header_core.specs.HeaderStep.{change_place}
 use Rattle.oak_core.specs.HeaderCalls.{of_locked_place, ChangesPlace}
+use Rattle.value_ops.proofs.AloneEnds.{changes_alone}
 use Rattle.oak_core.specs.Passes.{state, key, call_of}
 use Rattle.oak_core.specs.Step.{on_headers, MayOnHeaders}
 use Rattle.value_ops.specs.UnderLock.{Exchanges}
@@ -43,3 +44,6 @@ returns-clause-held c = let z : Sizes = key c.args.table.now in let call = call_
 pub returns-clause-locked : goal.returns-clause-locked
 returns-clause-locked c = let small : c.args.block.number < 2 ^ 32 = omega arith in
     locked_still (key c.args.table.now) (call_of c.args.pass.now) c.args.self.now.header c.args.self.now.generation c.args.block.class c.args.block.number c.args.len (state c.args.pass.now) (state c.place-old.new.pass) c.requires.locked c.place-old.ensures.met c.requires.held small c.requires.fits (state c.store_field.new.pass) (stored c)
+
+pub returns-clause-alone : goal.returns-clause-alone
+returns-clause-alone c = changes_alone (key c.args.table.now) (call_of c.args.pass.now) c.args.self.now.header c.args.self.now.generation c.args.block.class c.args.block.number c.args.len c.class_in.result c.block_in.result (state c.args.pass.now) (state c.store_field.new.pass) c.requires.locked.inside (returns-clause-changed c)

@@ -1,6 +1,7 @@
 use Rattle.std.proofs.Common.{◌*◌, ◌<◌, length, refl}
 use Rattle.oak_model.specs.Limits.{Sizes}
 use Rattle.header_core.specs.HeaderStep.{reworded}
+use Rattle.value_ops.proofs.AloneRewrites.{puts_none, puts_more, puts_all}
 use Rattle.oak_core.specs.Passes.{state, key, call_of}
 use Rattle.oak_core.proofs.SamePass.{stays_both}
 use Rattle.value_ops.proofs.ComesFurther.{comes_in}
@@ -12,6 +13,7 @@ pub loop-i-init : goal.loop-i-init
 loop-i-init c = let v = state c.args.pass.now in record {
   stays = record { table = refl; seat = refl; call = refl; scratch = refl };
   stored = begins (key c.args.table.now) c.args.self.now.header c.args.self.now.generation c.args.first v c.requires.words c.args.bytes.now c.requires.room (call_of c.args.pass.now);
+  alone = puts_none c.args.first c.args.bytes.now v;
 }
 
 pub store_word-requires-clause-words : goal.store_word-requires-clause-words
@@ -28,7 +30,11 @@ loop-i-preserved c = let z : Sizes = key c.args.table.now in let h = c.args.self
       stays = stays_both s.stays o.own;
       stored = stored_more z h c.args.self.now.generation c.args.first v c.requires.words bytes c.requires.room (call_of c.args.pass.now) i lt u s.stored c.word_from.result w c.word_from.ensures
           (comes_in z (call_of c.args.pass.now) (call_of c.loop-i.pass) u.blocks.held (reworded h i c.word_from.result u.headers.held) u w s.stays.call o.stored);
+      alone = puts_more c.args.first bytes i c.word_from.result v u w lt c.word_from.ensures s.alone o.alone;
     }
 
 pub returns-clause-stored : goal.returns-clause-stored
 returns-clause-stored c = all_stored (key c.args.table.now) c.args.self.now.header c.args.self.now.generation c.args.first (state c.args.pass.now) c.requires.words c.args.bytes.now c.requires.room (call_of c.args.pass.now) c.loop-i.i c.div_ceil-i-end.result (state c.loop-i.pass) c.loop-i.auto.i-end c.loop-i-test.false c.div_ceil-i-end.ensures c.loop-i.invariant.stored
+
+pub returns-clause-alone : goal.returns-clause-alone
+returns-clause-alone c = puts_all c.args.first c.args.bytes.now c.loop-i.i c.div_ceil-i-end.result (state c.args.pass.now) (state c.loop-i.pass) c.loop-i.auto.i-end c.loop-i-test.false c.div_ceil-i-end.ensures c.loop-i.invariant.alone

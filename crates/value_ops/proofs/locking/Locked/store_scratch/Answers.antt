@@ -1,6 +1,7 @@
 use Rattle.std.proofs.Common.{◌≡◌, ◌+◌, ◌*◌, ◌/◌, ◌%◌, ◌<◌, min, ℕ, List, length, get_or, refl, ap, ◌∙◌, subst}
 use Rattle.oak_model.specs.Limits.{Sizes}
 use Rattle.header_core.specs.HeaderStep.{reworded}
+use Rattle.value_ops.proofs.AloneRewrites.{puts_none, puts_more, puts_all}
 use Rattle.oak_core.specs.Passes.{state, key, call_of, scratch_of}
 use Rattle.oak_core.proofs.SamePass.{stays_both}
 use Rattle.value_ops.specs.Words.{words_of}
@@ -13,6 +14,7 @@ pub loop-i-init : goal.loop-i-init
 loop-i-init c = let z : Sizes = key c.args.table.now in let h = c.args.self.now.header in let g = c.args.self.now.generation in let v = state c.args.pass.now in let bytes = scratch_of c.args.pass.now in let is = c.requires.words in record {
   stays = record { table = refl; seat = refl; call = refl; scratch = refl };
   stored = begins z h g c.args.first v is bytes (as_long_fits z h g c.args.first v is bytes c.requires.long) (call_of c.args.pass.now);
+  alone = puts_none c.args.first bytes v;
 }
 
 -- the words are as many as the scratch has
@@ -37,6 +39,7 @@ loop-i-preserved c = let z : Sizes = key c.args.table.now in let h = c.args.self
       stays = stays_both s.stays o.own;
       stored = stored_more z h g c.args.first v is bytes (as_long_fits z h g c.args.first v is bytes c.requires.long) (call_of c.args.pass.now) i lt u s.stored x w (c.word_from-word.ensures ∙ ap (λ (xs : List ℕ). get_or (words_of xs) i 0) same)
           (comes_in z (call_of c.args.pass.now) (call_of c.loop-i.pass) u.blocks.held (reworded h i x u.headers.held) u w s.stays.call o.stored);
+      alone = puts_more c.args.first bytes i x v u w lt (c.word_from-word.ensures ∙ ap (λ (xs : List ℕ). get_or (words_of xs) i 0) same) s.alone o.alone;
     }
 
 pub returns-clause-stored : goal.returns-clause-stored
@@ -45,3 +48,7 @@ returns-clause-stored c = let z : Sizes = key c.args.table.now in let h = c.args
     let same : c.bytes.result.now ≡ bytes = c.bytes.ensures.bytes ∙ c.scratch.ensures in
     rewrites z h g c.args.first v is bytes fits call w c.requires.long (subst (λ (xs : List ℕ). (k : ℕ) → get_or xs k 0 < 256) c.scratch.ensures c.bytes.ensures.small)
     (all_stored z h g c.args.first v is bytes fits call c.loop-i.i n w c.loop-i.auto.i-end c.loop-i-test.false (of_scratch bytes c.bytes.result.now n c.div_ceil-i-end.ensures same) c.loop-i.invariant.stored)
+
+pub returns-clause-alone : goal.returns-clause-alone
+returns-clause-alone c = let bytes = scratch_of c.args.pass.now in let n = c.div_ceil-i-end.result in
+    puts_all c.args.first bytes c.loop-i.i n (state c.args.pass.now) (state c.loop-i.pass) c.loop-i.auto.i-end c.loop-i-test.false (of_scratch bytes c.bytes.result.now n c.div_ceil-i-end.ensures (c.bytes.ensures.bytes ∙ c.scratch.ensures)) c.loop-i.invariant.alone

@@ -1,3 +1,5 @@
+use Rattle.oak_core.specs.AloneWords.{Runs}
+use Rattle.value_ops.proofs.AloneRewrites.{PutsSome}
 use Rattle.oak_core.specs.Passes.{Stays, state, key, call_of, scratch_of}
 use Rattle.value_ops.proofs.RewriteFacts.{StoredSoFar}
 use Rattle.value_ops.proofs.locking.Locked.store_scratch.Given as goal
@@ -6,4 +8,5 @@ abbrev pub invariant-loop-i : goal.invariant-loop-i
 invariant-loop-i l = record {
   stays : Stays l.fn.pass l.pass;
   stored : StoredSoFar (key l.table) (call_of l.fn.pass) l.fn.self.header (scratch_of l.fn.pass) l.i (state l.fn.pass) (state l.pass);
+  alone : Runs (PutsSome l.first (scratch_of l.fn.pass) l.i) (state l.fn.pass) (state l.pass);
 }

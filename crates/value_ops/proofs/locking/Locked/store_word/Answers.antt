@@ -3,6 +3,7 @@ use Rattle.oak_model.specs.Limits.{Sizes}
 use Rattle.arena_core.specs.Place.{block_in}
 use Rattle.header_core.specs.HeaderHolds.{place_held}
 use Rattle.oak_core.specs.ArenaCalls.{of_locked}
+use Rattle.value_ops.proofs.AloneRewrites.{word_put_alone}
 use Rattle.oak_core.specs.Passes.{state, key, call_of}
 use Rattle.value_ops.proofs.RewriteSteps.{word_small, names, may_store, stores}
 use Rattle.value_ops.proofs.locking.Locked.store_word.Goals as goal
@@ -17,4 +18,9 @@ store_word-requires-clause-names c = let z : Sizes = key c.args.table.now in let
 pub returns-clause-stored : goal.returns-clause-stored
 returns-clause-stored c = let z : Sizes = key c.args.table.now in let h = c.args.self.now.header in let g = c.args.self.now.generation in let v = state c.args.pass.now in let is = c.requires.words in let b : ℕ = block_in (place_held h v.headers.held) in
     stores z (call_of c.args.pass.now) h is.block.named.class b c.args.i (c.args.first + c.args.i) c.args.word v (state c.store_word.new.pass) (names z h g c.args.first v is c.args.i c.requires.inside)
+    (c.store_word.ensures.told (of_locked h) is.block.named.class b c.args.i (names z h g c.args.first v is c.args.i c.requires.inside) (may_store z h g c.args.first v is))
+
+pub returns-clause-alone : goal.returns-clause-alone
+returns-clause-alone c = let z : Sizes = key c.args.table.now in let h = c.args.self.now.header in let g = c.args.self.now.generation in let v = state c.args.pass.now in let is = c.requires.words in let b : ℕ = block_in (place_held h v.headers.held) in
+    word_put_alone z (call_of c.args.pass.now) h is.block.named.class b c.args.i (c.args.first + c.args.i) c.args.word v (state c.store_word.new.pass) (names z h g c.args.first v is c.args.i c.requires.inside)
     (c.store_word.ensures.told (of_locked h) is.block.named.class b c.args.i (names z h g c.args.first v is c.args.i c.requires.inside) (may_store z h g c.args.first v is))

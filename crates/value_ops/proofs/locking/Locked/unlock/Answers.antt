@@ -1,5 +1,6 @@
 use Rattle.oak_model.specs.Limits.{Sizes}
 use Rattle.header_core.specs.HeaderStep.{STATE, unlock_header}
+use Rattle.value_ops.proofs.AloneEnds.{writes_alone}
 use Rattle.oak_core.specs.Passes.{state, key, call_of}
 use Rattle.oak_core.specs.Step.{on_headers}
 use Rattle.oak_core.proofs.MetMore.{told_in}
@@ -20,3 +21,7 @@ returns-clause-unlocked c = let z : Sizes = key c.args.table.now in let call = c
           (told_in z call (call_of c.store_next_stamp-written.new.pass) (on_headers (unlock_header h c.args.kind)) u n w c.store_next_stamp-written.ensures.own.call
           (c.unlock_header.ensures.told h record { inside = c.requires.locked.inside; word_is = c.pin_at.ensures }));
     }
+
+pub returns-clause-alone : goal.returns-clause-alone
+returns-clause-alone c = let z : Sizes = key c.args.table.now in let call = call_of c.args.pass.now in let h = c.args.self.header in let g = c.args.self.generation in let x = c.store_next_stamp-written.result in let v = state c.args.pass.now in
+    writes_alone z call h g c.args.kind x v (state c.unlock_header.new.pass) (returns-clause-unlocked c) c.requires.locked

@@ -1,0 +1,100 @@
+-- What the calls that rewrite a value under its lock do to the words, where the pass is alone.
+use Rattle.std.proofs.Common.{◌≡◌, ◌≢◌, ℕ, suc, ◌+◌, ◌*◌, ◌/◌, ◌%◌, ◌<◌, ◌≤◌, min, List, length, take, get_or, set, sym, refl, ap, ◌∙◌, arith}
+use Rattle.std.proofs.lemmas.List.{take_all}
+use Rattle.std.proofs.lemmas.Grind.{div_ceil_times}
+use Rattle.oak_model.specs.declared.classes.Class.{Class}
+use Rattle.oak_model.specs.declared.recipes.RecipeKind.{RecipeKind}
+use Rattle.oak_model.specs.Limits.{Sizes}
+use Rattle.oak_model.specs.Recipe.{recipe_result}
+use Rattle.arena_core.specs.Arena.{at_bytes}
+use Rattle.arena_core.specs.Place.{place_word, class_in, block_in, length_in, content}
+use Rattle.header_core.specs.declared.states.TheConstants.{LOCKED}
+use Rattle.header_core.specs.Headers.{at_place}
+use Rattle.header_core.specs.HeaderHolds.{place_held}
+use Rattle.header_core.specs.HeaderStep.{change_place}
+use Rattle.oak_core.specs.declared.states.PassState.{PassState}
+use Rattle.oak_core.specs.AloneWords.{Moment, Runs}
+use Rattle.oak_core.specs.ArenaCalls.{of_locked, NamesWord, Writes}
+use Rattle.oak_core.specs.HeaderCalls.{ChangesPlace}
+use Rattle.oak_core.specs.Memory.{Memory, in_arena, in_headers, index, memory}
+use Rattle.oak_core.specs.Splitting.{Loads}
+use Rattle.oak_core.specs.Step.{on_headers, store_locked}
+use Rattle.oak_core.specs.TableState.{TableState}
+use Rattle.oak_core.proofs.AloneRuns.{Then, runs_then, runs_as, runs_none}
+use Rattle.oak_core.proofs.Words.{index_apart, memory_read}
+use Rattle.value_ops.specs.AloneLocks.{place_in, put_place, put_from, first_in, put_bytes, value_in, AllStay, PutsWord, PutsBytes, AppliesTo, RefillsWords}
+use Rattle.value_ops.specs.HeldValue.{words_in, value_held}
+use Rattle.value_ops.specs.Reading.{bytes_of}
+use Rattle.value_ops.specs.Rewriting.{HasWords}
+use Rattle.value_ops.specs.UnderLock.{HasLock, LoadsPlace}
+use Rattle.value_ops.specs.Words.{words_of}
+use Rattle.value_ops.proofs.AloneSteps.{DoesAt, LoadsAt, load_does, header_does, step_does}
+use Rattle.value_ops.proofs.AloneWords.{put_next, put_elsewhere, put_again}
+use Rattle.value_ops.proofs.HeldValues.{place_at, words_at}
+use Rattle.value_ops.proofs.WordLaws.{words_long}
+
+-- loads, one or more or none
+
+pub stays_loaded : (z : Sizes) (call word n : ℕ) (v w : PassState) → Loads z call word v n w → Runs AllStay v w
+stays_loaded z call word n v w l = runs_as (LoadsAt z l.spot v n) AllStay v w (λ a b d. d.stays) (load_does z call word n v w l.spot l.inside (sym l.at) l)
+
+pub stays_none : (v : PassState) → Runs AllStay v v
+stays_none v = runs_none AllStay v (λ a. refl)
+
+pub stays_both : (u v w : PassState) → Runs AllStay u v → Runs AllStay v w → Runs AllStay u w
+stays_both u v w f s = runs_as (Then AllStay AllStay) AllStay u w (λ a b d. d.2 ∙ d.1) (runs_then AllStay AllStay u v w f s)
+
+-- a store to a word of the locked header's block
+pub word_put_alone : (z : Sizes) (call h : ℕ) (d : Class) (b k word x : ℕ) (v w : PassState) → NamesWord z d b k word → Writes z call (of_locked h) d b k x v w → Runs (PutsWord word x) v w
+word_put_alone z call h d b k word x v w is t = runs_as (DoesAt z (store_locked h d b k x) v t.0) (PutsWord word x) v w (λ a e f. f.leaves ∙ ap (λ (i : ℕ). set a i x) (sym is.word_is)) (step_does z call (store_locked h d b k x) v t.0 w tt t.1)
+
+-- so many stores, one word behind the other
+abbrev pub PutsSome : ℕ → List ℕ → ℕ → List ℕ → List ℕ → Type 0
+PutsSome first bytes i before after = after ≡ put_from first (take i (words_of bytes)) before
+
+module _ (first : ℕ) (bytes : List ℕ) where
+  pub puts_none : (v : PassState) → Runs (PutsSome first bytes 0) v v
+  puts_none v = runs_none (PutsSome first bytes 0) v (λ a. refl)
+
+  pub puts_more : (i x : ℕ) (u v w : PassState) → 8 * i < length bytes → x ≡ get_or (words_of bytes) i 0 → Runs (PutsSome first bytes i) u v → Runs (PutsWord (first + i) x) v w → Runs (PutsSome first bytes (i + 1)) u w
+  puts_more i x u v w lt is f s = let us : List ℕ = words_of bytes in let long = words_long bytes in let inside : i < length us = omega arith in let next : suc i ≡ i + 1 = omega arith in
+      runs_as (Then (PutsSome first bytes i) (PutsWord (first + i) x)) (PutsSome first bytes (i + 1)) u w
+      (λ a b d. d.2 ∙ ((λ j. set (d.1 j) (first + i) (is j)) ∙ (sym (put_next first i us a inside) ∙ ap (λ (k : ℕ). put_from first (take k us) a) next)))
+      (runs_then (PutsSome first bytes i) (PutsWord (first + i) x) u v w f s)
+
+  -- the loop ends after as many words as there are
+  pub puts_all : (i n : ℕ) (u w : PassState) → i ≤ n → n ≤ i → n ≡ length bytes / 8 + min 1 (length bytes % 8) → Runs (PutsSome first bytes i) u w → Runs (PutsBytes first bytes) u w
+  puts_all i n u w le ge e r = let d = div_ceil_times (length bytes) 8 (omega arith) in let k : ℕ = length bytes / 8 + min 1 (length bytes % 8) in let l : length bytes ≤ k * 8 = d.0 in let m : k * 8 < length bytes + 8 = d.1 in let e' : n ≡ k = e in let f = words_long bytes in
+      let us : List ℕ = words_of bytes in let all : length us ≤ i = omega arith in
+      runs_as (PutsSome first bytes i) (PutsBytes first bytes) u w (λ a b d. d ∙ ap (λ (xs : List ℕ). put_from first xs a) (take_all i us all)) r
+
+-- at a moment at which the rule holds, what the pass keeps of a locked header's value is what the words have
+module _ (z : Sizes) (h g : ℕ) (v : PassState) (l : HasLock z h g v) (words : List ℕ) (m : Moment z words v) where
+  abbrev table : TableState
+  table = record { words = words; states = m.states }
+
+  place_now : place_in z h words ≡ place_held h v.headers.held
+  place_now = place_at z table m.rule m.seat v m.here h LOCKED (omega arith) (omega arith) l.locked
+
+  value_now : value_in z h words ≡ value_held h v.headers.held
+  value_now = (λ i. take (length_in (place_now i)) (bytes_of (content (memory z words).arena.bytes (place_now i))))
+      ∙ ap (λ (ws : List ℕ). take (length_in (place_held h v.headers.held)) (bytes_of ws)) (words_at z table m.rule m.seat v m.here h LOCKED (omega arith) (omega arith) l.locked)
+
+  first_now : (first : ℕ) → HasWords z h g first v → first ≡ first_in z h words
+  first_now first is = is.first_is ∙ ap (λ (p : ℕ). index z (in_arena (at_bytes (class_in p) (block_in p) 0))) (sym place_now)
+
+-- the place word was loaded first, then perhaps the value
+module _ (z : Sizes) (call h g first : ℕ) (v y u : PassState) (is : HasWords z h g first v) (p : LoadsPlace z call h v y) (since : Runs AllStay y u) where
+  abbrev place : ℕ
+  place = place_held h v.headers.held
+
+  -- the words stay so far
+  looked : Runs (λ a b. Moment z a v × (b ≡ a)) v u
+  looked = runs_as (Then (LoadsAt z (in_headers (at_place h)) v place) AllStay) (λ a b. Moment z a v × (b ≡ a)) v u (λ a b d. (d.1.moment, d.2 ∙ d.1.stays))
+      (runs_then (LoadsAt z (in_headers (at_place h)) v place) AllStay v y u (load_does z call (index z (in_headers (at_place h))) place v y (in_headers (at_place h)) is.lock.inside refl p) since)
+
+  pub applies_alone : (kind : RecipeKind) (argument : ℕ) (made was : List ℕ) (w : PassState) → made ≡ recipe_result kind argument was → was ≡ value_held h v.headers.held → Runs (PutsBytes first made) u w → Runs (AppliesTo z h kind argument) v w
+  applies_alone kind argument made was w by old r = runs_as (Then (λ a b. Moment z a v × (b ≡ a)) (PutsBytes first made)) (AppliesTo z h kind argument) v w
+      (λ a b d. let m = d.1.0 in let result = by ∙ ap (recipe_result kind argument) (old ∙ sym (value_now z h g v is.lock a m)) in
+      d.2 ∙ (λ i. put_from (first_now z h g v is.lock a m first is i) (words_of (result i)) (d.1.1 i)))
+      (runs_then (λ a b. Moment z a v × (b ≡ a)) (PutsBytes first made) v u w looked r)
