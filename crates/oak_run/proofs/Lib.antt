@@ -10,3 +10,5 @@ pub mod CanLaws
 pub mod StepLaws
 pub mod ThreadLaws
 pub mod PlaceLaws
+pub mod FoundLaws
+pub mod PlainFitsLaws

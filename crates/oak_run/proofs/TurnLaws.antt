@@ -58,7 +58,7 @@ ask-scans h t (Back low high) a e = absurd cc
 
 -- ---- one place at one key
 
-only-here : (k : List ℕ) (r : ℕ) (q : List ℕ) (s : ℕ) → only_at k r q ≡ Some s → (k ≡ q) × (r ≡ s)
+pub only-here : (k : List ℕ) (r : ℕ) (q : List ℕ) (s : ℕ) → only_at k r q ≡ Some s → (k ≡ q) × (r ≡ s)
 only-here k r q s e =
     elim (cases_Bool (same_key k q)) [
       | inl same ↦ let f : Some r ≡ Some s = rw same at e in (same_is k q same, cc)

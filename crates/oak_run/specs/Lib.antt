@@ -9,6 +9,7 @@ pub mod Refusals
 pub mod Ending
 pub mod Findings
 pub mod RunFits
+pub mod PlainClosing
 pub mod Plain
 pub mod ThreadRuns
 pub mod Keeps
