@@ -14,3 +14,4 @@ pub mod Scan
 pub mod Counts
 pub mod KeyNumber
 pub mod Kept
+pub mod WordBytes
