@@ -5,3 +5,8 @@ pub mod CoverLaws
 pub mod Lookups
 pub mod CoverFacts
 pub mod RangeLaws
+pub mod RoomPins
+pub mod Copies
+pub mod ValueLaws
+pub mod Ranges
+pub mod RangeMoves
