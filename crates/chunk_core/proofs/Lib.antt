@@ -10,3 +10,4 @@ pub mod Copies
 pub mod ValueLaws
 pub mod Ranges
 pub mod RangeMoves
+pub mod ByteStores
