@@ -1,1 +1,13 @@
 pub mod RoomWords
+pub mod SpanLaws
+pub mod EntryNumbers
+pub mod CoverLaws
+pub mod Lookups
+pub mod CoverFacts
+pub mod RangeLaws
+pub mod RoomPins
+pub mod Copies
+pub mod ValueLaws
+pub mod Ranges
+pub mod RangeMoves
+pub mod ByteStores

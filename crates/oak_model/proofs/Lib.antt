@@ -7,3 +7,6 @@ pub mod Changes
 pub mod KeptLaws
 pub mod RowLaws
 pub mod NumberLaws
+pub mod SumLaws
+pub mod PutLaws
+pub mod MemberLaws

@@ -15,3 +15,4 @@ pub mod Scan
 pub mod Counts
 pub mod KeyNumber
 pub mod Kept
+pub mod WordBytes

@@ -1,0 +1,144 @@
+-- The pin word of a room changes and its state stays, with the pin of a pass: a pin is made, or undone.
+use Rattle.std.proofs.Common.{◌≡◌, ℕ, ◌+◌, ◌-◌, ◌*◌, ◌%◌, ◌^◌, ◌<◌, ◌≤◌, List, [], ◌∷◌, map, set, sym, refl, ap, ◌∙◌, subst, arith, Option, Some, None}
+use mathlib.Core.Logic.{dite}
+use mathlib.Core.Option.{some}
+use native.Mathlib.Decide.{ℕ_discrete}
+use lib.ListN.{get_elem?}
+use Rattle.pin_word.specs.PinWord.{state_of, generation_of, count_of}
+use Rattle.pin_word.proofs.StepLaws.{pin_up, pin_down}
+use Rattle.chunk_core.specs.declared.states.TheConstants.{OPEN, FROZEN}
+use Rattle.chunk_core.specs.declared.holds.PinnedRoom.{PinnedRoom}
+use Rattle.chunk_core.specs.declared.holds.RoomHolds.{RoomHolds}
+use Rattle.oak_model.specs.Counts.{one_at, total, put, Every}
+use Rattle.oak_model.specs.Limits.{Sizes}
+use Rattle.oak_model.proofs.Changes.{Change, stepped}
+use Rattle.oak_model.proofs.Counting.{one_at-same, one_at-other, one_at-true, total_at, total_set}
+use Rattle.oak_model.proofs.Lists.{map_set_same}
+use Rattle.oak_model.proofs.PutLaws.{put-here, put-else, put-cases}
+use Rattle.chunk_core.specs.CoverRule.{CoversPartition}
+use Rattle.chunk_core.specs.CoverSums.{covers, weight, all_of}
+use Rattle.chunk_core.specs.Covers.{Cover, cover_at, moving_of}
+use Rattle.chunk_core.specs.PinnedRooms.{OnRoomPin, IsGoodRoom, RoomPinHolds}
+use Rattle.chunk_core.specs.RoomHolds.{pins_of}
+use Rattle.chunk_core.specs.RoomReads.{pinned_at}
+use Rattle.chunk_core.specs.RoomRule.{LatchIsPinned, room_pins, latches_on, in_room_state, RoomHoldsStand, AreTrueRanges, RoomsStand}
+use Rattle.chunk_core.specs.RoomStep.{put_room}
+use Rattle.chunk_core.specs.Rooms.{RoomMemory, at_room_pin}
+use Rattle.chunk_core.proofs.CoverLaws.{covers_same}
+
+module _ (z : Sizes) (m : RoomMemory) (content : ℕ → List ℕ) (hs : List RoomHolds) (rule : RoomsStand z m content hs) (seat : ℕ) (a : RoomHolds) (here : get_elem? hs seat ≡ some a)
+    (r x : ℕ) (state : state_of x ≡ state_of (m.pin r)) (generation : generation_of x ≡ generation_of (m.pin r)) (o : Option PinnedRoom)
+    (counts : (j : ℕ) → pins_of j o + count_of (m.pin j) ≡ pins_of j a.pin + count_of (put m.pin r x j))
+    (good : OnRoomPin (λ p. IsGoodRoom p → RoomPinHolds z m content p) o) (stands : RoomHoldsStand z (record a { pin = o })) where
+  abbrev pub m' : RoomMemory
+  m' = put_room m (at_room_pin r) x
+
+  abbrev pub b : RoomHolds
+  b = record a { pin = o }
+
+  abbrev pub hs' : List RoomHolds
+  hs' = set hs seat b
+
+  c : Change hs hs' (a ∷ []) (b ∷ [])
+  c = stepped hs seat a b here
+
+  pub state_still : (j : ℕ) → state_of (m'.pin j) ≡ state_of (m.pin j)
+  state_still j = put-cases m.pin r x j (λ w. state_of w ≡ state_of (m.pin j)) (λ e. state ∙ ap (λ (t : ℕ). state_of (m.pin t)) (sym e)) (λ _. refl)
+
+  generation_still : (j : ℕ) → generation_of (m'.pin j) ≡ generation_of (m.pin j)
+  generation_still j = put-cases m.pin r x j (λ w. generation_of w ≡ generation_of (m.pin j)) (λ e. generation ∙ ap (λ (t : ℕ). generation_of (m.pin t)) (sym e)) (λ _. refl)
+
+  pub weight_still : (j : ℕ) → weight (m'.pin j) ≡ weight (m.pin j)
+  weight_still j = ap (λ (t : ℕ). one_at t OPEN + one_at t FROZEN) (state_still j)
+
+  sum_still : (f : RoomHolds → ℕ) → f b ≡ f a → total f hs' ≡ total f hs
+  sum_still f e = let t = total_set f hs seat a b here in omega arith
+
+  still_holds : (p : PinnedRoom) → RoomPinHolds z m content p → RoomPinHolds z m' content p
+  still_holds p h = record { inside = h.inside; cover = weight_still p.room ∙ h.cover; base = h.base; low = h.low; high = h.high; counted = h.counted; entries = h.entries }
+
+  on : (q : Option PinnedRoom) → OnRoomPin (λ p. IsGoodRoom p → RoomPinHolds z m content p) q → OnRoomPin (λ p. IsGoodRoom p → RoomPinHolds z m' content p) q
+  on None h = tt
+  on (Some p) h = λ is. still_holds p (h is)
+
+  was : (P : RoomHolds → Type 0) → Every P hs → P b → Every P hs'
+  was P h new = c.every P (new, tt) (λ j y _ at. h j y at)
+
+  pub pins_stand : RoomsStand z m' content hs'
+  pins_stand = record {
+    counted = λ j. let t = total_set (room_pins j) hs seat a b here in let k = counts j in let w = rule.counted j in omega arith;
+    held = λ j s is. sum_still (in_room_state j s) refl ∙ (rule.held j s is ∙ ap (λ (t : ℕ). one_at t s) (sym (state_still j)));
+    states = λ j. let e = state_still j in let l = rule.states j in omega arith;
+    generations = λ j. generation_still j ∙ rule.generations j;
+    latched = λ j. sum_still (latches_on j) refl ∙ rule.latched j;
+    latches = rule.latches;
+    few = λ j w. rule.few j (sym (weight_still j) ∙ w);
+    prefix = λ j w. rule.prefix j (sym (weight_still j) ∙ w);
+    sorted = λ j i k w. rule.sorted j i k (sym (weight_still j) ∙ w);
+    bounds = λ j w. rule.bounds j (sym (weight_still j) ∙ w);
+    good = c.every (λ (u : RoomHolds). OnRoomPin (λ p. IsGoodRoom p → RoomPinHolds z m' content p) u.pin) (on o good, tt) (λ j u _ at. on u.pin (rule.good j u at));
+    carried = was (λ (u : RoomHolds). AreTrueRanges content u.moving) rule.carried (rule.carried seat a here);
+    passes = was (RoomHoldsStand z) rule.passes stands;
+  }
+
+  -- nothing that is added up over the covers changes
+  pub pins_covers : (F : Cover → ℕ) → all_of z m' content hs' F ≡ all_of z m content hs F
+  pins_covers F = covers_same z.chunks m.pin m'.pin (cover_at m content) (cover_at m' content) (map moving_of hs') F (λ j _. ap (λ (t : ℕ). t * F (cover_at m content j)) (weight_still j))
+      ∙ ap (λ (ms : List (List Cover)). covers z.chunks m.pin (cover_at m content) ms F) (map_set_same moving_of hs seat a b here refl)
+
+  pub pins_partition : (is_key_word : ℕ → ℕ) → CoversPartition z m content is_key_word hs → CoversPartition z m' content is_key_word hs'
+  pins_partition is_key_word p = record {
+    covered = λ k. pins_covers _ ∙ p.covered k;
+    once = λ k. let e = pins_covers _ in let l = p.once k in subst (λ (t : ℕ). t ≤ 1) (sym e) l;
+    inside = pins_covers _ ∙ p.inside;
+    placed = pins_covers _ ∙ p.placed;
+    begun = pins_covers _ ∙ p.begun;
+    bases = pins_covers _ ∙ p.bases;
+  }
+
+-- a pin is made
+module _ (z : Sizes) (m : RoomMemory) (content : ℕ → List ℕ) (hs : List RoomHolds) (rule : RoomsStand z m content hs) (seat : ℕ) (a : RoomHolds) (here : get_elem? hs seat ≡ some a)
+    (r : ℕ) (inside : r < z.chunks) (none : a.pin ≡ None) (few : count_of (m.pin r) + 1 < 2 ^ 28) (small : m.pin r < 2 ^ 64) where
+  up_counts : (j : ℕ) → pins_of j (Some (pinned_at m r)) + count_of (m.pin j) ≡ pins_of j a.pin + count_of (put m.pin r ((m.pin r + 1) % 2 ^ 64) j)
+  up_counts j = let u = pin_up (m.pin r) few small in let u0 = u.0 in let n = ap (pins_of j) none in dite (ℕ_discrete j r)
+      (λ e. let h = ap count_of (put-here m.pin r ((m.pin r + 1) % 2 ^ 64) j e) in let o = one_at-same r j (sym e) in let w = ap (λ (t : ℕ). count_of (m.pin t)) e in omega arith)
+      (λ ne. let h = ap count_of (put-else m.pin r ((m.pin r + 1) % 2 ^ 64) j ne) in let o = one_at-other r j (λ e. ne (sym e)) in omega arith)
+
+  no_latch : a.latch ≡ None
+  no_latch = go a.pin a.latch none (rule.passes seat a here).latch
+    where
+      go : (o : Option PinnedRoom) (l : Option _) → o ≡ None → LatchIsPinned o l → l ≡ None
+      go None None e h = refl
+      go None (Some l) e h = absurd h
+      go (Some p) l e h = cc
+
+  pub pin_stands : RoomsStand z (put_room m (at_room_pin r) ((m.pin r + 1) % 2 ^ 64)) content (set hs seat (record a { pin = Some (pinned_at m r) }))
+  pin_stands = let u = pin_up (m.pin r) few small in pins_stand z m content hs rule seat a here r ((m.pin r + 1) % 2 ^ 64) u.1 u.2 (Some (pinned_at m r)) up_counts
+      (λ (good : state_of (m.pin r) ≡ OPEN). record { inside = inside; cover = opened good; base = refl; low = refl; high = refl; counted = refl; entries = tt })
+      (record { latch = subst (λ l. LatchIsPinned (Some (pinned_at m r)) l) (sym no_latch) tt; whole = (rule.passes seat a here).whole })
+    where
+      opened : state_of (m.pin r) ≡ OPEN → weight (m.pin r) ≡ 1
+      opened e = let o = one_at-same (state_of (m.pin r)) OPEN e in let q = one_at-other (state_of (m.pin r)) FROZEN (λ f. absurd (let g = e in omega arith)) in omega arith
+
+-- the pass's pin is undone
+module _ (z : Sizes) (m : RoomMemory) (content : ℕ → List ℕ) (hs : List RoomHolds) (rule : RoomsStand z m content hs) (seat : ℕ) (a : RoomHolds) (here : get_elem? hs seat ≡ some a)
+    (r : ℕ) (mine : room_pins r a ≡ 1) (latch : a.latch ≡ None) (small : m.pin r < 2 ^ 64) where
+  some_pin : 0 < count_of (m.pin r)
+  some_pin = let t = total_at (room_pins r) hs seat a here in let k = rule.counted r in omega arith
+
+  -- the pin is on this room
+  own_pin : (j : ℕ) → pins_of j a.pin ≡ one_at r j
+  own_pin j = go a.pin mine
+    where
+      go : (o : Option PinnedRoom) → pins_of r o ≡ 1 → pins_of j o ≡ one_at r j
+      go None e = absurd (omega arith)
+      go (Some p) e = ap (λ (t : ℕ). one_at t j) (one_at-true p.room r (omega arith))
+
+  down_counts : (j : ℕ) → pins_of j None + count_of (m.pin j) ≡ pins_of j a.pin + count_of (put m.pin r ((m.pin r + (2 ^ 64 - 1)) % 2 ^ 64) j)
+  down_counts j = let d = pin_down (m.pin r) some_pin small in let d0 = d.0 in let n = own_pin j in dite (ℕ_discrete j r)
+      (λ e. let h = ap count_of (put-here m.pin r ((m.pin r + (2 ^ 64 - 1)) % 2 ^ 64) j e) in let o = one_at-same r j (sym e) in let w = ap (λ (t : ℕ). count_of (m.pin t)) e in omega arith)
+      (λ ne. let h = ap count_of (put-else m.pin r ((m.pin r + (2 ^ 64 - 1)) % 2 ^ 64) j ne) in let o = one_at-other r j (λ e. ne (sym e)) in omega arith)
+
+  pub unpin_stands : RoomsStand z (put_room m (at_room_pin r) ((m.pin r + (2 ^ 64 - 1)) % 2 ^ 64)) content (set hs seat (record a { pin = None }))
+  unpin_stands = let d = pin_down (m.pin r) some_pin small in pins_stand z m content hs rule seat a here r ((m.pin r + (2 ^ 64 - 1)) % 2 ^ 64) d.1 d.2 None down_counts tt
+      (record { latch = subst (λ l. LatchIsPinned None l) (sym latch) tt; whole = (rule.passes seat a here).whole })

@@ -1,0 +1,61 @@
+-- What stands while a good pin of a room stands.
+use Rattle.std.specs.Prelude.{◌≡◌, ◌≢◌, ℕ, ◌<◌, List, [], length, Option, Some, None, IsSome}
+use mathlib.Core.Option.{some}
+use lib.ListN.{get_elem?}
+use Rattle.pin_word.specs.PinWord.{state_of}
+use Rattle.oak_model.specs.Limits.{Sizes}
+use Rattle.oak_model.specs.Counts.{rows, Each}
+use Rattle.chunk_core.specs.declared.layout.TheConstants.{BOUND_WORDS}
+use Rattle.chunk_core.specs.declared.states.TheConstants.{OPEN}
+use Rattle.chunk_core.specs.declared.holds.FoundEntry.{FoundEntry}
+use Rattle.chunk_core.specs.declared.holds.PinnedRoom.{PinnedRoom}
+use Rattle.chunk_core.specs.Rooms.{RoomMemory}
+use Rattle.chunk_core.specs.KeyWords.{key_in, low_number, high_number}
+use Rattle.chunk_core.specs.Spans.{Span, within}
+use Rattle.chunk_core.specs.LinkedEntries.{entries_in}
+use Rattle.chunk_core.specs.CoverSums.{weight}
+
+-- P holds of the pin, where there is one
+abbrev pub OnRoomPin : (PinnedRoom → Type 0) → Option PinnedRoom → Type 0
+OnRoomPin P None = Unit {0}
+OnRoomPin P (Some p) = P p
+
+-- a pin is good where it found the room open, and else a dud
+abbrev pub IsGoodRoom : PinnedRoom → Type 0
+IsGoodRoom p = state_of p.found ≡ OPEN
+
+-- the range and the base that it found
+abbrev pub span_of : PinnedRoom → Span
+span_of p = record { low = low_number p.low; high = high_number p.high; base = p.base }
+
+-- the number of the key of an entry that was found
+abbrev pub found_key : FoundEntry → ℕ
+found_key e = key_in e.word e.words
+
+-- an entry that was found is below the count, and has the key word and the bytes that it had then
+pub record EntryStands (count : ℕ) (key : ℕ → ℕ) (content : ℕ → List ℕ) (e : FoundEntry) : Type 0 where
+  pub below : e.number < entries_in count
+  pub word : key e.number ≡ e.word
+  pub words : content e.word ≡ e.words
+
+-- before the count was loaded under the pin no entries are found, and behind it as many as it said, each with its number
+abbrev pub AreCounted : Option ℕ → List FoundEntry → Type 0
+AreCounted None es = es ≡ []
+AreCounted (Some c) es = (length es ≡ entries_in c) × ((j : ℕ) (e : FoundEntry) → get_elem? es j ≡ some e → e.number ≡ j)
+
+-- the room is a cover with the bounds and the base that the pin found, and the entries that were found under it stand
+pub record RoomPinHolds (z : Sizes) (m : RoomMemory) (content : ℕ → List ℕ) (p : PinnedRoom) : Type 0 where
+  pub inside : p.room < z.chunks
+  pub cover : weight (m.pin p.room) ≡ 1
+  pub base : m.base p.room ≡ p.base
+  pub low : rows 0 BOUND_WORDS (m.low p.room) ≡ p.low
+  pub high : rows 0 BOUND_WORDS (m.high p.room) ≡ p.high
+  pub counted : AreCounted p.count p.entries
+  pub entries : Each (EntryStands (m.count p.room) (m.key p.room) content) p.entries
+
+-- a key of the range that a good pin found, of which no entry was found below the count
+pub record Misses (p : PinnedRoom) (k : ℕ) : Type 0 where
+  pub good : IsGoodRoom p
+  pub counted : IsSome p.count
+  pub inside : within (span_of p) k ≡ 1
+  pub none : (j : ℕ) (e : FoundEntry) → get_elem? p.entries j ≡ some e → found_key e ≢ k

@@ -1,0 +1,73 @@
+-- The words that a pass keeps of a latched and of a held room, after its own stores to them.
+use Rattle.std.specs.Prelude.{ℕ, zero, suc, ◌==◌, cond, List, [], ◌∷◌, map, take, slice_index, slice_set, Option, Some, None}
+use Rattle.chunk_core.specs.declared.holds.EntryWords.{EntryWords}
+use Rattle.chunk_core.specs.declared.holds.Latch.{Latch}
+use Rattle.chunk_core.specs.declared.holds.RoomCopy.{RoomCopy}
+use Rattle.chunk_core.specs.declared.holds.RoomHeldAs.{RoomHeldAs}
+use Rattle.chunk_core.specs.declared.holds.RoomHeldAs.TheVariants.{Frozen, Held}
+use Rattle.chunk_core.specs.declared.holds.HeldRoom.{HeldRoom}
+use Rattle.chunk_core.specs.Rooms.{RoomSpot, at_room_pin, at_base, at_count, at_latch, at_first, at_low, at_high, at_key, at_value, at_next, room_at}
+use Rattle.chunk_core.specs.LinkedEntries.{entries_in}
+use Rattle.chunk_core.specs.RoomStep.{EntryField, of_key, of_value, of_next}
+
+-- the entry with x at one word
+abbrev pub entry_with : EntryField → ℕ → EntryWords → EntryWords
+entry_with of_key x e = record e { word = x }
+entry_with of_value x e = record e { value = x }
+entry_with of_next x e = record e { next = x }
+
+-- the latch with x at a word of the entry past the count
+abbrev pub latch_with : EntryField → ℕ → Option Latch → Option Latch
+latch_with f x None = None
+latch_with f x (Some l) = Some (record l { entry = entry_with f x l.entry })
+
+-- the list with f of its element i
+unfoldable pub changed : {A : Type 0} → ℕ → (A → A) → List A → List A
+changed i f [] = []
+changed zero f (x ∷ xs) = f x ∷ xs
+changed (suc i) f (x ∷ xs) = x ∷ changed i f xs
+
+-- the copy with x at one word
+abbrev pub copy_with : RoomSpot → ℕ → RoomCopy → RoomCopy
+copy_with (at_room_pin r) x w = w
+copy_with (at_base r) x w = record w { base = x }
+copy_with (at_count r) x w = record w { count = x }
+copy_with (at_latch r) x w = record w { latch = x }
+copy_with (at_first r) x w = record w { first = x }
+copy_with (at_low r j) x w = record w { low = slice_set w.low j x }
+copy_with (at_high r j) x w = record w { high = slice_set w.high j x }
+copy_with (at_key r i) x w = record w { entries = changed i (entry_with of_key x) w.entries }
+copy_with (at_value r i) x w = record w { entries = changed i (entry_with of_value x) w.entries }
+copy_with (at_next r i) x w = record w { entries = changed i (entry_with of_next x) w.entries }
+
+-- of a frozen room none is kept
+abbrev pub held_with : RoomSpot → ℕ → RoomHeldAs → RoomHeldAs
+held_with p x Frozen = Frozen
+held_with p x (Held w) = Held (copy_with p x w)
+
+-- the rooms that a pass has, with x at one word of one of them
+abbrev pub rooms_with : RoomSpot → ℕ → List HeldRoom → List HeldRoom
+rooms_with p x hs = map (λ (h : HeldRoom). record h { held_as = cond (h.room == room_at p) (held_with p x h.held_as) h.held_as }) hs
+
+-- the rooms that a pass has, but this one
+unfoldable pub without_room : ℕ → List HeldRoom → List HeldRoom
+without_room r [] = []
+without_room r (h ∷ hs) = cond (h.room == r) (without_room r hs) (h ∷ without_room r hs)
+
+-- the copy, where the room is held
+abbrev pub copy_in : RoomHeldAs → Option RoomCopy
+copy_in Frozen = None
+copy_in (Held w) = Some w
+
+-- the words of a room that the pass holds; of another none
+unfoldable pub copy_of : ℕ → List HeldRoom → Option RoomCopy
+copy_of r [] = None
+copy_of r (h ∷ hs) = cond (h.room == r) (copy_in h.held_as) (copy_of r hs)
+
+-- the linked entries of a held room
+abbrev pub entries_held : RoomCopy → List EntryWords
+entries_held w = take (entries_in w.count) w.entries
+
+-- the key word of an entry of a held room
+abbrev pub word_held : RoomCopy → ℕ → ℕ
+word_held w i = slice_index (map (λ (e : EntryWords). e.word) w.entries) i

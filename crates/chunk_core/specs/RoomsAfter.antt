@@ -1,0 +1,46 @@
+-- What a pass has of rooms after a step.
+use Rattle.std.specs.Prelude.{ℕ, ◌==◌, ◌&&◌, cond, List, ◌∷◌, Option, Some, None}
+use Rattle.pin_word.specs.PinWord.{state_of}
+use Rattle.oak_model.specs.Limits.{Sizes}
+use Rattle.chunk_core.specs.declared.states.TheConstants.{OPEN}
+use Rattle.chunk_core.specs.declared.holds.PinnedRoom.{PinnedRoom}
+use Rattle.chunk_core.specs.declared.holds.RoomHeldAs.TheVariants.{Frozen, Held}
+use Rattle.chunk_core.specs.declared.holds.RoomHolds.{RoomHolds}
+use Rattle.chunk_core.specs.Rooms.{RoomMemory}
+use Rattle.chunk_core.specs.RoomStep.{RoomStep, pin_room, unpin_room, latch_room, store_entry, publish_entry, unlatch_room, set_value, unlink_entry, freeze_room, hold_room, claim_room, store_room, open_room, retire_room}
+use Rattle.chunk_core.specs.RoomReads.{pinned_at, found_below, latched_at, copy_at, moving_at}
+use Rattle.chunk_core.specs.RoomCopies.{latch_with, rooms_with, without_room, copy_of}
+use Rattle.chunk_core.specs.MovingRanges.{word_dropped, ranges_with, ranges_opened, ranges_joined}
+
+-- the pin, which has found the count and the entries below it
+abbrev pub pin_with : RoomMemory → (ℕ → List ℕ) → ℕ → PinnedRoom → PinnedRoom
+pin_with m content count p = record p { count = Some count; entries = found_below m content p.room count }
+
+-- a load of the count of the room finds them, under a good pin on it
+abbrev pub counted_pin : RoomMemory → (ℕ → List ℕ) → ℕ → Option PinnedRoom → Option PinnedRoom
+counted_pin m content r None = None
+counted_pin m content r (Some p) = Some (cond ((p.room == r) && (state_of p.found == OPEN)) (pin_with m content (m.count r) p) p)
+
+-- a pass that publishes an entry has found it
+abbrev pub counted_more : RoomMemory → (ℕ → List ℕ) → ℕ → Option PinnedRoom → Option PinnedRoom
+counted_more m content count None = None
+counted_more m content count (Some p) = Some (pin_with m content count p)
+
+abbrev pub rooms_after : Sizes → RoomMemory → (ℕ → List ℕ) → RoomStep → RoomHolds → RoomHolds
+rooms_after z m content (pin_room r) a = record a { pin = Some (pinned_at m r) }
+rooms_after z m content (unpin_room r) a = record a { pin = None }
+rooms_after z m content (latch_room r) a = record a { latch = cond (m.latch r == 0) (Some (latched_at m r (m.count r))) a.latch }
+rooms_after z m content (store_entry f r i x) a = record a { latch = latch_with f x a.latch }
+rooms_after z m content (publish_entry r x) a = record a { latch = Some (latched_at m r x); pin = counted_more m content x a.pin }
+rooms_after z m content (unlatch_room r) a = record a { latch = None }
+rooms_after z m content (set_value r i old new kind) a = a
+rooms_after z m content (unlink_entry r i x) a = a
+rooms_after z m content (freeze_room r old) a = record a { held = cond (m.pin r == old) (record { room = r; held_as = Frozen } ∷ a.held) a.held }
+rooms_after z m content (hold_room r old) a = record a {
+  held = cond (m.pin r == old) (record { room = r; held_as = Held (copy_at z m r) } ∷ without_room r a.held) a.held;
+  moving = cond (m.pin r == old) (moving_at m content r ∷ a.moving) a.moving;
+}
+rooms_after z m content (claim_room r old) a = record a { held = cond (m.pin r == old) (record { room = r; held_as = Held (copy_at z m r) } ∷ a.held) a.held }
+rooms_after z m content (store_room p x) a = record a { held = rooms_with p x a.held; moving = ranges_with (word_dropped m p x) a.moving }
+rooms_after z m content (open_room r) a = record a { held = without_room r a.held; moving = ranges_opened (copy_of r a.held) a.moving }
+rooms_after z m content (retire_room r) a = record a { held = without_room r a.held; moving = ranges_joined r a.moving }
