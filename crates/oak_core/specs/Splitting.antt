@@ -22,11 +22,6 @@ pub record Loads (z : Sizes) (call word : ℕ) (v : PassState) (n : ℕ) (w : Pa
   pub told : Told z call (load spot) v n w
   pub met : w ≡ grown (finding z call spot (Some n) n told.table.words v ∷ []) v
 
--- the pass met more, and is else as it was
-pub record IsGrown (v w : PassState) : Type 0 where
-  pub more : List Finding
-  pub after : w ≡ grown more v
-
 -- the finding is of the call, at word 0
 abbrev pub IsAtGiven : ℕ → Finding → Type 0
 IsAtGiven call f = (f.call ≡ call) × (f.word ≡ 0)
