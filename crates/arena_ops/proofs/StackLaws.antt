@@ -13,9 +13,8 @@ use Rattle.arena_core.proofs.HeldLists.{is_block-true, without_first, rewritten_
 use Rattle.oak_core.specs.declared.states.PassState.{PassState}
 use Rattle.oak_core.specs.declared.states.Numbers.{Numbers}
 use Rattle.oak_core.specs.Memory.{memory}
-use Rattle.oak_core.specs.PassState.{IsAlone, bare_state, rooted}
-use Rattle.oak_core.specs.Opening.{first_state}
-use Rattle.oak_core.proofs.Alone.{first_alone}
+use Rattle.oak_core.specs.PassState.{IsAlone, bare_state}
+use Rattle.oak_core.proofs.Alone.{numbers_alone}
 use Rattle.arena_ops.specs.Taking.{Takes, Gives, Stores}
 use Rattle.arena_ops.specs.Stack.{IsStack, KeepsRest}
 
@@ -83,8 +82,5 @@ pub stack_stored : (z : Sizes) (call : ℕ) (c : Class) (f : ℕ → ℕ) (i b k
 stack_stored z call c f i b k x v w s t = subst (λ (y : PassState). IsStack z c f i y.blocks.held) (sym t.after) (stack_written z c f (class_number c) b k x i v.blocks.held s)
 
 -- the first pass is alone as long as it has no other number
-pub alone_rest : (z : Sizes) (v w : PassState) → v ≡ first_state z 0 → KeepsRest v w → IsAlone w
-alone_rest z v w first rest = let n : w.numbers ≡ bare_state.numbers = rest.numbers ∙ (λ i. (first i).numbers) in record {
-  first = subst (λ (a : Numbers). 0 < rooted 0 a) (sym n) (first_alone z 0).first;
-  others = λ k made. subst (λ (a : Numbers). 0 < rooted k a) (sym n) ((first_alone z 0).others k (subst (λ (a : Numbers). 0 < total (λ (m : ℕ). one_at m k) a.made) n made));
-}
+pub alone_rest : (v w : PassState) → v.numbers ≡ bare_state.numbers → KeepsRest v w → IsAlone w
+alone_rest v w first rest = numbers_alone w (rest.numbers ∙ first)

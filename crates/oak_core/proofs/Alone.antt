@@ -14,7 +14,7 @@ use Rattle.oak_core.specs.declared.states.KeyedWrite.{KeyedWrite}
 use Rattle.oak_core.specs.declared.states.Numbers.{Numbers}
 use Rattle.oak_core.specs.declared.states.PassState.{PassState}
 use Rattle.oak_core.specs.Memory.{memory}
-use Rattle.oak_core.specs.PassState.{both_state, numbers_of, knowledge_of, rooted, has_number, is_parent, IsAlone, seen_of, history, spent_state}
+use Rattle.oak_core.specs.PassState.{bare_state, both_state, numbers_of, knowledge_of, rooted, has_number, is_parent, IsAlone, seen_of, history, spent_state}
 use Rattle.oak_core.specs.Opening.{first_state}
 use Rattle.oak_core.specs.TableState.{TableState}
 use Rattle.oak_core.specs.Rule.{Rule}
@@ -100,7 +100,14 @@ alone_again z call v w x w' x' alone off same_w same_x =
     let a = alone.first in
     alone_owing (both_state w' x') (omega arith) (join_one w' x' live off.number [] owes its has)
 
--- the first pass is alone
-pub first_alone : (z : Sizes) (g : ℕ) → IsAlone (first_state z g)
+-- a pass with the number 0 that split nothing off is alone
+pub numbers_alone : (v : PassState) → v.numbers ≡ bare_state.numbers → IsAlone v
 unfolding total
-first_alone z g = record { first = let o = one_at-same 0 0 refl in omega arith; others = λ k h. absurd (omega arith) }
+numbers_alone v e = record {
+  first = subst (λ (a : Numbers). 0 < rooted 0 a) (sym e) (let o = one_at-same 0 0 refl in omega arith);
+  others = λ k made. absurd (let none : 0 < total (λ (m : ℕ). one_at m k) bare_state.numbers.made = subst (λ (a : Numbers). 0 < total (λ (m : ℕ). one_at m k) a.made) e made in omega arith);
+}
+
+-- so the first pass is
+pub first_alone : (z : Sizes) (g : ℕ) → IsAlone (first_state z g)
+first_alone z g = numbers_alone (first_state z g) refl

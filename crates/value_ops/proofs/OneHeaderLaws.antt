@@ -18,9 +18,8 @@ use Rattle.header_core.specs.HeaderStep.{owned_at, placed_at, stamped_at, freshe
 use Rattle.oak_core.specs.declared.states.Numbers.{Numbers}
 use Rattle.oak_core.specs.declared.states.PassState.{PassState}
 use Rattle.oak_core.specs.Memory.{memory}
-use Rattle.oak_core.specs.PassState.{IsAlone, bare_state, rooted}
-use Rattle.oak_core.specs.Opening.{first_state}
-use Rattle.oak_core.proofs.Alone.{first_alone}
+use Rattle.oak_core.specs.PassState.{IsAlone, bare_state}
+use Rattle.oak_core.proofs.Alone.{numbers_alone}
 use Rattle.arena_ops.specs.Taking.{Takes, Gives, Stores}
 use Rattle.value_ops.specs.Claiming.{ClaimsHeader}
 use Rattle.value_ops.specs.Filling.{ReleasesOwned, words_held, Fills, Withdraws}
@@ -136,8 +135,5 @@ pub one_same : (h : ℕ) (a b : HeaderHolds) → b ≡ a → IsOneHeader h a →
 one_same h a b e o = subst (IsOneHeader h) (sym e) o
 
 -- the first pass is alone as long as it has no other number
-pub alone_else : (z : Sizes) (v w : PassState) → v ≡ first_state z 0 → w.numbers ≡ v.numbers → IsAlone w
-alone_else z v w first same = let n : w.numbers ≡ bare_state.numbers = same ∙ ap (λ (y : PassState). y.numbers) first in record {
-  first = subst (λ (a : Numbers). 0 < rooted 0 a) (sym n) (first_alone z 0).first;
-  others = λ k made. subst (λ (a : Numbers). 0 < rooted k a) (sym n) ((first_alone z 0).others k (subst (λ (a : Numbers). 0 < total (λ (m : ℕ). one_at m k) a.made) n made));
-}
+pub alone_else : (v w : PassState) → v.numbers ≡ bare_state.numbers → w.numbers ≡ v.numbers → IsAlone w
+alone_else v w first same = numbers_alone w (same ∙ first)

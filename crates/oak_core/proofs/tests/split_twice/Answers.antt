@@ -1,4 +1,4 @@
-use Rattle.std.proofs.Common.{◌≡◌, sym, ◌∙◌, subst, refl, arith}
+use Rattle.std.proofs.Common.{◌≡◌, ℕ, sym, ◌∙◌, subst, refl, arith}
 use mathlib.Core.Logic.{dite}
 use native.Mathlib.Decide.{ℕ_discrete}
 use Rattle.oak_model.specs.Limits.{Sizes}
@@ -9,7 +9,7 @@ use Rattle.oak_core.specs.Passes.{state, key, call_of}
 use Rattle.oak_core.specs.PassState.{bare_state, has_number, IsAlone}
 use Rattle.oak_core.specs.Opening.{first_state}
 use Rattle.oak_core.specs.Splitting.{SplitsOff}
-use Rattle.oak_core.proofs.Alone.{alone_again, first_alone}
+use Rattle.oak_core.proofs.Alone.{alone_again, numbers_alone}
 use Rattle.oak_core.proofs.tests.split_twice.Goals as goal
 
 -- the number 0 is taken, so of two the other is 1
@@ -23,5 +23,5 @@ pub has_number_one-requires : goal.has_number_one-requires
 has_number_one-requires g c = second_number (key c.args.table.now) (call_of c.args.pass.now) (state c.args.pass.now) _ (state c.in-Ok.other) c.requires.two c.requires.first c.in-Ok.ensures.split
 
 pub returns-clause-alone : goal.returns-clause-alone
-returns-clause-alone g c = subst IsAlone (sym c.join.ensures.joined) (alone_again (key c.args.table.now) (call_of c.args.pass.now) (state c.args.pass.now) (state c.split.new.self) (state c.in-Ok.other) (state c.split_no_more.new.pass) (state c.in-Ok.other) (subst IsAlone (sym c.requires.first) (first_alone _ 0)) c.in-Ok.ensures.split
+returns-clause-alone g c = subst IsAlone (sym c.join.ensures.joined) (alone_again (key c.args.table.now) (call_of c.args.pass.now) (state c.args.pass.now) (state c.split.new.self) (state c.in-Ok.other) (state c.split_no_more.new.pass) (state c.in-Ok.other) (numbers_alone (state c.args.pass.now) (λ i. (c.requires.first i).numbers)) c.in-Ok.ensures.split
     (λ i. (c.split_no_more.ensures.same.after i).numbers) refl)
