@@ -1,6 +1,6 @@
 -- The steps that fill a header, one behind the other.
 use Rattle.std.proofs.Common.{◌≡◌, ℕ, ◌+◌, ◌%◌, ◌^◌, ◌<◌, List, [], ◌∷◌, map, sym, refl, ap, ◌∙◌, subst, arith, Some, None}
-use Rattle.pin_word.specs.PinWord.{generation_of}
+use Rattle.pin_word.specs.PinWord.{generation_of, state_of}
 use Rattle.oak_model.specs.declared.classes.Class.{Class}
 use Rattle.oak_model.specs.Class.{class_number, class_of}
 use Rattle.oak_model.specs.Counts.{rows}
@@ -11,11 +11,11 @@ use Rattle.arena_core.specs.Blocks.{HoldsBlock, without}
 use Rattle.arena_core.specs.Place.{IsPlace, place_word, class_in, block_in, content}
 use Rattle.arena_core.proofs.PlaceLaws.{class_in-word, block_in-word}
 use Rattle.header_core.specs.declared.states.TheConstants.{OWNED}
-use Rattle.header_core.specs.Headers.{at_place, at_stamp}
+use Rattle.header_core.specs.Headers.{at_pin, at_place, at_stamp}
 use Rattle.header_core.specs.HeaderHolds.{in_state, place_held, IsFreshAt}
 use Rattle.header_core.specs.HeaderStep.{STATE, store_place, store_stamp, open_header, placed_at, stamped_at, freshened}
 use Rattle.header_core.proofs.HeldChanges.{rows_placed, rows_stamped}
-use Rattle.header_core.proofs.HeaderFacts.{holds_some, record_of}
+use Rattle.header_core.proofs.HeaderFacts.{holds_some, held_is, record_of}
 use Rattle.oak_core.specs.declared.states.Finding.{Finding}
 use Rattle.oak_core.specs.declared.states.PassState.{PassState}
 use Rattle.oak_core.specs.Memory.{Memory, in_headers, memory}
@@ -24,7 +24,9 @@ use Rattle.oak_core.specs.HeaderCalls.{StoresPlace, StoresStamp, Opens}
 use Rattle.oak_core.specs.PassState.{headers_held, blocks_of}
 use Rattle.oak_core.specs.Step.{found, on_headers, MayOnHeaders}
 use Rattle.oak_core.proofs.HeaderStanding.{knows, stand, at_headers, parts, place_of}
-use Rattle.oak_core.proofs.Words.{memory_read}
+use Rattle.oak_core.proofs.Words.{memory_read, header_before}
+use Rattle.value_ops.proofs.FillRuns.{fill_runs}
+use Rattle.value_ops.proofs.StepLeft.{pin_found}
 use Rattle.value_ops.specs.Claiming.{pin_spot}
 use Rattle.value_ops.specs.Filling.{words_held, filled_state, Fills}
 use Rattle.value_ops.proofs.FillFacts.{fits_class, is_place, placed_here, stamped_place, freshened_known, held_words}
@@ -117,6 +119,10 @@ module _ (z : Sizes) (call h : ℕ) (c : Class) (b len stamp : ℕ) (v : PassSta
         opened : w ≡ with_open (class_number c) b (words_held (class_number c) b v.blocks.held) y
         opened = t3.after ∙ (λ i. with_open ((ap class_in named ∙ class_is) i) ((ap block_in named ∙ number_is) i) (words i) y)
 
+        was_owned : state_of n ≡ OWNED
+        was_owned = ap state_of (sym (pin_found z call (open_header h) h refl y n w t3))
+            ∙ held_is m.headers (content m.arena.bytes) IsPlace (knows t3.table) (map headers_held t3.table.states) (stand z t3.table t3.seat y t3.rule t3.here) t3.seat y.headers h OWNED (at_headers z t3.table t3.seat y t3.rule t3.here) (omega arith) (omega arith) owned_stamped
+
         pub fills : Fills z call h c b len stamp (generation_of n) v w
         fills = record {
           placed = u;
@@ -127,7 +133,8 @@ module _ (z : Sizes) (call h : ℕ) (c : Class) (b len stamp : ℕ) (v : PassSta
           told = t3;
           generation_is = refl;
           more = first ∷ second ∷ third ∷ [];
-          calls = (refl, (refl, (refl, tt)));
+          calls = ((refl, header_before z (at_place h) inside), ((refl, header_before z (at_stamp h) inside), ((refl, header_before z (at_pin h) inside), tt)));
+          still = fill_runs z h inside call place stamp v u y n w t1 t2 t3 was_owned;
           after = opened ∙ (ap (with_open (class_number c) b (words_held (class_number c) b v.blocks.held)) both_is
               ∙ ap (λ (s : PassState). record s { blocks = (filled_state h c b len stamp v).blocks; headers = (filled_state h c b len stamp v).headers }) (grown_twice v (first ∷ second ∷ []) (third ∷ [])));
         }

@@ -4,6 +4,7 @@ pub mod ClaimFacts
 pub mod StepLeft
 pub mod FreedFacts
 pub mod FillFacts
+pub mod FillRuns
 pub mod FillSteps
 pub mod WithdrawFacts
 pub mod LackedHeaders

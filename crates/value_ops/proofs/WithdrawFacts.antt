@@ -10,23 +10,25 @@ use Rattle.arena_core.specs.Place.{class_in, block_in, class_from}
 use Rattle.arena_core.proofs.PlaceLaws.{class_number-from}
 use Rattle.header_core.specs.declared.states.TheConstants.{LIVE}
 use Rattle.header_core.specs.declared.holds.HeldAs.TheVariants.{Fresh}
-use Rattle.header_core.specs.Headers.{at_place}
+use Rattle.header_core.specs.Headers.{at_pin, at_place}
 use Rattle.header_core.specs.HeaderHolds.{in_state, place_held, without_header, IsFreshAt}
 use Rattle.header_core.specs.HeaderStep.{header_effect, release_header}
 use Rattle.header_core.proofs.HeaderFacts.{knows_fresh}
 use Rattle.oak_core.specs.declared.states.Finding.{Finding}
 use Rattle.oak_core.specs.declared.states.PassState.{PassState}
-use Rattle.oak_core.specs.Memory.{Memory, in_headers, index, memory}
-use Rattle.oak_core.specs.Finding.{finding, grown, noted}
+use Rattle.oak_core.specs.Memory.{Memory, in_headers, index, rooms_at, memory}
+use Rattle.oak_core.specs.Finding.{finding, grown, noted, IsLoadOf}
 use Rattle.oak_core.specs.HeaderCalls.{Releases}
 use Rattle.oak_core.specs.Splitting.{Loads}
 use Rattle.oak_core.specs.Step.{found, on_headers, MayOnHeaders}
 use Rattle.oak_core.proofs.MetMore.{grown_twice, told_of}
+use Rattle.oak_core.proofs.Words.{header_before}
 use Rattle.value_ops.specs.Claiming.{pin_spot}
-use Rattle.value_ops.specs.Filling.{Withdraws}
+use Rattle.value_ops.specs.Filling.{FreesPin, Withdraws}
 use Rattle.value_ops.specs.HeldValue.{words_in}
 use Rattle.value_ops.proofs.BlockExchange.{holds_front}
-use Rattle.value_ops.proofs.FreedFacts.{freed}
+use Rattle.value_ops.proofs.FreedFacts.{freed, frees}
+use Rattle.value_ops.proofs.LoneSteps.{load_stays, stays_then}
 use Rattle.value_ops.proofs.HeldValues.{block_at, block_inside, class_low}
 use Rattle.value_ops.proofs.StampStores.{held_place}
 
@@ -37,6 +39,9 @@ module _ (z : Sizes) (call h g : ℕ) (v : PassState) (inside : h < z.headers) (
   module _ (word n : ℕ) (u : PassState) (is : word ≡ index z (in_headers (at_place h))) (l : Loads z call word v n u) where
     abbrev first : Finding
     first = finding z call l.spot (Some n) n l.told.table.words v
+
+    first_of : IsLoadOf z call first
+    first_of = (refl, subst (λ (i : ℕ). i < rooms_at z) (sym (l.at ∙ is)) (header_before z (at_place h) inside), refl)
 
     named : n ≡ place_held h v.headers.held
     named = held_place z call h LIVE word n v u inside (omega arith) (omega arith) fresh l is
@@ -90,11 +95,13 @@ module _ (z : Sizes) (call h g : ℕ) (v : PassState) (inside : h < z.headers) (
         class_is = ap class_in (sym named) ∙ sym class_is;
         block_is = ap block_in (sym named);
         before = first ∷ [];
+        looks = (first_of, tt);
+        still = stays_then (FreesPin z h LIVE) v u w (load_stays z call word n v u l) (frees z call h Fresh u k w t);
         number = k;
         told = told_of z call (on_headers (release_header h Fresh)) u (grown (first ∷ []) v) l.met k w t;
         freed = freed z call h Fresh (grown (first ∷ []) v) k w (told_of z call (on_headers (release_header h Fresh)) u (grown (first ∷ []) v) l.met k w t);
         more = first ∷ second ∷ [];
-        calls = (refl, (refl, tt));
+        calls = ((first_of.0, first_of.1), ((refl, header_before z (at_pin h) inside), tt));
         after = after_is ∙ (ap (with_block given) l.met
             ∙ ap (λ (y : PassState). record y { blocks = record v.blocks { held = given ∷ v.blocks.held }; headers = record v.headers { held = without_header h v.headers.held } }) (grown_twice v (first ∷ []) (second ∷ [])));
       }

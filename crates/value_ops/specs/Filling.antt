@@ -1,5 +1,5 @@
 -- What the calls on a claimed header and on a fresh one do.
-use Rattle.std.specs.Prelude.{◌≡◌, ℕ, cond, List, [], ◌∷◌}
+use Rattle.std.specs.Prelude.{◌≡◌, ℕ, ◌+◌, ◌-◌, ◌*◌, cond, List, [], ◌∷◌, slice_set}
 use mathlib.Core.Option.{some}
 use lib.ListN.{get_elem?}
 use Rattle.pin_word.specs.PinWord.{generation_of, state_of, count_of}
@@ -10,19 +10,22 @@ use Rattle.oak_model.specs.Limits.{Sizes}
 use Rattle.arena_core.specs.declared.blocks.HeldBlock.{HeldBlock}
 use Rattle.arena_core.specs.Blocks.{is_block, without}
 use Rattle.arena_core.specs.Place.{place_word, class_in, block_in}
-use Rattle.header_core.specs.declared.states.TheConstants.{FREE}
+use Rattle.header_core.specs.declared.states.TheConstants.{FREE, OWNED, LIVE}
 use Rattle.header_core.specs.declared.holds.HeldAs.{HeldAs}
 use Rattle.header_core.specs.declared.holds.HeldAs.TheVariants.{Owned, Fresh}
 use Rattle.header_core.specs.HeaderHolds.{place_held, without_header}
-use Rattle.header_core.specs.HeaderStep.{HeaderStep, release_header, placed_at, stamped_at, freshened}
+use Rattle.header_core.specs.Headers.{at_place, at_stamp}
+use Rattle.header_core.specs.HeaderStep.{STATE, HeaderStep, release_header, placed_at, stamped_at, freshened}
 use Rattle.oak_core.specs.declared.states.Finding.{Finding}
 use Rattle.oak_core.specs.declared.states.PassState.{PassState}
-use Rattle.oak_core.specs.Memory.{memory}
-use Rattle.oak_core.specs.Finding.{grown}
+use Rattle.oak_core.specs.AloneWords.{Runs}
+use Rattle.oak_core.specs.Memory.{in_headers, index, memory}
+use Rattle.oak_core.specs.Finding.{grown, IsOf, IsLoadOf}
 use Rattle.oak_core.specs.HeaderCalls.{StoresPlace, StoresStamp, Opens, Releases}
 use Rattle.oak_core.specs.Rule.{Rule}
 use Rattle.oak_core.specs.Step.{on_headers, table_after, Told}
 use Rattle.oak_core.specs.TableState.{TableState}
+use Rattle.value_ops.specs.Claiming.{pin_spot, ChangesPin}
 use Rattle.value_ops.specs.HeldValue.{words_in}
 
 -- the table right after a step on headers
@@ -41,13 +44,24 @@ pub record IsLeft (z : Sizes) (h s g number seat : ℕ) (w : PassState) (table :
 abbrev pub IsFreed : (z : Sizes) (call h : ℕ) (s : HeldAs) (v : PassState) (number : ℕ) (w : PassState) → Releases z call h s v number w → Type 0
 IsFreed z call h s v number w told = IsLeft z h FREE (generation_of number) number told.seat w (table_behind z call (release_header h s) v number w told)
 
--- The pass owns the header no more, and else only met more, all in the call. The header is free after the step, which left its generation and the pins on it as they were.
+-- the header was in the state s, and is free; no other word changed
+abbrev pub FreesPin : Sizes → ℕ → ℕ → List ℕ → List ℕ → Type 0
+FreesPin z h s = ChangesPin z h (λ n. state_of n ≡ s) (λ n. n - s * STATE)
+
+-- the header was owned; its place word and its stamp word became these, and then it was made live; no other word changed
+abbrev pub FillsWords : Sizes → ℕ → ℕ → ℕ → List ℕ → List ℕ → Type 0
+FillsWords z h place stamp before after = (state_of ((memory z before).headers.pin h) ≡ OWNED)
+    × (after ≡ slice_set (slice_set (slice_set before (index z (in_headers (at_place h))) place) (index z (in_headers (at_stamp h))) stamp) (index z (pin_spot h)) ((memory z before).headers.pin h + STATE))
+
+-- The one step that freed the header. The pass owns it no more, and else only met that step. The header is free after the step, which left its generation and the pins on it as they were.
 pub record ReleasesOwned (z : Sizes) (call h : ℕ) (v w : PassState) : Type 0 where
   pub number : ℕ
   pub told : Releases z call h Owned v number w
   pub freed : IsFreed z call h Owned v number w told
+  -- to a pass that is alone
+  pub still : Runs (FreesPin z h OWNED) v w
   pub more : List Finding
-  pub calls : Each (λ (f : Finding). f.call ≡ call) more
+  pub calls : Each (IsOf z call) more
   pub after : w ≡ record (grown more v) { headers = record v.headers { held = without_header h v.headers.held } }
 
 -- the numbers of the words of a held block
@@ -71,8 +85,10 @@ pub record Fills (z : Sizes) (call h : ℕ) (c : Class) (b len stamp generation 
   pub number : ℕ
   pub told : Opens z call h stamped number w
   pub generation_is : generation_of number ≡ generation
+  -- to a pass that is alone
+  pub still : Runs (FillsWords z h (place_word (class_number c) b len) stamp) v w
   pub more : List Finding
-  pub calls : Each (λ (f : Finding). f.call ≡ call) more
+  pub calls : Each (IsOf z call) more
   pub after : w ≡ grown more (filled_state h c b len stamp v)
 
 -- The pass has the header no more, and holds the block that its place word named, with the words that it had under the header; else it only met more, all in the call. The header is free after the step, at its generation.
@@ -80,9 +96,12 @@ pub record Withdraws (z : Sizes) (call h : ℕ) (c : Class) (b : ℕ) (v w : Pas
   pub class_is : class_in (place_held h v.headers.held) ≡ class_number c
   pub block_is : block_in (place_held h v.headers.held) ≡ b
   pub before : List Finding
+  pub looks : Each (IsLoadOf z call) before
   pub number : ℕ
   pub told : Releases z call h Fresh (grown before v) number w
   pub freed : IsFreed z call h Fresh (grown before v) number w told
+  -- to a pass that is alone
+  pub still : Runs (FreesPin z h LIVE) v w
   pub more : List Finding
-  pub calls : Each (λ (f : Finding). f.call ≡ call) more
+  pub calls : Each (IsOf z call) more
   pub after : w ≡ record (grown more v) { blocks = record v.blocks { held = record { class = c; number = b; words = words_in h v.headers.held } ∷ v.blocks.held }; headers = record v.headers { held = without_header h v.headers.held } }

@@ -42,8 +42,8 @@ fn byte_is(rt: &impl Abort, reading: &mut Reading<'_>, i: usize, byte: u8)
     assert_eq!(rt; found, byte);
 }
 
-/// It has these eight bytes in front, as a number and as a copy, where it has eight at all.
-fn front_is(rt: &impl Abort, reading: &mut Reading<'_>, front: u64)
+/// Its eight bytes in front are this number.
+fn eight_is(rt: &impl Abort, reading: &mut Reading<'_>, front: u64)
     requires reading { IsReading reading.old }
     requires inside { 8 ≤ length (value reading.old) }
     ensures same_reference { reading.new.pass.ghost_name ≡ reading.old.pass.ghost_name }
@@ -53,8 +53,19 @@ fn front_is(rt: &impl Abort, reading: &mut Reading<'_>, front: u64)
     assert_eq!(rt; found, front);
 }
 
+/// They are, where it has eight bytes at all.
+fn front_is(rt: &impl Abort, reading: &mut Reading<'_>, front: u64)
+    requires { IsReading reading.old }
+    ensures same_reference { reading.new.pass.ghost_name ≡ reading.old.pass.ghost_name }
+    ensures reads { ReadsOn reading.old reading.new }
+{
+    if reading.len() >= 8 {
+        eight_is(rt, reading, front);
+    }
+}
+
 /// A copy of it is these bytes.
-fn copy_is(rt: &impl Abort, reading: &mut Reading<'_>, copy: &mut [u8], bytes: &[u8])
+fn copies_to(rt: &impl Abort, reading: &mut Reading<'_>, copy: &mut [u8], bytes: &[u8])
     requires reading { IsReading reading.old }
     requires long { length copy.old ≡ length (value reading.old) }
     ensures same_reference { reading.new.pass.ghost_name ≡ reading.old.pass.ghost_name }
@@ -64,18 +75,16 @@ fn copy_is(rt: &impl Abort, reading: &mut Reading<'_>, copy: &mut [u8], bytes: &
     assert!(rt; *copy == *bytes);
 }
 
-/// The front of a value of eight bytes or more, and a copy of one of eight.
-fn parts_are(rt: &impl Abort, reading: &mut Reading<'_>, bytes: &[u8], front: u64)
+/// A copy is, where it has three or eight bytes.
+fn copy_is(rt: &impl Abort, reading: &mut Reading<'_>, bytes: &[u8])
     requires { IsReading reading.old }
     ensures same_reference { reading.new.pass.ghost_name ≡ reading.old.pass.ghost_name }
     ensures reads { ReadsOn reading.old reading.new }
 {
-    if reading.len() >= 8 {
-        front_is(rt, reading, front);
-    }
     let mut copy = [0; 8];
-    if reading.len() == 8 {
-        copy_is(rt, reading, &mut copy, bytes);
+    let len = reading.len();
+    if len == 3 || len == 8 {
+        copies_to(rt, reading, &mut copy[..len], bytes);
     }
 }
 
@@ -86,7 +95,8 @@ fn whole_is(rt: &impl Abort, reading: &mut Reading<'_>, bytes: &[u8], front: u64
     ensures reads { ReadsOn reading.old reading.new }
 {
     same_is(rt, reading, bytes);
-    parts_are(rt, reading, bytes, front);
+    front_is(rt, reading, front);
+    copy_is(rt, reading, bytes);
 }
 
 /// Its third byte is that of these bytes, where they are three or more.
