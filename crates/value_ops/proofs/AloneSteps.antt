@@ -25,15 +25,18 @@ step_does z call x v n w k t = let i : ℕ = index z (spot x) in record {
     leaves = r.leaves;
     does = record { moment = moment_before z call x v n w before l t; finds = r.does.0; leaves = r.does.1 ∙ ap (λ (m : ℕ). set before i (effect x m)) (sym r.does.0) };
   };
-  starts = λ alone. inr (t.table.words, record {
-    after = set t.table.words i (effect x (get_or t.table.words i 0));
-    leaves = step_starts z call x v n w k alone t;
-    does = record {
-      moment = record { states = t.table.states; rule = t.rule; seat = t.seat; here = t.here };
-      finds = sym t.finds;
-      leaves = ap (λ (m : ℕ). set t.table.words i (effect x m)) t.finds;
-    };
-  });
+  starts = λ alone. inr (
+    t.table.words,
+    record {
+      after = set t.table.words i (effect x (get_or t.table.words i 0));
+      leaves = step_starts z call x v n w k alone t;
+      does = record {
+        moment = record { states = t.table.states; rule = t.rule; seat = t.seat; here = t.here };
+        finds = sym t.finds;
+        leaves = ap (λ (m : ℕ). set t.table.words i (effect x m)) t.finds;
+      };
+    },
+  );
 }
 
 -- a load of a word, which all stay

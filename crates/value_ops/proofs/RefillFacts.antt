@@ -1,5 +1,5 @@
 -- A locked header's place word that is stored with another length, once the bytes stand in its block.
-use Rattle.std.proofs.Common.{◌≡◌, ℕ, ◌^◌, ◌<◌, ◌==◌, cond, true, List, [], ◌∷◌, length, take, drop, get_or, sym, refl, ap, ◌∙◌, arith, inl, Some, None, eq-eqb}
+use Rattle.std.proofs.Common.{◌≡◌, ℕ, ◌*◌, ◌^◌, ◌<◌, ◌≤◌, ◌==◌, cond, true, List, [], ◌∷◌, length, take, drop, get_or, sym, refl, ap, ◌∙◌, arith, inl, Some, None, eq-eqb}
 use Rattle.oak_model.specs.declared.classes.Class.{Class}
 use Rattle.oak_model.specs.Class.{class_number, class_of}
 use Rattle.oak_model.specs.Counts.{rows}
@@ -30,8 +30,9 @@ use Rattle.value_ops.specs.Words.{words_of}
 use Rattle.value_ops.proofs.ComesFurther.{comes_both, comes_as, blocks_come, headers_come, lock_comes}
 use Rattle.value_ops.proofs.FillFacts.{fits_class, is_place}
 use Rattle.value_ops.proofs.HeldParts.{changed_generation}
+use Rattle.value_ops.proofs.LoadFacts.{place_room}
 use Rattle.value_ops.proofs.HeldValues.{place_at, words_at}
-use Rattle.value_ops.proofs.RewordedHeaders.{put_changed, changed_place, changed_words}
+use Rattle.value_ops.proofs.RewordedHeaders.{put_changed, changed_place, changed_words, changed_same}
 use Rattle.value_ops.proofs.RewriteFacts.{some_held, held_now, place_now, words_now, lock_now}
 use Rattle.value_ops.proofs.WordLaws.{value_back}
 
@@ -72,6 +73,27 @@ module _ (z : Sizes) (call h g first : ℕ) (v : PassState) (is : HasWords z h g
     known = tt;
   }
 
+  -- the bytes have room in the block
+  pub bytes_fit : length bytes ≤ 8 * length (words_in h rs)
+  bytes_fit = let l = fits_class (length bytes) c fits in let r = place_room x (is_place c b (length bytes) small fits) in let e = length_in-word (class_number c) b (length bytes) (omega arith) in
+      let f = ap block_words (class_in-word (class_number c) b (length bytes) small (omega arith) ∙ sym class) in let k = is.block.whole in omega arith
+
+  module _ (w : PassState) (comes : ComesTo z call v.blocks.held (changed_at h x over rs) v w) where
+    held_w : w.headers.held ≡ changed_at h x over rs
+    held_w = headers_come z call v.blocks.held (changed_at h x over rs) v w comes
+
+    refills_by : ((k : ℕ) → get_or bytes k 0 < 256) → Refills z call h c b bytes v w
+    refills_by below = let some_of = some_held z h g first v is in record {
+      class_is = class;
+      block_is = block;
+      comes = comes;
+      value = (λ i. take (length_in ((ap (place_held h) held_w ∙ changed_place h x over rs some_of) i)) (bytes_of ((ap (words_in h) held_w ∙ changed_words h x over rs some_of) i)))
+          ∙ (ap (λ (n : ℕ). take n (bytes_of over)) (let l = fits_class (length bytes) c fits in length_in-word (class_number c) b (length bytes) (omega arith)) ∙ value_back bytes (drop (length (words_of bytes)) (words_in h rs)) below);
+    }
+
+    locked_by : HasLock z h g w
+    locked_by = lock_comes z h g call v.blocks.held (changed_at h x over rs) v w comes (rows_changed h x over h LOCKED rs) (changed_generation h x over rs) is.lock
+
   module _ (w : PassState) (t : ChangesPlace z call h x u w) where
     abbrev m : Memory
     m = memory z t.1.table.words
@@ -100,17 +122,19 @@ module _ (z : Sizes) (call h g first : ℕ) (v : PassState) (is : HasWords z h g
     comes = comes_as z call u.blocks.held v.blocks.held (changed_at h x over u.headers.held) (changed_at h x over rs) v w (blocks_come z call v.blocks.held (with_words h over rs) v u s)
         (ap (changed_at h x over) (held_now z h g first v is call over u s) ∙ put_changed h over x over rs) (comes_both z call v.blocks.held u.blocks.held (with_words h over rs) (changed_at h x over u.headers.held) v u w s came)
 
-    held_w : w.headers.held ≡ changed_at h x over rs
-    held_w = headers_come z call v.blocks.held (changed_at h x over rs) v w comes
-
     pub refills : ((k : ℕ) → get_or bytes k 0 < 256) → Refills z call h c b bytes v w
-    refills below = let some_of = some_held z h g first v is in record {
-      class_is = class;
-      block_is = block;
-      comes = comes;
-      value = (λ i. take (length_in ((ap (place_held h) held_w ∙ changed_place h x over rs some_of) i)) (bytes_of ((ap (words_in h) held_w ∙ changed_words h x over rs some_of) i)))
-          ∙ (ap (λ (n : ℕ). take n (bytes_of over)) (let l = fits_class (length bytes) c fits in length_in-word (class_number c) b (length bytes) (omega arith)) ∙ value_back bytes (drop (length (words_of bytes)) (words_in h rs)) below);
-    }
+    refills below = refills_by w comes below
 
     pub locked_still : HasLock z h g w
-    locked_still = lock_comes z h g call v.blocks.held (changed_at h x over rs) v w comes (rows_changed h x over h LOCKED rs) (changed_generation h x over rs) is.lock
+    locked_still = locked_by w comes
+
+  -- where the place word has that length already, it stays
+  module _ (same : x ≡ place_held h rs) where
+    comes_same : ComesTo z call v.blocks.held (changed_at h x over rs) v u
+    comes_same = comes_as z call v.blocks.held v.blocks.held (with_words h over rs) (changed_at h x over rs) v u refl (sym (ap (λ (p : ℕ). changed_at h p over rs) same ∙ changed_same h over rs is.block.once)) s
+
+    pub refills_same : ((k : ℕ) → get_or bytes k 0 < 256) → Refills z call h c b bytes v u
+    refills_same below = refills_by u comes_same below
+
+    pub locked_same : HasLock z h g u
+    locked_same = locked_by u comes_same

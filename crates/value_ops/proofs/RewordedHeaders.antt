@@ -65,6 +65,21 @@ put_same h (r ∷ rs) one = test-cases (r.header == h)
     (λ t. one_if t + held_in h rs ≡ 1 → record r { words = cond t (cond t r.words (words_in h rs)) r.words } ∷ with_words h (cond t r.words (words_in h rs)) rs ≡ r ∷ rs)
     (λ _ e. ap (λ (l : List HeldHeader). r ∷ l) (put_none h r.words rs (omega arith))) (λ _ e. ap (λ (l : List HeldHeader). r ∷ l) (put_same h rs (omega arith))) one
 
+-- and with the place that it has
+
+placed_none : (h x : ℕ) (rs : List HeldHeader) → held_in h rs ≡ 0 → placed_at h x rs ≡ rs
+unfolding total one_at
+placed_none h x [] none = refl
+placed_none h x (r ∷ rs) none = test-cases (r.header == h) (λ t. one_if t + held_in h rs ≡ 0 → record r { place = cond t x r.place } ∷ placed_at h x rs ≡ r ∷ rs)
+    (λ _ e. absurd (omega arith)) (λ _ e. ap (λ (l : List HeldHeader). r ∷ l) (placed_none h x rs (omega arith))) none
+
+placed_same : (h : ℕ) (rs : List HeldHeader) → held_in h rs ≡ 1 → placed_at h (place_held h rs) rs ≡ rs
+unfolding total one_at
+placed_same h [] one = refl
+placed_same h (r ∷ rs) one = test-cases (r.header == h)
+    (λ t. one_if t + held_in h rs ≡ 1 → record r { place = cond t (cond t r.place (place_held h rs)) r.place } ∷ placed_at h (cond t r.place (place_held h rs)) rs ≡ r ∷ rs)
+    (λ _ e. ap (λ (l : List HeldHeader). r ∷ l) (placed_none h r.place rs (omega arith))) (λ _ e. ap (λ (l : List HeldHeader). r ∷ l) (placed_same h rs (omega arith))) one
+
 -- a header with another place and other words
 
 module _ (h x : ℕ) (ws : List ℕ) where
@@ -78,3 +93,6 @@ module _ (h x : ℕ) (ws : List ℕ) where
   pub changed_words : (rs : List HeldHeader) → 0 < held_in h rs → words_in h (changed_at h x ws rs) ≡ ws
   changed_words rs some_of = ap (words_in h) (changed_both rs) ∙ words_put h ws (placed_at h x rs)
       (subst (λ (n : ℕ). 0 < n) (sym (total_map (λ (r : HeldHeader). record r { place = cond (r.header == h) x r.place }) (λ (r : HeldHeader). one_at r.header h) rs)) some_of)
+
+pub changed_same : (h : ℕ) (ws : List ℕ) (rs : List HeldHeader) → held_in h rs ≡ 1 → changed_at h (place_held h rs) ws rs ≡ with_words h ws rs
+changed_same h ws rs one = changed_both h (place_held h rs) ws rs ∙ ap (with_words h ws) (placed_same h rs one)

@@ -34,11 +34,11 @@ module _ (z : Sizes) (h g first : ℕ) (v : PassState) (is : HasWords z h g firs
   abbrev b : ℕ
   b = block_in place
 
-  class_low : c < CLASSES
+  pub class_low : c < CLASSES
   class_low = place_below place is.block.named
 
   module _ (i : ℕ) (lt : i < length (words_in h v.headers.held)) where
-    word_inside : i < block_words c
+    pub word_inside : i < block_words c
     word_inside = subst (λ (n : ℕ). i < n) is.block.whole lt
 
     pub word_spot : first + i ≡ index z (in_arena (at_bytes c b i))

@@ -10,7 +10,7 @@ ghost use Rattle.oak_core.specs.AloneWords.{Runs};
 ghost use Rattle.oak_core.specs.Finding.{LoadsMore};
 ghost use Rattle.oak_core.specs.Passes.{IsPassOf, Stays, state, key, call_of, scratch_of};
 ghost use Rattle.oak_core.specs.Scratch.{StaysButScratch};
-ghost use Rattle.value_ops.specs.AloneLocks.{AllStay, PutsWord, PutsBytes, AppliesTo};
+ghost use Rattle.value_ops.specs.AloneLocks.{AllStay, PutsWord, PutsBytes, AppliesTo, RefillsWords};
 ghost use Rattle.value_ops.specs.Rewriting.{HasWords};
 ghost use Rattle.value_ops.specs.HeldValue.{words_in, value_held};
 ghost use Rattle.value_ops.specs.UnderLock.{HasLock, ComesTo, Rewrites, Refills, words_over, with_words};
@@ -116,7 +116,7 @@ impl Locked {
     }
 
     /// Stores the bytes in place of the value, in the same block, whose class must be that of their
-    /// length.
+    /// length. The place word is stored to only where the length is another.
     pub fn fill(&mut self, table: &OakTable, pass: &mut Pass, bytes: &[u8])
         requires own { IsPassOf table.now pass.old }
         requires locked { HasLock (key table.now) self.old.header self.old.generation (state pass.old) }
@@ -125,17 +125,17 @@ impl Locked {
         ensures same { self.new ≡ self.old }
         ensures locked { HasLock (key table.now) self.new.header self.new.generation (state pass.new) }
         ensures filled { (c : Class) × (b : ℕ) × Refills (key table.now) (call_of pass.old) self.old.header c b bytes.now (state pass.old) (state pass.new) }
+        ensures alone { Runs (RefillsWords (key table.now) self.old.header bytes.now) (state pass.old) (state pass.new) }
     {
         let place = self.place(table, pass);
         let class = class_in(place);
         let number = block_in(place);
         self.store_bytes(table, pass, table.bytes_at(class, number, 0), bytes);
-        let place_at = table.place_at(self.header);
-        steps::store_field(
-            table,
-            pass,
-            place_at,
-            place_word(class, number, bytes.len() as u16),
-        );
+        let named = place_word(class, number, bytes.len() as u16);
+        // Most values keep their length, and a store of the same word would only cost a step.
+        if named == place {
+            return;
+        }
+        steps::store_field(table, pass, table.place_at(self.header), named);
     }
 }
