@@ -24,7 +24,7 @@ greatest (Blocks c) = slice_index GREATEST_BLOCKS (class_number c)
 abbrev pub in_limits : ShapeField × ℕ → Bool
 in_limits f = nat_le (least f.0) f.1 && nat_le f.1 (greatest f.0)
 
--- these two are accepted, and no number outside them
+-- these are the least and the greatest number of the field
 abbrev pub HasLimits : ShapeField → ℕ → ℕ → Type 0
 HasLimits f low high = (least f ≡ low) × (greatest f ≡ high)
 

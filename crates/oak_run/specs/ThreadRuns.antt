@@ -14,7 +14,7 @@ use Rattle.oak_run.specs.Scans.{ScansFit}
 use Rattle.oak_run.specs.RunFits.{NoneRefused}
 use Rattle.oak_run.specs.Keeps.{KeepsLasts}
 
--- the replies of caller 1 fit the histories, which hold its writes alone; the number of each key's last write is the number of its writes
+-- the replies of caller 1 fit the histories, which hold its writes alone; no stamp of a key is above the number of its writes
 pub record ThreadRuns (h : Histories) (calls : List Call) (replies : List Reply) : Type 0 where
   pub turns : List Turn
   pub of_calls : map (λ (t : Turn). t.call) turns ≡ calls

@@ -1,7 +1,8 @@
-ghost use Rattle.std.specs.Prelude.{◌≡◌, ◌⊎◌};
+ghost use Rattle.std.specs.Prelude.{◌≡◌, ◌⊎◌, ℕ, ◌+◌, ◌∷◌, []};
+ghost use Rattle.oak_script.specs.declared.limits.TheConstants.{GREATEST_THREADS, GREATEST_CALLS, GREATEST_SCANS, GREATEST_SCRIPT_NAME};
 ghost use Rattle.oak_script.specs.declared.scripts.Script.{Script};
 ghost use Rattle.oak_script.specs.declared.faults.ScriptFault.{ScriptFault};
-ghost use Rattle.oak_script.specs.Grammar.{Spells};
+ghost use Rattle.oak_script.specs.Grammar.{Spells, default_sizes};
 ghost use Rattle.oak_script.specs.Faults.{IsFirstFault};
 
 /// Each text is the text of a script or has a first fault, and none is both; and of each there is one.
@@ -13,3 +14,13 @@ pub fn script_or_fault(text: &[u8])
 {
     let _text = text;
 }
+
+/// A law: the limits of scripts, and the sizes that a script without a `shape` line asks for, with the
+/// numbers written out.
+pub fn script_limits_in_numbers()
+    ensures threads { GREATEST_THREADS ≡ 16 }
+    ensures calls { GREATEST_CALLS ≡ 262144 }
+    ensures scans { GREATEST_SCANS ≡ 32 }
+    ensures names { GREATEST_SCRIPT_NAME ≡ 16 }
+    ensures sizes { (n : ℕ) → default_sizes n ≡ record { passes = n + 1; chunks = 256; entries = 64; headers = 8192; blocks = 16384 ∷ 4096 ∷ 1024 ∷ 512 ∷ [] } }
+{}

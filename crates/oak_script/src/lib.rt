@@ -22,7 +22,7 @@ mod verbs;
 mod words;
 
 pub use faults::{NoScript, ScriptFault, What};
-pub use laws::script_or_fault;
+pub use laws::{script_limits_in_numbers, script_or_fault};
 pub use limits::{GREATEST_CALLS, GREATEST_SCANS, GREATEST_SCRIPT_NAME, GREATEST_THREADS};
 pub use reader::read_script;
 pub use scripts::{Call, Script, Threads};
