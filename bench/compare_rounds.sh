@@ -1,0 +1,51 @@
+#!/usr/bin/env bash
+# Compares the time that a value's calls take in OakMap with that of the same atomic steps in C++.
+#
+# usage: bench/compare_rounds.sh [ROUNDS]
+#
+# A round is claim, take, two stores, fill, pin, reading, byte, same, eight, copy, done, withdraw and give: 19
+# atomic steps, by one thread. The Rattle program is crates/value_rounds, proved and built by `rt run` there
+# (minutes, where nothing is proved yet); the C++ program is bench/round.cpp, built by `clang++ -O2`. Each runs
+# seven times, in turn, ROUNDS rounds at a time, or 10000000, and has to print the same line. Printed are, of
+# each, the nanoseconds of processor time of a round in the fastest run, and how many times the C++ round that
+# of OakMap is.
+set -u -o pipefail
+
+RUNS=7
+home=$(dirname "$(dirname "$(readlink -f "${BASH_SOURCE[0]}")")")
+rounds=${1:-10000000}
+room=$(mktemp -d) || exit 1
+trap 'rm -rf "$room"' EXIT
+
+fail() {
+    printf 'compare_rounds.sh: %s\n' "$*" >&2
+    exit 1
+}
+
+if [[ $# -gt 1 || ! $rounds =~ ^[1-9][0-9]{0,11}$ ]]; then
+    printf 'usage: bench/compare_rounds.sh [ROUNDS]\n' >&2
+    exit 2
+fi
+
+# Runs a program, and prints its seconds of processor time.
+seconds_of() {
+    local TIMEFORMAT=%U
+    { time "$@" >"$room/said"; } 2>&1 || fail "$1 failed"
+    head -n 1 "$room/said" >>"$room/lines"
+}
+
+(cd "$home/crates/value_rounds" && rt run -- 0) >"$room/log" 2>&1 || {
+    cat "$room/log" >&2
+    fail "crates/value_rounds was not proved and built"
+}
+clang++ -std=c++20 -O2 -march=x86-64-v2 -o "$room/round" "$home/bench/round.cpp" || fail "bench/round.cpp was not built"
+
+for ((run = 0; run < RUNS; run++)); do
+    seconds_of "$home/crates/value_rounds/out/value_rounds" "$rounds" >>"$room/oakmap" || exit 1
+    seconds_of "$room/round" "$rounds" >>"$room/cpp" || exit 1
+done
+[[ $(sort -u "$room/lines" | wc -l) -eq 1 ]] || fail "the two programs print different sums"
+
+awk -v rounds="$rounds" -v oakmap="$(sort -n "$room/oakmap" | head -n 1)" -v cpp="$(sort -n "$room/cpp" | head -n 1)" 'BEGIN {
+    printf "OakMap %.1f ns a round, C++ %.1f ns, %.2f times\n", oakmap * 1e9 / rounds, cpp * 1e9 / rounds, oakmap / cpp
+}'
