@@ -3,7 +3,7 @@ use Rattle.std.proofs.Common.{◌≡◌, ℕ, zero, suc, ◌<◌, true, List, []
 use Rattle.oak_model.specs.declared.classes.Class.{Class}
 use Rattle.oak_model.specs.Class.{class_number}
 use Rattle.oak_model.specs.Limits.{Sizes}
-use Rattle.oak_model.specs.Counts.{one_at, one_if, total}
+use Rattle.oak_model.specs.Counts.{one_if, total}
 use Rattle.arena_core.specs.declared.blocks.HeldBlock.{HeldBlock}
 use Rattle.arena_core.specs.declared.blocks.HeldBlocks.{HeldBlocks}
 use Rattle.arena_core.specs.Arena.{blocks}
@@ -11,7 +11,6 @@ use Rattle.arena_core.specs.HeldBlocks.{no_blocks}
 use Rattle.arena_core.specs.Blocks.{is_block, HoldsBlock, block_from, without, rewritten}
 use Rattle.arena_core.proofs.HeldLists.{is_block-true, without_first, rewritten_same}
 use Rattle.oak_core.specs.declared.states.PassState.{PassState}
-use Rattle.oak_core.specs.declared.states.Numbers.{Numbers}
 use Rattle.oak_core.specs.Memory.{memory}
 use Rattle.oak_core.specs.PassState.{IsAlone, bare_state}
 use Rattle.oak_core.proofs.Alone.{numbers_alone}

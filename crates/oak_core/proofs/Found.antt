@@ -4,7 +4,7 @@ use Rattle.std.specs.Int.{bit_at}
 use mathlib.Core.Option.{some, some-ne-none}
 use lib.ListN.{get_elem?}
 use Rattle.oak_model.specs.Limits.{Sizes}
-use Rattle.oak_model.proofs.Lists.{at_longer, at_last, at_snoc}
+use Rattle.oak_model.proofs.Lists.{at_last, at_snoc}
 use Rattle.oak_core.specs.declared.states.Finding.{Finding}
 use Rattle.oak_core.specs.declared.states.Findings.{Findings}
 use Rattle.oak_core.specs.Finding.{Shows}

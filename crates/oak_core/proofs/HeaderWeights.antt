@@ -1,8 +1,8 @@
 -- What the blocks of the headers that a pass holds count, where its headers change.
-use Rattle.std.proofs.Common.{◌≡◌, ℕ, ◌+◌, ◌*◌, ◌≤◌, ◌==◌, cond, List, [], ◌∷◌, ◌++◌, refl, ap, ◌∙◌, arith, set}
+use Rattle.std.proofs.Common.{◌≡◌, ℕ, ◌+◌, ◌*◌, ◌≤◌, ◌==◌, cond, List, [], ◌∷◌, ◌++◌, refl, ap, ◌∙◌, arith}
 use Rattle.oak_model.specs.Counts.{one_if, one_at, total}
 use Rattle.oak_model.specs.declared.classes.Class.{Class}
-use Rattle.oak_model.proofs.Counting.{test-cases, total_append, total_map}
+use Rattle.oak_model.proofs.Counting.{test-cases, total_append}
 use Rattle.arena_core.specs.declared.blocks.HeldBlock.{HeldBlock}
 use Rattle.arena_core.specs.Place.{class_in, block_in, class_from}
 use Rattle.arena_core.proofs.BlockSums.{weigh}
@@ -12,7 +12,7 @@ use Rattle.header_core.specs.declared.holds.HeldAs.TheVariants.{Owned, Fresh, Lo
 use Rattle.header_core.specs.declared.holds.HeldHeader.{HeldHeader}
 use Rattle.header_core.specs.HeaderHolds.{held_state, place_held, without_header}
 use Rattle.header_core.specs.HeaderRule.{stocked}
-use Rattle.header_core.specs.HeaderStep.{freshened, changed_at, reworded}
+use Rattle.header_core.specs.HeaderStep.{freshened, changed_at}
 use Rattle.header_core.proofs.HeldHeaders.{held_in, rows_in, stocked_in, rows_split}
 use Rattle.oak_core.specs.Owners.{blocks_of_header, header_blocks}
 

@@ -2,9 +2,9 @@
 use Rattle.std.proofs.Common.{◌≡◌, ℕ, ◌+◌, ◌*◌, ◌^◌, ◌<◌, get_or, sym, ap, ◌∙◌, subst, arith}
 use Rattle.oak_model.specs.declared.limits.TheConstants.{CLASSES}
 use Rattle.oak_model.specs.Limits.{Sizes}
-use Rattle.oak_model.specs.Counts.{below, rows}
+use Rattle.oak_model.specs.Counts.{below}
 use Rattle.oak_model.proofs.Lists.{rows_at}
-use Rattle.arena_core.specs.Arena.{at_bits, at_bytes, blocks, block_words, bit_words, byte_words}
+use Rattle.arena_core.specs.Arena.{at_bits, at_bytes, block_words, bit_words, byte_words}
 use Rattle.header_core.specs.Headers.{at_pin, at_place, at_stamp}
 use Rattle.oak_core.specs.declared.offsets.Offsets.{Offsets}
 use Rattle.oak_core.specs.Memory.{Spot, in_arena, in_headers, headers_at, word_count, IsInside, index}

@@ -1,11 +1,11 @@
 -- Owners of blocks that are headers, where the words of one header change.
-use Rattle.std.proofs.Common.{◌≡◌, ◌≢◌, ℕ, zero, suc, ◌+◌, ◌*◌, ◌<◌, ◌≤◌, cond, nat_lt, List, get_or, sym, refl, ap, ◌∙◌, subst, arith, ltb-true}
+use Rattle.std.proofs.Common.{◌≡◌, ◌≢◌, ℕ, zero, suc, ◌+◌, ◌*◌, ◌<◌, ◌≤◌, cond, nat_lt, List, get_or, sym, refl, subst, arith, ltb-true}
 use mathlib.Core.Logic.{dite}
 use native.Mathlib.Decide.{ℕ_discrete}
 use Rattle.pin_word.specs.PinWord.{state_of}
 use Rattle.oak_model.specs.Limits.{Sizes}
 use Rattle.oak_model.specs.Counts.{one_at, below}
-use Rattle.oak_model.proofs.Counting.{test-cases, one_at-same, one_at-other, below_at, below_same}
+use Rattle.oak_model.proofs.Counting.{test-cases, one_at-same, below_at, below_same}
 use Rattle.arena_core.specs.Place.{IsPlace, class_in, block_in, names_block}
 use Rattle.arena_core.proofs.PlaceLaws.{class_below}
 use Rattle.header_core.specs.Headers.{HeaderMemory, at_pin}

@@ -9,7 +9,6 @@ use Rattle.oak_model.specs.History.{History, last_state}
 use Rattle.oak_model.specs.State.{State}
 use Rattle.oak_model.specs.declared.replies.Lack.{Lack}
 use Rattle.oak_core.specs.declared.closing.Closed.{Closed}
-use Rattle.oak_core.specs.declared.states.Finding.{Finding}
 use Rattle.oak_core.specs.declared.states.Findings.{Findings}
 use Rattle.oak_core.specs.declared.states.Full.{Full}
 use Rattle.oak_core.specs.declared.states.Joined.{Joined}

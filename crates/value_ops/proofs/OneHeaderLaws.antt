@@ -2,7 +2,7 @@
 use Rattle.std.proofs.Common.{◌≡◌, ℕ, ◌<◌, ◌==◌, Bool, cond, List, [], ◌∷◌, sym, refl, ap, ◌∙◌, subst, arith, eq-eqb}
 use Rattle.oak_model.specs.declared.classes.Class.{Class}
 use Rattle.oak_model.specs.Class.{class_number}
-use Rattle.oak_model.specs.Counts.{one_at, one_if, total}
+use Rattle.oak_model.specs.Counts.{one_if, total}
 use Rattle.oak_model.specs.Limits.{Sizes}
 use Rattle.arena_core.specs.declared.blocks.HeldBlocks.{HeldBlocks}
 use Rattle.arena_core.specs.Arena.{blocks}
@@ -15,7 +15,6 @@ use Rattle.header_core.specs.declared.holds.HeldHeader.{HeldHeader}
 use Rattle.header_core.specs.declared.holds.HeaderHolds.{HeaderHolds}
 use Rattle.header_core.specs.HeaderHolds.{no_headers, without_header}
 use Rattle.header_core.specs.HeaderStep.{owned_at, placed_at, stamped_at, freshened}
-use Rattle.oak_core.specs.declared.states.Numbers.{Numbers}
 use Rattle.oak_core.specs.declared.states.PassState.{PassState}
 use Rattle.oak_core.specs.Memory.{memory}
 use Rattle.oak_core.specs.PassState.{IsAlone, bare_state}

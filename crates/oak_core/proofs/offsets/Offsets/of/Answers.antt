@@ -1,4 +1,4 @@
-use Rattle.std.proofs.Common.{arith, ◌≡◌, ◌<◌, ℕ, slice_index}
+use Rattle.std.proofs.Common.{arith}
 use Rattle.oak_model.specs.declared.limits.TheConstants.{CLASSES}
 use Rattle.oak_model.specs.Limits.{Sizes}
 use Rattle.oak_core.specs.Offsets.{bits_begin, bytes_begin}

@@ -1,6 +1,6 @@
 use Rattle.std.proofs.Common.{◌≡◌, ◌+◌, ◌*◌, ℕ, ap, ◌∙◌, get_or, arith}
 use Rattle.oak_model.specs.Class.{class_number}
-use Rattle.arena_core.specs.Arena.{at_bytes, block_words}
+use Rattle.arena_core.specs.Arena.{at_bytes}
 use Rattle.oak_core.specs.Memory.{in_arena, index}
 use Rattle.oak_core.specs.Passes.{key}
 use Rattle.oak_core.proofs.KeepsArena.{class_below}

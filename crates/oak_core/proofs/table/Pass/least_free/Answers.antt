@@ -1,4 +1,4 @@
-use Rattle.std.proofs.Common.{◌≡◌, ℕ, sym, subst, w64}
+use Rattle.std.proofs.Common.{ℕ, sym, subst, w64}
 use Rattle.std.specs.Int.{trailing_ones}
 use Rattle.oak_core.specs.Passes.{state, key, call_of}
 use Rattle.oak_core.specs.Splitting.{FindsLeast}

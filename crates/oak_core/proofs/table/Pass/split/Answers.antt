@@ -1,4 +1,4 @@
-use Rattle.std.proofs.Common.{rules, ◌≡◌, ℕ, ◌+◌, ◌-◌, ◌<◌, ◌≤◌, ◌∙◌, arith}
+use Rattle.std.proofs.Common.{rules, ◌≡◌, ℕ, ◌+◌, ◌-◌, ◌<◌, ◌∙◌, arith}
 use Rattle.std.specs.Int.{bit_at}
 use Rattle.oak_model.specs.Limits.{Sizes}
 use Rattle.oak_core.specs.declared.states.PassState.{PassState}
@@ -36,7 +36,7 @@ loop-number-smaller c = let z : Sizes = key c.args.table.now in let call : ℕ =
     let few = c.passes-passes.ensures.few in let lt = c.loop-number-test.true in
     let t = tried_now z call (call_of c.loop-number.self) k (state c.args.self.now) (state c.loop-number.self) (state c.give_number-found.new.self) c.give_number-found.result c.loop-number.invariant.stays.call c.loop-number.invariant.tried c.give_number-found.ensures.told c.if-not-is_set.ensures in
     let further : k < i = least_further z call k (state c.args.self.now) (state c.give_number-found.new.self) (state c.least_free-number-in-loop-number.new.self) i (omega arith) t
-        (least_in z call (call_of c.give_number-found.new.self) (state c.give_number-found.new.self) i (state c.least_free-number-in-loop-number.new.self) (c.give_number-found.ensures.own.call ∙ c.loop-number.invariant.stays.call) c.least_free-number-in-loop-number.ensures.least) in
+    (least_in z call (call_of c.give_number-found.new.self) (state c.give_number-found.new.self) i (state c.least_free-number-in-loop-number.new.self) (c.give_number-found.ensures.own.call ∙ c.loop-number.invariant.stays.call) c.least_free-number-in-loop-number.ensures.least) in
     let r : c.passes-passes.result - i < c.passes-passes.result - k = omega arith in r
 
 pub loop-number-preserved : goal.loop-number-preserved
