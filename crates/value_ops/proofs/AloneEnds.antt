@@ -15,14 +15,14 @@ use Rattle.header_core.specs.HeaderHolds.{in_state, place_held, generation_held}
 use Rattle.header_core.specs.HeaderStep.{STATE, HeaderStep, store_stamp, change_place, unlock_header, mark_dead, take_back, header_spot, header_effect, renewal}
 use Rattle.oak_core.specs.declared.states.PassState.{PassState}
 use Rattle.oak_core.specs.AloneWords.{Moment, Runs}
-use Rattle.oak_core.specs.HeaderCalls.{Unlocks, MarksDead, TakesBack}
-use Rattle.oak_core.specs.Memory.{Memory, in_headers, index, memory}
+use Rattle.oak_core.specs.HeaderCalls.{Unlocks, MarksDead}
+use Rattle.oak_core.specs.Memory.{Memory, in_headers, index}
 use Rattle.oak_core.specs.Step.{on_headers}
 use Rattle.oak_core.specs.TableState.{TableState}
 use Rattle.oak_core.proofs.AloneRuns.{Then, runs_then, runs_as}
 use Rattle.oak_core.proofs.HeaderStanding.{small_pin}
 use Rattle.oak_core.proofs.Words.{memory_read, memory_set}
-use Rattle.value_ops.specs.AloneLocks.{pin_in, put_pin, place_in, put_place, stamp_in, put_stamp, IsLockedIn, IsDeadIn, FreesPin, WritesWords, BuriesWords, ChangesWord, RenewsPin}
+use Rattle.value_ops.specs.AloneLocks.{pin_in, put_pin, put_place, stamp_in, put_stamp, IsLockedIn, IsDeadIn, FreesPin, WritesWords, BuriesWords, ChangesWord, RenewsPin}
 use Rattle.value_ops.specs.Claiming.{pin_spot}
 use Rattle.value_ops.specs.UnderLock.{HasLock, HasBuried, next_stamp, StoresNext, WritesOver, GivesUp, Buries, Exchanges, Renews}
 use Rattle.value_ops.proofs.AloneSteps.{DoesAt, LoadsAt, load_does, header_does}

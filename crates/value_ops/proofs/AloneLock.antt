@@ -1,5 +1,5 @@
 -- A try to lock a header, by a pass that is alone: the second look finds what the first one found.
-use Rattle.std.proofs.Common.{◌≡◌, ◌≢◌, ℕ, ◌+◌, ◌<◌, true, false, Bool, List, get_or, set, sym, ap, ◌∙◌, eq-eqb}
+use Rattle.std.proofs.Common.{◌≡◌, ◌≢◌, ℕ, ◌+◌, ◌<◌, true, false, List, get_or, set, sym, ap, ◌∙◌, eq-eqb}
 use prog.Atomic.{either}
 use Rattle.oak_model.specs.Limits.{Sizes}
 use Rattle.header_core.specs.HeaderStep.{STATE, lock_header}

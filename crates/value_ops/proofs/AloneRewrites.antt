@@ -1,5 +1,5 @@
 -- What the calls that rewrite a value under its lock do to the words, where the pass is alone.
-use Rattle.std.proofs.Common.{◌≡◌, ◌≢◌, ℕ, suc, ◌+◌, ◌*◌, ◌/◌, ◌%◌, ◌<◌, ◌≤◌, min, List, length, take, get_or, set, sym, refl, ap, ◌∙◌, arith}
+use Rattle.std.proofs.Common.{◌≡◌, ℕ, suc, ◌+◌, ◌*◌, ◌/◌, ◌%◌, ◌<◌, ◌≤◌, min, List, length, take, get_or, set, sym, refl, ap, ◌∙◌, arith}
 use Rattle.std.proofs.lemmas.List.{take_all}
 use Rattle.std.proofs.lemmas.Grind.{div_ceil_times}
 use Rattle.oak_model.specs.declared.classes.Class.{Class}
@@ -16,7 +16,7 @@ use Rattle.oak_core.specs.declared.states.PassState.{PassState}
 use Rattle.oak_core.specs.AloneWords.{Moment, Runs}
 use Rattle.oak_core.specs.ArenaCalls.{of_locked, NamesWord, Writes}
 use Rattle.oak_core.specs.HeaderCalls.{ChangesPlace}
-use Rattle.oak_core.specs.Memory.{Memory, in_arena, in_headers, index, memory}
+use Rattle.oak_core.specs.Memory.{in_arena, in_headers, index, memory}
 use Rattle.oak_core.specs.Splitting.{Loads}
 use Rattle.oak_core.specs.Step.{on_headers, store_locked}
 use Rattle.oak_core.specs.TableState.{TableState}

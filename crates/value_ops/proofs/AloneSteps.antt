@@ -1,11 +1,11 @@
 -- What one step of a pass that is alone does to the words, at a moment at which the rule held.
-use Rattle.std.proofs.Common.{◌≡◌, ℕ, List, [], get_or, set, sym, refl, ap, ◌∙◌, inl, inr}
+use Rattle.std.proofs.Common.{◌≡◌, ℕ, List, get_or, set, sym, ap, ◌∙◌, inr}
 use lib.Seq.{set-get_or}
 use Rattle.oak_model.specs.Limits.{Sizes}
-use Rattle.header_core.specs.HeaderStep.{HeaderStep, header_spot, header_effect}
+use Rattle.header_core.specs.HeaderStep.{HeaderStep}
 use Rattle.oak_core.specs.declared.states.PassState.{PassState}
 use Rattle.oak_core.specs.AloneWords.{Moment, Runs}
-use Rattle.oak_core.specs.Memory.{Spot, in_headers, index, IsInside, memory, read}
+use Rattle.oak_core.specs.Memory.{Spot, index, IsInside, memory, read}
 use Rattle.oak_core.specs.Splitting.{Loads}
 use Rattle.oak_core.specs.Step.{Step, load, on_headers, spot, effect, Told}
 use Rattle.value_ops.specs.AloneLocks.{FindsWord}

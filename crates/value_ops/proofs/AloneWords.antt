@@ -1,5 +1,5 @@
 -- Words that come to stand one behind the other in a list.
-use Rattle.std.proofs.Common.{◌≡◌, ◌≢◌, ℕ, zero, suc, ◌+◌, ◌<◌, List, [], ◌∷◌, length, take, get_or, set, sym, refl, ap, ◌∙◌, arith, get_or-set_other}
+use Rattle.std.proofs.Common.{◌≡◌, ◌≢◌, ℕ, zero, suc, ◌+◌, ◌<◌, List, [], ◌∷◌, length, take, get_or, set, refl, ap, ◌∙◌, arith, get_or-set_other}
 use lib.Seq.{set-get_or}
 use Rattle.value_ops.specs.AloneLocks.{put_from}
 

@@ -1,5 +1,5 @@
 -- What a try to lock a header tells.
-use Rattle.std.proofs.Common.{◌≡◌, ◌≢◌, ◌⊎◌, ℕ, ◌+◌, ◌<◌, ◌==◌, ◌&&◌, true, false, cond, [], ◌∷◌, sym, refl, ap, ◌∙◌, subst, inl, inr, ⊎_elim, arith, Option, Some, None, eqb-true, eq-eqb}
+use Rattle.std.proofs.Common.{◌≡◌, ◌≢◌, ◌⊎◌, ℕ, ◌+◌, ◌<◌, ◌==◌, ◌&&◌, true, false, Bool, cond, [], ◌∷◌, sym, refl, ap, ◌∙◌, subst, inl, inr, ⊎_elim, arith, Some, None, eqb-true, eq-eqb}
 use mathlib.Core.Logic.{dite}
 use native.Mathlib.Decide.{ℕ_discrete, dec_lt}
 use Rattle.pin_word.specs.PinWord.{generation_of, state_of, count_of}
@@ -34,12 +34,17 @@ pub live_word : (n g : ℕ) → may_lock n g ≡ true → IsLiveWord n × (gener
 live_word n g is_so = let b = both_true (state_of n == LIVE) ((count_of n == 0) && (generation_of n == g)) is_so in let c = both_true (count_of n == 0) (generation_of n == g) b.1 in
     (record { state = eqb-true (state_of n) LIVE b.0; count = eqb-true (count_of n) 0 c.0 }, eqb-true (generation_of n) g c.1)
 
+-- state, count and generation are the whole word
+one_word : (n k : ℕ) → state_of n ≡ state_of k → count_of n ≡ count_of k → generation_of n ≡ generation_of k → n ≡ k
+unfolding state_of count_of generation_of
+one_word n k s c g = omega arith
+
 lockable : (n g : ℕ) → state_of n ≡ LIVE → count_of n ≡ 0 → generation_of n ≡ g → may_lock n g ≡ true
 lockable n g s c e = λ i. eq-eqb (state_of n) LIVE s i && (eq-eqb (count_of n) 0 c i && eq-eqb (generation_of n) g e i)
 
 -- a word that is not locked is a cause
-is_cause : (n g : ℕ) (first : Option ℕ) → (¬ IsDeadAt g n → IsBusy g first n) → IsNoLock (refusal n g) g first n
-is_cause n g first busy = test-cases ((generation_of n == g) && (state_of n == DEAD)) (λ t. ((generation_of n == g) && (state_of n == DEAD)) ≡ t → IsNoLock (cond t Dead Busy) g first n)
+is_cause : (n g : ℕ) → (¬ IsDeadAt g n → IsBusy g n) → IsNoLock (refusal n g) g n
+is_cause n g busy = test-cases ((generation_of n == g) && (state_of n == DEAD)) (λ t. ((generation_of n == g) && (state_of n == DEAD)) ≡ t → IsNoLock (cond t Dead Busy) g n)
     (λ _ is_so. let b = both_true (generation_of n == g) (state_of n == DEAD) is_so in (eqb-true (generation_of n) g b.0, eqb-true (state_of n) DEAD b.1))
     (λ _ not_so. let alive = not_dead not_so in (alive, busy alive)) refl
   where
@@ -47,9 +52,9 @@ is_cause n g first busy = test-cases ((generation_of n == g) && (state_of n == D
     not_dead not_so d = let is_so : ((generation_of n == g) && (state_of n == DEAD)) ≡ true = (λ i. eq-eqb (generation_of n) g d.0 i && eq-eqb (state_of n) DEAD d.1 i) in cc
 
 -- so is that of a known header
-busy_first : (n g : ℕ) → may_lock n g ≡ false → (generation_of n ≡ g → IsInUse (state_of n)) → ¬ IsDeadAt g n → IsBusy g None n
-busy_first n g not_so known alive = dite (ℕ_discrete (generation_of n) g)
-    (λ e. ⊎_elim (λ (l : state_of n ≡ LIVE). dite (dec_lt 0 (count_of n)) (λ some_of. inr (inr (inl some_of))) (λ none. let is_so = lockable n g l (omega arith) e in absurd cc))
+busy_word : (n g : ℕ) → may_lock n g ≡ false → (generation_of n ≡ g → IsInUse (state_of n)) → ¬ IsDeadAt g n → IsBusy g n
+busy_word n g not_so known alive = dite (ℕ_discrete (generation_of n) g)
+    (λ e. ⊎_elim (λ (l : state_of n ≡ LIVE). dite (dec_lt 0 (count_of n)) (λ some_of. inr (inr some_of)) (λ none. let is_so = lockable n g l (omega arith) e in absurd cc))
     (λ (o : (state_of n ≡ LOCKED) ⊎ (state_of n ≡ DEAD)). ⊎_elim (λ (k : state_of n ≡ LOCKED). inr (inl k)) (λ (d : state_of n ≡ DEAD). absurd (alive (e, d))) o) (known e))
     (λ ne. inl ne)
 
@@ -76,7 +81,7 @@ module _ (z : Sizes) (call h g : ℕ) (inside : h < z.headers) (word n : ℕ) (v
     first = None;
     number = n;
     looks = looks;
-    cause = is_cause n g None (busy_first n g not_so in_use);
+    cause = is_cause n g (busy_word n g not_so in_use);
     more = f ∷ [];
     calls = (loaded_of, tt);
     after = l.met;
@@ -99,13 +104,25 @@ module _ (z : Sizes) (call h g : ℕ) (inside : h < z.headers) (word n : ℕ) (v
       abbrev met_now : Finding
       met_now = met_word z call h inside n front k t.table.words u
 
+      is_word : m.headers.pin h ≡ k
+      is_word = word_is z call h inside n front t.table k u w t.finds t.after
+
+      in_use_now : generation_of k ≡ g → IsInUse (state_of k)
+      in_use_now e = subst (λ (i : ℕ). IsInUse (state_of i)) is_word (known_state z t.table t.rule t.seat u t.here h g (ap generation_of is_word ∙ e) (let s = still_known in let known_now : 0 < fresh_at h g u.headers + knows_life h g u.knowledge = omega arith in known_now))
+
+      -- another word than the one that was seen is none that may be locked
+      not_lockable : k ≢ n → may_lock k g ≡ false
+      not_lockable ne = test-cases (may_lock k g) (λ (b : Bool). may_lock k g ≡ b → b ≡ false)
+          (λ _ yes. let a = live_word k g yes in let b = live_word n g is_so in absurd (ne (one_word k n (a.0.state ∙ sym b.0.state) (a.0.count ∙ sym b.0.count) (a.1 ∙ sym b.1))))
+          (λ _ _. refl) refl
+
       -- the exchange found another word
       pub refused_second : k ≢ n → FindsNoLock z call h g (refusal k g) v w
       refused_second ne = record {
         first = Some n;
         number = k;
         looks = record { between = u; loads = looks; live = (live_word n g is_so).0; told = t };
-        cause = is_cause k g (Some n) (λ alive. inr (inr (inr ne)));
+        cause = is_cause k g (busy_word k g (not_lockable ne) in_use_now);
         more = f ∷ met_now ∷ [];
         calls = (loaded_of, ((refl, header_before z (at_pin h) inside), tt));
         after = missed z call h inside n front t.table k u w t.finds t.after ne ∙ (ap (grown (met_now ∷ [])) l.met ∙ grown_twice v (f ∷ []) (met_now ∷ []));
@@ -113,8 +130,8 @@ module _ (z : Sizes) (call h g : ℕ) (inside : h < z.headers) (word n : ℕ) (v
 
       -- it found the same one, and the pass has the header locked
       module _ (same : k ≡ n) where
-        is_word : m.headers.pin h ≡ n
-        is_word = word_is z call h inside n front t.table k u w t.finds t.after ∙ same
+        is_seen : m.headers.pin h ≡ n
+        is_seen = is_word ∙ same
 
         abbrev told_hit : Locks z call h n u n w
         told_hit = record { table = t.table; seat = t.seat; rule = t.rule; here = t.here; going = t.going; may = t.may; finds = t.finds ∙ same; after = t.after }
@@ -130,8 +147,8 @@ module _ (z : Sizes) (call h g : ℕ) (inside : h < z.headers) (word n : ℕ) (v
           live = live.0;
           generation = live.1;
           told = told_of z call (on_headers (lock_header h n)) u (grown (f ∷ []) v) l.met n w told_hit;
-          unheld = known_free z t.table t.rule t.seat u t.here h g (ap generation_of is_word ∙ live.1) still_known (ap state_of is_word ∙ live.0.state);
-          unpinned = t.rule.headers.counted h ∙ (ap count_of is_word ∙ live.0.count);
+          unheld = known_free z t.table t.rule t.seat u t.here h g (ap generation_of is_seen ∙ live.1) still_known (ap state_of is_seen ∙ live.0.state);
+          unpinned = t.rule.headers.counted h ∙ (ap count_of is_seen ∙ live.0.count);
           more = f ∷ met_now ∷ [];
           calls = (loaded_of, ((refl, header_before z (at_pin h) inside), tt));
           after = hit z call h inside n front t.table k u w t.finds t.after same

@@ -60,26 +60,21 @@ abbrev pub Looks : Sizes → ℕ → ℕ → Option ℕ → PassState → ℕ �
 Looks z call h None v n w = LooksOnce z call h v n w
 Looks z call h (Some seen) v n w = LooksTwice z call h seen v n w
 
--- the header was changed between the two looks
-abbrev pub Changed : Option ℕ → ℕ → Type 0
-Changed None n = ⊥
-Changed (Some seen) n = n ≢ seen
+-- the word is of another generation, locked or pinned
+abbrev pub IsBusy : ℕ → ℕ → Type 0
+IsBusy g n = (generation_of n ≢ g) ⊎ ((state_of n ≡ LOCKED) ⊎ (0 < count_of n))
 
--- the number found last is no word of a header that may be locked, or not the one that was seen
-abbrev pub IsBusy : ℕ → Option ℕ → ℕ → Type 0
-IsBusy g first n = (generation_of n ≢ g) ⊎ ((state_of n ≡ LOCKED) ⊎ ((0 < count_of n) ⊎ Changed first n))
-
--- the number found last is a cause
-abbrev pub IsNoLock : NoLock → ℕ → Option ℕ → ℕ → Type 0
-IsNoLock Dead g first n = IsDeadAt g n
-IsNoLock Busy g first n = (¬ IsDeadAt g n) × IsBusy g first n
+-- the word is a cause
+abbrev pub IsNoLock : NoLock → ℕ → ℕ → Type 0
+IsNoLock Dead g n = IsDeadAt g n
+IsNoLock Busy g n = (¬ IsDeadAt g n) × IsBusy g n
 
 -- the pass only met more, all in the call and at words in front of the rooms, and the number of the header's pin word that it found last is the cause
 pub record FindsNoLock (z : Sizes) (call h g : ℕ) (why : NoLock) (v w : PassState) : Type 0 where
   pub first : Option ℕ
   pub number : ℕ
   pub looks : Looks z call h first v number w
-  pub cause : IsNoLock why g first number
+  pub cause : IsNoLock why g number
   pub more : List Finding
   pub calls : Each (IsOf z call) more
   pub after : w ≡ grown more v

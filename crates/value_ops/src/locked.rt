@@ -47,7 +47,8 @@ impl Locked {
         ensures class { class_number result ≡ class_in (place_held self.now.header (state pass.old).headers.held) }
         ensures alone { Runs (FindsClass (key table.now) self.now.header result) (state pass.old) (state pass.new) }
     {
-        class_in(self.place(table, pass))
+        let place = self.place(table, pass);
+        class_in(place)
     }
 
     /// Loads the place word.

@@ -15,7 +15,7 @@ use thiserror::Error;
 /// Why a header was not locked: what its word that was found last says.
 #[derive(Clone, Copy, Debug, PartialEq, Eq, Error)]
 pub enum NoLock {
-    #[error("the header is of another generation, locked or pinned, or changed between two looks")]
+    #[error("the header is of another generation, locked or pinned")]
     Busy,
     #[error("the header's life was removed")]
     Dead,
@@ -50,8 +50,7 @@ fn refusal(word: u64, generation: u32) -> NoLock
 
 /// Locks a live header that the pass knows at this generation, other than as its own fresh one, where
 /// no pin stands on it. `Dead` comes exactly where the word found last is of this generation and dead,
-/// and `Busy` only where it is of another generation, locked or pinned, or was changed between the two
-/// looks at it.
+/// and `Busy` only where it is of another generation, locked or pinned.
 pub fn lock(
     table: &OakTable,
     pass: &mut Pass,

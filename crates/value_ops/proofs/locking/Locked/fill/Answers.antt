@@ -14,7 +14,7 @@ use Rattle.oak_core.specs.Step.{on_headers, MayOnHeaders}
 use Rattle.oak_core.proofs.OwnerLaws.{place_below}
 use Rattle.value_ops.specs.Rewriting.{HasWords}
 use Rattle.value_ops.specs.HeldValue.{words_in}
-use Rattle.value_ops.specs.UnderLock.{HasLock, ComesTo, Refills, words_over, with_words}
+use Rattle.value_ops.specs.UnderLock.{ComesTo, words_over, with_words}
 use Rattle.value_ops.proofs.ComesFurther.{comes_in}
 use Rattle.oak_core.proofs.MetMore.{told_in}
 use Rattle.value_ops.proofs.AloneRewrites.{stays_none, refills_alone, keeps_alone}
