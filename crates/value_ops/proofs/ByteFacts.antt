@@ -36,6 +36,10 @@ stand len i to lt e = dite (dec_lt len (8 * i + 8))
     (λ l. let f : to ≡ len = e ∙ min-eq_right (let h : len ≤ 8 * i + 8 = omega arith in h) in record { begun = lt; few = omega arith; all = inr (omega arith); within = omega arith })
     (λ n. let f : to ≡ 8 * i + 8 = e ∙ min-eq_left (let h : 8 * i + 8 ≤ len = omega arith in h) in record { begun = lt; few = omega arith; all = inl (omega arith); within = omega arith })
 
+-- of the last bytes, fewer than eight
+pub stand_last : (len i : ℕ) → 8 * i < len → len < 8 * i + 8 → Stand len i (len - 8 * i)
+stand_last len i lt few = record { begun = lt; few = omega arith; all = inr (omega arith); within = omega arith }
+
 module _ (len i k : ℕ) (s : Stand len i k) where
   pub part_of : (xs : List ℕ) → length xs ≡ len → take k (drop (8 * i) xs) ≡ bytes_in i xs
   part_of xs long = let d = length-drop (8 * i) xs in ⊎_elim (λ (e : k ≡ 8). ap (λ (j : ℕ). take j (drop (8 * i) xs)) e)

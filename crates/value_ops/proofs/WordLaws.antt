@@ -1,9 +1,11 @@
 -- The words in which bytes stand, and the bytes that are copied out of words.
-use Rattle.std.proofs.Common.{◌≡◌, ℕ, zero, suc, ◌+◌, ◌-◌, ◌*◌, ◌/◌, ◌^◌, ◌<◌, ◌≤◌, min, ⊎_elim, List, [], ◌∷◌, ◌++◌, length, get_or, take, drop, replicate, sym, refl, ap, ◌∙◌, subst, arith, w64}
+use Rattle.std.proofs.Common.{◌≡◌, ◌≢◌, ◌==◌, MatchBool, eqb-true, append-nil, ℕ, zero, suc, ◌+◌, ◌-◌, ◌*◌, ◌/◌, ◌^◌, ◌<◌, ◌≤◌, min, ⊎_elim, List, [], ◌∷◌, ◌++◌, length, get_or, take, drop, replicate, sym, refl, ap, ◌∙◌, subst, arith, w64}
 use Rattle.std.specs.Int.{from_be_bytes}
 use Rattle.std.specs.List.{refill}
-use Rattle.std.proofs.lemmas.List.{length-append, length-take, length-replicate, take_all, take_at, drop_all, get_or-take, get_or-drop, get_or_append_left, get_or-append_right, get_or_past, drop-replicate}
-use Rattle.std.proofs.lemmas.Nat.{be_bytes_8}
+use Rattle.std.proofs.lemmas.List.{length-append, length-drop, length-take-le, length-take, length-replicate, take_all, take_at, drop_all, get_or-take, get_or-drop, get_or_append_left, get_or-append_right, get_or_past, drop-replicate}
+use Rattle.std.proofs.lemmas.Nat.{be_bytes_8, from_be_bytes-to_be_bytes_8}
+use Rattle.std.proofs.lemmas.Bool.{eqb-false}
+use Rattle.oak_model.proofs.Counting.{test-cases}
 use Rattle.std.proofs.Math.Nat.{min-eq_left}
 use borrow.Rule.Slice.PartMut.{put_mid}
 use lib.ListN.{set}
@@ -100,6 +102,23 @@ module _ (bs : List ℕ) (small : (k : ℕ) → get_or bs k 0 < 256) (i : ℕ) w
   words_small = dite (dec_lt (8 * i) (length bs))
       (λ l. subst (λ (n : ℕ). n < 2 ^ 64) (sym (words_at bs i l)) (be_small (filled_up (bytes_in i bs)) filled_small))
       (λ n. subst (λ (n : ℕ). n < 2 ^ 64) (sym (get_or_past (words_of bs) i 0 (let e = words_long bs in omega arith))) (omega arith))
+
+-- a whole word
+
+pub whole_long : (bs : List ℕ) (i : ℕ) → 8 * i + 8 ≤ length bs → length (bytes_in i bs) ≡ 8
+whole_long bs i le = let d = length-drop (8 * i) bs in length-take-le 8 (drop (8 * i) bs) (omega arith)
+
+pub filled_whole : (xs : List ℕ) → length xs ≡ 8 → filled_up xs ≡ xs
+filled_whole xs e = ap (λ (n : ℕ). xs ++ replicate (8 - n) 0) e ∙ append-nil xs
+
+-- its bytes are those of a number where it is that number
+pub whole_same : (bs : List ℕ) → ((k : ℕ) → get_or bs k 0 < 256) → (i n w : ℕ) → 8 * i + 8 ≤ length bs → n ≡ from_be_bytes w64 (bytes_in i bs) → w < 2 ^ 64
+    → MatchBool (n == w) (bytes_in i bs ≡ take (length bs - 8 * i) (word_bytes w)) (bytes_in i bs ≢ take (length bs - 8 * i) (word_bytes w))
+whole_same bs small i n w le is lt = let xs : List ℕ = bytes_in i bs in let long = whole_long bs i le in
+    let all : take (length bs - 8 * i) (word_bytes w) ≡ word_bytes w = take_all (length bs - 8 * i) (word_bytes w) (let h : 8 ≤ length bs - 8 * i = omega arith in h) in
+    test-cases (n == w) (λ t. MatchBool t (xs ≡ take (length bs - 8 * i) (word_bytes w)) (xs ≢ take (length bs - 8 * i) (word_bytes w)))
+    (λ t. sym (be_bytes_8 xs w long (part_small bs small i) (sym (eqb-true n w t) ∙ is)) ∙ sym all)
+    (λ f e. eqb-false n w f (is ∙ (ap (from_be_bytes w64) (e ∙ all) ∙ from_be_bytes-to_be_bytes_8 w lt)))
 
 -- two lists with the same bytes in each word
 pub by_words : (xs ys : List ℕ) → length xs ≡ length ys → ((i : ℕ) → 8 * i < length xs → bytes_in i xs ≡ bytes_in i ys) → xs ≡ ys

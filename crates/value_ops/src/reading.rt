@@ -7,7 +7,7 @@ ghost use Rattle.value_ops.specs.Pinning.{HasPin, EndsPin};
 ghost use Rattle.value_ops.specs.Reading.{IsReading, OnlyLoads, FindsStamp, ReadsOn, value, stamp, header, words_pinned, bytes_in};
 
 use crate::pinning::{HeaderPin, unpin};
-use crate::words::{WORD, put_word};
+use crate::words::{WORD, is_word, put_word};
 use arena_core::place::{block_in, class_in, length_in};
 use oak_core::{OakTable, Pass, load};
 
@@ -113,10 +113,7 @@ impl Reading<'_> {
         ensures reads { ReadsOn self.old self.new }
         ensures same { MatchBool result (bytes_in i other.now ≡ bytes_in i (value self.old)) (bytes_in i other.now ≢ bytes_in i (value self.old)) }
     {
-        let bytes = self.word(i).to_be_bytes();
-        let from = WORD * i;
-        let to = (from + WORD).min(other.len());
-        other[from..to] == bytes[..to - from]
+        is_word(other, i, self.word(i))
     }
 
     /// Whether the value has exactly these bytes. Each word of the value is loaded once, up to the first

@@ -1,31 +1,66 @@
 //! Bytes as they stand in words: eight in each, the first of them highest.
-ghost use Rattle.std.specs.Prelude.{◌≡◌, ◌+◌, ◌-◌, ◌*◌, ◌<◌, ◌++◌, length, take, drop, slice_index};
-ghost use Rattle.value_ops.specs.Reading.{word_bytes};
+ghost use Rattle.std.specs.Prelude.{◌≡◌, ◌≢◌, ◌≤◌, MatchBool, ◌+◌, ◌-◌, ◌*◌, ◌<◌, ◌++◌, length, take, drop, slice_index};
+ghost use Rattle.std.specs.Int.{w64, from_be_bytes};
+ghost use Rattle.value_ops.specs.Reading.{word_bytes, bytes_in};
 ghost use Rattle.value_ops.specs.Words.{words_of};
 
 /// The bytes of a word.
 pub(crate) const WORD: usize = 8;
 
-/// The word in which the bytes from `8 * i` on stand, with zeros behind the last byte.
+/// The word that eight bytes make, those from `8 * i` on.
+fn whole_word(bytes: &[u8], i: usize) -> u64
+    requires { WORD * i + WORD ≤ length bytes.now }
+    ensures { result ≡ from_be_bytes w64 (bytes_in i bytes.now) }
+{
+    let from = WORD * i;
+    let mut word = [0; WORD];
+    word.copy_from_slice(&bytes[from..from + WORD]);
+    u64::from_be_bytes(word)
+}
+
+/// The word in which the bytes from `8 * i` on stand, with zeros behind the last byte. Where there are
+/// eight of them they are loaded at once.
 pub(crate) fn word_from(bytes: &[u8], i: usize) -> u64
     requires { WORD * i < length bytes.now }
     ensures { result ≡ slice_index (words_of bytes.now) i }
 {
     let from = WORD * i;
-    let to = (from + WORD).min(bytes.len());
+    if from + WORD <= bytes.len() {
+        return whole_word(bytes, i);
+    }
+    let to = bytes.len();
     let mut word = [0; WORD];
     word[..to - from].copy_from_slice(&bytes[from..to]);
     u64::from_be_bytes(word)
 }
 
-/// Copies the bytes of a word to their place, from `8 * i` on, as many as there are places.
+/// Whether the bytes from `8 * i` on, at most eight, are those with which the word begins. Where there
+/// are eight of them, two numbers are compared.
+pub(crate) fn is_word(bytes: &[u8], i: usize, word: u64) -> bool
+    requires { WORD * i < length bytes.now }
+    ensures { MatchBool result (bytes_in i bytes.now ≡ take (length bytes.now - WORD * i) (word_bytes word)) (bytes_in i bytes.now ≢ take (length bytes.now - WORD * i) (word_bytes word)) }
+{
+    let from = WORD * i;
+    if from + WORD <= bytes.len() {
+        return whole_word(bytes, i) == word;
+    }
+    let to = bytes.len();
+    bytes[from..to] == word.to_be_bytes()[..to - from]
+}
+
+/// Copies the bytes of a word to their place, from `8 * i` on, as many as there are places. Where there
+/// are eight they are stored at once.
 pub(crate) fn put_word(out: &mut [u8], i: usize, word: u64)
     requires { WORD * i < length out.old }
     ensures put { take (WORD * i + WORD) out.new ≡ take (WORD * i) out.old ++ take (length out.old - WORD * i) (word_bytes word) }
     ensures behind { drop (WORD * i + WORD) out.new ≡ drop (WORD * i + WORD) out.old }
 {
     let from = WORD * i;
-    let to = (from + WORD).min(out.len());
+    if from + WORD <= out.len() {
+        out[from..from + WORD].copy_from_slice(&word.to_be_bytes());
+        return;
+    }
+    let to = out.len();
     out[from..to].copy_from_slice(&word.to_be_bytes()[..to - from]);
 }
 
