@@ -5,6 +5,8 @@ pub mod CoverLaws
 pub mod Lookups
 pub mod CoverFacts
 pub mod RangeLaws
+pub mod CoverFrames
+pub mod RoomFrames
 pub mod RoomPins
 pub mod Copies
 pub mod ValueLaws
