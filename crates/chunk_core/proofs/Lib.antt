@@ -13,3 +13,7 @@ pub mod ValueLaws
 pub mod Ranges
 pub mod RangeMoves
 pub mod ByteStores
+pub mod HeldRooms
+pub mod RoomStates
+pub mod Weights
+pub mod RoomKinds
