@@ -17,3 +17,4 @@ pub mod HeldRooms
 pub mod RoomStates
 pub mod Weights
 pub mod RoomKinds
+pub mod OpenRoom
