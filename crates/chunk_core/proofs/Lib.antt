@@ -18,3 +18,4 @@ pub mod RoomStates
 pub mod Weights
 pub mod RoomKinds
 pub mod OpenRoom
+pub mod RetireRoom
