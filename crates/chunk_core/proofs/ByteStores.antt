@@ -1,5 +1,5 @@
 -- The words of a block change that no entry has: no key changes, and what passes keep of keys stays true.
-use Rattle.std.proofs.Common.{◌≡◌, ℕ, suc, ◌+◌, ◌-◌, ◌*◌, ◌<◌, ◌≤◌, List, [], ◌∷◌, map, sym, refl, ap, ◌∙◌, subst, arith, Option, Some, None}
+use Rattle.std.proofs.Common.{◌≡◌, ℕ, suc, ◌+◌, ◌-◌, ◌*◌, ◌<◌, List, [], ◌∷◌, map, sym, refl, ap, ◌∙◌, subst, arith, Option, Some, None}
 use Rattle.std.specs.Prelude.{nat_lt}
 use Rattle.std.proofs.lemmas.Bool.{lt-ltb}
 use mathlib.Core.Logic.{dite}
@@ -25,6 +25,7 @@ use Rattle.chunk_core.specs.PinnedRooms.{OnRoomPin, IsGoodRoom, EntryStands, Roo
 use Rattle.chunk_core.specs.RoomRule.{AreTrueRanges, RoomsStand}
 use Rattle.chunk_core.specs.Rooms.{RoomMemory}
 use Rattle.chunk_core.proofs.CoverLaws.{moves, covers_parts, covers_same, weight-le}
+use Rattle.chunk_core.proofs.CoverFrames.{partition_same}
 use Rattle.chunk_core.proofs.EntryNumbers.{map_numbers, numbers_once}
 
 -- a word that is not 0 does not name the block, where its entry has it not
@@ -55,7 +56,7 @@ module _ (z : Sizes) (m : RoomMemory) (content content' : ℕ → List ℕ) (hs 
       (λ e. times-none (weight (m.pin r)) (F (cover_at m content' r)) e ∙ sym (times-none (weight (m.pin r)) (F (cover_at m content r)) e)) (λ ne. ap (λ (t : Cover). weight (m.pin r) * F t) (cover_still r l (let q = weight-le (m.pin r) in omega arith))))
 
   pub bytes_partition : CoversPartition z m content' is_key_word hs
-  bytes_partition = record { covered = λ k. bytes_covers _ ∙ parts.covered k; once = λ k. subst (λ (t : ℕ). t ≤ 1) (sym (bytes_covers _)) (parts.once k); inside = bytes_covers _ ∙ parts.inside; placed = bytes_covers _ ∙ parts.placed; begun = bytes_covers _ ∙ parts.begun; bases = bytes_covers _ ∙ parts.bases }
+  bytes_partition = partition_same z m m content content' is_key_word hs hs bytes_covers parts
 
   -- a carried entry has not the block either
   carried_word : (j : ℕ) (a : RoomHolds) (i : ℕ) (g : MovingRange) (x : Carried) → get_elem? hs j ≡ some a → get_elem? a.moving i ≡ some g → Has x g.carried → content' x.word ≡ content x.word
@@ -88,10 +89,12 @@ module _ (z : Sizes) (m : RoomMemory) (content content' : ℕ → List ℕ) (hs 
     generations = s.generations;
     latched = s.latched;
     latches = s.latches;
-    few = s.few;
-    prefix = s.prefix;
-    sorted = λ r i j w l k. let p = s.prefix r w in let inside = inside_of r w in subst (λ (t : ℕ × ℕ). t.0 < t.1) (λ q. (sym (same r inside w i (omega arith)) q, sym (same r inside w j (omega arith)) q)) (s.sorted r i j w l k);
-    bounds = s.bounds;
+    ordered = λ r w. let o = s.ordered r w in let l = o.prefix in let inside = inside_of r w in record {
+      few = o.few;
+      prefix = o.prefix;
+      sorted = λ i j lt k. subst (λ (t : ℕ × ℕ). t.0 < t.1) (λ q. (sym (same r inside w i (omega arith)) q, sym (same r inside w j (omega arith)) q)) (o.sorted i j lt k);
+      bounds = o.bounds;
+    };
     good = λ j a at. on a.pin (s.good j a at);
     carried = λ j a at. ranges j a at a.moving 0 (λ i g e. subst (λ (t : ℕ). get_elem? a.moving t ≡ some g) (let q : i ≡ 0 + i = omega arith in q) e) (s.carried j a at);
     passes = s.passes;

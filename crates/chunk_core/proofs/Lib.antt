@@ -5,9 +5,17 @@ pub mod CoverLaws
 pub mod Lookups
 pub mod CoverFacts
 pub mod RangeLaws
+pub mod CoverFrames
+pub mod RoomFrames
 pub mod RoomPins
 pub mod Copies
 pub mod ValueLaws
 pub mod Ranges
 pub mod RangeMoves
 pub mod ByteStores
+pub mod HeldRooms
+pub mod RoomStates
+pub mod Weights
+pub mod RoomKinds
+pub mod OpenRoom
+pub mod RetireRoom

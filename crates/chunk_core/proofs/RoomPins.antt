@@ -1,5 +1,5 @@
 -- The pin word of a room changes and its state stays, with the pin of a pass: a pin is made, or undone.
-use Rattle.std.proofs.Common.{◌≡◌, ℕ, ◌+◌, ◌-◌, ◌*◌, ◌%◌, ◌^◌, ◌<◌, ◌≤◌, List, [], ◌∷◌, map, set, sym, refl, ap, ◌∙◌, subst, arith, Option, Some, None}
+use Rattle.std.proofs.Common.{◌≡◌, ℕ, ◌+◌, ◌-◌, ◌*◌, ◌%◌, ◌^◌, ◌<◌, List, map, set, sym, refl, ap, ◌∙◌, subst, arith, Option, Some, None}
 use mathlib.Core.Logic.{dite}
 use mathlib.Core.Option.{some}
 use native.Mathlib.Decide.{ℕ_discrete}
@@ -9,10 +9,9 @@ use Rattle.pin_word.proofs.StepLaws.{pin_up, pin_down}
 use Rattle.chunk_core.specs.declared.states.TheConstants.{OPEN, FROZEN}
 use Rattle.chunk_core.specs.declared.holds.PinnedRoom.{PinnedRoom}
 use Rattle.chunk_core.specs.declared.holds.RoomHolds.{RoomHolds}
-use Rattle.oak_model.specs.Counts.{one_at, total, put, Every}
+use Rattle.oak_model.specs.Counts.{one_at, put}
 use Rattle.oak_model.specs.Limits.{Sizes}
-use Rattle.oak_model.proofs.Changes.{Change, stepped}
-use Rattle.oak_model.proofs.Counting.{one_at-same, one_at-other, one_at-true, total_at, total_set}
+use Rattle.oak_model.proofs.Counting.{one_at-same, one_at-other, one_at-true, total_at}
 use Rattle.oak_model.proofs.Lists.{map_set_same}
 use Rattle.oak_model.proofs.PutLaws.{put-here, put-else, put-cases}
 use Rattle.chunk_core.specs.CoverRule.{CoversPartition}
@@ -21,9 +20,11 @@ use Rattle.chunk_core.specs.Covers.{Cover, cover_at, moving_of}
 use Rattle.chunk_core.specs.PinnedRooms.{OnRoomPin, IsGoodRoom, RoomPinHolds}
 use Rattle.chunk_core.specs.RoomHolds.{pins_of}
 use Rattle.chunk_core.specs.RoomReads.{pinned_at}
-use Rattle.chunk_core.specs.RoomRule.{LatchIsPinned, room_pins, latches_on, in_room_state, RoomHoldsStand, AreTrueRanges, RoomsStand}
+use Rattle.chunk_core.specs.RoomRule.{LatchIsPinned, room_pins, RoomHoldsStand, RoomsStand}
 use Rattle.chunk_core.specs.RoomStep.{put_room}
 use Rattle.chunk_core.specs.Rooms.{RoomMemory, at_room_pin}
+use Rattle.chunk_core.proofs.CoverFrames.{partition_same}
+use Rattle.chunk_core.proofs.RoomFrames.{rooms_stepped}
 use Rattle.chunk_core.proofs.CoverLaws.{covers_same}
 
 module _ (z : Sizes) (m : RoomMemory) (content : ℕ → List ℕ) (hs : List RoomHolds) (rule : RoomsStand z m content hs) (seat : ℕ) (a : RoomHolds) (here : get_elem? hs seat ≡ some a)
@@ -39,9 +40,6 @@ module _ (z : Sizes) (m : RoomMemory) (content : ℕ → List ℕ) (hs : List Ro
   abbrev pub hs' : List RoomHolds
   hs' = set hs seat b
 
-  c : Change hs hs' (a ∷ []) (b ∷ [])
-  c = stepped hs seat a b here
-
   pub state_still : (j : ℕ) → state_of (m'.pin j) ≡ state_of (m.pin j)
   state_still j = put-cases m.pin r x j (λ w. state_of w ≡ state_of (m.pin j)) (λ e. state ∙ ap (λ (t : ℕ). state_of (m.pin t)) (sym e)) (λ _. refl)
 
@@ -51,9 +49,6 @@ module _ (z : Sizes) (m : RoomMemory) (content : ℕ → List ℕ) (hs : List Ro
   pub weight_still : (j : ℕ) → weight (m'.pin j) ≡ weight (m.pin j)
   weight_still j = ap (λ (t : ℕ). one_at t OPEN + one_at t FROZEN) (state_still j)
 
-  sum_still : (f : RoomHolds → ℕ) → f b ≡ f a → total f hs' ≡ total f hs
-  sum_still f e = let t = total_set f hs seat a b here in omega arith
-
   still_holds : (p : PinnedRoom) → RoomPinHolds z m content p → RoomPinHolds z m' content p
   still_holds p h = record { inside = h.inside; cover = weight_still p.room ∙ h.cover; base = h.base; low = h.low; high = h.high; counted = h.counted; entries = h.entries }
 
@@ -61,25 +56,20 @@ module _ (z : Sizes) (m : RoomMemory) (content : ℕ → List ℕ) (hs : List Ro
   on None h = tt
   on (Some p) h = λ is. still_holds p (h is)
 
-  was : (P : RoomHolds → Type 0) → Every P hs → P b → Every P hs'
-  was P h new = c.every P (new, tt) (λ j y _ at. h j y at)
-
   pub pins_stand : RoomsStand z m' content hs'
-  pins_stand = record {
-    counted = λ j. let t = total_set (room_pins j) hs seat a b here in let k = counts j in let w = rule.counted j in omega arith;
-    held = λ j s is. sum_still (in_room_state j s) refl ∙ (rule.held j s is ∙ ap (λ (t : ℕ). one_at t s) (sym (state_still j)));
+  pins_stand = rooms_stepped z m m' content hs seat a b here (record {
+    pins = counts;
+    held = λ j s is. let e = ap (λ (t : ℕ). one_at t s) (state_still j) in omega arith;
     states = λ j. let e = state_still j in let l = rule.states j in omega arith;
-    generations = λ j. generation_still j ∙ rule.generations j;
-    latched = λ j. sum_still (latches_on j) refl ∙ rule.latched j;
+    generations = generation_still;
+    latch = λ j. refl;
     latches = rule.latches;
-    few = λ j w. rule.few j (sym (weight_still j) ∙ w);
-    prefix = λ j w. rule.prefix j (sym (weight_still j) ∙ w);
-    sorted = λ j i k w. rule.sorted j i k (sym (weight_still j) ∙ w);
-    bounds = λ j w. rule.bounds j (sym (weight_still j) ∙ w);
-    good = c.every (λ (u : RoomHolds). OnRoomPin (λ p. IsGoodRoom p → RoomPinHolds z m' content p) u.pin) (on o good, tt) (λ j u _ at. on u.pin (rule.good j u at));
-    carried = was (λ (u : RoomHolds). AreTrueRanges content u.moving) rule.carried (rule.carried seat a here);
-    passes = was (RoomHoldsStand z) rule.passes stands;
-  }
+    ordered = λ j w. rule.ordered j (sym (weight_still j) ∙ w);
+    others = λ j u p ne at is h. still_holds p h;
+    own = on o good;
+    carried = rule.carried seat a here;
+    stands = stands;
+  }) rule
 
   -- nothing that is added up over the covers changes
   pub pins_covers : (F : Cover → ℕ) → all_of z m' content hs' F ≡ all_of z m content hs F
@@ -87,14 +77,7 @@ module _ (z : Sizes) (m : RoomMemory) (content : ℕ → List ℕ) (hs : List Ro
       ∙ ap (λ (ms : List (List Cover)). covers z.chunks m.pin (cover_at m content) ms F) (map_set_same moving_of hs seat a b here refl)
 
   pub pins_partition : (is_key_word : ℕ → ℕ) → CoversPartition z m content is_key_word hs → CoversPartition z m' content is_key_word hs'
-  pins_partition is_key_word p = record {
-    covered = λ k. pins_covers _ ∙ p.covered k;
-    once = λ k. let e = pins_covers _ in let l = p.once k in subst (λ (t : ℕ). t ≤ 1) (sym e) l;
-    inside = pins_covers _ ∙ p.inside;
-    placed = pins_covers _ ∙ p.placed;
-    begun = pins_covers _ ∙ p.begun;
-    bases = pins_covers _ ∙ p.bases;
-  }
+  pins_partition is_key_word = partition_same z m m' content content is_key_word hs hs' pins_covers
 
 -- a pin is made
 module _ (z : Sizes) (m : RoomMemory) (content : ℕ → List ℕ) (hs : List RoomHolds) (rule : RoomsStand z m content hs) (seat : ℕ) (a : RoomHolds) (here : get_elem? hs seat ≡ some a)

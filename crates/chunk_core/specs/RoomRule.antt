@@ -66,8 +66,19 @@ abbrev pub AreTrueRanges : (ℕ → List ℕ) → List MovingRange → Type 0
 AreTrueRanges content gs = Each (λ (g : MovingRange). Each (λ (c : Carried). content c.word ≡ c.words) g.carried) gs
 
 -- the first words of a low and a high bound name no more bytes than a key has
-abbrev pub AreBounds : ℕ → ℕ → Type 0
-AreBounds low high = (low ≤ GREATEST_KEY) × (high ≤ GREATEST_KEY + 1)
+pub record AreBounds (low high : ℕ) : Type 0 where
+  pub low_fits : low ≤ GREATEST_KEY
+  pub high_fits : high ≤ GREATEST_KEY + 1
+
+-- the words of a cover, by its count, the key words of its entries, and the first words of its bounds
+pub record IsInOrder (z : Sizes) (content : ℕ → List ℕ) (count : ℕ) (key : ℕ → ℕ) (low high : ℕ) : Type 0 where
+  -- it has no more entries than a room
+  pub few : entries_in count ≤ z.entries
+  -- nor a longer prefix than entries
+  pub prefix : prefix_in count ≤ entries_in count
+  -- the entries of the prefix rise in the order of the keys
+  pub sorted : (i j : ℕ) → i < j → j < prefix_in count → key_at content (key i) < key_at content (key j)
+  pub bounds : AreBounds low high
 
 pub record RoomsStand (z : Sizes) (m : RoomMemory) (content : ℕ → List ℕ) (hs : List RoomHolds) : Type 0 where
   -- the count of a room is the number of pins on it, duds among them
@@ -82,14 +93,8 @@ pub record RoomsStand (z : Sizes) (m : RoomMemory) (content : ℕ → List ℕ) 
   pub latched : (r : ℕ) → total (latches_on r) hs ≡ m.latch r
   -- else it is free
   pub latches : (r : ℕ) → m.latch r ≤ 1
-  -- a cover has no more entries than a room
-  pub few : (r : ℕ) → weight (m.pin r) ≡ 1 → entries_in (m.count r) ≤ z.entries
-  -- nor a longer prefix than entries
-  pub prefix : (r : ℕ) → weight (m.pin r) ≡ 1 → prefix_in (m.count r) ≤ entries_in (m.count r)
-  -- the entries of the prefix rise in the order of the keys
-  pub sorted : (r i j : ℕ) → weight (m.pin r) ≡ 1 → i < j → j < prefix_in (m.count r) → key_at content (m.key r i) < key_at content (m.key r j)
-  -- the bounds of a cover are no longer than a key
-  pub bounds : (r : ℕ) → weight (m.pin r) ≡ 1 → AreBounds (m.low r 0) (m.high r 0)
+  -- the words of a cover are in order
+  pub ordered : (r : ℕ) → weight (m.pin r) ≡ 1 → IsInOrder z content (m.count r) (m.key r) (m.low r 0) (m.high r 0)
   -- what a good pin found stands
   pub good : Every (λ (a : RoomHolds). OnRoomPin (λ p. IsGoodRoom p → RoomPinHolds z m content p) a.pin) hs
   -- the keys of carried entries are true

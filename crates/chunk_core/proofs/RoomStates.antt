@@ -1,0 +1,74 @@
+-- The pin word of a room changes, and its count stays, with the rooms and ranges that a pass has: a room is frozen, held, claimed, opened or retired.
+use Rattle.std.proofs.Common.{◌≡◌, ◌≢◌, ℕ, ◌+◌, ◌≤◌, ◌⊎◌, List, set, sym, refl, ap, ◌∙◌, subst, ⊎_elim, arith, Option, Some, None}
+use mathlib.Core.Logic.{dite}
+use mathlib.Core.Option.{some}
+use native.Mathlib.Decide.{ℕ_discrete}
+use lib.ListN.{get_elem?}
+use Rattle.pin_word.specs.PinWord.{state_of, generation_of, count_of}
+use Rattle.oak_model.specs.Counts.{one_at, Each}
+use Rattle.oak_model.specs.Limits.{Sizes}
+use Rattle.oak_model.proofs.Counting.{one_at-same, total_at}
+use Rattle.oak_model.proofs.PutLaws.{put-here, put-else, put-cases}
+use Rattle.chunk_core.specs.declared.states.TheConstants.{FROZEN, HELD}
+use Rattle.chunk_core.specs.declared.holds.HeldRoom.{HeldRoom}
+use Rattle.chunk_core.specs.declared.holds.MovingRange.{MovingRange}
+use Rattle.chunk_core.specs.declared.holds.PinnedRoom.{PinnedRoom}
+use Rattle.chunk_core.specs.declared.holds.RoomHolds.{RoomHolds}
+use Rattle.chunk_core.specs.CoverSums.{weight}
+use Rattle.chunk_core.specs.PinnedRooms.{OnRoomPin, IsGoodRoom, RoomPinHolds}
+use Rattle.chunk_core.specs.RoomHolds.{pins_of}
+use Rattle.chunk_core.specs.RoomRule.{room_pins, in_room_state, AreTrueRanges, IsInOrder, IsWholeHeld, RoomsStand}
+use Rattle.chunk_core.specs.RoomStep.{put_room}
+use Rattle.chunk_core.specs.Rooms.{RoomMemory, at_room_pin}
+use Rattle.chunk_core.proofs.HeldRooms.{room_rows}
+use Rattle.chunk_core.proofs.RoomFrames.{rooms_stepped}
+
+module _ (z : Sizes) (m : RoomMemory) (content : ℕ → List ℕ) (hs : List RoomHolds) (rule : RoomsStand z m content hs) (seat : ℕ) (a : RoomHolds) (here : get_elem? hs seat ≡ some a)
+    (r x : ℕ) (count : count_of x ≡ count_of (m.pin r)) (generation : generation_of x ≡ generation_of (m.pin r)) (known : state_of x ≤ HELD)
+    (held : List HeldRoom) (moving : List MovingRange)
+    (rows_here : (s : ℕ) → (s ≡ FROZEN) ⊎ (s ≡ HELD) → room_rows r s held + one_at (state_of (m.pin r)) s ≡ room_rows r s a.held + one_at (state_of x) s)
+    (rows_else : (j s : ℕ) → j ≢ r → room_rows j s held ≡ room_rows j s a.held)
+    (order : weight x ≡ 1 → IsInOrder z content (m.count r) (m.key r) (m.low r 0) (m.high r 0))
+    (unpinned : weight (m.pin r) ≡ 1 → (weight x ≡ 1) ⊎ (count_of (m.pin r) ≡ 0))
+    (true_ranges : AreTrueRanges content moving) (whole : Each (λ (h : HeldRoom). IsWholeHeld z h.held_as) held) where
+  abbrev m' : RoomMemory
+  m' = put_room m (at_room_pin r) x
+
+  abbrev b : RoomHolds
+  b = record a { held = held; moving = moving }
+
+  -- a good pin is on another room, or on one that is a cover still
+  pin_stands : (j : ℕ) (u : RoomHolds) (p : PinnedRoom) → get_elem? hs j ≡ some u → pins_of p.room u.pin ≡ 1 → RoomPinHolds z m content p → RoomPinHolds z m' content p
+  pin_stands j u p at is h = record { inside = h.inside; cover = put-cases m.pin r x p.room (λ t. weight t ≡ 1) on_it (λ _. h.cover); base = h.base; low = h.low; high = h.high; counted = h.counted; entries = h.entries }
+    where
+      on_it : p.room ≡ r → weight x ≡ 1
+      on_it e = ⊎_elim (λ (w : weight x ≡ 1). w) (λ (n : count_of (m.pin r) ≡ 0). absurd (let t = total_at (room_pins r) hs j u at in let k = rule.counted r in let o = ap (λ (y : ℕ). pins_of y u.pin) e in omega arith)) (unpinned (ap (λ (t : ℕ). weight (m.pin t)) (sym e) ∙ h.cover))
+
+  pinned_once : (p : PinnedRoom) → pins_of p.room (Some p) ≡ 1
+  pinned_once p = one_at-same p.room p.room refl
+
+  own : (o : Option PinnedRoom) → a.pin ≡ o → OnRoomPin (λ p. IsGoodRoom p → RoomPinHolds z m content p) o → OnRoomPin (λ p. IsGoodRoom p → RoomPinHolds z m' content p) o
+  own None is h = tt
+  own (Some p) is h = λ good. pin_stands seat a p here (ap (pins_of p.room) is ∙ pinned_once p) (h good)
+
+  held_now : (j s : ℕ) → (s ≡ FROZEN) ⊎ (s ≡ HELD) → in_room_state j s b + one_at (state_of (m.pin j)) s ≡ in_room_state j s a + one_at (state_of (m'.pin j)) s
+  unfolding room_rows
+  held_now j s is = dite (ℕ_discrete j r)
+      (λ e. subst (λ (t : ℕ). in_room_state t s b + one_at (state_of (m.pin t)) s ≡ in_room_state t s a + one_at (state_of (m'.pin t)) s) (sym e) (let h = rows_here s is in let n = ap (λ (t : ℕ). one_at (state_of t) s) (put-here m.pin r x r refl) in omega arith))
+      (λ ne. let h = rows_else j s ne in let n = ap (λ (t : ℕ). one_at (state_of t) s) (put-else m.pin r x j ne) in omega arith)
+
+  pub restated : RoomsStand z (put_room m (at_room_pin r) x) content (set hs seat (record a { held = held; moving = moving }))
+  restated = rooms_stepped z m m' content hs seat a b here (record {
+    pins = λ j. let e = put-cases m.pin r x j (λ t. count_of t ≡ count_of (m.pin j)) (λ e. count ∙ ap (λ (t : ℕ). count_of (m.pin t)) (sym e)) (λ _. refl) in omega arith;
+    held = held_now;
+    states = λ j. put-cases m.pin r x j (λ t. state_of t ≤ HELD) (λ _. known) (λ _. rule.states j);
+    generations = λ j. put-cases m.pin r x j (λ t. generation_of t ≡ generation_of (m.pin j)) (λ e. generation ∙ ap (λ (t : ℕ). generation_of (m.pin t)) (sym e)) (λ _. refl);
+    latch = λ j. refl;
+    latches = rule.latches;
+    ordered = λ j. put-cases m.pin r x j (λ t. weight t ≡ 1 → IsInOrder z content (m.count j) (m.key j) (m.low j 0) (m.high j 0))
+        (λ e w. subst (λ (t : ℕ). IsInOrder z content (m.count t) (m.key t) (m.low t 0) (m.high t 0)) (sym e) (order w)) (λ _. rule.ordered j);
+    others = λ j u p ne at is h. pin_stands j u p at (ap (pins_of p.room) is ∙ pinned_once p) h;
+    own = own a.pin refl (rule.good seat a here);
+    carried = true_ranges;
+    stands = record { latch = (rule.passes seat a here).latch; whole = whole };
+  }) rule
