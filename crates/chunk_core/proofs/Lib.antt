@@ -21,3 +21,5 @@ pub mod RoomKinds
 pub mod OpenRoom
 pub mod RetireRoom
 pub mod DroppedEntries
+pub mod CountLoads
+pub mod PastCounts
