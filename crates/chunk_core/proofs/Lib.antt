@@ -9,6 +9,7 @@ pub mod CoverFrames
 pub mod RoomFrames
 pub mod RoomPins
 pub mod Copies
+pub mod RoomStores
 pub mod ValueLaws
 pub mod Ranges
 pub mod RangeMoves
@@ -19,3 +20,6 @@ pub mod Weights
 pub mod RoomKinds
 pub mod OpenRoom
 pub mod RetireRoom
+pub mod DroppedEntries
+pub mod CountLoads
+pub mod PastCounts

@@ -1,7 +1,6 @@
 -- The value word of a linked entry changes: the one law, at each number that is added up.
-use Rattle.std.proofs.Common.{◌≡◌, ◌≢◌, ℕ, ◌+◌, ◌-◌, ◌*◌, ◌<◌, ◌≤◌, ◌==◌, ◌&&◌, cond, Bool, true, false, List, map, sym, refl, ap, ◌∙◌, arith, eq-eqb, ne_eqb}
+use Rattle.std.proofs.Common.{◌≡◌, ◌≢◌, ℕ, ◌+◌, ◌-◌, ◌*◌, ◌<◌, ◌≤◌, ◌==◌, ◌&&◌, cond, Bool, true, List, sym, refl, ap, ◌∙◌, arith, eq-eqb, ne_eqb}
 use mathlib.Core.Logic.{dite}
-use mathlib.Core.Path.{fun_ext}
 use native.Mathlib.Decide.{ℕ_discrete}
 use Rattle.chunk_core.specs.declared.holds.RoomHolds.{RoomHolds}
 use Rattle.oak_model.specs.Counts.{one_at, total, put}
@@ -19,18 +18,12 @@ use Rattle.chunk_core.specs.Rooms.{RoomMemory, at_value}
 use Rattle.chunk_core.specs.Spans.{Span, within}
 use Rattle.chunk_core.specs.ValueWord.{names_header}
 use Rattle.chunk_core.proofs.CoverFacts.{entry_word}
+use Rattle.chunk_core.proofs.RoomStores.{cover_else}
 use Rattle.chunk_core.proofs.CoverLaws.{moves, all_inside, room_total}
 
 module _ (m : RoomMemory) (r i x : ℕ) where
   abbrev pub valued : RoomMemory
   valued = put_room m (at_value r i) x
-
-  false_and : (b c : Bool) → c ≡ false → (b && c) ≡ false
-  false_and true c e = e
-  false_and false c e = refl
-
-  value_room : (j : ℕ) → j ≢ r → valued.value j ≡ m.value j
-  value_room j ne = fun_ext (λ k. ap (λ (t : Bool). cond t x (m.value j k)) (false_and (k == i) (j == r) (ne_eqb j r ne)))
 
   -- in the room itself one value is exchanged
   value_here : (k : ℕ) → valued.value r k ≡ put (m.value r) i x k
@@ -38,9 +31,6 @@ module _ (m : RoomMemory) (r i x : ℕ) where
     where
       both : (k : ℕ) → k ≡ i → ((k == i) && (r == r)) ≡ true
       both k e = ap (λ (t : Bool). t && (r == r)) (eq-eqb k i e) ∙ eq-eqb r r refl
-
-  pub cover_else : (content : ℕ → List ℕ) (j : ℕ) → j ≢ r → cover_at valued content j ≡ cover_at m content j
-  cover_else content j ne = ap (λ (g : ℕ → ℕ). record { span = span_in m j; entries = map (λ k. record { word = m.key j k; value = g k; key = key_at content (m.key j k) }) (linked m j) }) (value_room j ne)
 
   pub value_step : (content : ℕ → List ℕ) (f : Span → Entry → ℕ) → total (λ j. one_at j i) (linked m r) ≡ 1
       → each f (cover_at valued content r) + f (span_in m r) (entry_at m content r i) ≡ each f (cover_at m content r) + f (span_in m r) (record { word = m.key r i; value = x; key = key_at content (m.key r i) })
@@ -55,10 +45,10 @@ module _ (z : Sizes) (m : RoomMemory) (content : ℕ → List ℕ) (is_key_word 
   k = key_at content (m.key r i)
 
   pub value_all : (g : Span → Entry → ℕ) → all_of z (put_room m (at_value r i) x) content hs' (each g) + g (span_in m r) (entry_at m content r i) ≡ all_of z m content hs (each g) + g (span_in m r) (record { word = m.key r i; value = x; key = key_at content (m.key r i) })
-  value_all g = let s = all_inside z m (put_room m (at_value r i) x) content hs hs' gone fresh c r lr (λ j _. refl) (λ j ne. cover_else m r i x content j ne) cover cover (each g) in let v = value_step m r i x content g once in let e = moving (each g) in omega arith
+  value_all g = let s = all_inside z m (put_room m (at_value r i) x) content hs hs' gone fresh c r lr (λ j _. refl) (λ j ne. cover_else m (at_value r i) x content j ne) cover cover (each g) in let v = value_step m r i x content g once in let e = moving (each g) in omega arith
 
   pub span_all : (g : Span → ℕ) → all_of z (put_room m (at_value r i) x) content hs' (λ u. g u.span) ≡ all_of z m content hs (λ u. g u.span)
-  span_all g = let s = all_inside z m (put_room m (at_value r i) x) content hs hs' gone fresh c r lr (λ j _. refl) (λ j ne. cover_else m r i x content j ne) cover cover (λ u. g u.span) in let e = moving (λ u. g u.span) in omega arith
+  span_all g = let s = all_inside z m (put_room m (at_value r i) x) content hs hs' gone fresh c r lr (λ j _. refl) (λ j ne. cover_else m (at_value r i) x content j ne) cover cover (λ u. g u.span) in let e = moving (λ u. g u.span) in omega arith
 
   pub covers_valued : CoversPartition z (put_room m (at_value r i) x) content is_key_word hs'
   covers_valued = record {

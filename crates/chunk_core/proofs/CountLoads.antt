@@ -1,0 +1,99 @@
+-- A load of the count of a pinned room, under a good pin: the pass has found the entries below it.
+use Rattle.std.proofs.Common.{◌≡◌, ℕ, zero, suc, ◌+◌, ◌<◌, List, set, sym, refl, ap, ◌∙◌, subst, arith, Option, Some, None}
+use mathlib.Core.Option.{some, some-injective, some-ne-none}
+use lib.ListN.{get_elem?}
+use Rattle.pin_word.specs.PinWord.{state_of}
+use Rattle.chunk_core.specs.declared.layout.TheConstants.{BOUND_WORDS}
+use Rattle.oak_model.specs.Counts.{rows}
+use Rattle.oak_model.specs.Limits.{Sizes}
+use Rattle.oak_model.proofs.Lists.{map_set_same, rows_length}
+use Rattle.oak_model.proofs.RowLaws.{each_rows}
+use Rattle.chunk_core.specs.declared.holds.FoundEntry.{FoundEntry}
+use Rattle.chunk_core.specs.declared.holds.Latch.{Latch}
+use Rattle.chunk_core.specs.declared.holds.PinnedRoom.{PinnedRoom}
+use Rattle.chunk_core.specs.declared.holds.RoomHolds.{RoomHolds}
+use Rattle.chunk_core.specs.CoverRule.{CoversPartition}
+use Rattle.chunk_core.specs.CoverSums.{covers, all_of, weight}
+use Rattle.chunk_core.specs.Covers.{Cover, cover_at, span_in, moving_of}
+use Rattle.chunk_core.specs.KeyWords.{low_number, high_number}
+use Rattle.chunk_core.specs.LinkedEntries.{entries_in}
+use Rattle.chunk_core.specs.PinnedRooms.{OnRoomPin, IsGoodRoom, EntryStands, RoomPinHolds, span_of}
+use Rattle.chunk_core.specs.RoomHolds.{pins_of}
+use Rattle.chunk_core.specs.RoomReads.{found_at}
+use Rattle.chunk_core.specs.RoomRule.{LatchIsPinned, RoomsStand}
+use Rattle.chunk_core.specs.Rooms.{RoomMemory}
+use Rattle.chunk_core.specs.RoomsAfter.{pin_with}
+use Rattle.chunk_core.proofs.CoverFrames.{partition_same}
+use Rattle.chunk_core.proofs.RoomFrames.{rooms_stepped}
+
+-- the parts of rows
+pub rows_is : {A : Type 0} (f : ℕ → A) (i n j : ℕ) (x : A) → get_elem? (rows i n f) j ≡ some x → (j < n) × (f (i + j) ≡ x)
+unfolding rows
+rows_is f i zero j x e = absurd (some-ne-none x (sym e))
+rows_is f i (suc n) zero x e = (omega arith, ap f (let q : i + 0 ≡ i = omega arith in q) ∙ some-injective (f i) x e)
+rows_is f i (suc n) (suc j) x e = let r = rows_is f (suc i) n j x e in let l = r.0 in (omega arith, ap f (let q : i + suc j ≡ suc i + j = omega arith in q) ∙ r.1)
+
+pub rows_has : {A : Type 0} (f : ℕ → A) (i n j : ℕ) → j < n → get_elem? (rows i n f) j ≡ some (f (i + j))
+unfolding rows
+rows_has f i zero j l = absurd (omega arith)
+rows_has f i (suc n) zero l = ap (λ (t : ℕ). some (f t)) (let q : i ≡ i + 0 = omega arith in q)
+rows_has f i (suc n) (suc j) l = rows_has f (suc i) n j (omega arith) ∙ ap (λ (t : ℕ). some (f t)) (let q : suc i + j ≡ i + suc j = omega arith in q)
+
+-- the range of the room is the one found
+pub span_same : (z : Sizes) (m : RoomMemory) (content : ℕ → List ℕ) (p : PinnedRoom) → RoomPinHolds z m content p → span_in m p.room ≡ span_of p
+span_same z m content p h = λ i. record { low = low_number (h.low i); high = high_number (h.high i); base = h.base i }
+
+-- the words of the room's bounds and its base are those found
+pub record HasSpan (m : RoomMemory) (p : PinnedRoom) : Type 0 where
+  pub base : m.base p.room ≡ p.base
+  pub low : rows 0 BOUND_WORDS (m.low p.room) ≡ p.low
+  pub high : rows 0 BOUND_WORDS (m.high p.room) ≡ p.high
+
+-- the pin with the entries that are there
+pub found_holds : (z : Sizes) (m : RoomMemory) (content : ℕ → List ℕ) (p : PinnedRoom) → p.room < z.chunks → weight (m.pin p.room) ≡ 1 → HasSpan m p → RoomPinHolds z m content (pin_with m content (m.count p.room) p)
+found_holds z m content p inside cover words = record {
+  inside = inside;
+  cover = cover;
+  base = words.base;
+  low = words.low;
+  high = words.high;
+  counted = (rows_length 0 (entries_in (m.count p.room)) (found_at m content p.room), (λ j e at. let t = rows_is (found_at m content p.room) 0 (entries_in (m.count p.room)) j e at in sym (ap (λ (x : FoundEntry). x.number) t.1) ∙ (let q : 0 + j ≡ j = omega arith in q)));
+  entries = each_rows (EntryStands (m.count p.room) (m.key p.room) content) 0 (entries_in (m.count p.room)) (found_at m content p.room) (λ j le lt. record { below = omega arith; word = refl; words = refl });
+}
+
+found_open : (p q : PinnedRoom) → q.found ≡ p.found → IsGoodRoom p → IsGoodRoom q
+found_open p q found h = ap state_of found ∙ h
+
+-- the latch of a pass stays pinned when its pin finds entries
+pub latch_on : (p q : PinnedRoom) (l : Option Latch) → q.room ≡ p.room → q.found ≡ p.found → LatchIsPinned (Some p) l → LatchIsPinned (Some q) l
+latch_on p q None room found h = tt
+latch_on p q (Some l) room found h = (room ∙ h.0, found_open p q found h.1)
+
+module _ (z : Sizes) (m : RoomMemory) (content : ℕ → List ℕ) (is_key_word : ℕ → ℕ) (hs : List RoomHolds) (rule : RoomsStand z m content hs) (parts : CoversPartition z m content is_key_word hs) (seat : ℕ) (a : RoomHolds) (here : get_elem? hs seat ≡ some a)
+    (p : PinnedRoom) (is : a.pin ≡ Some p) (good : IsGoodRoom p) where
+  abbrev p' : PinnedRoom
+  p' = pin_with m content (m.count p.room) p
+
+  pub pin_holds : RoomPinHolds z m content p
+  pin_holds = subst (OnRoomPin (λ q. IsGoodRoom q → RoomPinHolds z m content q)) is (rule.good seat a here) good
+
+  pub count_rooms : RoomsStand z m content (set hs seat (record a { pin = Some (pin_with m content (m.count p.room) p) }))
+  count_rooms = rooms_stepped z m m content hs seat a (record a { pin = Some p' }) here (record {
+    pins = λ j. let e = ap (pins_of j) is in omega arith;
+    held = λ j s x. refl;
+    states = rule.states;
+    generations = λ j. refl;
+    latch = λ j. refl;
+    latches = rule.latches;
+    ordered = rule.ordered;
+    others = λ j u q ne at x h. h;
+    own = λ _. found_holds z m content p pin_holds.inside pin_holds.cover (record { base = pin_holds.base; low = pin_holds.low; high = pin_holds.high });
+    carried = rule.carried seat a here;
+    stands = record { latch = latch_on p p' a.latch refl refl (subst (λ o. LatchIsPinned o a.latch) is (rule.passes seat a here).latch); whole = (rule.passes seat a here).whole };
+  }) rule
+
+  pub count_covers : (F : Cover → ℕ) → all_of z m content (set hs seat (record a { pin = Some (pin_with m content (m.count p.room) p) })) F ≡ all_of z m content hs F
+  count_covers F = ap (λ (ms : List (List Cover)). covers z.chunks m.pin (cover_at m content) ms F) (map_set_same moving_of hs seat a (record a { pin = Some p' }) here refl)
+
+  pub count_partition : CoversPartition z m content is_key_word (set hs seat (record a { pin = Some (pin_with m content (m.count p.room) p) }))
+  count_partition = partition_same z m m content content is_key_word hs (set hs seat (record a { pin = Some p' })) count_covers parts
