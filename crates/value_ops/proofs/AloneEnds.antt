@@ -22,7 +22,7 @@ use Rattle.oak_core.specs.TableState.{TableState}
 use Rattle.oak_core.proofs.AloneRuns.{Then, runs_then, runs_as}
 use Rattle.oak_core.proofs.HeaderStanding.{small_pin}
 use Rattle.oak_core.proofs.Words.{memory_read, memory_set}
-use Rattle.value_ops.specs.AloneLocks.{pin_in, put_pin, put_place, stamp_in, put_stamp, IsLockedIn, IsDeadIn, FreesPin, WritesWords, BuriesWords, ChangesWord, RenewsPin}
+use Rattle.value_ops.specs.AloneLocks.{pin_in, put_pin, put_place, stamp_in, put_stamp, IsLockedIn, IsDeadIn, UnlocksPin, WritesWords, BuriesWords, ChangesWord, RenewsPin}
 use Rattle.value_ops.specs.Claiming.{pin_spot}
 use Rattle.value_ops.specs.UnderLock.{HasLock, HasBuried, next_stamp, StoresNext, WritesOver, GivesUp, Buries, Exchanges, Renews}
 use Rattle.value_ops.proofs.AloneSteps.{DoesAt, LoadsAt, load_does, header_does}
@@ -140,8 +140,8 @@ module _ (z : Sizes) (call h g : ℕ) where
   buries_alone stamp v w o l = runs_as (StampsAndEnds z h g stamp (λ n. n + STATE)) (BuriesWords z h g stamp) v w (λ a b d. record { locked = d.locked; next = d.next; becomes = d.becomes })
       (both stamp (λ n. n + STATE) v o.stamped w l (stamps stamp v o.stamped l.inside o.stores) (marks o.stamped o.number w (stamped_lock stamp v o.stamped l o.stores) o.told))
 
-  pub gives_up_alone : (stamp : ℕ) (v w : PassState) → GivesUp z call h g stamp v w → HasLock z h g v → Runs (FreesPin z h g) v w
-  gives_up_alone stamp v w e l = runs_as (Ends z h g (λ n. n - STATE)) (FreesPin z h g) v w (λ a b d. record { locked = d.locked; becomes = d.becomes }) (frees Put v e.number w l e.told)
+  pub gives_up_alone : (stamp : ℕ) (v w : PassState) → GivesUp z call h g stamp v w → HasLock z h g v → Runs (UnlocksPin z h g) v w
+  gives_up_alone stamp v w e l = runs_as (Ends z h g (λ n. n - STATE)) (UnlocksPin z h g) v w (λ a b d. record { locked = d.locked; becomes = d.becomes }) (frees Put v e.number w l e.told)
 
   pub changes_alone : (c : Class) (b len : ℕ) (o : Class) (n : ℕ) (v w : PassState) → h < z.headers → Exchanges z call h c b len o n v w → Runs (ChangesWord z h c b len o n) v w
   changes_alone c b len o n v w inside e = let x = change_place h (place_word (class_number c) b len) in let p = in_headers (at_place h) in let k = place_held h v.headers.held in

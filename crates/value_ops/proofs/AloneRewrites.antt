@@ -22,7 +22,8 @@ use Rattle.oak_core.specs.Step.{on_headers, store_locked}
 use Rattle.oak_core.specs.TableState.{TableState}
 use Rattle.oak_core.proofs.AloneRuns.{Then, runs_then, runs_as, runs_none}
 use Rattle.oak_core.proofs.Words.{index_apart, memory_read}
-use Rattle.value_ops.specs.AloneLocks.{place_in, put_place, put_from, first_in, put_bytes, value_in, AllStay, PutsWord, PutsBytes, AppliesTo, RefillsWords}
+use Rattle.value_ops.specs.Pinning.{WordsStay}
+use Rattle.value_ops.specs.AloneLocks.{place_in, put_place, put_from, first_in, put_bytes, value_in, PutsWord, PutsBytes, AppliesTo, RefillsWords}
 use Rattle.value_ops.specs.HeldValue.{words_in, value_held}
 use Rattle.value_ops.specs.Reading.{bytes_of}
 use Rattle.value_ops.specs.Rewriting.{HasWords}
@@ -33,17 +34,6 @@ use Rattle.value_ops.proofs.AloneWords.{put_next, put_elsewhere, put_again}
 use Rattle.value_ops.proofs.HeldValues.{place_at, words_at}
 use Rattle.value_ops.proofs.RewriteSteps.{class_low, word_inside, word_spot}
 use Rattle.value_ops.proofs.WordLaws.{words_long}
-
--- loads, one or more or none
-
-pub stays_loaded : (z : Sizes) (call word n : ℕ) (v w : PassState) → Loads z call word v n w → Runs AllStay v w
-stays_loaded z call word n v w l = runs_as (LoadsAt z l.spot v n) AllStay v w (λ a b d. d.stays) (load_does z call word n v w l.spot l.inside (sym l.at) l)
-
-pub stays_none : (v : PassState) → Runs AllStay v v
-stays_none v = runs_none AllStay v (λ a. refl)
-
-pub stays_both : (u v w : PassState) → Runs AllStay u v → Runs AllStay v w → Runs AllStay u w
-stays_both u v w f s = runs_as (Then AllStay AllStay) AllStay u w (λ a b d. d.2 ∙ d.1) (runs_then AllStay AllStay u v w f s)
 
 -- a store to a word of the locked header's block
 pub word_put_alone : (z : Sizes) (call h : ℕ) (d : Class) (b k word x : ℕ) (v w : PassState) → NamesWord z d b k word → Writes z call (of_locked h) d b k x v w → Runs (PutsWord word x) v w
@@ -89,14 +79,14 @@ two_words : (q : ArenaSpot) (p : HeaderSpot) → in_arena q ≡ in_headers p →
 two_words q p e = absurd cc
 
 -- the place word was loaded first, then perhaps the value
-module _ (z : Sizes) (call h g first : ℕ) (v y u : PassState) (is : HasWords z h g first v) (p : LoadsPlace z call h v y) (since : Runs AllStay y u) where
+module _ (z : Sizes) (call h g first : ℕ) (v y u : PassState) (is : HasWords z h g first v) (p : LoadsPlace z call h v y) (since : Runs WordsStay y u) where
   abbrev place : ℕ
   place = place_held h v.headers.held
 
   -- the words stay so far
   looked : Runs (λ a b. Moment z a v × (b ≡ a)) v u
-  looked = runs_as (Then (LoadsAt z (in_headers (at_place h)) v place) AllStay) (λ a b. Moment z a v × (b ≡ a)) v u (λ a b d. (d.1.moment, d.2 ∙ d.1.stays))
-      (runs_then (LoadsAt z (in_headers (at_place h)) v place) AllStay v y u (load_does z call (index z (in_headers (at_place h))) place v y (in_headers (at_place h)) is.lock.inside refl p) since)
+  looked = runs_as (Then (LoadsAt z (in_headers (at_place h)) v place) WordsStay) (λ a b. Moment z a v × (b ≡ a)) v u (λ a b d. (d.1.moment, d.2 ∙ d.1.stays))
+      (runs_then (LoadsAt z (in_headers (at_place h)) v place) WordsStay v y u (load_does z call (index z (in_headers (at_place h))) place v y (in_headers (at_place h)) is.lock.inside refl p) since)
 
   pub applies_alone : (kind : RecipeKind) (argument : ℕ) (made was : List ℕ) (w : PassState) → made ≡ recipe_result kind argument was → was ≡ value_held h v.headers.held → Runs (PutsBytes first made) u w → Runs (AppliesTo z h kind argument) v w
   applies_alone kind argument made was w by old r = runs_as (Then (λ a b. Moment z a v × (b ≡ a)) (PutsBytes first made)) (AppliesTo z h kind argument) v w

@@ -8,7 +8,6 @@ use Rattle.oak_core.specs.AloneWords.{Moment, Runs}
 use Rattle.oak_core.specs.Memory.{Spot, index, IsInside, memory, read}
 use Rattle.oak_core.specs.Splitting.{Loads}
 use Rattle.oak_core.specs.Step.{Step, load, on_headers, spot, effect, Told}
-use Rattle.value_ops.specs.AloneLocks.{FindsWord}
 use Rattle.oak_core.proofs.AloneRuns.{Keeps, step_runs, step_starts, moment_before, runs_as}
 use Rattle.oak_core.proofs.Words.{index_apart, memory_read}
 
@@ -54,9 +53,6 @@ load_does z call word n v w p inside at l = let same = index_apart z l.spot p l.
       stays = d.leaves ∙ (ap (set a (index z l.spot)) d.finds ∙ set-get_or a (index z l.spot) 0);
     })
     (step_does z call (load l.spot) v n w tt l.told)
-
-pub load_runs_at : (z : Sizes) (call word n : ℕ) (v w : PassState) (p : Spot) → IsInside z p → word ≡ index z p → Loads z call word v n w → Runs (FindsWord z p n) v w
-load_runs_at z call word n v w p inside at l = runs_as (LoadsAt z p v n) (FindsWord z p n) v w (λ a b d. (d.finds, d.stays)) (load_does z call word n v w p inside at l)
 
 -- a step on a word of a header
 pub header_does : (z : Sizes) (call : ℕ) (x : HeaderStep) (v : PassState) (n : ℕ) (w : PassState) → Told z call (on_headers x) v n w → Runs (DoesAt z (on_headers x) v n) v w

@@ -16,7 +16,7 @@ use Rattle.arena_ops.specs.Taking.{SetsWord}
 use Rattle.value_ops.specs.Claiming.{pin_spot, ChangesPin}
 use Rattle.value_ops.specs.Filling.{FillsWords}
 use Rattle.value_ops.proofs.ExchangeFacts.{state_fits}
-use Rattle.value_ops.proofs.LoneSteps.{pin_changes}
+use Rattle.value_ops.proofs.AlonePins.{pin_changes}
 use Rattle.value_ops.proofs.StepLeft.{small}
 
 module _ (z : Sizes) (h : ℕ) (inside : h < z.headers) where

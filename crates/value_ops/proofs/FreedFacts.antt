@@ -21,7 +21,7 @@ use Rattle.oak_core.proofs.HeaderStanding.{knows, stand, at_headers}
 use Rattle.oak_core.proofs.Words.{header_before}
 use Rattle.value_ops.specs.Claiming.{pin_spot}
 use Rattle.value_ops.specs.Filling.{FreesPin, IsFreed, ReleasesOwned}
-use Rattle.value_ops.proofs.LoneSteps.{pin_changes}
+use Rattle.value_ops.proofs.AlonePins.{pin_changes}
 use Rattle.value_ops.proofs.StepLeft.{pin_found, small, left}
 
 held_low : (s : HeldAs) → (0 < held_state s) × (held_state s < RETIRED)

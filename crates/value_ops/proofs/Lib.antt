@@ -10,7 +10,7 @@ pub mod WithdrawFacts
 pub mod LackedHeaders
 pub mod OneHeaderLaws
 pub mod KnownStates
-pub mod LoneSteps
+pub mod AlonePins
 pub mod PinFacts
 pub mod ByteFacts
 pub mod WordLaws

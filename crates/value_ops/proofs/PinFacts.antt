@@ -26,11 +26,12 @@ use Rattle.oak_core.proofs.AloneRuns.{Then, runs_then, runs_as, runs_none}
 use Rattle.oak_core.proofs.Words.{index_apart, memory_read, header_before}
 use Rattle.value_ops.specs.declared.pinning.BadPin.{BadPin}
 use Rattle.value_ops.specs.declared.pinning.BadPin.TheVariants.{Locked, Dead, Other}
+use Rattle.value_ops.specs.AloneLocks.{FindsWord}
 use Rattle.value_ops.specs.Claiming.{pin_spot, ChangesPin}
 use Rattle.value_ops.specs.Pinning.{pin_of, with_pin, MeetsMore, WordsStay, IsLiveAt, AddsPin, DropsPin, PinsLive, IsCause, LooksUnder, PinsHeader, EndsPin, IsStampOf, FindsDud, PinsDud}
 use Rattle.value_ops.specs.Reading.{OnlyLoads}
 use Rattle.value_ops.proofs.KnownStates.{IsInUse, known_state}
-use Rattle.value_ops.proofs.LoneSteps.{load_finds, load_stays, none_stays, both_stay, pin_changes, undone}
+use Rattle.value_ops.proofs.AlonePins.{load_finds, load_stays, none_stays, both_stay, pin_changes, undone}
 use Rattle.value_ops.proofs.StepLeft.{pin_found, small}
 
 -- a pass may undo its pin
@@ -219,5 +220,5 @@ module _ (z : Sizes) (call h g n : ℕ) (v w : PassState) (t : Pins z call h g v
     dead_dud last word stamp x u e f same dead at l undo = pinned_dud (Dead stamp) x u none (same, dead)
         (subst (λ (i : ℕ × ℕ). Loads z i.0 i.1 w stamp x) (λ i. (e i, at i)) l, stamp_stays dead later word stamp x at l)
         (loads_in z call later w x e (loads_one z later word stamp w x (subst (λ (i : ℕ). i < rooms_at z) (sym at) (header_before z (at_stamp h) t.may.inside)) l))
-        (load_finds z later word stamp w x (in_headers (at_stamp h)) t.may.inside at l)
+        (runs_as (FindsWord z (in_headers (at_stamp h)) stamp) (Between (Dead stamp)) w x (λ a b d. (d.1, d.0)) (load_finds z later word stamp w x (in_headers (at_stamp h)) t.may.inside at l))
         (subst (λ (i : ℕ). EndsPin z i h x u) f undo)

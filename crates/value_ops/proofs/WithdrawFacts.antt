@@ -28,7 +28,7 @@ use Rattle.value_ops.specs.Filling.{FreesPin, Withdraws}
 use Rattle.value_ops.specs.HeldValue.{words_in}
 use Rattle.value_ops.proofs.BlockExchange.{holds_front}
 use Rattle.value_ops.proofs.FreedFacts.{freed, frees}
-use Rattle.value_ops.proofs.LoneSteps.{load_stays, stays_then}
+use Rattle.value_ops.proofs.AlonePins.{load_stays, stays_then}
 use Rattle.value_ops.proofs.HeldValues.{block_at, block_inside, class_low}
 use Rattle.value_ops.proofs.StampStores.{held_place}
 

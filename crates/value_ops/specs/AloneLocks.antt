@@ -13,6 +13,7 @@ use Rattle.header_core.specs.Headers.{at_pin, at_place, at_stamp}
 use Rattle.header_core.specs.HeaderStep.{STATE, renewal}
 use Rattle.oak_core.specs.Memory.{Spot, in_arena, in_headers, index, memory, read}
 use Rattle.value_ops.specs.declared.locking.NoLock.{NoLock}
+use Rattle.value_ops.specs.Claiming.{ChangesPin}
 use Rattle.value_ops.specs.Locking.{may_lock, refusal}
 use Rattle.value_ops.specs.Reading.{bytes_of}
 use Rattle.value_ops.specs.UnderLock.{next_stamp}
@@ -65,11 +66,7 @@ IsLockedIn z h g words = (state_of (pin_in z h words) ≡ LOCKED) × (generation
 abbrev pub IsDeadIn : Sizes → ℕ → ℕ → List ℕ → Type 0
 IsDeadIn z h g words = (state_of (pin_in z h words) ≡ DEAD) × (generation_of (pin_in z h words) ≡ g)
 
--- all words stay
-abbrev pub AllStay : List ℕ → List ℕ → Type 0
-AllStay before after = after ≡ before
-
--- so they do, and a word was found with this number
+-- all words stay, and a word was found with this number
 abbrev pub FindsWord : Sizes → Spot → ℕ → List ℕ → List ℕ → Type 0
 FindsWord z p n before after = (n ≡ read (memory z before) p) × (after ≡ before)
 
@@ -87,7 +84,7 @@ PutsBytes first bytes before after = after ≡ put_from first (words_of bytes) b
 
 -- the header was live at the generation and without a pin, and its pin word is one state further
 abbrev pub LocksPin : Sizes → ℕ → ℕ → List ℕ → List ℕ → Type 0
-LocksPin z h g before after = (may_lock (pin_in z h before) g ≡ true) × (after ≡ put_pin z h (pin_in z h before + STATE) before)
+LocksPin z h g = ChangesPin z h (λ n. may_lock n g ≡ true) (λ n. n + STATE)
 
 -- it was not, so that this is the answer, and all words stay
 abbrev pub RefusesPin : Sizes → ℕ → ℕ → NoLock → List ℕ → List ℕ → Type 0
@@ -108,7 +105,7 @@ pub record ChangesWord (z : Sizes) (h : ℕ) (c : Class) (b len : ℕ) (o : Clas
   pub becomes : after ≡ put_place z h (place_word (class_number c) b len) before
 
 -- the header was locked at the generation, and its pin word is one state back: it is live
-pub record FreesPin (z : Sizes) (h g : ℕ) (before after : List ℕ) : Type 0 where
+pub record UnlocksPin (z : Sizes) (h g : ℕ) (before after : List ℕ) : Type 0 where
   pub locked : IsLockedIn z h g before
   pub becomes : after ≡ put_pin z h (pin_in z h before - STATE) before
 

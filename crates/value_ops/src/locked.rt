@@ -13,7 +13,7 @@ ghost use Rattle.oak_core.specs.Memory.{in_headers, index};
 ghost use Rattle.oak_core.specs.Finding.{LoadsMore};
 ghost use Rattle.oak_core.specs.Passes.{IsPassOf, Stays, state, key, call_of};
 ghost use Rattle.oak_core.specs.Splitting.{Loads};
-ghost use Rattle.value_ops.specs.AloneLocks.{FindsWord, FindsClass, ChangesWord, WritesWords, BuriesWords, FreesPin};
+ghost use Rattle.value_ops.specs.AloneLocks.{FindsWord, FindsClass, ChangesWord, WritesWords, BuriesWords, UnlocksPin};
 ghost use Rattle.value_ops.specs.HeldValue.{stamp_held};
 ghost use Rattle.value_ops.specs.UnderLock.{HasBlock, HasLock, HasBuried, IsUnchanged, next_stamp, ComesTo, LoadsPlace, Exchanges, StoresNext, WritesOver, GivesUp, Buries};
 
@@ -153,7 +153,7 @@ impl Locked {
         requires unchanged { IsUnchanged self.header (state pass.old).headers.held }
         ensures own { Stays pass.old pass.new }
         ensures unlocked { GivesUp (key table.now) (call_of pass.old) self.header self.generation (stamp_held self.header (state pass.old).headers.held) (state pass.old) (state pass.new) }
-        ensures alone { Runs (FreesPin (key table.now) self.header self.generation) (state pass.old) (state pass.new) }
+        ensures alone { Runs (UnlocksPin (key table.now) self.header self.generation) (state pass.old) (state pass.new) }
     {
         let Locked {
             header,

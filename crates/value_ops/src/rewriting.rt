@@ -10,7 +10,8 @@ ghost use Rattle.oak_core.specs.AloneWords.{Runs};
 ghost use Rattle.oak_core.specs.Finding.{LoadsMore};
 ghost use Rattle.oak_core.specs.Passes.{IsPassOf, Stays, state, key, call_of, scratch_of};
 ghost use Rattle.oak_core.specs.Scratch.{StaysButScratch};
-ghost use Rattle.value_ops.specs.AloneLocks.{AllStay, PutsWord, PutsBytes, AppliesTo, RefillsWords};
+ghost use Rattle.value_ops.specs.Pinning.{WordsStay};
+ghost use Rattle.value_ops.specs.AloneLocks.{PutsWord, PutsBytes, AppliesTo, RefillsWords};
 ghost use Rattle.value_ops.specs.Rewriting.{HasWords};
 ghost use Rattle.value_ops.specs.HeldValue.{words_in, value_held};
 ghost use Rattle.value_ops.specs.UnderLock.{HasLock, ComesTo, Rewrites, Refills, words_over, with_words};
@@ -30,7 +31,7 @@ impl Locked {
         ensures own { Stays pass.old pass.new }
         ensures met { LoadsMore (key table.now) (call_of pass.old) (state pass.old) (state pass.new) }
         ensures word { result ≡ slice_index (words_in self.now.header (state pass.old).headers.held) i }
-        ensures alone { Runs AllStay (state pass.old) (state pass.new) }
+        ensures alone { Runs WordsStay (state pass.old) (state pass.new) }
     {
         load(table, pass, first + i as u32)
     }
@@ -55,7 +56,7 @@ impl Locked {
         ensures own { StaysButScratch pass.old pass.new }
         ensures met { LoadsMore (key table.now) (call_of pass.old) (state pass.old) (state pass.new) }
         ensures value { scratch_of pass.new ≡ value_held self.now.header (state pass.old).headers.held }
-        ensures alone { Runs AllStay (state pass.old) (state pass.new) }
+        ensures alone { Runs WordsStay (state pass.old) (state pass.new) }
     {
         pass.scratch_mut().set_len(len);
         for i in 0..len.div_ceil(WORD) {

@@ -17,7 +17,8 @@ use Rattle.value_ops.specs.HeldValue.{words_in}
 use Rattle.value_ops.specs.UnderLock.{ComesTo, words_over, with_words}
 use Rattle.value_ops.proofs.ComesFurther.{comes_in}
 use Rattle.oak_core.proofs.MetMore.{told_in}
-use Rattle.value_ops.proofs.AloneRewrites.{stays_none, refills_alone, keeps_alone}
+use Rattle.value_ops.proofs.AlonePins.{none_stays}
+use Rattle.value_ops.proofs.AloneRewrites.{refills_alone, keeps_alone}
 use Rattle.value_ops.proofs.RefillFacts.{may_refill, bytes_fit, refills, refills_same, locked_still, locked_same}
 use Rattle.value_ops.proofs.RewriteFacts.{words_found, stored_since}
 use Rattle.value_ops.proofs.locking.Locked.fill.Goals as goal
@@ -83,7 +84,7 @@ returns-clause-alone c = let z : Sizes = key c.args.table.now in let call = call
     let s = stored_in z call (call_of c.place-place.new.pass) h bytes v y u o.own.call o.met c.store_bytes.ensures.stored in
     let block : block_in (place_held h v.headers.held) ≡ b = ap block_in (sym o.place) ∙ sym c.block_in-number.ensures in
     let fit = bytes_fit z call h g first v is bytes d b c.block_in-number.type_inv c.requires.fits.1 c.requires.fits.2 block u s in
-    refills_alone z call h g first v y y is o.loaded (stays_none y) bytes fit u c.store_bytes.ensures.alone (state c.store_field.new.pass)
+    refills_alone z call h g first v y y is o.loaded (none_stays y) bytes fit u c.store_bytes.ensures.alone (state c.store_field.new.pass)
     (subst (λ (x : ℕ). ChangesPlace z call h x u (state c.store_field.new.pass)) (named_by (place_held h v.headers.held) d b (length bytes) c.requires.fits.2 block) (stored_word c))
 
 -- where it was the same
@@ -113,4 +114,4 @@ returns-then-named-place-clause-alone c = let z : Sizes = key c.args.table.now i
     let block : block_in (place_held h v.headers.held) ≡ b = ap block_in (sym o.place) ∙ sym c.block_in-number.ensures in
     let word : c.place_word-named.result ≡ place_word (class_number d) b (length bytes) = c.place_word-named.ensures ∙ ap (λ (k : ℕ). place_word k b (length bytes)) (class_again c.place-place.result (place_held h v.headers.held) c.class_in-class.result d c.class_in-class.ensures o.place o.block.named c.requires.fits.2) in
     let fit = bytes_fit z call h g first v is bytes d b c.block_in-number.type_inv c.requires.fits.1 c.requires.fits.2 block u s in
-    keeps_alone z call h g first v y y is o.loaded (stays_none y) bytes fit u c.store_bytes.ensures.alone (sym (named_by (place_held h v.headers.held) d b (length bytes) c.requires.fits.2 block) ∙ (sym word ∙ (c.if-named-place.true ∙ o.place)))
+    keeps_alone z call h g first v y y is o.loaded (none_stays y) bytes fit u c.store_bytes.ensures.alone (sym (named_by (place_held h v.headers.held) d b (length bytes) c.requires.fits.2 block) ∙ (sym word ∙ (c.if-named-place.true ∙ o.place)))

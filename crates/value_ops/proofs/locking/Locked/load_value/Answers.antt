@@ -4,7 +4,7 @@ use Rattle.oak_model.specs.Limits.{Sizes}
 use Rattle.arena_core.specs.Place.{length_in}
 use Rattle.header_core.specs.declared.holds.HeldHeader.{HeldHeader}
 use Rattle.header_core.specs.HeaderHolds.{place_held}
-use Rattle.value_ops.proofs.AloneRewrites.{stays_both}
+use Rattle.value_ops.proofs.AlonePins.{both_stay}
 use Rattle.oak_core.specs.Passes.{state, key, call_of, scratch_of}
 use Rattle.value_ops.specs.HeldValue.{words_in}
 use Rattle.value_ops.proofs.ComesFurther.{loads_in, loads_both, headers_met}
@@ -24,7 +24,7 @@ loop-i-preserved c = let z : Sizes = key c.args.table.now in let call = call_of 
     record {
       stays = record { table = o.own.table ∙ s.stays.table; seat = o.own.seat ∙ s.stays.seat; call = o.own.call ∙ s.stays.call; scratch = refl };
       met = loads_both z call v u w s.met (loads_in z call (call_of c.loop-i.pass) u w s.stays.call o.met);
-      alone = stays_both v u w s.alone o.alone;
+      alone = both_stay v u w s.alone o.alone;
       long = ap length whole ∙ (wide ∙ (ap length was ∙ s.long));
       loaded = ap (take (8 * (i + 1))) whole ∙ put_more (words_in h rs) c.bytes_mut.result.now out (length_in (place_held h rs)) i c.load_word-word.result (ap length old ∙ (s.long ∙ c.requires.long)) lt
           (room z h c.args.self.now.generation c.args.first v c.requires.words) (o.word ∙ ap (λ (ks : List HeldHeader). get_or (words_in h ks) i 0) same) (ap (take (8 * i)) old ∙ s.loaded) c.put_word.ensures.put;

@@ -1,5 +1,5 @@
 use Rattle.std.proofs.Common.{◌+◌, arith}
-use Rattle.value_ops.proofs.AloneRewrites.{stays_loaded}
+use Rattle.value_ops.proofs.AlonePins.{load_stays}
 use Rattle.oak_core.specs.Passes.{state, key, call_of}
 use Rattle.value_ops.proofs.ComesFurther.{loads_one}
 use Rattle.value_ops.proofs.RewriteSteps.{word_before, word_below, word_small, word_loaded}
@@ -20,4 +20,4 @@ returns-clause-word c = word_loaded (key c.args.table.now) c.args.self.now.heade
     (call_of c.args.pass.now) c.load.result (state c.load.new.pass) c.load.ensures.loaded
 
 pub returns-clause-alone : goal.returns-clause-alone
-returns-clause-alone c = stays_loaded (key c.args.table.now) (call_of c.args.pass.now) (c.args.first + c.args.i) c.load.result (state c.args.pass.now) (state c.load.new.pass) c.load.ensures.loaded
+returns-clause-alone c = load_stays (key c.args.table.now) (call_of c.args.pass.now) (c.args.first + c.args.i) c.load.result (state c.args.pass.now) (state c.load.new.pass) c.load.ensures.loaded

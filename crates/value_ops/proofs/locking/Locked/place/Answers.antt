@@ -7,7 +7,7 @@ use Rattle.oak_core.specs.Splitting.{Loads}
 use Rattle.oak_core.specs.Passes.{state, key, call_of}
 use Rattle.oak_core.proofs.Words.{index_below}
 use Rattle.value_ops.proofs.ComesFurther.{header_loaded}
-use Rattle.value_ops.proofs.AloneSteps.{load_runs_at}
+use Rattle.value_ops.proofs.AlonePins.{load_finds}
 use Rattle.value_ops.proofs.StampStores.{held_place, held_block}
 use Rattle.value_ops.proofs.locking.Locked.place.Goals as goal
 
@@ -35,4 +35,4 @@ pub returns-clause-limits : goal.returns-clause-limits
 returns-clause-limits c = c.load.ensures.loaded.told.rule.sizes
 
 pub returns-clause-alone : goal.returns-clause-alone
-returns-clause-alone c = load_runs_at (key c.args.table.now) (call_of c.args.pass.now) c.place_at.result c.load.result (state c.args.pass.now) (state c.load.new.pass) (in_headers (at_place c.args.self.now.header)) c.requires.locked.inside c.place_at.ensures c.load.ensures.loaded
+returns-clause-alone c = load_finds (key c.args.table.now) (call_of c.args.pass.now) c.place_at.result c.load.result (state c.args.pass.now) (state c.load.new.pass) (in_headers (at_place c.args.self.now.header)) c.requires.locked.inside c.place_at.ensures c.load.ensures.loaded

@@ -6,7 +6,7 @@ use Rattle.oak_core.specs.Passes.{state, key, call_of}
 use Rattle.oak_core.specs.Splitting.{Loads}
 use Rattle.oak_core.proofs.Words.{index_below}
 use Rattle.value_ops.proofs.ComesFurther.{header_loaded}
-use Rattle.value_ops.proofs.AloneSteps.{load_runs_at}
+use Rattle.value_ops.proofs.AlonePins.{load_finds}
 use Rattle.value_ops.proofs.StampStores.{held_stamp}
 use Rattle.value_ops.proofs.locking.Locked.stamp.Goals as goal
 
@@ -24,4 +24,4 @@ pub returns-clause-loaded : goal.returns-clause-loaded
 returns-clause-loaded c = subst (λ (k : ℕ). Loads (key c.args.table.now) (call_of c.args.pass.now) k (state c.args.pass.now) c.load.result (state c.load.new.pass)) c.stamp_at.ensures c.load.ensures.loaded
 
 pub returns-clause-alone : goal.returns-clause-alone
-returns-clause-alone c = load_runs_at (key c.args.table.now) (call_of c.args.pass.now) c.stamp_at.result c.load.result (state c.args.pass.now) (state c.load.new.pass) (in_headers (at_stamp c.args.self.now.header)) c.requires.locked.inside c.stamp_at.ensures c.load.ensures.loaded
+returns-clause-alone c = load_finds (key c.args.table.now) (call_of c.args.pass.now) c.stamp_at.result c.load.result (state c.args.pass.now) (state c.load.new.pass) (in_headers (at_stamp c.args.self.now.header)) c.requires.locked.inside c.stamp_at.ensures c.load.ensures.loaded

@@ -14,6 +14,7 @@ use Rattle.oak_core.specs.Splitting.{Loads}
 use Rattle.oak_core.specs.Step.{on_headers, Told}
 use Rattle.oak_core.proofs.AloneRuns.{DoesStep, Then, step_runs, load_runs, runs_then, runs_as, runs_none}
 use Rattle.oak_core.proofs.Words.{index_apart, memory_read}
+use Rattle.value_ops.specs.AloneLocks.{FindsWord}
 use Rattle.value_ops.specs.Claiming.{pin_spot, ChangesPin}
 use Rattle.value_ops.specs.Pinning.{WordsStay}
 use Rattle.value_ops.proofs.StepLeft.{inside}
@@ -21,10 +22,10 @@ use Rattle.value_ops.proofs.StepLeft.{inside}
 -- loads
 
 -- a load finds what stands at its spot
-pub load_finds : (z : Sizes) (call word n : ℕ) (v w : PassState) (q : Spot) → IsInside z q → word ≡ index z q → Loads z call word v n w → Runs (λ a b. (b ≡ a) × (n ≡ read (memory z a) q)) v w
+pub load_finds : (z : Sizes) (call word n : ℕ) (v w : PassState) (q : Spot) → IsInside z q → word ≡ index z q → Loads z call word v n w → Runs (FindsWord z q n) v w
 load_finds z call word n v w q in_table is l = let same = index_apart z l.spot q l.inside in_table (l.at ∙ is) in
-    runs_as (λ a b. (n ≡ get_or a (index z l.spot) 0) × (b ≡ a)) (λ a b. (b ≡ a) × (n ≡ read (memory z a) q)) v w
-    (λ a b d. (d.1, subst (λ (p : Spot). n ≡ get_or a (index z p) 0) same d.0 ∙ sym (memory_read z a q in_table))) (load_runs z call l.spot v n w l.told)
+    runs_as (λ a b. (n ≡ get_or a (index z l.spot) 0) × (b ≡ a)) (FindsWord z q n) v w
+    (λ a b d. (subst (λ (p : Spot). n ≡ get_or a (index z p) 0) same d.0 ∙ sym (memory_read z a q in_table), d.1)) (load_runs z call l.spot v n w l.told)
 
 pub load_stays : (z : Sizes) (call word n : ℕ) (v w : PassState) → Loads z call word v n w → Runs WordsStay v w
 load_stays z call word n v w l = runs_as (λ a b. (n ≡ get_or a (index z l.spot) 0) × (b ≡ a)) WordsStay v w (λ a b d. d.1) (load_runs z call l.spot v n w l.told)
