@@ -1,4 +1,4 @@
-use Rattle.std.proofs.Common.{◌≡◌, ℕ, None, ap, ◌∙◌, subst}
+use Rattle.std.proofs.Common.{rules, ◌≡◌, ℕ, None, ap, ◌∙◌, subst}
 use Rattle.oak_model.specs.Limits.{Sizes}
 use Rattle.oak_core.specs.Passes.{state, key, call_of}
 use Rattle.value_ops.specs.Pinning.{with_pin, MeetsMore}
@@ -14,4 +14,4 @@ returns-clause-undone c = let z : Sizes = key c.args.table.now in let call = cal
     let now : call_of first.pass.now ≡ call = c.reading-reading.ensures.own.call in
     let only : OnlyLoads z call v x = loads_both z call v q x c.reading-reading.ensures.only (subst (λ (i : Sizes × ℕ). OnlyLoads i.0 i.1 q x) (λ i. (table i, now i)) reads.only) in
     let undone : MeetsMore z call (with_pin None x) u = subst (λ (i : Sizes × ℕ). MeetsMore i.0 i.1 (with_pin None x) u) (λ i. ((ap (λ t. key t.now) reads.table ∙ table) i, (reads.stays.call ∙ now) i)) c.done.ensures.undone.meets in
-    (x, only, undone)
+    (x, only, search rules)
