@@ -1,5 +1,5 @@
 -- What the three steps that fill a header do to the words of a table, where their pass is alone.
-use Rattle.std.proofs.Common.{◌≡◌, ◌≢◌, ℕ, ◌+◌, ◌%◌, ◌^◌, ◌<◌, List, get_or, set, sym, ap, ◌∙◌, refl, arith, get_or-set_other}
+use Rattle.std.proofs.Common.{◌≡◌, ℕ, ◌+◌, ◌<◌, List, set, sym, ap, ◌∙◌, refl, arith, get_or-set_other}
 use Rattle.pin_word.specs.PinWord.{state_of}
 use Rattle.oak_model.specs.Limits.{Sizes}
 use Rattle.header_core.specs.declared.states.TheConstants.{OWNED}

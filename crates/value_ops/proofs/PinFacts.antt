@@ -14,7 +14,7 @@ use Rattle.header_core.specs.HeaderStep.{pin_header, unpin_header, header_effect
 use Rattle.oak_core.specs.declared.states.Finding.{Finding}
 use Rattle.oak_core.specs.declared.states.PassState.{PassState}
 use Rattle.oak_core.specs.AloneWords.{Runs}
-use Rattle.oak_core.specs.Finding.{finding, grown, IsOf, IsLoadOf, LoadsMore}
+use Rattle.oak_core.specs.Finding.{finding, grown, IsOf, IsLoadOf}
 use Rattle.oak_core.specs.HeaderCalls.{Pins, Unpins}
 use Rattle.oak_core.specs.Memory.{Memory, Spot, in_headers, index, rooms_at, memory}
 use Rattle.oak_core.specs.PassState.{headers_held}
@@ -28,7 +28,7 @@ use Rattle.value_ops.specs.declared.pinning.BadPin.{BadPin}
 use Rattle.value_ops.specs.declared.pinning.BadPin.TheVariants.{Locked, Dead, Other}
 use Rattle.value_ops.specs.AloneLocks.{FindsWord}
 use Rattle.value_ops.specs.Claiming.{pin_spot, ChangesPin}
-use Rattle.value_ops.specs.Pinning.{pin_of, with_pin, MeetsMore, WordsStay, IsLiveAt, AddsPin, DropsPin, PinsLive, IsCause, LooksUnder, PinsHeader, EndsPin, IsStampOf, FindsDud, PinsDud}
+use Rattle.value_ops.specs.Pinning.{pin_of, with_pin, MeetsMore, IsLiveAt, DropsPin, PinsLive, IsCause, LooksUnder, PinsHeader, EndsPin, IsStampOf, FindsDud, PinsDud}
 use Rattle.value_ops.specs.Reading.{OnlyLoads}
 use Rattle.value_ops.proofs.KnownStates.{IsInUse, known_state}
 use Rattle.value_ops.proofs.AlonePins.{load_finds, load_stays, none_stays, both_stay, pin_changes, undone}
