@@ -1,5 +1,5 @@
 -- Owners of blocks, where blocks pass from one owner to another or the word of one bit changes.
-use Rattle.std.proofs.Common.{◌≡◌, ◌≢◌, ℕ, ◌+◌, ◌/◌, ◌%◌, ◌<◌, ◌≤◌, ◌==◌, cond, eqb, ◌&&◌, List, sym, ap, ◌∙◌, subst, arith, eqb-true, eq-eqb, true≢false, div-add-mod'}
+use Rattle.std.proofs.Common.{◌≡◌, ◌≢◌, ℕ, ◌+◌, ◌/◌, ◌%◌, ◌<◌, ◌==◌, cond, eqb, ◌&&◌, List, sym, ap, ◌∙◌, subst, arith, eqb-true, eq-eqb, true≢false, div-add-mod'}
 use Rattle.std.specs.Int.{bit_at}
 use mathlib.Core.Logic.{dite}
 use native.Mathlib.Decide.{ℕ_discrete}

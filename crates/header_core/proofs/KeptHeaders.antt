@@ -8,7 +8,7 @@ use Rattle.oak_model.proofs.Counting.{one_at-le, one_at-other, total_zero}
 use Rattle.oak_model.proofs.RowLaws.{total_le}
 use Rattle.header_core.specs.declared.holds.HeldHeader.{HeldHeader}
 use Rattle.header_core.specs.declared.holds.HeaderHolds.{HeaderHolds}
-use Rattle.header_core.specs.Headers.{HeaderMemory, HeaderSpot, at_pin, at_place, at_stamp, same_header_spot, read_header}
+use Rattle.header_core.specs.Headers.{HeaderMemory, HeaderSpot, at_pin, at_place, at_stamp, same_header_spot}
 use Rattle.header_core.specs.HeaderHolds.{without_header, kept_of_headers}
 use Rattle.header_core.specs.HeaderRule.{HeadersStand}
 use Rattle.header_core.specs.HeaderStep.{placed_at, stamped_at, changed_at, freshened, reworded, buried_at}
