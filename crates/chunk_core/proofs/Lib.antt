@@ -23,3 +23,4 @@ pub mod RetireRoom
 pub mod DroppedEntries
 pub mod CountLoads
 pub mod PastCounts
+pub mod Publish
