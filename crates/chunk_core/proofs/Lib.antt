@@ -24,3 +24,4 @@ pub mod DroppedEntries
 pub mod CountLoads
 pub mod PastCounts
 pub mod Publish
+pub mod StoredRooms
