@@ -7,9 +7,9 @@ pub mod CoverFacts
 pub mod RangeLaws
 pub mod CoverFrames
 pub mod RoomFrames
+pub mod RoomStores
 pub mod RoomPins
 pub mod Copies
-pub mod RoomStores
 pub mod ValueLaws
 pub mod Ranges
 pub mod RangeMoves

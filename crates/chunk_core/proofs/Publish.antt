@@ -149,5 +149,5 @@ module _ (z : Sizes) (m : RoomMemory) (content : ℕ → List ℕ) (hs : List Ro
       ordered : (j : ℕ) → IsInOrder z content (m.count j) (m.key j) (m.low j 0) (m.high j 0) → IsInOrder z content (m'.count j) (m'.key j) (m'.low j 0) (m'.high j 0)
       ordered j o = dite (ℕ_discrete j p.room)
           (λ e. let more = count_more (m.count p.room) room in let c = more.0 in let q = more.1 in let w = ap m.count e in let cj = ap entries_in w in let pj = ap prefix_in w in let f = o.few in let pr = o.prefix in
-            subst (λ (t : ℕ). IsInOrder z content t (m.key j) (m.low j 0) (m.high j 0)) (sym (put-here m.count p.room (m.count p.room + 1) j e)) (record { few = omega arith; prefix = omega arith; sorted = λ i k l kl. o.sorted i k l (omega arith); bounds = o.bounds }))
+          subst (λ (t : ℕ). IsInOrder z content t (m.key j) (m.low j 0) (m.high j 0)) (sym (put-here m.count p.room (m.count p.room + 1) j e)) (record { few = omega arith; prefix = omega arith; sorted = λ i k l kl. o.sorted i k l (omega arith); bounds = o.bounds }))
           (λ ne. subst (λ (t : ℕ). IsInOrder z content t (m.key j) (m.low j 0) (m.high j 0)) (sym (put-else m.count p.room (m.count p.room + 1) j ne)) o)

@@ -97,29 +97,29 @@ unlatched z m content hs rule r none = dite (ℕ_discrete (m.latch r) 0) (λ e. 
     some_latch u j at l = on u.pin u.latch (rule.passes j u at).latch (rule.good j u at) l
 
 -- a store changes no pin word, and the latch word of a held room is free before and after
-stays_pin : (m : RoomMemory) (p : RoomSpot) (x : ℕ) → IsRoomWord p x → (j : ℕ) → (put_room m p x).pin j ≡ m.pin j
-stays_pin m (at_room_pin r) x is j = absurd is
-stays_pin m (at_base r) x is j = refl
-stays_pin m (at_count r) x is j = refl
-stays_pin m (at_latch r) x is j = refl
-stays_pin m (at_first r) x is j = refl
-stays_pin m (at_low r i) x is j = refl
-stays_pin m (at_high r i) x is j = refl
-stays_pin m (at_key r i) x is j = refl
-stays_pin m (at_value r i) x is j = refl
-stays_pin m (at_next r i) x is j = refl
+pin_still : (m : RoomMemory) (p : RoomSpot) (x : ℕ) → IsRoomWord p x → (j : ℕ) → (put_room m p x).pin j ≡ m.pin j
+pin_still m (at_room_pin r) x is j = absurd is
+pin_still m (at_base r) x is j = refl
+pin_still m (at_count r) x is j = refl
+pin_still m (at_latch r) x is j = refl
+pin_still m (at_first r) x is j = refl
+pin_still m (at_low r i) x is j = refl
+pin_still m (at_high r i) x is j = refl
+pin_still m (at_key r i) x is j = refl
+pin_still m (at_value r i) x is j = refl
+pin_still m (at_next r i) x is j = refl
 
-stays_latch : (m : RoomMemory) (p : RoomSpot) (x : ℕ) → IsRoomWord p x → m.latch (room_at p) ≡ 0 → (j : ℕ) → (put_room m p x).latch j ≡ m.latch j
-stays_latch m (at_room_pin r) x is free j = absurd is
-stays_latch m (at_base r) x is free j = refl
-stays_latch m (at_count r) x is free j = refl
-stays_latch m (at_latch r) x is free j = put-cases m.latch r x j (λ (t : ℕ). t ≡ m.latch j) (λ e. is ∙ sym (ap m.latch e ∙ free)) (λ _. refl)
-stays_latch m (at_first r) x is free j = refl
-stays_latch m (at_low r i) x is free j = refl
-stays_latch m (at_high r i) x is free j = refl
-stays_latch m (at_key r i) x is free j = refl
-stays_latch m (at_value r i) x is free j = refl
-stays_latch m (at_next r i) x is free j = refl
+latch_still : (m : RoomMemory) (p : RoomSpot) (x : ℕ) → IsRoomWord p x → m.latch (room_at p) ≡ 0 → (j : ℕ) → (put_room m p x).latch j ≡ m.latch j
+latch_still m (at_room_pin r) x is free j = absurd is
+latch_still m (at_base r) x is free j = refl
+latch_still m (at_count r) x is free j = refl
+latch_still m (at_latch r) x is free j = put-cases m.latch r x j (λ (t : ℕ). t ≡ m.latch j) (λ e. is ∙ sym (ap m.latch e ∙ free)) (λ _. refl)
+latch_still m (at_first r) x is free j = refl
+latch_still m (at_low r i) x is free j = refl
+latch_still m (at_high r i) x is free j = refl
+latch_still m (at_key r i) x is free j = refl
+latch_still m (at_value r i) x is free j = refl
+latch_still m (at_next r i) x is free j = refl
 
 module _ (z : Sizes) (m : RoomMemory) (content : ℕ → List ℕ) (hs : List RoomHolds) (rule : RoomsStand z m content hs) (seat : ℕ) (a : RoomHolds) (here : get_elem? hs seat ≡ some a)
     (p : RoomSpot) (x : ℕ) (word : IsRoomWord p x) (none : weight (m.pin (room_at p)) ≡ 0) (moving : List MovingRange) (true_ranges : AreTrueRanges content moving) where
@@ -130,7 +130,7 @@ module _ (z : Sizes) (m : RoomMemory) (content : ℕ → List ℕ) (hs : List Ro
   b = record a { held = rooms_with p x a.held; moving = moving }
 
   pins : (j : ℕ) → m'.pin j ≡ m.pin j
-  pins = stays_pin m p x word
+  pins = pin_still m p x word
 
   -- a cover is another room
   other : (j : ℕ) → weight (m.pin j) ≡ 1 → j ≢ room_at p
@@ -171,4 +171,4 @@ module _ (z : Sizes) (m : RoomMemory) (content : ℕ → List ℕ) (hs : List Ro
   }) rule
     where
       latch_stays : (j : ℕ) → m'.latch j ≡ m.latch j
-      latch_stays = stays_latch m p x word (unlatched z m content hs rule (room_at p) none)
+      latch_stays = latch_still m p x word (unlatched z m content hs rule (room_at p) none)
