@@ -17,7 +17,6 @@ use Rattle.chunk_core.specs.CoverSums.{weight, each, is_in, base_for, stray, nam
 use Rattle.chunk_core.specs.Covers.{Entry, Cover, cover_at, span_in, key_at, entry_from, cover_from, moving_of}
 use Rattle.chunk_core.specs.KeyWords.{key_in, low_number}
 use Rattle.chunk_core.specs.MovingRanges.{is_dropped, greater, base_with, range_without}
-
 use Rattle.chunk_core.specs.RoomRule.{AreTrueRanges}
 use Rattle.chunk_core.specs.Rooms.{RoomMemory}
 use Rattle.chunk_core.specs.Spans.{Span, within}

@@ -7,9 +7,9 @@ pub mod CoverFacts
 pub mod RangeLaws
 pub mod CoverFrames
 pub mod RoomFrames
+pub mod RoomStores
 pub mod RoomPins
 pub mod Copies
-pub mod RoomStores
 pub mod ValueLaws
 pub mod Ranges
 pub mod RangeMoves
@@ -23,3 +23,5 @@ pub mod RetireRoom
 pub mod DroppedEntries
 pub mod CountLoads
 pub mod PastCounts
+pub mod Publish
+pub mod StoredRooms

@@ -1,5 +1,5 @@
 -- Words change that are in no cover: a latch, or a word of an entry past the count.
-use Rattle.std.proofs.Common.{◌≡◌, ℕ, ◌+◌, ◌*◌, ◌<◌, ◌≤◌, ◌==◌, ◌&&◌, cond, Bool, true, false, List, map, set, sym, refl, ap, ◌∙◌, subst, arith, Option, Some, None, ne_eqb}
+use Rattle.std.proofs.Common.{◌≡◌, ℕ, ◌+◌, ◌*◌, ◌<◌, ◌≤◌, ◌==◌, ◌&&◌, cond, Bool, false, List, map, set, sym, refl, ap, ◌∙◌, subst, arith, Option, Some, None, ne_eqb}
 use mathlib.Core.Logic.{dite}
 use mathlib.Core.Option.{some}
 use native.Mathlib.Decide.{ℕ_discrete}
@@ -30,6 +30,7 @@ use Rattle.chunk_core.specs.Rooms.{RoomMemory, at_latch}
 use Rattle.chunk_core.proofs.CoverFrames.{partition_same}
 use Rattle.chunk_core.proofs.CoverLaws.{covers_same}
 use Rattle.chunk_core.proofs.EntryNumbers.{map_numbers}
+use Rattle.chunk_core.proofs.RoomStores.{false_and}
 use Rattle.chunk_core.proofs.RoomFrames.{rooms_stepped}
 
 -- no word changes that a cover, or a pin, has: those of entries may, from the count on
@@ -45,9 +46,9 @@ pub record StaysBelow (m m' : RoomMemory) : Type 0 where
 module _ (z : Sizes) (m m' : RoomMemory) (content : ℕ → List ℕ) (s : StaysBelow m m') where
   pub cover_below : (j : ℕ) → cover_at m' content j ≡ cover_at m content j
   cover_below j = (λ i. record {
-        span = record { low = low_number (rows 0 BOUND_WORDS (s.low j i)); high = high_number (rows 0 BOUND_WORDS (s.high j i)); base = s.base j i };
-        entries = map (entry_at m' content j) (first_numbers (entries_in (s.count j i)));
-      }) ∙ ap (λ (xs : List Entry). record { span = span_in m j; entries = xs }) (map_numbers (entry_at m' content j) (entry_at m content j) (entries_in (m.count j)) (λ k l. λ i. record { word = s.key j k l i; value = s.value j k l i; key = key_at content (s.key j k l i) }))
+    span = record { low = low_number (rows 0 BOUND_WORDS (s.low j i)); high = high_number (rows 0 BOUND_WORDS (s.high j i)); base = s.base j i };
+    entries = map (entry_at m' content j) (first_numbers (entries_in (s.count j i)));
+  }) ∙ ap (λ (xs : List Entry). record { span = span_in m j; entries = xs }) (map_numbers (entry_at m' content j) (entry_at m content j) (entries_in (m.count j)) (λ k l. λ i. record { word = s.key j k l i; value = s.value j k l i; key = key_at content (s.key j k l i) }))
 
   pub below_covers : (hs : List RoomHolds) (seat : ℕ) (a b : RoomHolds) → get_elem? hs seat ≡ some a → b.moving ≡ a.moving → (F : Cover → ℕ) → all_of z m' content (set hs seat b) F ≡ all_of z m content hs F
   below_covers hs seat a b here moving F = covers_same z.chunks m.pin m'.pin (cover_at m content) (cover_at m' content) (map moving_of (set hs seat b)) F (λ j _. λ i. weight (s.pin j i) * F (cover_below j i))
@@ -127,10 +128,6 @@ not_it : (m : RoomMemory) (r i j k : ℕ) → i ≡ entries_in (m.count r) → k
 not_it m r i j k past l = dite (ℕ_discrete j r)
     (λ e. ap (λ (t : Bool). t && (j == r)) (ne_eqb k i (λ q. let n = ap (λ (t : ℕ). entries_in (m.count t)) e in absurd (omega arith))))
     (λ ne. false_and (k == i) (j == r) (ne_eqb j r ne))
-  where
-    false_and : (b c : Bool) → c ≡ false → (b && c) ≡ false
-    false_and true c e = e
-    false_and false c e = refl
 
 pub stays_entry : (m : RoomMemory) (f : EntryField) (r i x : ℕ) → i ≡ entries_in (m.count r) → StaysBelow m (put_room m (entry_spot f r i) x)
 stays_entry m of_key r i x past = record { pin = λ j. refl; base = λ j. refl; count = λ j. refl; low = λ j. refl; high = λ j. refl; key = λ j k l. ap (λ (t : Bool). cond t x (m.key j k)) (not_it m r i j k past l); value = λ j k l. refl }

@@ -11,7 +11,7 @@ use Rattle.oak_model.specs.Limits.{Sizes}
 use Rattle.oak_model.proofs.Changes.{Change}
 use Rattle.oak_model.proofs.Counting.{one_at-same, one_at-other, total_map, total_append, test-cases}
 use Rattle.oak_model.proofs.RowLaws.{total_le}
-use Rattle.oak_model.proofs.SumLaws.{times_le}
+use Rattle.oak_model.proofs.SumLaws.{plus_times, times_le}
 use Rattle.chunk_core.specs.CoverSums.{weight, stray, all_of}
 use Rattle.chunk_core.specs.Covers.{Entry, Cover, cover_at, span_in, entry_from, cover_from}
 use Rattle.chunk_core.specs.KeyWords.{low_number, high_number}
@@ -48,9 +48,6 @@ greater_left a b = greater-cases a b (λ t. a ≤ t) (λ l. l) (λ _. omega arit
 greater_right : (a b : ℕ) → b ≤ greater a b
 greater_right a b = greater-cases a b (λ t. b ≤ t) (λ _. omega arith) (λ l. omega arith)
 
-times-plus : (x y b : ℕ) → (x + y) * b ≡ x * b + y * b
-times-plus x y b = grind arith
-
 -- the range g joins h, which is just below it
 module _ (g h : MovingRange) (below : high_number h.high ≡ low_number g.low + 1) (above : low_number h.low ≤ low_number g.low) (under : past_high (high_number g.high) (low_number g.low) ≡ 0) where
   abbrev both : MovingRange
@@ -71,7 +68,7 @@ module _ (g h : MovingRange) (below : high_number h.high ≡ low_number g.low + 
     spans = λ k. let s = spans k in omega arith;
     entries = λ f. let e = entries f in omega arith;
     inside = λ none. let e = entries (stray (cover_from both).span) in let a = stray_less (cover_from h).span (map entry_from h.carried) (λ k. let s = spans k in omega arith) in let b = stray_less (cover_from g).span (map entry_from g.carried) (λ k. let s = spans k in omega arith) in omega arith;
-    base = λ k. let s = ap (λ (t : ℕ). t * greater g.base h.base) (spans k) in let p = times-plus (within (cover_from h).span k) (within (cover_from g).span k) (greater g.base h.base) in
+    base = λ k. let s = ap (λ (t : ℕ). t * greater g.base h.base) (spans k) in let p = plus_times (within (cover_from h).span k) (within (cover_from g).span k) (greater g.base h.base) in
         let x = times_le (within (cover_from h).span k) h.base (greater g.base h.base) (greater_right g.base h.base) in let y = times_le (within (cover_from g).span k) g.base (greater g.base h.base) (greater_left g.base h.base) in omega arith;
     begun = λ e. let s = spans (low_number h.low) in omega arith;
     bases = λ G e. greater-cases g.base h.base (λ t. G t + 0 ≡ 0) (λ _. omega arith) (λ _. omega arith);

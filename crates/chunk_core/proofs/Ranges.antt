@@ -13,6 +13,7 @@ use Rattle.std.proofs.lemmas.Bool.{leb-true}
 use Rattle.oak_model.specs.Counts.{one_at, total}
 use Rattle.oak_model.specs.Limits.{Sizes}
 use Rattle.oak_model.proofs.Counting.{total_append, total_map, both_true}
+use Rattle.oak_model.proofs.SumLaws.{plus_times}
 use Rattle.oak_model.proofs.MemberLaws.{total_split, total_passed, filter_all}
 use Rattle.chunk_core.specs.CoverRule.{CoversPartition}
 use Rattle.chunk_core.specs.CoverSums.{each, is_in, base_for, stray, naming, names, all_of, word_of, base_of}
@@ -60,9 +61,6 @@ module _ (z : Sizes) (m m' : RoomMemory) (content : ℕ → List ℕ) (is_key_wo
     begun = let s = step (λ u. 1 - within u.span u.span.low) in let e = parted.begun all_begun in let t = c.begun in omega arith;
     bases = let s = step (λ u. names_header u.span.base) in let e = parted.bases names_header no_name in let t = c.bases in omega arith;
   }
-
-times-plus : (x y b : ℕ) → (x + y) * b ≡ x * b + y * b
-times-plus x y b = grind arith
 
 from_not : (b : Bool) → not b ≡ true → b ≡ false
 from_not true e = sym e
@@ -148,7 +146,7 @@ module _ (w : RoomCopy) (g : MovingRange) (c : Cover) (taken : takes w g ≡ tru
     spans = λ k. let e = spans_cut k in omega arith;
     entries = λ f. let e = entries_cut f in omega arith;
     inside = λ _. let a = upper_in in let b = lower_in in omega arith;
-    base = λ k. let e = spans_cut k in let t = ap (λ (y : ℕ). y * g.base) e in let p = times-plus (within rest.span k) (within c.span k) g.base in let q = ap (λ (y : ℕ). within c.span k * y) (c_base ∙ base) in omega arith;
+    base = λ k. let e = spans_cut k in let t = ap (λ (y : ℕ). y * g.base) e in let p = plus_times (within rest.span k) (within c.span k) g.base in let q = ap (λ (y : ℕ). within c.span k * y) (c_base ∙ base) in omega arith;
     begun = λ e. let a = upper_at (record { low = low_number g.low; high = high_number g.high; base = 0 }) rest.span c.span (low_number w.low) refl (high_from-is w.low) c_low high_same under (low_number w.low) under (omega arith) in let b = ap (within c.span) c_low in
         let d = lower_at (record { low = low_number g.low; high = high_number g.high; base = 0 }) rest.span c.span (low_number w.low) refl (high_from-is w.low) c_low high_same under (low_number g.low) (within-one (low_number g.low) (omega arith)) lower_low in omega arith;
     bases = λ G e. let s = ap G (c_base ∙ base) in omega arith;

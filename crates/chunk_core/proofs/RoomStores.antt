@@ -17,7 +17,8 @@ use Rattle.chunk_core.specs.RoomStep.{put_room}
 use Rattle.chunk_core.specs.Rooms.{RoomMemory, RoomSpot, at_base, at_count, at_low, at_high, at_key, at_value, room_at, part_at, kind_at, same_room_spot, read_room}
 use Rattle.chunk_core.proofs.CoverLaws.{moves, covers_parts, covers_same}
 
-false_and : (b c : Bool) → c ≡ false → (b && c) ≡ false
+-- a test that fails
+pub false_and : (b c : Bool) → c ≡ false → (b && c) ≡ false
 false_and true c e = e
 false_and false c e = refl
 

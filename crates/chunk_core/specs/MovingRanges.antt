@@ -10,6 +10,7 @@ use Rattle.chunk_core.specs.KeyWords.{key_in, low_number, high_number, high_from
 
 -- A store of 0 to a key word drops the carried entries of that word that have no value, and the base of their range rises to their floors.
 
+-- the greater of the two
 abbrev pub greater : ℕ → ℕ → ℕ
 greater a b = cond (nat_le a b) b a
 

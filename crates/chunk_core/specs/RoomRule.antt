@@ -80,6 +80,7 @@ pub record IsInOrder (z : Sizes) (content : ℕ → List ℕ) (count : ℕ) (key
   pub sorted : (i j : ℕ) → i < j → j < prefix_in count → key_at content (key i) < key_at content (key j)
   pub bounds : AreBounds low high
 
+-- all points on rooms, over their words and what passes have of them
 pub record RoomsStand (z : Sizes) (m : RoomMemory) (content : ℕ → List ℕ) (hs : List RoomHolds) : Type 0 where
   -- the count of a room is the number of pins on it, duds among them
   pub counted : (r : ℕ) → total (room_pins r) hs ≡ count_of (m.pin r)

@@ -21,6 +21,7 @@ entry_spot of_key r i = at_key r i
 entry_spot of_value r i = at_value r i
 entry_spot of_next r i = at_next r i
 
+-- the kinds of step
 pub data RoomStep : Type 0 where
   -- one pin more on a room
   pin_room : ℕ → RoomStep

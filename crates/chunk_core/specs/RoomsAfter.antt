@@ -26,6 +26,7 @@ abbrev pub counted_more : RoomMemory → (ℕ → List ℕ) → ℕ → Option P
 counted_more m content count None = None
 counted_more m content count (Some p) = Some (pin_with m content count p)
 
+-- what the pass has after a step, where these were the words of the rooms and of blocks
 abbrev pub rooms_after : Sizes → RoomMemory → (ℕ → List ℕ) → RoomStep → RoomHolds → RoomHolds
 rooms_after z m content (pin_room r) a = record a { pin = Some (pinned_at m r) }
 rooms_after z m content (unpin_room r) a = record a { pin = None }

@@ -42,6 +42,7 @@ made_of f v = total f v.knowledge.mine + total (λ (j : Joined). total f j.mine)
 abbrev pub begins : ℕ → KeyedWrite → ℕ
 begins v w = one_if w.inserts * one_at w.home v
 
+-- 1 where there is no value
 abbrev pub one_if_absent : State → ℕ
 one_if_absent None = 1
 one_if_absent (Some b) = 0
@@ -54,6 +55,7 @@ removes w = one_if_absent w.write.after
 abbrev pub LivesAreDistinct : List PassState → Type 0
 LivesAreDistinct vs = (v : ℕ) → names_header v ≡ 1 → total (made_of (begins v)) vs ≤ 1
 
+-- all points on the writers
 pub record CallersAgree (vs : List PassState) : Type 0 where
   -- the writes with a caller's number are those of the one pass that has it, or of the one joined
   pub writes : Every (WritesStand (history_now vs)) vs

@@ -34,6 +34,7 @@ unfoldable pub before : ℕ → List KeyedWrite → List KeyedWrite
 before n [] = []
 before n (w ∷ ws) = cond (nat_lt w.write.stamp n) (w ∷ before n ws) (before n ws)
 
+-- whether the state is that of no value
 abbrev pub is_absent : State → Bool
 is_absent None = true
 is_absent (Some b) = false

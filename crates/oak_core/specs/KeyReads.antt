@@ -15,6 +15,7 @@ use Rattle.oak_core.specs.Memory.{Memory}
 use Rattle.oak_core.specs.PassState.{history, knowledge_of}
 use Rattle.oak_core.specs.KeyHistories.{stamp_behind}
 
+-- what the pass has of rooms
 abbrev pub rooms_held : PassState → RoomHolds
 rooms_held v = v.rooms
 

@@ -49,6 +49,7 @@ LivesEnd m vs = (k : ℕ) → Each (OverIsRemoved m.headers.pin (history_now vs 
 abbrev pub LoadedStand : (ℕ → List KeyedWrite) → Knowledge → Type 0
 LoadedStand hist q = Each (λ (l : KnownLife). (names_header l.home ≡ 1) × (0 < homes_in l.home (hist (key_number l.key))) × IsKeyOf (key_number l.key) l.key) q.loaded
 
+-- all points on keys
 pub record KeysStand (z : Sizes) (m : Memory) (vs : List PassState) : Type 0 where
   pub named : HeadersAreNamed z m vs
   pub states : StatesAgree z m vs

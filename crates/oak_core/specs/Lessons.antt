@@ -58,6 +58,7 @@ pub record PinsKnow (v : PassState) : Type 0 where
   -- the stamp that a pin found in a dead header is that of the removal
   pub removed : OnPin (λ p. state_of p.found ≡ DEAD → generation_of p.found ≡ p.wanted → (k : ℕ) × KnowsRemoval k (home_of p.header p.wanted) p.stamp v.knowledge) v.headers.pin
 
+-- all points on lessons
 pub record HeardStands (z : Sizes) (m : Memory) (vs : List PassState) : Type 0 where
   pub lessons : Every (LessonsStand (level_now z m vs) (history_now vs)) (map knowledge_of vs)
   pub pins : Every PinsKnow vs

@@ -16,6 +16,9 @@ times-none w x e = ap (λ (t : ℕ). t * x) e ∙ (let q : 0 * x ≡ 0 = omega a
 pub times_le : (w x y : ℕ) → x ≤ y → w * x ≤ w * y
 times_le w x y h = grind arith
 
+pub plus_times : (x y n : ℕ) → (x + y) * n ≡ x * n + y * n
+plus_times x y n = grind arith
+
 -- sums over the numbers below n
 
 -- the sum after a change at one place
