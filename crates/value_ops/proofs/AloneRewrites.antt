@@ -25,7 +25,7 @@ use Rattle.oak_core.proofs.Words.{index_apart, memory_read}
 use Rattle.value_ops.specs.Pinning.{WordsStay}
 use Rattle.value_ops.specs.AloneLocks.{place_in, put_place, put_from, first_in, put_bytes, value_in, PutsWord, PutsBytes, AppliesTo, RefillsWords}
 use Rattle.value_ops.specs.HeldValue.{words_in, value_held}
-use Rattle.value_ops.specs.Reading.{bytes_of}
+use Rattle.oak_model.specs.WordBytes.{bytes_of}
 use Rattle.value_ops.specs.Rewriting.{HasWords}
 use Rattle.value_ops.specs.UnderLock.{HasLock, LoadsPlace}
 use Rattle.value_ops.specs.Words.{words_of}

@@ -22,7 +22,7 @@ use Rattle.oak_core.specs.Finding.{finding, noted}
 use Rattle.oak_core.specs.HeaderCalls.{ChangesPlace}
 use Rattle.oak_core.specs.Step.{MayOnHeaders, same_block}
 use Rattle.oak_core.proofs.Words.{header_before}
-use Rattle.value_ops.specs.Reading.{bytes_of}
+use Rattle.oak_model.specs.WordBytes.{bytes_of}
 use Rattle.value_ops.specs.Rewriting.{HasWords}
 use Rattle.value_ops.specs.HeldValue.{words_in}
 use Rattle.value_ops.specs.UnderLock.{HasLock, ComesTo, Refills, words_over, with_words}

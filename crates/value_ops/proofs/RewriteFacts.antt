@@ -21,7 +21,7 @@ use Rattle.oak_core.specs.declared.states.PassState.{PassState}
 use Rattle.oak_core.specs.Finding.{LoadsMore}
 use Rattle.oak_core.specs.Memory.{in_arena, index}
 use Rattle.oak_core.proofs.OwnerLaws.{place_below}
-use Rattle.value_ops.specs.Reading.{bytes_of}
+use Rattle.oak_model.specs.WordBytes.{bytes_of}
 use Rattle.value_ops.specs.Rewriting.{HasWords}
 use Rattle.value_ops.specs.HeldValue.{words_in, value_held}
 use Rattle.value_ops.specs.UnderLock.{HasBlock, HasLock, ComesTo, Rewrites, words_over, with_words}

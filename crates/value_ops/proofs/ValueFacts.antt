@@ -16,7 +16,8 @@ use Rattle.oak_core.proofs.ArenaPlaces.{bytes_place, few_bits, few_bytes}
 use Rattle.oak_core.proofs.Words.{index_below, arena_before}
 use Rattle.oak_core.proofs.SamePass.{stays_both}
 use Rattle.value_ops.specs.declared.reading.Reading.{Reading}
-use Rattle.value_ops.specs.Reading.{word_bytes, bytes_of, bytes_in, value, value_pinned, words_pinned, IsReading, OnlyLoads, ReadsOn}
+use Rattle.oak_model.specs.WordBytes.{word_bytes, bytes_of}
+use Rattle.value_ops.specs.Reading.{bytes_in, value, value_pinned, words_pinned, IsReading, OnlyLoads, ReadsOn}
 use Rattle.value_ops.proofs.PinFacts.{loads_both, loads_none}
 use Rattle.value_ops.proofs.ByteFacts.{length-bytes_of}
 use Rattle.value_ops.proofs.WordLaws.{word_put}

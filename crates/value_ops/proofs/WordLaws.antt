@@ -12,7 +12,8 @@ use lib.ListN.{set}
 use mathlib.Core.Logic.{dite}
 use native.Mathlib.Decide.{dec_lt}
 use Rattle.oak_model.proofs.Lists.{rows_length, rows_at}
-use Rattle.value_ops.specs.Reading.{word_bytes, bytes_of, bytes_in}
+use Rattle.oak_model.specs.WordBytes.{word_bytes, bytes_of}
+use Rattle.value_ops.specs.Reading.{bytes_in}
 use Rattle.value_ops.specs.Words.{filled_up, word_at, words_of}
 use Rattle.value_ops.proofs.ByteFacts.{Stand, stand, part_of, part_long, part_in, length-bytes_of, more_bytes, all_bytes, copied_more}
 

@@ -15,7 +15,7 @@ use Rattle.oak_core.specs.Memory.{Spot, in_arena, in_headers, index, memory, rea
 use Rattle.value_ops.specs.declared.locking.NoLock.{NoLock}
 use Rattle.value_ops.specs.Claiming.{ChangesPin}
 use Rattle.value_ops.specs.Locking.{may_lock, refusal}
-use Rattle.value_ops.specs.Reading.{bytes_of}
+use Rattle.oak_model.specs.WordBytes.{bytes_of}
 use Rattle.value_ops.specs.UnderLock.{next_stamp}
 use Rattle.value_ops.specs.Words.{words_of}
 

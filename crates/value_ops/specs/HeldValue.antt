@@ -3,7 +3,7 @@ use Rattle.std.specs.Prelude.{ℕ, ◌==◌, cond, List, [], ◌∷◌, take}
 use Rattle.arena_core.specs.Place.{length_in}
 use Rattle.header_core.specs.declared.holds.HeldHeader.{HeldHeader}
 use Rattle.header_core.specs.HeaderHolds.{place_held}
-use Rattle.value_ops.specs.Reading.{bytes_of}
+use Rattle.oak_model.specs.WordBytes.{bytes_of}
 
 -- the stamp of the header
 abbrev pub stamp_held : ℕ → List HeldHeader → ℕ

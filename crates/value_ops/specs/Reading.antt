@@ -1,11 +1,10 @@
 -- The value under a pin, and what a reading of it has.
 use Rattle.std.specs.Prelude.{◌≡◌, ℕ, ◌*◌, ◌<◌, ◌≤◌, List, [], length, take, drop, Option, Some, None}
-use Rattle.std.specs.Int.{w64, to_be_bytes}
-use Rattle.std.specs.List.{flat_map}
 use Rattle.arena_core.specs.Arena.{at_bytes, block_words, blocks}
 use Rattle.arena_core.specs.Place.{class_in, block_in, length_in}
 use Rattle.oak_model.specs.declared.limits.TheConstants.{CLASSES}
 use Rattle.oak_model.specs.Limits.{Sizes, IsInLimits}
+use Rattle.oak_model.specs.WordBytes.{bytes_of}
 use Rattle.header_core.specs.declared.holds.PinnedHeader.{PinnedHeader}
 use Rattle.header_core.specs.Headers.{at_place, at_stamp}
 use Rattle.oak_core.specs.Memory.{in_arena, in_headers, index}
@@ -16,14 +15,6 @@ use Rattle.oak_core.specs.Splitting.{Loads}
 use Rattle.oak_core.specs.declared.states.PassState.{PassState}
 use Rattle.value_ops.specs.declared.reading.Reading.{Reading}
 use Rattle.value_ops.specs.Pinning.{HasPin, WordsStay}
-
--- the eight bytes of a word, the highest first
-abbrev pub word_bytes : ℕ → List ℕ
-word_bytes n = to_be_bytes w64 n
-
--- the bytes of words, one behind the other
-unfoldable pub bytes_of : List ℕ → List ℕ
-bytes_of ns = flat_map word_bytes ns
 
 -- the bytes of xs from 8 * i on, at most 8
 abbrev pub bytes_in : ℕ → List ℕ → List ℕ

@@ -1,7 +1,8 @@
 //! Bytes as they stand in words: eight in each, the first of them highest.
 ghost use Rattle.std.specs.Prelude.{◌≡◌, ◌≢◌, ◌≤◌, MatchBool, ◌+◌, ◌-◌, ◌*◌, ◌<◌, ◌++◌, length, take, drop, slice_index};
 ghost use Rattle.std.specs.Int.{w64, from_be_bytes};
-ghost use Rattle.value_ops.specs.Reading.{word_bytes, bytes_in};
+ghost use Rattle.oak_model.specs.WordBytes.{word_bytes};
+ghost use Rattle.value_ops.specs.Reading.{bytes_in};
 ghost use Rattle.value_ops.specs.Words.{words_of};
 
 /// The bytes of a word.

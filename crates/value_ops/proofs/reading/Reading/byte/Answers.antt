@@ -1,5 +1,5 @@
 use Rattle.std.proofs.Common.{ℕ, ◌/◌, ◌%◌, ◌<◌, List, get_or, sym, ap, ◌∙◌, subst}
-use Rattle.value_ops.specs.Reading.{word_bytes}
+use Rattle.oak_model.specs.WordBytes.{word_bytes}
 use Rattle.value_ops.proofs.ByteFacts.{byte_in}
 use Rattle.value_ops.proofs.ValueFacts.{words_are, value_is, room, long}
 use Rattle.value_ops.proofs.reading.Reading.byte.Goals as goal

@@ -1,5 +1,5 @@
 use Rattle.std.proofs.Common.{ℕ, ◌-◌, ◌*◌, ◌++◌, List, take, ap, ◌∙◌}
-use Rattle.value_ops.specs.Reading.{word_bytes}
+use Rattle.oak_model.specs.WordBytes.{word_bytes}
 use Rattle.value_ops.proofs.ValueFacts.{bytes_loaded}
 use Rattle.value_ops.proofs.reading.Reading.copy_word.Goals as goal
 
