@@ -25,3 +25,4 @@ pub mod CountLoads
 pub mod PastCounts
 pub mod Publish
 pub mod StoredRooms
+pub mod ValueWords
