@@ -26,3 +26,4 @@ pub mod PastCounts
 pub mod Publish
 pub mod StoredRooms
 pub mod ValueWords
+pub mod KeptRoomWords
