@@ -27,3 +27,4 @@ pub mod Publish
 pub mod StoredRooms
 pub mod ValueWords
 pub mod KeptRoomWords
+pub mod UnkeptRooms
