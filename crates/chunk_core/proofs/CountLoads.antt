@@ -89,7 +89,7 @@ module _ (z : Sizes) (m : RoomMemory) (content : ℕ → List ℕ) (is_key_word 
     others = λ j u q ne at x h. h;
     own = λ _. found_holds z m content p pin_holds.inside pin_holds.cover (record { base = pin_holds.base; low = pin_holds.low; high = pin_holds.high });
     carried = rule.carried seat a here;
-    stands = record { latch = latch_on p p' a.latch refl refl (subst (λ o. LatchIsPinned o a.latch) is (rule.passes seat a here).latch); whole = (rule.passes seat a here).whole };
+    stands = record { latch = latch_on p p' a.latch refl refl (subst (λ o. LatchIsPinned o a.latch) is (rule.passes seat a here).latch); claim = (rule.passes seat a here).claim; whole = (rule.passes seat a here).whole };
   }) rule
 
   pub count_covers : (F : Cover → ℕ) → all_of z m content (set hs seat (record a { pin = Some (pin_with m content (m.count p.room) p) })) F ≡ all_of z m content hs F

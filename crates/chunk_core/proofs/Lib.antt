@@ -25,3 +25,6 @@ pub mod CountLoads
 pub mod PastCounts
 pub mod Publish
 pub mod StoredRooms
+pub mod ValueWords
+pub mod KeptRoomWords
+pub mod UnkeptRooms

@@ -92,7 +92,7 @@ module _ (z : Sizes) (m m' : RoomMemory) (content : ℕ → List ℕ) (is_key_wo
     others = λ j u p ne at is h. pin_below z m m' content s p h;
     own = pins_below z m m' content s a.pin (rule.good seat a here);
     carried = rule.carried seat a here;
-    stands = record { latch = pinned; whole = (rule.passes seat a here).whole };
+    stands = record { latch = pinned; claim = (rule.passes seat a here).claim; whole = (rule.passes seat a here).whole };
   }) rule
 
   pub below_partition : CoversPartition z m' content is_key_word (set hs seat (record a { latch = l }))

@@ -143,7 +143,7 @@ module _ (z : Sizes) (m : RoomMemory) (content : ℕ → List ℕ) (hs : List Ro
     others = λ j u q ne at t h. still_holds q h;
     own = λ _. subst (λ (t : ℕ). RoomPinHolds z m' content (pin_with m content t p)) (put-here m.count p.room (m.count p.room + 1) p.room refl) (found_holds z m' content p holds.inside holds.cover (record { base = holds.base; low = holds.low; high = holds.high }));
     carried = rule.carried seat a here;
-    stands = record { latch = (refl, good); whole = (rule.passes seat a here).whole };
+    stands = record { latch = (refl, good); claim = (rule.passes seat a here).claim; whole = (rule.passes seat a here).whole };
   }) rule
     where
       ordered : (j : ℕ) → IsInOrder z content (m.count j) (m.key j) (m.low j 0) (m.high j 0) → IsInOrder z content (m'.count j) (m'.key j) (m'.low j 0) (m'.high j 0)

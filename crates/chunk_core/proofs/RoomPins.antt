@@ -98,7 +98,7 @@ module _ (z : Sizes) (m : RoomMemory) (content : ℕ → List ℕ) (hs : List Ro
   pub pin_stands : RoomsStand z (put_room m (at_room_pin r) ((m.pin r + 1) % 2 ^ 64)) content (set hs seat (record a { pin = Some (pinned_at m r) }))
   pin_stands = let u = pin_up (m.pin r) few small in pins_stand z m content hs rule seat a here r ((m.pin r + 1) % 2 ^ 64) u.1 u.2 (Some (pinned_at m r)) up_counts
       (λ (good : state_of (m.pin r) ≡ OPEN). record { inside = inside; cover = opened good; base = refl; low = refl; high = refl; counted = refl; entries = tt })
-      (record { latch = subst (λ l. LatchIsPinned (Some (pinned_at m r)) l) (sym no_latch) tt; whole = (rule.passes seat a here).whole })
+      (record { latch = subst (λ l. LatchIsPinned (Some (pinned_at m r)) l) (sym no_latch) tt; claim = (rule.passes seat a here).claim; whole = (rule.passes seat a here).whole })
     where
       opened : state_of (m.pin r) ≡ OPEN → weight (m.pin r) ≡ 1
       opened e = let o = one_at-same (state_of (m.pin r)) OPEN e in let q = one_at-other (state_of (m.pin r)) FROZEN (λ f. absurd (let g = e in omega arith)) in omega arith
@@ -124,4 +124,4 @@ module _ (z : Sizes) (m : RoomMemory) (content : ℕ → List ℕ) (hs : List Ro
 
   pub unpin_stands : RoomsStand z (put_room m (at_room_pin r) ((m.pin r + (2 ^ 64 - 1)) % 2 ^ 64)) content (set hs seat (record a { pin = None }))
   unpin_stands = let d = pin_down (m.pin r) some_pin small in pins_stand z m content hs rule seat a here r ((m.pin r + (2 ^ 64 - 1)) % 2 ^ 64) d.1 d.2 None down_counts tt
-      (record { latch = subst (λ l. LatchIsPinned None l) (sym latch) tt; whole = (rule.passes seat a here).whole })
+      (record { latch = subst (λ l. LatchIsPinned None l) (sym latch) tt; claim = (rule.passes seat a here).claim; whole = (rule.passes seat a here).whole })

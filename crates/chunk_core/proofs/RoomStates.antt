@@ -70,5 +70,5 @@ module _ (z : Sizes) (m : RoomMemory) (content : ℕ → List ℕ) (hs : List Ro
     others = λ j u p ne at is h. pin_stands j u p at (ap (pins_of p.room) is ∙ pinned_once p) h;
     own = own a.pin refl (rule.good seat a here);
     carried = true_ranges;
-    stands = record { latch = (rule.passes seat a here).latch; whole = whole };
+    stands = record { latch = (rule.passes seat a here).latch; claim = (rule.passes seat a here).claim; whole = whole };
   }) rule

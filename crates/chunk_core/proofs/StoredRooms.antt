@@ -167,7 +167,7 @@ module _ (z : Sizes) (m : RoomMemory) (content : ℕ → List ℕ) (hs : List Ro
     others = λ j u q ne at is h. pin_else q h;
     own = own a.pin (rule.good seat a here);
     carried = true_ranges;
-    stands = record { latch = (rule.passes seat a here).latch; whole = whole_rooms z p x a.held (rule.passes seat a here).whole };
+    stands = record { latch = (rule.passes seat a here).latch; claim = (rule.passes seat a here).claim; whole = whole_rooms z p x a.held (rule.passes seat a here).whole };
   }) rule
     where
       latch_stays : (j : ℕ) → m'.latch j ≡ m.latch j

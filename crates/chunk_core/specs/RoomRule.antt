@@ -59,6 +59,8 @@ IsWholeHeld z (Held w) = IsWholeCopy z w
 -- what holds of what one pass has of rooms, by itself
 pub record RoomHoldsStand (z : Sizes) (a : RoomHolds) : Type 0 where
   pub latch : LatchIsPinned a.pin a.latch
+  -- no step claims an entry
+  pub claim : a.claim ≡ None
   pub whole : Each (λ (h : HeldRoom). IsWholeHeld z h.held_as) a.held
 
 -- the words kept with a carried entry are those of the block that its key word names

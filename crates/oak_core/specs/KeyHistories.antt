@@ -1,5 +1,5 @@
 -- The history of one key, as passes have seen it: which histories are legal, and what stands at their end. A key is given by its number.
-use Rattle.std.specs.Prelude.{◌≡◌, ℕ, ◌<◌, nat_lt, cond, Bool, true, false, List, [], ◌∷◌, map, slice_index, Some, None, ⊤}
+use Rattle.std.specs.Prelude.{◌≡◌, ℕ, suc, ◌<◌, ◌==◌, ◌&&◌, nat_lt, cond, Bool, true, false, List, [], ◌∷◌, map, slice_index, Some, None, ⊤}
 use Rattle.oak_model.specs.Counts.{one_at, total, Each, Has}
 use Rattle.oak_model.specs.Key.{IsKey}
 use Rattle.oak_model.specs.KeyNumber.{key_number}
@@ -67,6 +67,11 @@ pub record IsRemovedAt (home stamp : ℕ) (h : List KeyedWrite) : Type 0 where
 -- with some stamp
 abbrev pub IsRemoved : ℕ → List KeyedWrite → Type 0
 IsRemoved home h = (stamp : ℕ) × IsRemovedAt home stamp h
+
+-- the stamp of the removal of the life plus one, or 0 where it goes on
+unfoldable pub removed_at : ℕ → List KeyedWrite → ℕ
+removed_at home [] = 0
+removed_at home (w ∷ ws) = cond ((w.home == home) && is_absent w.write.after) (suc w.write.stamp) (removed_at home ws)
 
 -- how many writes of the history are of the life
 abbrev pub homes_in : ℕ → List KeyedWrite → ℕ

@@ -42,6 +42,11 @@ below_none f g (suc n) h e = let a = h n (omega arith) in let t = below_none f g
 -- sums over lists
 
 module _ {A : Type 0} where
+  -- nothing is added up over no element
+  pub total_empty : (f : A → ℕ) → 0 < total f [] → ⊥
+  unfolding total
+  total_empty f l = omega arith
+
   pub total_same : (f g : A → ℕ) (xs : List A) → ((x : A) → f x ≡ g x) → total f xs ≡ total g xs
   unfolding total
   total_same f g [] h = refl

@@ -1,0 +1,25 @@
+-- The numbers that a pass keeps for the words of a latched and of a held room, after its own store to one of them.
+use Rattle.std.proofs.Common.{◌≡◌, ℕ, ◌==◌, ◌&&◌, cond, Bool, true, [], ◌∷◌, sym, refl, ap, ◌∙◌, Some, eq-eqb}
+use Rattle.oak_model.specs.Kept.{restored}
+use Rattle.chunk_core.specs.declared.holds.EntryWords.{EntryWords}
+use Rattle.chunk_core.specs.declared.holds.Latch.{Latch}
+use Rattle.chunk_core.specs.KeptRooms.{kept_of_entry, kept_of_latch}
+use Rattle.chunk_core.specs.LinkedEntries.{entries_in}
+use Rattle.chunk_core.specs.RoomCopies.{entry_with, latch_with}
+use Rattle.chunk_core.specs.RoomStep.{EntryField, of_key, of_value, of_next, entry_spot}
+use Rattle.chunk_core.specs.Rooms.{same_room_spot, at_count, at_key, at_value, at_next}
+
+-- an entry's own word
+itself : (r i : ℕ) → ((i == i) && (r == r)) ≡ true
+itself r i = ap (λ (t : Bool). t && (r == r)) (eq-eqb i i refl) ∙ eq-eqb r r refl
+
+pub entry_restored : (f : EntryField) (r i x : ℕ) (e : EntryWords) → kept_of_entry r i (entry_with f x e) ≡ restored same_room_spot (entry_spot f r i) x (kept_of_entry r i e)
+entry_restored of_key r i x e = λ j. record { spot = at_key r i; number = cond (sym (itself r i) j) x e.word } ∷ record { spot = at_value r i; number = e.value } ∷ record { spot = at_next r i; number = e.next } ∷ []
+entry_restored of_value r i x e = λ j. record { spot = at_key r i; number = e.word } ∷ record { spot = at_value r i; number = cond (sym (itself r i) j) x e.value } ∷ record { spot = at_next r i; number = e.next } ∷ []
+entry_restored of_next r i x e = λ j. record { spot = at_key r i; number = e.word } ∷ record { spot = at_value r i; number = e.value } ∷ record { spot = at_next r i; number = cond (sym (itself r i) j) x e.next } ∷ []
+
+-- the latch of the room whose entry past the count is stored to
+pub latch_restored : (f : EntryField) (x : ℕ) (l : Latch) → kept_of_latch (latch_with f x (Some l)) ≡ restored same_room_spot (entry_spot f l.room (entries_in l.count)) x (kept_of_latch (Some l))
+latch_restored of_key x l = λ j. record { spot = at_count l.room; number = l.count } ∷ entry_restored of_key l.room (entries_in l.count) x l.entry j
+latch_restored of_value x l = λ j. record { spot = at_count l.room; number = l.count } ∷ entry_restored of_value l.room (entries_in l.count) x l.entry j
+latch_restored of_next x l = λ j. record { spot = at_count l.room; number = l.count } ∷ entry_restored of_next l.room (entries_in l.count) x l.entry j
