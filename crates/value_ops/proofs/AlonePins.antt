@@ -9,7 +9,7 @@ use Rattle.header_core.specs.Headers.{HeaderSpot, at_pin}
 use Rattle.header_core.specs.HeaderStep.{HeaderStep, header_spot, header_effect}
 use Rattle.oak_core.specs.declared.states.PassState.{PassState}
 use Rattle.oak_core.specs.AloneWords.{Runs}
-use Rattle.oak_core.specs.Memory.{Spot, in_headers, index, IsInside, read, memory}
+use Rattle.oak_core.specs.Memory.{Spot, in_headers, index, IsInside, memory}
 use Rattle.oak_core.specs.Splitting.{Loads}
 use Rattle.oak_core.specs.Step.{on_headers, Told}
 use Rattle.oak_core.proofs.AloneRuns.{DoesStep, Then, step_runs, load_runs, runs_then, runs_as, runs_none}

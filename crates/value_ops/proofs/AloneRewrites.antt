@@ -17,7 +17,6 @@ use Rattle.oak_core.specs.AloneWords.{Moment, Runs}
 use Rattle.oak_core.specs.ArenaCalls.{of_locked, NamesWord, Writes}
 use Rattle.oak_core.specs.HeaderCalls.{ChangesPlace}
 use Rattle.oak_core.specs.Memory.{in_arena, in_headers, index, memory}
-use Rattle.oak_core.specs.Splitting.{Loads}
 use Rattle.oak_core.specs.Step.{on_headers, store_locked}
 use Rattle.oak_core.specs.TableState.{TableState}
 use Rattle.oak_core.proofs.AloneRuns.{Then, runs_then, runs_as, runs_none}

@@ -1,6 +1,5 @@
 use Rattle.std.proofs.Common.{◌≡◌, ◌*◌, length, take}
 use Rattle.oak_core.specs.AloneWords.{Runs}
-
 use Rattle.oak_core.specs.Passes.{state, key, call_of, scratch_of}
 use Rattle.oak_core.specs.Scratch.{StaysButScratch}
 use Rattle.value_ops.specs.Pinning.{WordsStay}
