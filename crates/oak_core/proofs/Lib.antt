@@ -9,6 +9,9 @@ pub mod MetLists
 pub mod MetMore
 pub mod FoundThere
 pub mod Lacked
+pub mod RoomBundles
+pub mod EntryBlocks
+pub mod OpeningRooms
 pub mod Keeps
 pub mod KeepsGiven
 pub mod KnownInTwo

@@ -25,8 +25,8 @@ use Rattle.header_core.proofs.PinWordChanges.{IsRenewed, state_set, state_up, st
 use Rattle.oak_core.specs.declared.states.PassState.{PassState}
 use Rattle.oak_core.specs.Memory.{Memory, memory}
 use Rattle.oak_core.specs.Known.{knows_life}
-use Rattle.oak_core.specs.Owners.{other_owners}
-use Rattle.oak_core.specs.PassState.{blocks_of, headers_held, knowledge_of}
+use Rattle.oak_core.specs.EntryOwners.{all_others}
+use Rattle.oak_core.specs.PassState.{blocks_of, headers_held, rooms_held, knowledge_of}
 use Rattle.oak_core.specs.Rule.{Rule}
 use Rattle.oak_core.specs.Step.{MayChange, same_block, block_back, block_exchanged}
 use Rattle.oak_core.specs.TableState.{TableState}
@@ -37,7 +37,7 @@ use Rattle.oak_core.proofs.KeptUnderLocks.{lock_kept, bury_kept}
 use Rattle.oak_core.proofs.KeptFields.{change_kept}
 use Rattle.oak_core.proofs.KnownLaws.{known_some}
 use Rattle.oak_core.proofs.OwnerLaws.{place_below}
-use Rattle.oak_core.proofs.OwnedAndKept.{OwnedAndKept, at_blocks, quiet_pin, few, takes, gives_back, state_is, with_block}
+use Rattle.oak_core.proofs.OwnedAndKept.{OwnedAndKept, entries, at_blocks, quiet_pin, few, takes, gives_back, state_is, with_block}
 
 -- a header that is free or retired has no block
 unstocked_end : (s : ℕ) → (s ≡ RETIRED) ⊎ (s ≡ FREE) → stocked s ≡ 0
@@ -90,10 +90,10 @@ module _ (z : Sizes) (s : TableState) (seat : ℕ) (v : PassState) (r : Rule z s
   pub changes : (h x : ℕ) → h < z.headers → 0 < in_state h LOCKED v.headers → MayChange z h x v → OwnedAndKept z s seat v r here_is (at_place h) x (block_exchanged m.arena.bytes (m.headers.place h) x v.blocks) (record v.headers { held = changed_at h x (content m.arena.bytes x) v.headers.held })
   changes h x inside own may = let was = state_is z s seat v r here_is h LOCKED (omega arith) (omega arith) own in let stock = stocked_high (state_of (m.headers.pin h)) (omega arith) (omega arith) in let w : ℕ = m.headers.place h in
       let either_block = exchangeable may.block in record {
-        owned = change_owned z m.headers m.arena.bits (map blocks_of s.states) seat h x v.blocks (at_blocks z s seat v r here_is) inside r.blocks (place_below w ((stand z s seat v r here_is).placed h (omega arith))) stock (place_below x may.place) m.arena.bytes either_block;
+        owned = change_owned z m.headers m.arena.bits (entries z s seat v r here_is) (map blocks_of s.states) seat h x v.blocks (at_blocks z s seat v r here_is) inside r.blocks (place_below w ((stand z s seat v r here_is).placed h (omega arith))) stock (place_below x may.place) m.arena.bytes either_block;
         kept = change_kept z s seat v r here_is h x (few z s seat v r here_is h) (with_block z s seat v r here_is h (omega arith)) (place_below x may.place) either_block;
       }
     where
       exchangeable : (same_block x (place_held h v.headers.held) ≡ true) ⊎ HoldsBlock z (class_in x) (block_in x) v.blocks → (same_block x (m.headers.place h) ≡ true) ⊎ (total (here (class_in x) (block_in x)) v.blocks.held ≡ 1)
       exchangeable (inl same) = inl (ap (same_block x) (place_of z s seat v r here_is h (holds_some h LOCKED v.headers own)) ∙ same)
-      exchangeable (inr held) = inr (held_once z m.arena (other_owners z m.headers) (map blocks_of s.states) seat v.blocks (at_blocks z s seat v r here_is) r.blocks (class_in x) (block_in x) held.held).2
+      exchangeable (inr held) = inr (held_once z m.arena (all_others z m (map rooms_held s.states)) (map blocks_of s.states) seat v.blocks (at_blocks z s seat v r here_is) r.blocks (class_in x) (block_in x) held.held).2

@@ -30,6 +30,7 @@ block_kept z s r seat p at good = let owned = r.blocks.owned (class_in p.place) 
       unheld = omega arith;
       owned = live_block z s r seat at.0 at.1 p at.2 good;
       alone = omega arith;
+      unkeyed = omega arith;
       words = (holds z s r seat at.0 at.1 p at.2 good).words;
     }
 
