@@ -1,11 +1,11 @@
 -- Entries own blocks whose words stand: a store to a word of a block goes to one that has another owner.
-use Rattle.std.proofs.Common.{◌≡◌, ℕ, ◌*◌, ◌<◌, ◌&&◌, cond, nat_lt, List, get_or, map, sym, refl, ap, ◌∙◌, subst, arith, ltb-true}
+use Rattle.std.proofs.Common.{◌≡◌, ℕ, ◌*◌, ◌<◌, ◌&&◌, cond, nat_lt, List, get_or, map, sym, refl, ap, ◌∙◌, arith, ltb-true}
 use mathlib.Core.Logic.{dite}
 use mathlib.Core.Option.{some}
 use lib.ListN.{get_elem?}
 use native.Mathlib.Decide.{ℕ_discrete}
 use Rattle.pin_word.specs.PinWord.{state_of}
-use Rattle.oak_model.specs.Counts.{one_at, one_if}
+use Rattle.oak_model.specs.Counts.{one_at}
 use Rattle.oak_model.specs.Limits.{Sizes}
 use Rattle.oak_model.proofs.Counting.{test-cases, total_map}
 use Rattle.oak_model.specs.Class.{class_number}
@@ -15,7 +15,7 @@ use Rattle.arena_core.specs.Arena.{ArenaSpot, at_bytes}
 use Rattle.arena_core.specs.ArenaStep.{ArenaStep, take_bit, clear_bit, store_word, arena_spot, MayArena}
 use Rattle.arena_core.specs.Blocks.{BlocksAreOwned}
 use Rattle.arena_core.proofs.ArenaSteps.{held_once}
-use Rattle.arena_core.specs.Place.{length_in, class_in, block_in, names_block, content}
+use Rattle.arena_core.specs.Place.{length_in, names_block, content}
 use Rattle.chunk_core.specs.declared.holds.RoomHolds.{RoomHolds}
 use Rattle.chunk_core.specs.CoverSums.{weight, each, owning, owners_in_rooms}
 use Rattle.chunk_core.specs.Covers.{span_in, entry_at, used_at, moving_of}

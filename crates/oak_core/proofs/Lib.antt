@@ -10,6 +10,7 @@ pub mod MetMore
 pub mod FoundThere
 pub mod Lacked
 pub mod RoomBundles
+pub mod KeptWhole
 pub mod EntryBlocks
 pub mod OpeningRooms
 pub mod Keeps

@@ -1,11 +1,11 @@
 -- At the start room 0 alone is a cover, of all keys, and no pass has anything of rooms.
-use Rattle.std.proofs.Common.{◌≡◌, ◌≢◌, ℕ, ◌+◌, ◌-◌, ◌*◌, ◌<◌, ◌≤◌, ◌⊎◌, ◌==◌, cond, List, [], ◌∷◌, get_or, map, sym, refl, ap, ◌∙◌, subst, arith, ⊎_elim}
+use Rattle.std.proofs.Common.{◌≡◌, ◌≢◌, ℕ, ◌+◌, ◌-◌, ◌*◌, ◌<◌, ◌≤◌, ◌⊎◌, ◌==◌, cond, List, [], ◌∷◌, map, sym, refl, ap, ◌∙◌, subst, arith, ⊎_elim}
 use Rattle.std.specs.Prelude.{take, drop, slice_index}
 use mathlib.Core.Logic.{dite}
 use native.Mathlib.Decide.{ℕ_discrete}
 use Rattle.pin_word.specs.PinWord.{packed, state_of, count_of, generation_of}
 use Rattle.pin_word.proofs.Laws.{count_of-packed, state_of-packed, generation_of-packed}
-use Rattle.oak_model.specs.Counts.{one_at, total, below, rows}
+use Rattle.oak_model.specs.Counts.{one_at, total, rows}
 use Rattle.oak_model.specs.KeyNumber.{key_number, digits_number}
 use Rattle.oak_model.specs.Limits.{Sizes}
 use Rattle.oak_model.specs.WordBytes.{bytes_of}
@@ -17,16 +17,15 @@ use Rattle.chunk_core.specs.declared.states.TheConstants.{OPEN, FROZEN, HELD}
 use Rattle.chunk_core.specs.CoverRule.{CoversPartition}
 use Rattle.chunk_core.specs.CoverSums.{covers, weight, each, is_in, owning, owners_in_rooms}
 use Rattle.chunk_core.specs.Covers.{Entry, Cover, cover_at, used_at, span_in, entry_at, moving_of}
-use Rattle.chunk_core.specs.KeptRooms.{kept_of_rooms}
 use Rattle.chunk_core.specs.KeyWords.{low_number, high_number}
 use Rattle.chunk_core.specs.LinkedEntries.{entries_in, prefix_in, first_numbers}
 use Rattle.chunk_core.specs.PinnedRooms.{OnRoomPin, IsGoodRoom, RoomPinHolds}
 use Rattle.chunk_core.specs.RoomHolds.{no_rooms}
 use Rattle.chunk_core.specs.RoomRule.{AreTrueRanges, RoomHoldsStand, IsInOrder, RoomsStand}
-use Rattle.chunk_core.specs.Rooms.{RoomMemory, RoomSpot, at_room_pin, at_base, at_count, at_latch, at_low, at_high, read_room, kind_at, room_at, same_room_spot}
+use Rattle.chunk_core.specs.Rooms.{RoomMemory, RoomSpot, at_room_pin, at_base, at_count, at_latch, at_low, at_high, read_room, kind_at, room_at}
 use Rattle.chunk_core.specs.Spans.{past, past_high, within}
 use Rattle.chunk_core.specs.ValueWord.{names_header}
-use Rattle.chunk_core.proofs.CoverLaws.{moves, covers_parts}
+use Rattle.chunk_core.proofs.CoverLaws.{covers_parts}
 use Rattle.chunk_core.proofs.SpanLaws.{past-cases, high-none}
 use Rattle.chunk_core.proofs.Weights.{weight_open, open_none}
 use Rattle.oak_core.proofs.EntryBlocks.{no_weight}

@@ -1,5 +1,5 @@
 -- The points on rooms together, and that they stay where a split or a join changes who has what of rooms.
-use Rattle.std.proofs.Common.{◌≡◌, ℕ, ◌≤◌, List, map, sym, refl, ◌∙◌, arith}
+use Rattle.std.proofs.Common.{◌≡◌, ℕ, List, map, refl, arith}
 use Rattle.oak_model.specs.Counts.{total, Every, Each}
 use Rattle.oak_model.specs.Kept.{keeps, AreTrueTo, KeptNumbersStand}
 use Rattle.oak_model.specs.Limits.{Sizes}

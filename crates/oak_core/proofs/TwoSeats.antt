@@ -4,7 +4,7 @@ use Rattle.std.proofs.lemmas.List.{map-append}
 use mathlib.Core.Option.{some}
 use lib.ListN.{get_elem?}
 use Rattle.oak_model.specs.Limits.{Sizes}
-use Rattle.oak_model.specs.Counts.{one_at, total, Begins}
+use Rattle.oak_model.specs.Counts.{one_at, total, Every, Each, Begins}
 use Rattle.oak_model.specs.Kept.{KeptNumbersStand}
 use Rattle.oak_model.proofs.Lists.{at_map, map_set_same, set_else, each_append}
 use Rattle.oak_model.proofs.Changes.{Change, divided, joined, change_parts}
@@ -66,6 +66,13 @@ module _ (z : Sizes) (s : TableState) (seat : ℕ) (v : PassState) (r : Rule z s
   abbrev m : Memory
   m = memory z s.words
 
+  abbrev rs : List RoomHolds
+  rs = map rooms_held s.states
+
+  -- what the pass has of rooms, and what has nothing
+  all_rooms : (P : RoomHolds → Type 0) → Every P rs → P no_rooms → Each P (v.rooms ∷ no_rooms ∷ [])
+  all_rooms P every none = (every seat v.rooms (at_map rooms_held s.states seat v here), (none, tt))
+
   module _ (may : MaySplit v) where
     abbrev left : PassState
     left = left_state v
@@ -91,18 +98,14 @@ module _ (z : Sizes) (s : TableState) (seat : ℕ) (v : PassState) (r : Rule z s
     same_kept : map kept_of (set s.states seat left ++ right ∷ []) ≡ map kept_of s.states ++ [] ∷ []
     same_kept = map-append kept_of (set s.states seat left) (right ∷ []) ∙ (λ i. map_set_same kept_of s.states seat v left here refl i ++ keeps_nothing i ∷ [])
 
-    abbrev rooms_apart : Change (map rooms_held s.states) (map rooms_held (set s.states seat left ++ right ∷ [])) (v.rooms ∷ []) (v.rooms ∷ no_rooms ∷ [])
-    rooms_apart = change_parts rooms_held apart
+    abbrev divided_rooms : List RoomHolds
+    divided_rooms = map rooms_held (set s.states seat left ++ right ∷ [])
 
-    at_rooms : get_elem? (map rooms_held s.states) seat ≡ some v.rooms
-    at_rooms = at_map rooms_held s.states seat v here
+    rooms_then : RoomBundles z m.rooms m.arena.bytes divided_rooms
+    rooms_then = bundles_moved z m.rooms m.arena.bytes rs divided_rooms (v.rooms ∷ []) (v.rooms ∷ no_rooms ∷ []) (change_parts rooms_held apart) (apart_level v.rooms) all_rooms (rooms_now z s r)
 
-    rooms_then : RoomBundles z m.rooms m.arena.bytes (map rooms_held (set s.states seat left ++ right ∷ []))
-    rooms_then = bundles_moved z m.rooms m.arena.bytes (map rooms_held s.states) (map rooms_held (set s.states seat left ++ right ∷ [])) (v.rooms ∷ []) (v.rooms ∷ no_rooms ∷ []) rooms_apart (apart_level v.rooms) (λ P every none. (every seat v.rooms at_rooms, (none, tt))) (rooms_now z s r)
-
-    owners_then : (c b : ℕ) → all_others z m (map rooms_held (set s.states seat left ++ right ∷ [])) c b ≡ all_others z m (map rooms_held s.states) c b
-    owners_then c b = let e = sums_moved z m.rooms m.arena.bytes (map rooms_held s.states) (map rooms_held (set s.states seat left ++ right ∷ [])) (v.rooms ∷ []) (v.rooms ∷ no_rooms ∷ []) rooms_apart (apart_level v.rooms) (λ P every none. (every seat v.rooms at_rooms, (none, tt)))
-        (used_at m.rooms (content m.arena.bytes)) (each (owning (names_block c b))) in omega arith
+    owners_then : (c b : ℕ) → all_others z m divided_rooms c b ≡ all_others z m rs c b
+    owners_then c b = let e = sums_moved z m.rooms m.arena.bytes rs divided_rooms (v.rooms ∷ []) (v.rooms ∷ no_rooms ∷ []) (change_parts rooms_held apart) (apart_level v.rooms) all_rooms (used_at m.rooms (content m.arena.bytes)) (each (owning (names_block c b))) in omega arith
 
     pub split_keeps : Rule z record { words = s.words; states = set s.states seat left ++ right ∷ [] }
     split_keeps = record {
@@ -114,8 +117,8 @@ module _ (z : Sizes) (s : TableState) (seat : ℕ) (v : PassState) (r : Rule z s
       histories = histories_frame (change_parts knowledge_of apart) seat v.knowledge (at_map knowledge_of s.states seat v here) r.histories
           (λ k. let h = r.histories k seat v.knowledge (at_map knowledge_of s.states seat v here) in (h, (h, tt)))
           (λ k y g. (v.knowledge, (change_parts knowledge_of apart).come.0, ⊎_elim (λ (q : v.knowledge ≡ y). let e = ap (λ (z : Knowledge). length (seen_of k z)) q in omega arith) (λ (q : ⊥). absurd q) g));
-      blocks = blocks_frame z m.arena.bits (all_others z m (map rooms_held s.states)) (all_others z m (map rooms_held (set s.states seat left ++ right ∷ []))) (change_parts blocks_of apart) r.blocks (r.blocks.whole seat v.blocks (at_map blocks_of s.states seat v here), (tt, tt))
-          (λ c b. level c b (all_others z m (map rooms_held s.states) c b) (all_others z m (map rooms_held (set s.states seat left ++ right ∷ [])) c b) v.blocks (owners_then c b));
+      blocks = blocks_frame z m.arena.bits (all_others z m rs) (all_others z m divided_rooms) (change_parts blocks_of apart) r.blocks (r.blocks.whole seat v.blocks (at_map blocks_of s.states seat v here), (tt, tt))
+          (λ c b. level c b (all_others z m rs c b) (all_others z m divided_rooms c b) v.blocks (owners_then c b));
       rooms = rooms_then.rooms;
       covers = rooms_then.covers;
       headers = headers_divided m.headers (content m.arena.bytes) IsPlace (known (map knowledge_of s.states)) (known (map knowledge_of (set s.states seat left ++ right ∷ []))) (known_split s.states seat v here)
@@ -145,21 +148,17 @@ module _ (z : Sizes) (s : TableState) (seat : ℕ) (v : PassState) (r : Rule z s
     same_words : map kept_of (set (set s.states seat both) other spent_state) ≡ map kept_of s.states
     same_words = map_set_same kept_of (set s.states seat both) other w spent_state (set_else s.states seat other both ne ∙ there) (kept_spent ∙ sym kept_w) ∙ map_set_same kept_of s.states seat v both here refl
 
-    abbrev rooms_together : Change (map rooms_held s.states) (map rooms_held (set (set s.states seat both) other spent_state)) (v.rooms ∷ w.rooms ∷ []) (v.rooms ∷ no_rooms ∷ [])
-    rooms_together = change_parts rooms_held together
+    abbrev joined_rooms : List RoomHolds
+    joined_rooms = map rooms_held (set (set s.states seat both) other spent_state)
 
     rooms_level : (f : RoomHolds → ℕ) → f no_rooms ≡ 0 → total f (v.rooms ∷ no_rooms ∷ []) ≡ total f (v.rooms ∷ w.rooms ∷ [])
     rooms_level f _ = ap (λ (h : RoomHolds). total f (v.rooms ∷ h ∷ [])) (sym may.idle.rooms)
 
-    rooms_here : get_elem? (map rooms_held s.states) seat ≡ some v.rooms
-    rooms_here = at_map rooms_held s.states seat v here
+    rooms_joined : RoomBundles z m.rooms m.arena.bytes joined_rooms
+    rooms_joined = bundles_moved z m.rooms m.arena.bytes rs joined_rooms (v.rooms ∷ w.rooms ∷ []) (v.rooms ∷ no_rooms ∷ []) (change_parts rooms_held together) rooms_level all_rooms (rooms_now z s r)
 
-    rooms_joined : RoomBundles z m.rooms m.arena.bytes (map rooms_held (set (set s.states seat both) other spent_state))
-    rooms_joined = bundles_moved z m.rooms m.arena.bytes (map rooms_held s.states) (map rooms_held (set (set s.states seat both) other spent_state)) (v.rooms ∷ w.rooms ∷ []) (v.rooms ∷ no_rooms ∷ []) rooms_together rooms_level (λ P every none. (every seat v.rooms rooms_here, (none, tt))) (rooms_now z s r)
-
-    owners_joined : (c b : ℕ) → all_others z m (map rooms_held (set (set s.states seat both) other spent_state)) c b ≡ all_others z m (map rooms_held s.states) c b
-    owners_joined c b = let e = sums_moved z m.rooms m.arena.bytes (map rooms_held s.states) (map rooms_held (set (set s.states seat both) other spent_state)) (v.rooms ∷ w.rooms ∷ []) (v.rooms ∷ no_rooms ∷ []) rooms_together rooms_level (λ P every none. (every seat v.rooms rooms_here, (none, tt)))
-        (used_at m.rooms (content m.arena.bytes)) (each (owning (names_block c b))) in omega arith
+    owners_joined : (c b : ℕ) → all_others z m joined_rooms c b ≡ all_others z m rs c b
+    owners_joined c b = let e = sums_moved z m.rooms m.arena.bytes rs joined_rooms (v.rooms ∷ w.rooms ∷ []) (v.rooms ∷ no_rooms ∷ []) (change_parts rooms_held together) rooms_level all_rooms (used_at m.rooms (content m.arena.bytes)) (each (owning (names_block c b))) in omega arith
 
     pub join_keeps : Rule z record { words = s.words; states = set (set s.states seat both) other spent_state }
     join_keeps = let av = at_map knowledge_of s.states seat v here in let aw = at_map knowledge_of s.states other w there in record {
@@ -178,8 +177,8 @@ module _ (z : Sizes) (s : TableState) (seat : ℕ) (v : PassState) (r : Rule z s
             ⊎_elim (λ (q : v.knowledge ≡ y). let e = ap (λ (z : Knowledge). length (seen_of k z)) q in omega arith)
                 (λ (q : (w.knowledge ≡ y) ⊎ ⊥). ⊎_elim (λ (q : w.knowledge ≡ y). let e = ap (λ (z : Knowledge). length (seen_of k z)) q in omega arith) (λ (q : ⊥). absurd q) q) g,
           ));
-      blocks = blocks_frame z m.arena.bits (all_others z m (map rooms_held s.states)) (all_others z m (map rooms_held (set (set s.states seat both) other spent_state))) (change_parts blocks_of together) r.blocks (r.blocks.whole seat v.blocks (at_map blocks_of s.states seat v here), (tt, tt))
-          (λ c b. level-both c b (all_others z m (map rooms_held s.states) c b) (all_others z m (map rooms_held (set (set s.states seat both) other spent_state)) c b) v.blocks w.blocks may.idle.blocks (owners_joined c b));
+      blocks = blocks_frame z m.arena.bits (all_others z m rs) (all_others z m joined_rooms) (change_parts blocks_of together) r.blocks (r.blocks.whole seat v.blocks (at_map blocks_of s.states seat v here), (tt, tt))
+          (λ c b. level-both c b (all_others z m rs c b) (all_others z m joined_rooms c b) v.blocks w.blocks may.idle.blocks (owners_joined c b));
       rooms = rooms_joined.rooms;
       covers = rooms_joined.covers;
       headers = headers_joined m.headers (content m.arena.bytes) IsPlace (known (map knowledge_of s.states)) (known (map knowledge_of (set (set s.states seat both) other spent_state))) (known_join s.states seat v here other w there ne)

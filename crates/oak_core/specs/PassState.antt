@@ -9,6 +9,7 @@ use Rattle.arena_core.specs.HeldBlocks.{no_blocks, kept_of_blocks}
 use Rattle.header_core.specs.declared.holds.HeaderHolds.{HeaderHolds}
 use Rattle.header_core.specs.HeaderHolds.{no_headers, kept_of_headers}
 use Rattle.chunk_core.specs.declared.holds.RoomHolds.{RoomHolds}
+use Rattle.chunk_core.specs.KeptRooms.{kept_of_rooms}
 use Rattle.chunk_core.specs.RoomHolds.{no_rooms}
 use Rattle.oak_core.specs.declared.states.KeyedWrite.{KeyedWrite}
 use Rattle.oak_core.specs.declared.states.Knowledge.{Knowledge}
@@ -16,7 +17,7 @@ use Rattle.oak_core.specs.declared.states.Findings.{Findings}
 use Rattle.oak_core.specs.declared.states.Joined.{Joined}
 use Rattle.oak_core.specs.declared.states.Numbers.{Numbers}
 use Rattle.oak_core.specs.declared.states.PassState.{PassState}
-use Rattle.oak_core.specs.Memory.{Spot, in_arena, in_headers}
+use Rattle.oak_core.specs.Memory.{Spot, in_arena, in_headers, in_rooms}
 use Rattle.oak_core.specs.Owners.{header_blocks}
 
 abbrev pub blocks_of : PassState → HeldBlocks
@@ -43,6 +44,10 @@ kept_with_headers v = renamed in_arena (kept_of_blocks (header_blocks v.headers.
 
 abbrev pub kept_of : PassState → List (KeptWord Spot)
 kept_of v = renamed in_arena (kept_of_blocks v.blocks.held) ++ kept_with_headers v
+
+-- with those of rooms
+abbrev pub kept_of_all : PassState → List (KeptWord Spot)
+kept_of_all v = kept_of v ++ renamed in_rooms (kept_of_rooms v.rooms)
 
 -- numbers
 
