@@ -7,7 +7,7 @@ use Rattle.oak_model.specs.Counts.{one_at, Each}
 use Rattle.oak_model.specs.Limits.{Sizes}
 use Rattle.oak_model.proofs.Changes.{stepped}
 use Rattle.oak_model.proofs.Lists.{map_set_same, rows_length}
-use Rattle.oak_model.proofs.PutLaws.{put-here, put-else, put-cases}
+use Rattle.oak_model.proofs.PutLaws.{put-else, put-here, put-same}
 use Rattle.chunk_core.specs.declared.layout.TheConstants.{BOUND_WORDS}
 use Rattle.chunk_core.specs.declared.states.TheConstants.{FREE, OPEN, FROZEN, HELD}
 use Rattle.chunk_core.specs.declared.holds.Carried.{Carried}
@@ -38,7 +38,7 @@ whole_copy z m r = record { low = rows_length 0 BOUND_WORDS (m.low r); high = ro
 pub weight_covers : (z : Sizes) (m : RoomMemory) (content : ℕ → List ℕ) (hs : List RoomHolds) (seat : ℕ) (a b : RoomHolds) → get_elem? hs seat ≡ some a → b.moving ≡ a.moving → (r x : ℕ) → weight x ≡ weight (m.pin r)
     → (F : Cover → ℕ) → all_of z (put_room m (at_room_pin r) x) content (set hs seat b) F ≡ all_of z m content hs F
 weight_covers z m content hs seat a b here moving r x same F = covers_same z.chunks m.pin (put_room m (at_room_pin r) x).pin (cover_at m content) (cover_at (put_room m (at_room_pin r) x) content) (map moving_of (set hs seat b)) F
-    (λ j _. ap (λ (t : ℕ). t * F (cover_at m content j)) (put-cases m.pin r x j (λ w. weight w ≡ weight (m.pin j)) (λ e. same ∙ ap (λ (t : ℕ). weight (m.pin t)) (sym e)) (λ _. refl)))
+    (λ j _. ap (λ (t : ℕ). t * F (cover_at m content j)) (put-same m.pin r x weight same j))
     ∙ ap (λ (ms : List (List Cover)). covers z.chunks m.pin (cover_at m content) ms F) (map_set_same moving_of hs seat a b here (ap (map cover_from) moving))
 
 module _ (z : Sizes) (m : RoomMemory) (content : ℕ → List ℕ) (is_key_word : ℕ → ℕ) (hs : List RoomHolds) (rule : RoomsStand z m content hs) (parts : CoversPartition z m content is_key_word hs) (seat : ℕ) (a : RoomHolds) (here : get_elem? hs seat ≡ some a)

@@ -13,7 +13,7 @@ use Rattle.oak_model.specs.Counts.{one_at, put}
 use Rattle.oak_model.specs.Limits.{Sizes}
 use Rattle.oak_model.proofs.Counting.{one_at-same, one_at-other, one_at-true, total_at}
 use Rattle.oak_model.proofs.Lists.{map_set_same}
-use Rattle.oak_model.proofs.PutLaws.{put-here, put-else, put-cases}
+use Rattle.oak_model.proofs.PutLaws.{put-here, put-else, put-same}
 use Rattle.chunk_core.specs.CoverRule.{CoversPartition}
 use Rattle.chunk_core.specs.CoverSums.{covers, weight, all_of}
 use Rattle.chunk_core.specs.Covers.{Cover, cover_at, moving_of}
@@ -41,10 +41,7 @@ module _ (z : Sizes) (m : RoomMemory) (content : ℕ → List ℕ) (hs : List Ro
   hs' = set hs seat b
 
   pub state_still : (j : ℕ) → state_of (m'.pin j) ≡ state_of (m.pin j)
-  state_still j = put-cases m.pin r x j (λ w. state_of w ≡ state_of (m.pin j)) (λ e. state ∙ ap (λ (t : ℕ). state_of (m.pin t)) (sym e)) (λ _. refl)
-
-  generation_still : (j : ℕ) → generation_of (m'.pin j) ≡ generation_of (m.pin j)
-  generation_still j = put-cases m.pin r x j (λ w. generation_of w ≡ generation_of (m.pin j)) (λ e. generation ∙ ap (λ (t : ℕ). generation_of (m.pin t)) (sym e)) (λ _. refl)
+  state_still = put-same m.pin r x state_of state
 
   pub weight_still : (j : ℕ) → weight (m'.pin j) ≡ weight (m.pin j)
   weight_still j = ap (λ (t : ℕ). one_at t OPEN + one_at t FROZEN) (state_still j)
@@ -61,7 +58,7 @@ module _ (z : Sizes) (m : RoomMemory) (content : ℕ → List ℕ) (hs : List Ro
     pins = counts;
     held = λ j s is. let e = ap (λ (t : ℕ). one_at t s) (state_still j) in omega arith;
     states = λ j. let e = state_still j in let l = rule.states j in omega arith;
-    generations = generation_still;
+    generations = put-same m.pin r x generation_of generation;
     latch = λ j. refl;
     latches = rule.latches;
     ordered = λ j w. rule.ordered j (sym (weight_still j) ∙ w);

@@ -8,7 +8,7 @@ use Rattle.pin_word.specs.PinWord.{state_of, generation_of, count_of}
 use Rattle.oak_model.specs.Counts.{one_at, Each}
 use Rattle.oak_model.specs.Limits.{Sizes}
 use Rattle.oak_model.proofs.Counting.{one_at-same, total_at}
-use Rattle.oak_model.proofs.PutLaws.{put-here, put-else, put-cases}
+use Rattle.oak_model.proofs.PutLaws.{put-here, put-else, put-cases, put-same}
 use Rattle.chunk_core.specs.declared.states.TheConstants.{FROZEN, HELD}
 use Rattle.chunk_core.specs.declared.holds.HeldRoom.{HeldRoom}
 use Rattle.chunk_core.specs.declared.holds.MovingRange.{MovingRange}
@@ -59,10 +59,10 @@ module _ (z : Sizes) (m : RoomMemory) (content : ℕ → List ℕ) (hs : List Ro
 
   pub restated : RoomsStand z (put_room m (at_room_pin r) x) content (set hs seat (record a { held = held; moving = moving }))
   restated = rooms_stepped z m m' content hs seat a b here (record {
-    pins = λ j. let e = put-cases m.pin r x j (λ t. count_of t ≡ count_of (m.pin j)) (λ e. count ∙ ap (λ (t : ℕ). count_of (m.pin t)) (sym e)) (λ _. refl) in omega arith;
+    pins = λ j. let e = put-same m.pin r x count_of count j in omega arith;
     held = held_now;
     states = λ j. put-cases m.pin r x j (λ t. state_of t ≤ HELD) (λ _. known) (λ _. rule.states j);
-    generations = λ j. put-cases m.pin r x j (λ t. generation_of t ≡ generation_of (m.pin j)) (λ e. generation ∙ ap (λ (t : ℕ). generation_of (m.pin t)) (sym e)) (λ _. refl);
+    generations = put-same m.pin r x generation_of generation;
     latch = λ j. refl;
     latches = rule.latches;
     ordered = λ j. put-cases m.pin r x j (λ t. weight t ≡ 1 → IsInOrder z content (m.count j) (m.key j) (m.low j 0) (m.high j 0))

@@ -5,7 +5,7 @@ use mathlib.Core.Option.{some, some-injective}
 use native.Mathlib.Decide.{ℕ_discrete, dec_lt}
 use lib.ListN.{get_elem?}
 use prog.Atomic.{either}
-use Rattle.pin_word.specs.PinWord.{generation_of, state_of, count_of}
+use Rattle.pin_word.specs.PinWord.{generation_of, state_of, count_of, STATE}
 use Rattle.oak_model.specs.Counts.{one_at, put, Every}
 use Rattle.oak_model.proofs.Counting.{one_at-same, one_at-other, total_at}
 use Rattle.header_core.specs.declared.states.TheConstants.{FREE, OWNED, LIVE, LOCKED, DEAD}
@@ -17,7 +17,7 @@ use Rattle.header_core.specs.declared.holds.HeaderHolds.{HeaderHolds}
 use Rattle.header_core.specs.Headers.{HeaderMemory, at_pin}
 use Rattle.header_core.specs.HeaderHolds.{pins_of, held_state, in_state, fresh_at, without_header}
 use Rattle.header_core.specs.HeaderRule.{OnPin, HeadersStand, PinsWhatItKnows}
-use Rattle.header_core.specs.HeaderStep.{STATE, claim_header, open_header, release_header, IsFreeWord, MayRelease, header_effect, headers_after, put_header, freshened, owned_at}
+use Rattle.header_core.specs.HeaderStep.{claim_header, open_header, release_header, IsFreeWord, MayRelease, header_effect, headers_after, put_header, freshened, owned_at}
 use Rattle.header_core.proofs.HeldChanges.{rows_taken-here, rows_taken-others, rows_freshened-live, rows_freshened-else, rows_freshened-others, each_freshened, rows_without-here, rows_without-others, each_without}
 use Rattle.header_core.proofs.StockedStates.{stocked_high}
 use Rattle.header_core.proofs.HeaderStores.{not_over}

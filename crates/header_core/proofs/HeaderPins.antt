@@ -14,7 +14,9 @@ use Rattle.header_core.specs.HeaderHolds.{pins_of, pins_on}
 use Rattle.header_core.specs.HeaderRule.{stocked, IsOver, HeadersStand}
 use Rattle.header_core.specs.HeaderStep.{pin_header, unpin_header, header_effect, headers_after, put_header}
 use Rattle.header_core.proofs.HeaderLaws.{OneStands, one_stands, still_stands, headers_change}
-use Rattle.header_core.proofs.PinWordChanges.{pin_up, pin_down, put-cases, with_pin, same_generation, still_holds, still_removed}
+use Rattle.pin_word.proofs.StepLaws.{pin_up, pin_down}
+use Rattle.oak_model.proofs.PutLaws.{put-cases}
+use Rattle.header_core.proofs.PinWordChanges.{with_pin, same_generation, still_holds, still_removed}
 
 module _ (m : HeaderMemory) (content : ℕ → List ℕ) (IsPlace : ℕ → Type 0) (known : ℕ → ℕ → ℕ) (hs : List HeaderHolds) (r : HeadersStand m content IsPlace known hs) (seat : ℕ) (a : HeaderHolds) (there : get_elem? hs seat ≡ some a) (h : ℕ) (small : m.pin h < 2 ^ 64) where
   -- the count of h changes with the pass's pin, and nothing else

@@ -20,7 +20,8 @@ use Rattle.header_core.specs.HeaderStep.{put_header}
 use Rattle.header_core.proofs.HeldHeaders.{held_in, rows_in, total_alone}
 use Rattle.header_core.proofs.HeaderFacts.{holds_some, unheld_none, has_all, unheld_else}
 use Rattle.header_core.proofs.HeaderLaws.{on_pin, each_held, OneStands, headers_change}
-use Rattle.header_core.proofs.PinWordChanges.{put-cases, put-else, put-again, with_pin, same_generation, still_holds, still_removed}
+use Rattle.oak_model.proofs.PutLaws.{put-cases, put-else, put-again}
+use Rattle.header_core.proofs.PinWordChanges.{with_pin, same_generation, still_holds, still_removed}
 
 pub decided : (n old : ℕ) (F : Bool → Type 0) → (n ≡ old → F true) → (n ≢ old → F false) → F (n == old)
 decided n old F hit miss = dite (ℕ_discrete n old) (λ e. subst F (sym (eq-eqb n old e)) (hit e)) (λ ne. subst F (sym (ne_eqb n old ne)) (miss ne))

@@ -11,7 +11,7 @@ use Rattle.header_core.proofs.HeldHeaders.{fresh_in}
 use Rattle.header_core.proofs.HeldChanges.{fresh_placed, fresh_stamped, fresh_changed, fresh_taken, fresh_freshened, fresh_without-others, fresh_buried-others}
 use Rattle.header_core.proofs.HeaderFacts.{held_is, fresh_at_is}
 use Rattle.header_core.proofs.HeaderLaws.{on_pin}
-use Rattle.pin_word.specs.PinWord.{generation_of, state_of}
+use Rattle.pin_word.specs.PinWord.{generation_of, state_of, STATE}
 use Rattle.oak_model.specs.Counts.{total, Every}
 use Rattle.header_core.specs.declared.states.TheConstants.{OWNED, LIVE, LOCKED, DEAD, RETIRED}
 use Rattle.header_core.specs.declared.holds.HeldAs.TheVariants.{Owned, Fresh, Locked, Buried}
@@ -19,7 +19,7 @@ use Rattle.header_core.specs.declared.holds.HeaderHolds.{HeaderHolds}
 use Rattle.header_core.specs.Headers.{HeaderMemory, read_header}
 use Rattle.header_core.specs.HeaderHolds.{pins_on, in_state, fresh_at, without_header}
 use Rattle.header_core.specs.HeaderRule.{OnPin, HeadersStand, PinsWhatItKnows}
-use Rattle.header_core.specs.HeaderStep.{STATE, HeaderStep, claim_header, store_place, store_stamp, change_place, open_header, pin_header, unpin_header, release_header, lock_header, unlock_header, mark_dead, take_back, header_spot, header_effect, MayHeader, headers_after, put_header, placed_at, stamped_at, freshened, changed_at, buried_at, owned_at, locked_at}
+use Rattle.header_core.specs.HeaderStep.{HeaderStep, claim_header, store_place, store_stamp, change_place, open_header, pin_header, unpin_header, release_header, lock_header, unlock_header, mark_dead, take_back, header_spot, header_effect, MayHeader, headers_after, put_header, placed_at, stamped_at, freshened, changed_at, buried_at, owned_at, locked_at}
 use Rattle.header_core.proofs.HeaderPins.{pin_keeps, unpin_keeps}
 use Rattle.header_core.proofs.HeaderStores.{store_place_keeps, store_stamp_keeps, change_place_keeps}
 use Rattle.header_core.proofs.HeaderStates.{decided}

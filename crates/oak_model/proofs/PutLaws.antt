@@ -1,6 +1,7 @@
 -- A function in which one value is exchanged.
-use Rattle.std.proofs.Common.{◌≡◌, ◌≢◌, ℕ, cond, Bool, sym, ap, subst, eq-eqb, ne_eqb}
+use Rattle.std.proofs.Common.{◌≡◌, ◌≢◌, ℕ, cond, Bool, sym, refl, ap, ◌∙◌, subst, eq-eqb, ne_eqb}
 use mathlib.Core.Logic.{dite}
+use mathlib.Core.Path.{fun_ext}
 use native.Mathlib.Decide.{ℕ_discrete}
 use Rattle.oak_model.specs.Counts.{put}
 
@@ -14,3 +15,11 @@ module _ {A : Type 0} where
   -- what holds of the new value at i, and of the old ones elsewhere, holds of put f i x
   pub put-cases : (f : ℕ → A) (i : ℕ) (x : A) (k : ℕ) (P : A → Type 0) → (k ≡ i → P x) → (k ≢ i → P (f k)) → P (put f i x k)
   put-cases f i x k P here other = dite (ℕ_discrete k i) (λ e. subst P (sym (put-here f i x k e)) (here e)) (λ n. subst P (sym (put-else f i x k n)) (other n))
+
+  -- what g says of the value at i stays, so it stays of each
+  pub put-same : {B : Type 0} (f : ℕ → A) (i : ℕ) (x : A) (g : A → B) → g x ≡ g (f i) → (k : ℕ) → g (put f i x k) ≡ g (f k)
+  put-same f i x g same k = put-cases f i x k (λ y. g y ≡ g (f k)) (λ e. same ∙ ap (λ (j : ℕ). g (f j)) (sym e)) (λ _. refl)
+
+  -- the value that it had
+  pub put-again : (f : ℕ → A) (i : ℕ) → put f i (f i) ≡ f
+  put-again f i = fun_ext (λ k. put-same f i (f i) (λ y. y) refl k)
