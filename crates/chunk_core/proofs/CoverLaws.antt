@@ -1,16 +1,20 @@
 -- What is added up over the covers, when a room changes and what passes hold.
 use Rattle.std.proofs.Common.{◌≡◌, ◌≢◌, ℕ, ◌+◌, ◌*◌, ◌<◌, ◌≤◌, List, map, ap, arith}
+use mathlib.Core.Option.{some}
+use lib.ListN.{get_elem?}
 use Rattle.pin_word.specs.PinWord.{state_of}
 use Rattle.chunk_core.specs.declared.states.TheConstants.{OPEN, FROZEN}
+use Rattle.chunk_core.specs.declared.holds.MovingRange.{MovingRange}
 use Rattle.chunk_core.specs.declared.holds.RoomHolds.{RoomHolds}
 use Rattle.oak_model.specs.Counts.{one_at, total, below}
 use Rattle.oak_model.specs.Limits.{Sizes}
 use Rattle.oak_model.proofs.Changes.{Change}
-use Rattle.oak_model.proofs.Counting.{one_at-cases, one_at-other, one_at-le, total_map, below_same, below_add}
+use Rattle.oak_model.proofs.Counting.{one_at-cases, one_at-other, one_at-le, total_at, total_map, below_at, below_same, below_add}
+use Rattle.oak_model.proofs.Lists.{at_map}
 use Rattle.oak_model.proofs.RowLaws.{total_le}
 use Rattle.oak_model.proofs.SumLaws.{times_le, below_set, below_le, total_same, total_plus, times-one, times-none}
 use Rattle.chunk_core.specs.CoverSums.{covers, each, weight, all_of}
-use Rattle.chunk_core.specs.Covers.{Entry, Cover, cover_at, span_in, entry_at, moving_of}
+use Rattle.chunk_core.specs.Covers.{Entry, Cover, cover_at, span_in, entry_at, cover_from, moving_of}
 use Rattle.chunk_core.specs.LinkedEntries.{linked}
 use Rattle.chunk_core.specs.Rooms.{RoomMemory}
 use Rattle.chunk_core.specs.Spans.{Span}
@@ -22,6 +26,20 @@ moves F a = total F (moving_of a)
 pub covers_parts : (n : ℕ) (pin : ℕ → ℕ) (cover : ℕ → Cover) (hs : List RoomHolds) (F : Cover → ℕ) → covers n pin cover (map moving_of hs) F ≡ below (λ r. weight (pin r) * F (cover r)) n + total (moves F) hs
 unfolding covers
 covers_parts n pin cover hs F = ap (λ (t : ℕ). below (λ r. weight (pin r) * F (cover r)) n + t) (total_map moving_of (total F) hs)
+
+-- what a room that is a cover adds is no more than all
+pub room_le : (n : ℕ) (pin : ℕ → ℕ) (cover : ℕ → Cover) (ms : List (List Cover)) (F : Cover → ℕ) (r : ℕ) → r < n → weight (pin r) ≡ 1 → F (cover r) ≤ covers n pin cover ms F
+unfolding covers
+room_le n pin cover ms F r l w = let t = below_at (λ j. weight (pin j) * F (cover j)) n r l in let q = times-one (weight (pin r)) (F (cover r)) w in omega arith
+
+-- nor is what a pass's ranges add
+pub moves_le : (n : ℕ) (pin : ℕ → ℕ) (cover : ℕ → Cover) (hs : List RoomHolds) (F : Cover → ℕ) (seat : ℕ) (a : RoomHolds) → get_elem? hs seat ≡ some a → total F (moving_of a) ≤ covers n pin cover (map moving_of hs) F
+moves_le n pin cover hs F seat a here = let p = covers_parts n pin cover hs F in let t = total_at (moves F) hs seat a here in omega arith
+
+-- nor what one of them adds
+pub range_le : (n : ℕ) (pin : ℕ → ℕ) (cover : ℕ → Cover) (hs : List RoomHolds) (F : Cover → ℕ) (seat : ℕ) (a : RoomHolds) → get_elem? hs seat ≡ some a
+    → (i : ℕ) (g : MovingRange) → get_elem? a.moving i ≡ some g → F (cover_from g) ≤ covers n pin cover (map moving_of hs) F
+range_le n pin cover hs F seat a here i g at = let l = moves_le n pin cover hs F seat a here in let t = total_at F (moving_of a) i (cover_from g) (at_map cover_from a.moving i g at) in omega arith
 
 -- the one law: a room changes, and what some passes hold
 pub covers_step : (n : ℕ) (pin pin' : ℕ → ℕ) (cover cover' : ℕ → Cover) (hs hs' gone fresh : List RoomHolds) (c : Change hs hs' gone fresh) (r : ℕ) (F : Cover → ℕ)

@@ -1,8 +1,6 @@
 -- The pin word of a room changes and its state stays, with the pin of a pass: a pin is made, or undone.
 use Rattle.std.proofs.Common.{◌≡◌, ℕ, ◌+◌, ◌-◌, ◌*◌, ◌%◌, ◌^◌, ◌<◌, List, map, set, sym, refl, ap, ◌∙◌, subst, arith, Option, Some, None}
-use mathlib.Core.Logic.{dite}
 use mathlib.Core.Option.{some}
-use native.Mathlib.Decide.{ℕ_discrete}
 use lib.ListN.{get_elem?}
 use Rattle.pin_word.specs.PinWord.{state_of, generation_of, count_of}
 use Rattle.pin_word.proofs.StepLaws.{pin_up, pin_down}
@@ -13,7 +11,7 @@ use Rattle.oak_model.specs.Counts.{one_at, put}
 use Rattle.oak_model.specs.Limits.{Sizes}
 use Rattle.oak_model.proofs.Counting.{one_at-same, one_at-other, one_at-true, total_at}
 use Rattle.oak_model.proofs.Lists.{map_set_same}
-use Rattle.oak_model.proofs.PutLaws.{put-here, put-else, put-same}
+use Rattle.oak_model.proofs.PutLaws.{put-level, put-same}
 use Rattle.chunk_core.specs.CoverRule.{CoversPartition}
 use Rattle.chunk_core.specs.CoverSums.{covers, weight, all_of}
 use Rattle.chunk_core.specs.Covers.{Cover, cover_at, moving_of}
@@ -24,7 +22,7 @@ use Rattle.chunk_core.specs.RoomRule.{LatchIsPinned, room_pins, RoomHoldsStand, 
 use Rattle.chunk_core.specs.RoomStep.{put_room}
 use Rattle.chunk_core.specs.Rooms.{RoomMemory, at_room_pin}
 use Rattle.chunk_core.proofs.CoverFrames.{partition_same}
-use Rattle.chunk_core.proofs.RoomFrames.{rooms_stepped}
+use Rattle.chunk_core.proofs.RoomFrames.{good_still, rooms_stepped}
 use Rattle.chunk_core.proofs.CoverLaws.{covers_same}
 
 module _ (z : Sizes) (m : RoomMemory) (content : ℕ → List ℕ) (hs : List RoomHolds) (rule : RoomsStand z m content hs) (seat : ℕ) (a : RoomHolds) (here : get_elem? hs seat ≡ some a)
@@ -49,10 +47,6 @@ module _ (z : Sizes) (m : RoomMemory) (content : ℕ → List ℕ) (hs : List Ro
   still_holds : (p : PinnedRoom) → RoomPinHolds z m content p → RoomPinHolds z m' content p
   still_holds p h = record { inside = h.inside; cover = weight_still p.room ∙ h.cover; base = h.base; low = h.low; high = h.high; counted = h.counted; entries = h.entries }
 
-  on : (q : Option PinnedRoom) → OnRoomPin (λ p. IsGoodRoom p → RoomPinHolds z m content p) q → OnRoomPin (λ p. IsGoodRoom p → RoomPinHolds z m' content p) q
-  on None h = tt
-  on (Some p) h = λ is. still_holds p (h is)
-
   pub pins_stand : RoomsStand z m' content hs'
   pins_stand = rooms_stepped z m m' content hs seat a b here (record {
     pins = counts;
@@ -63,7 +57,7 @@ module _ (z : Sizes) (m : RoomMemory) (content : ℕ → List ℕ) (hs : List Ro
     latches = rule.latches;
     ordered = λ j w. rule.ordered j (sym (weight_still j) ∙ w);
     others = λ j u p ne at is h. still_holds p h;
-    own = on o good;
+    own = good_still z m m' content content o (λ p _ h. still_holds p h) good;
     carried = rule.carried seat a here;
     stands = stands;
   }) rule
@@ -80,9 +74,8 @@ module _ (z : Sizes) (m : RoomMemory) (content : ℕ → List ℕ) (hs : List Ro
 module _ (z : Sizes) (m : RoomMemory) (content : ℕ → List ℕ) (hs : List RoomHolds) (rule : RoomsStand z m content hs) (seat : ℕ) (a : RoomHolds) (here : get_elem? hs seat ≡ some a)
     (r : ℕ) (inside : r < z.chunks) (none : a.pin ≡ None) (few : count_of (m.pin r) + 1 < 2 ^ 28) (small : m.pin r < 2 ^ 64) where
   up_counts : (j : ℕ) → pins_of j (Some (pinned_at m r)) + count_of (m.pin j) ≡ pins_of j a.pin + count_of (put m.pin r ((m.pin r + 1) % 2 ^ 64) j)
-  up_counts j = let u = pin_up (m.pin r) few small in let u0 = u.0 in let n = ap (pins_of j) none in dite (ℕ_discrete j r)
-      (λ e. let h = ap count_of (put-here m.pin r ((m.pin r + 1) % 2 ^ 64) j e) in let o = one_at-same r j (sym e) in let w = ap (λ (t : ℕ). count_of (m.pin t)) e in omega arith)
-      (λ ne. let h = ap count_of (put-else m.pin r ((m.pin r + 1) % 2 ^ 64) j ne) in let o = one_at-other r j (λ e. ne (sym e)) in omega arith)
+  up_counts = let u = pin_up (m.pin r) few small in put-level m.pin r ((m.pin r + 1) % 2 ^ 64) count_of (λ j. pins_of j a.pin) (λ j. one_at r j) (let u0 = u.0 in let n = ap (pins_of r) none in let o = one_at-same r r refl in omega arith)
+      (λ j ne. one_at-other r j (λ e. ne (sym e)) ∙ sym (ap (pins_of j) none))
 
   no_latch : a.latch ≡ None
   no_latch = go a.pin a.latch none (rule.passes seat a here).latch
@@ -115,9 +108,7 @@ module _ (z : Sizes) (m : RoomMemory) (content : ℕ → List ℕ) (hs : List Ro
       go (Some p) e = ap (λ (t : ℕ). one_at t j) (one_at-true p.room r (omega arith))
 
   down_counts : (j : ℕ) → pins_of j None + count_of (m.pin j) ≡ pins_of j a.pin + count_of (put m.pin r ((m.pin r + (2 ^ 64 - 1)) % 2 ^ 64) j)
-  down_counts j = let d = pin_down (m.pin r) some_pin small in let d0 = d.0 in let n = own_pin j in dite (ℕ_discrete j r)
-      (λ e. let h = ap count_of (put-here m.pin r ((m.pin r + (2 ^ 64 - 1)) % 2 ^ 64) j e) in let o = one_at-same r j (sym e) in let w = ap (λ (t : ℕ). count_of (m.pin t)) e in omega arith)
-      (λ ne. let h = ap count_of (put-else m.pin r ((m.pin r + (2 ^ 64 - 1)) % 2 ^ 64) j ne) in let o = one_at-other r j (λ e. ne (sym e)) in omega arith)
+  down_counts = let d = pin_down (m.pin r) some_pin small in put-level m.pin r ((m.pin r + (2 ^ 64 - 1)) % 2 ^ 64) count_of (λ j. pins_of j a.pin) (λ _. 0) (let d0 = d.0 in omega arith) (λ j ne. sym (own_pin j ∙ one_at-other r j (λ e. ne (sym e))))
 
   pub unpin_stands : RoomsStand z (put_room m (at_room_pin r) ((m.pin r + (2 ^ 64 - 1)) % 2 ^ 64)) content (set hs seat (record a { pin = None }))
   unpin_stands = let d = pin_down (m.pin r) some_pin small in pins_stand z m content hs rule seat a here r ((m.pin r + (2 ^ 64 - 1)) % 2 ^ 64) d.1 d.2 None down_counts tt

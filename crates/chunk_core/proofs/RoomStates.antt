@@ -1,27 +1,25 @@
 -- The pin word of a room changes, and its count stays, with the rooms and ranges that a pass has: a room is frozen, held, claimed, opened or retired.
-use Rattle.std.proofs.Common.{◌≡◌, ◌≢◌, ℕ, ◌+◌, ◌≤◌, ◌⊎◌, List, set, sym, refl, ap, ◌∙◌, subst, ⊎_elim, arith, Option, Some, None}
-use mathlib.Core.Logic.{dite}
+use Rattle.std.proofs.Common.{◌≡◌, ◌≢◌, ℕ, ◌+◌, ◌≤◌, ◌⊎◌, List, set, sym, refl, ap, ◌∙◌, subst, ⊎_elim, arith, Some}
 use mathlib.Core.Option.{some}
-use native.Mathlib.Decide.{ℕ_discrete}
 use lib.ListN.{get_elem?}
 use Rattle.pin_word.specs.PinWord.{state_of, generation_of, count_of}
 use Rattle.oak_model.specs.Counts.{one_at, Each}
 use Rattle.oak_model.specs.Limits.{Sizes}
 use Rattle.oak_model.proofs.Counting.{one_at-same, total_at}
-use Rattle.oak_model.proofs.PutLaws.{put-here, put-else, put-cases, put-same}
+use Rattle.oak_model.proofs.PutLaws.{put-cases, put-level, put-same}
 use Rattle.chunk_core.specs.declared.states.TheConstants.{FROZEN, HELD}
 use Rattle.chunk_core.specs.declared.holds.HeldRoom.{HeldRoom}
 use Rattle.chunk_core.specs.declared.holds.MovingRange.{MovingRange}
 use Rattle.chunk_core.specs.declared.holds.PinnedRoom.{PinnedRoom}
 use Rattle.chunk_core.specs.declared.holds.RoomHolds.{RoomHolds}
 use Rattle.chunk_core.specs.CoverSums.{weight}
-use Rattle.chunk_core.specs.PinnedRooms.{OnRoomPin, IsGoodRoom, RoomPinHolds}
+use Rattle.chunk_core.specs.PinnedRooms.{RoomPinHolds}
 use Rattle.chunk_core.specs.RoomHolds.{pins_of}
 use Rattle.chunk_core.specs.RoomRule.{room_pins, in_room_state, AreTrueRanges, IsInOrder, IsWholeHeld, RoomsStand}
 use Rattle.chunk_core.specs.RoomStep.{put_room}
 use Rattle.chunk_core.specs.Rooms.{RoomMemory, at_room_pin}
 use Rattle.chunk_core.proofs.HeldRooms.{room_rows}
-use Rattle.chunk_core.proofs.RoomFrames.{rooms_stepped}
+use Rattle.chunk_core.proofs.RoomFrames.{good_still, rooms_stepped}
 
 module _ (z : Sizes) (m : RoomMemory) (content : ℕ → List ℕ) (hs : List RoomHolds) (rule : RoomsStand z m content hs) (seat : ℕ) (a : RoomHolds) (here : get_elem? hs seat ≡ some a)
     (r x : ℕ) (count : count_of x ≡ count_of (m.pin r)) (generation : generation_of x ≡ generation_of (m.pin r)) (known : state_of x ≤ HELD)
@@ -47,15 +45,9 @@ module _ (z : Sizes) (m : RoomMemory) (content : ℕ → List ℕ) (hs : List Ro
   pinned_once : (p : PinnedRoom) → pins_of p.room (Some p) ≡ 1
   pinned_once p = one_at-same p.room p.room refl
 
-  own : (o : Option PinnedRoom) → a.pin ≡ o → OnRoomPin (λ p. IsGoodRoom p → RoomPinHolds z m content p) o → OnRoomPin (λ p. IsGoodRoom p → RoomPinHolds z m' content p) o
-  own None is h = tt
-  own (Some p) is h = λ good. pin_stands seat a p here (ap (pins_of p.room) is ∙ pinned_once p) (h good)
-
   held_now : (j s : ℕ) → (s ≡ FROZEN) ⊎ (s ≡ HELD) → in_room_state j s b + one_at (state_of (m.pin j)) s ≡ in_room_state j s a + one_at (state_of (m'.pin j)) s
   unfolding room_rows
-  held_now j s is = dite (ℕ_discrete j r)
-      (λ e. subst (λ (t : ℕ). in_room_state t s b + one_at (state_of (m.pin t)) s ≡ in_room_state t s a + one_at (state_of (m'.pin t)) s) (sym e) (let h = rows_here s is in let n = ap (λ (t : ℕ). one_at (state_of t) s) (put-here m.pin r x r refl) in omega arith))
-      (λ ne. let h = rows_else j s ne in let n = ap (λ (t : ℕ). one_at (state_of t) s) (put-else m.pin r x j ne) in omega arith)
+  held_now j s is = put-level m.pin r x (λ w. one_at (state_of w) s) (λ i. in_room_state i s a) (λ i. in_room_state i s b) (rows_here s is) (λ i ne. rows_else i s ne) j
 
   pub restated : RoomsStand z (put_room m (at_room_pin r) x) content (set hs seat (record a { held = held; moving = moving }))
   restated = rooms_stepped z m m' content hs seat a b here (record {
@@ -68,7 +60,7 @@ module _ (z : Sizes) (m : RoomMemory) (content : ℕ → List ℕ) (hs : List Ro
     ordered = λ j. put-cases m.pin r x j (λ t. weight t ≡ 1 → IsInOrder z content (m.count j) (m.key j) (m.low j 0) (m.high j 0))
         (λ e w. subst (λ (t : ℕ). IsInOrder z content (m.count t) (m.key t) (m.low t 0) (m.high t 0)) (sym e) (order w)) (λ _. rule.ordered j);
     others = λ j u p ne at is h. pin_stands j u p at (ap (pins_of p.room) is ∙ pinned_once p) h;
-    own = own a.pin refl (rule.good seat a here);
+    own = good_still z m m' content content a.pin (λ p is h. pin_stands seat a p here (ap (pins_of p.room) is ∙ pinned_once p) h) (rule.good seat a here);
     carried = true_ranges;
     stands = record { latch = (rule.passes seat a here).latch; claim = (rule.passes seat a here).claim; whole = whole };
   }) rule

@@ -7,7 +7,7 @@ use lib.ListN.{get_elem?}
 use prog.Atomic.{either}
 use Rattle.pin_word.specs.PinWord.{generation_of, state_of, count_of, STATE}
 use Rattle.oak_model.specs.Counts.{one_at, put, Every}
-use Rattle.oak_model.proofs.Counting.{one_at-same, one_at-other, total_at}
+use Rattle.oak_model.proofs.Counting.{one_at-same, one_at-other, total_at, decided}
 use Rattle.header_core.specs.declared.states.TheConstants.{FREE, OWNED, LIVE, LOCKED, DEAD}
 use Rattle.header_core.specs.declared.holds.HeldAs.{HeldAs}
 use Rattle.header_core.specs.declared.holds.HeldAs.TheVariants.{Owned, Fresh, Locked, Buried}
@@ -21,7 +21,7 @@ use Rattle.header_core.specs.HeaderStep.{claim_header, open_header, release_head
 use Rattle.header_core.proofs.HeldChanges.{rows_taken-here, rows_taken-others, rows_freshened-live, rows_freshened-else, rows_freshened-others, each_freshened, rows_without-here, rows_without-others, each_without}
 use Rattle.header_core.proofs.StockedStates.{stocked_high}
 use Rattle.header_core.proofs.HeaderStores.{not_over}
-use Rattle.header_core.proofs.HeaderStates.{decided, restated, unmoved, same_generations, same_retired, turned}
+use Rattle.header_core.proofs.HeaderStates.{restated, unmoved, same_generations, same_retired, turned}
 use Rattle.header_core.proofs.HeaderFacts.{unheld_none, has_all, knows_fresh, held_is, held_alone, held_one, known_settled, free_unheld, unheld_by, pin_counted}
 use Rattle.header_core.proofs.HeaderLaws.{unstocked}
 use Rattle.header_core.proofs.PinWordChanges.{state_set, state_up, state_off}

@@ -7,7 +7,7 @@ use lib.ListN.{get_elem?}
 use prog.Atomic.{either}
 use Rattle.pin_word.specs.PinWord.{generation_of, state_of, count_of, STATE}
 use Rattle.oak_model.specs.Counts.{one_at, put}
-use Rattle.oak_model.proofs.Counting.{one_at-same, one_at-other}
+use Rattle.oak_model.proofs.Counting.{one_at-same, one_at-other, decided}
 use Rattle.header_core.specs.declared.states.TheConstants.{FREE, LIVE, LOCKED, DEAD, RETIRED, LAST_GENERATION}
 use Rattle.header_core.specs.declared.holds.HeldHeader.{HeldHeader}
 use Rattle.header_core.specs.declared.holds.PinnedHeader.{PinnedHeader}
@@ -22,10 +22,11 @@ use Rattle.header_core.proofs.HeldHeaders.{held_in, rows_in}
 use Rattle.header_core.proofs.HeldChanges.{rows_taken-here, rows_taken-others, rows_buried-dead, rows_buried-else, rows_buried-others, each_buried, rows_without-here, rows_without-others, each_without, each_without-others}
 use Rattle.header_core.proofs.StockedStates.{stocked_high}
 use Rattle.header_core.proofs.HeaderStores.{not_over}
-use Rattle.header_core.proofs.HeaderStates.{decided, restated, unmoved, same_generations, same_retired, turned}
+use Rattle.header_core.proofs.HeaderStates.{restated, unmoved, same_generations, same_retired, turned}
 use Rattle.header_core.proofs.HeaderFacts.{holds_some, unheld_none, has_all, unheld_else, held_is, held_one, known_unheld, locked_known, unheld_by, generation_is, pin_counted}
 use Rattle.oak_model.proofs.PutLaws.{put-else}
-use Rattle.header_core.proofs.PinWordChanges.{IsRenewed, state_set, state_up, state_down, renewed, generation_small}
+use Rattle.pin_word.proofs.Laws.{generation_small}
+use Rattle.header_core.proofs.PinWordChanges.{IsRenewed, state_set, state_up, state_down, renewed}
 
 -- a header that was taken back is over, and in no state in which a pass holds it or it has a block
 ended : (s : ℕ) → (s ≡ RETIRED) ⊎ (s ≡ FREE) → IsOver s × ((t : ℕ) → 0 < t → t < RETIRED → one_at s t ≡ 0)

@@ -52,10 +52,6 @@ renewed w dead room b = dite (ℕ_discrete (generation_of w + 2) (2 ^ 32))
     (λ e. subst (λ (t : Bool). IsRenewed w ((w + cond t (2 ^ 32 + STATE) (2 ^ 32 - DEAD * STATE)) % 2 ^ 64)) (sym (eq-eqb (generation_of w + 2) (2 ^ 32) e)) (to_last w dead e b))
     (λ ne. subst (λ (t : Bool). IsRenewed w ((w + cond t (2 ^ 32 + STATE) (2 ^ 32 - DEAD * STATE)) % 2 ^ 64)) (sym (ne_eqb (generation_of w + 2) (2 ^ 32) ne)) (to_next w dead room ne b))
 
-pub generation_small : (w : ℕ) → w < 2 ^ 64 → generation_of w < 2 ^ 32
-unfolding generation_of
-generation_small w b = omega arith
-
 -- the pin word of h becomes x
 module _ (m : HeaderMemory) (h x : ℕ) where
   abbrev pub with_pin : HeaderMemory

@@ -6,7 +6,7 @@ use lib.ListN.{get_elem?}
 use Rattle.pin_word.specs.PinWord.{state_of, STATE}
 use Rattle.oak_model.specs.Limits.{Sizes}
 use Rattle.oak_model.proofs.Lists.{at_map}
-use Rattle.oak_model.proofs.Counting.{total_at}
+use Rattle.oak_model.proofs.Counting.{total_at, decided}
 use Rattle.arena_core.specs.declared.blocks.HeldBlocks.{HeldBlocks}
 use Rattle.arena_core.specs.Blocks.{BlocksAreOwned, HoldsBlock}
 use Rattle.arena_core.specs.Place.{IsPlace, class_in, block_in, content}
@@ -25,7 +25,6 @@ use Rattle.header_core.proofs.HeaderFacts.{headers_once, free_unheld, held_is, h
 use Rattle.header_core.proofs.StockedStates.{stocked_high}
 use Rattle.header_core.proofs.HeaderFacts as fact
 use Rattle.header_core.proofs.HeaderLaws.{unstocked}
-use Rattle.header_core.proofs.HeaderStates.{decided}
 use Rattle.header_core.proofs.PinWordChanges.{state_set, state_up, state_off}
 use Rattle.oak_core.specs.declared.states.PassState.{PassState}
 use Rattle.oak_core.specs.Memory.{Memory, in_headers, memory}

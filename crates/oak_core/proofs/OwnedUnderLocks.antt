@@ -21,7 +21,8 @@ use Rattle.header_core.specs.HeaderStep.{locked_at, changed_at, buried_at, renew
 use Rattle.header_core.proofs.HeldHeaders.{rows_split}
 use Rattle.header_core.proofs.HeaderFacts.{known_unheld, generation_is, holds_some}
 use Rattle.header_core.proofs.StockedStates.{stocked_high}
-use Rattle.header_core.proofs.PinWordChanges.{IsRenewed, state_set, state_up, state_down, renewed, generation_small}
+use Rattle.pin_word.proofs.Laws.{generation_small}
+use Rattle.header_core.proofs.PinWordChanges.{IsRenewed, state_set, state_up, state_down, renewed}
 use Rattle.oak_core.specs.declared.states.PassState.{PassState}
 use Rattle.oak_core.specs.Memory.{Memory, memory}
 use Rattle.oak_core.specs.Known.{knows_life}

@@ -2,8 +2,7 @@
 use Rattle.std.proofs.Common.{◌≡◌, ℕ, zero, suc, ◌+◌, ◌-◌, ◌<◌, ◌≤◌, Bool, true, false, cond, leb, [], ◌∷◌, ◌++◌, length, Some, None, refl, sym, ap, subst, ◌∙◌, append_assoc, arith, inl, inr}
 use Rattle.std.specs.Prelude.{IsSome, ⊤, MatchBool}
 use Rattle.std.specs.List.{slice_get}
-use Rattle.std.proofs.lemmas.Bool.{cases_lt}
-use Rattle.std.proofs.lemmas.Bool.Decides.{nat_tests}
+use Rattle.std.proofs.lemmas.Bool.{cases_lt, lt-leb}
 use Rattle.std.proofs.lemmas.List.{append-nil, take_at, length-append, take-append-le}
 use Rattle.std.proofs.lemmas.List.Sums.{fold-append}
 use Rattle.oak_model.specs.declared.writes.Write.{Write}
@@ -53,15 +52,9 @@ abbrev pub StampsAbove : ℕ → History → Type 0
 StampsAbove at [] = ⊤
 StampsAbove at (w ∷ ws) = (at < w.stamp) × StampsAbove at ws
 
-leb-above : (m n : ℕ) → n < m → leb m n ≡ false
-leb-above m n h = grind (arith, nat_tests)
-
-pub leb-within : (m n : ℕ) → m ≤ n → leb m n ≡ true
-leb-within m n h = grind (arith, nat_tests)
-
 pub place_of-above : (at : ℕ) (ws : History) → StampsAbove at ws → place_of ws at ≡ 0
 place_of-above at [] above = refl
-place_of-above at (w ∷ ws) above = rw (leb-above w.stamp at above.0) (place_of-above at ws above.1)
+place_of-above at (w ∷ ws) above = rw (lt-leb w.stamp at above.0) (place_of-above at ws above.1)
 
 pub place_of-append : (at : ℕ) (h rest : History) → StampsAbove at rest → place_of (h ++ rest) at ≡ place_of h at
 place_of-append at [] rest above = place_of-above at rest above

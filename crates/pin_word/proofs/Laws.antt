@@ -31,9 +31,9 @@ pub packed_fits : (g s c : ℕ) → g < 2 ^ 32 → s < 16 → c < 2 ^ 28 → pac
 unfolding packed
 packed_fits g s c hg hs hc = omega arith
 
-pub generation_fits : (w : ℕ) → w < 2 ^ 64 → generation_of w < 2 ^ 32
+pub generation_small : (w : ℕ) → w < 2 ^ 64 → generation_of w < 2 ^ 32
 unfolding generation_of
-generation_fits w h = omega arith
+generation_small w h = omega arith
 
 -- two words with the same parts are one
 pub parts_equal : (w x : ℕ) → generation_of w ≡ generation_of x → state_of w ≡ state_of x → count_of w ≡ count_of x → w ≡ x

@@ -16,7 +16,8 @@ use Rattle.header_core.specs.declared.holds.HeldHeader.{HeldHeader}
 use Rattle.header_core.specs.Headers.{at_pin}
 use Rattle.header_core.specs.HeaderHolds.{place_held, without_header}
 use Rattle.header_core.specs.HeaderStep.{take_back, renewal}
-use Rattle.header_core.proofs.PinWordChanges.{renewed, generation_small}
+use Rattle.pin_word.proofs.Laws.{generation_small}
+use Rattle.header_core.proofs.PinWordChanges.{renewed}
 use Rattle.oak_core.specs.declared.states.Finding.{Finding}
 use Rattle.oak_core.specs.declared.states.PassState.{PassState}
 use Rattle.oak_core.specs.Memory.{Memory, memory}
