@@ -1,5 +1,5 @@
 -- What is added up over the covers, when a room changes and what passes hold.
-use Rattle.std.proofs.Common.{◌≡◌, ◌≢◌, ℕ, ◌+◌, ◌*◌, ◌<◌, ◌≤◌, List, map, ap, arith}
+use Rattle.std.proofs.Common.{◌≡◌, ◌≢◌, ℕ, ◌+◌, ◌*◌, ◌<◌, ◌≤◌, List, map, set, ◌∙◌, ap, arith}
 use mathlib.Core.Option.{some}
 use lib.ListN.{get_elem?}
 use Rattle.pin_word.specs.PinWord.{state_of}
@@ -10,7 +10,7 @@ use Rattle.oak_model.specs.Counts.{one_at, total, below}
 use Rattle.oak_model.specs.Limits.{Sizes}
 use Rattle.oak_model.proofs.Changes.{Change}
 use Rattle.oak_model.proofs.Counting.{one_at-cases, one_at-other, one_at-le, total_at, total_map, below_at, below_same, below_add}
-use Rattle.oak_model.proofs.Lists.{at_map}
+use Rattle.oak_model.proofs.Lists.{at_map, map_set_same}
 use Rattle.oak_model.proofs.RowLaws.{total_le}
 use Rattle.oak_model.proofs.SumLaws.{times_le, below_set, below_le, total_same, total_plus, times-one, times-none}
 use Rattle.chunk_core.specs.CoverSums.{covers, each, weight, all_of}
@@ -58,6 +58,12 @@ covers_still n pin cover hs hs' gone fresh c F = let t = c.sums (moves F) in let
 pub covers_same : (n : ℕ) (pin pin' : ℕ → ℕ) (cover cover' : ℕ → Cover) (ms : List (List Cover)) (F : Cover → ℕ) → ((j : ℕ) → j < n → weight (pin' j) * F (cover' j) ≡ weight (pin j) * F (cover j)) → covers n pin' cover' ms F ≡ covers n pin cover ms F
 unfolding covers
 covers_same n pin pin' cover cover' ms F h = ap (λ (t : ℕ). t + total (total F) ms) (below_same (λ j. weight (pin' j) * F (cover' j)) (λ j. weight (pin j) * F (cover j)) n h)
+
+-- nor does a pass's step that leaves its moving ranges, and of each room what it adds, change what is added up
+pub all_still : (z : Sizes) (m m' : RoomMemory) (content content' : ℕ → List ℕ) (hs : List RoomHolds) (seat : ℕ) (a b : RoomHolds) → get_elem? hs seat ≡ some a → b.moving ≡ a.moving
+    → (F : Cover → ℕ) → ((j : ℕ) → j < z.chunks → weight (m'.pin j) * F (cover_at m' content' j) ≡ weight (m.pin j) * F (cover_at m content j)) → all_of z m' content' (set hs seat b) F ≡ all_of z m content hs F
+all_still z m m' content content' hs seat a b here moving F same = covers_same z.chunks m.pin m'.pin (cover_at m content) (cover_at m' content') (map moving_of (set hs seat b)) F same
+    ∙ ap (λ (ms : List (List Cover)). covers z.chunks m.pin (cover_at m content) ms F) (map_set_same moving_of hs seat a b here (ap (map cover_from) moving))
 
 pub covers_le : (n : ℕ) (pin : ℕ → ℕ) (cover : ℕ → Cover) (ms : List (List Cover)) (F G : Cover → ℕ) → ((c : Cover) → F c ≤ G c) → covers n pin cover ms F ≤ covers n pin cover ms G
 unfolding covers

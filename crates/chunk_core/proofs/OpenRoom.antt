@@ -8,7 +8,6 @@ use Rattle.chunk_core.specs.declared.layout.TheConstants.{BOUND_WORDS}
 use Rattle.chunk_core.specs.declared.states.TheConstants.{OPEN, HELD}
 use Rattle.chunk_core.specs.declared.holds.Carried.{Carried}
 use Rattle.chunk_core.specs.declared.holds.EntryWords.{EntryWords}
-use Rattle.chunk_core.specs.declared.holds.HeldRoom.{HeldRoom}
 use Rattle.chunk_core.specs.declared.holds.MovingRange.{MovingRange}
 use Rattle.chunk_core.specs.declared.holds.RoomCopy.{RoomCopy}
 use Rattle.chunk_core.specs.declared.holds.RoomHolds.{RoomHolds}
@@ -31,17 +30,16 @@ use Rattle.chunk_core.specs.MayOnRooms.{MayOpenRoom}
 use Rattle.chunk_core.specs.MovingRanges.{takes, is_upper, upper_of, left_of, ranges_left}
 use Rattle.chunk_core.specs.RoomCopies.{without_room, entries_held, word_held}
 use Rattle.chunk_core.specs.RoomReads.{words_at, copy_at}
-use Rattle.chunk_core.specs.RoomRule.{in_room_state, AreTrueRanges, RoomsStand, IsWholeHeld, AreBounds}
+use Rattle.chunk_core.specs.RoomRule.{in_room_state, AreTrueRanges, RoomsStand, AreBounds}
 use Rattle.chunk_core.specs.RoomStep.{put_room}
 use Rattle.chunk_core.specs.Rooms.{RoomMemory, at_room_pin}
 use Rattle.chunk_core.specs.Spans.{within}
 use Rattle.chunk_core.specs.ValueWord.{names_header}
 use Rattle.chunk_core.proofs.CoverLaws.{all_in, range_le}
 use Rattle.chunk_core.proofs.EntryNumbers.{numbers_once, take_rows, rows_total}
-use Rattle.chunk_core.proofs.HeldRooms.{without_here, without_else, each_without}
 use Rattle.chunk_core.proofs.Ranges.{whole_parted, Parted, upper_parted, ranges_left-is, parted_covers}
-use Rattle.chunk_core.proofs.RoomStates.{restated}
-use Rattle.chunk_core.proofs.Weights.{weight_open, weight_held, open_none, is_so, rows_are}
+use Rattle.chunk_core.proofs.RoomStates.{given_up}
+use Rattle.chunk_core.proofs.Weights.{weight_open, weight_held, open_none, is_so}
 
 -- carried entries by what their key words name
 total_true : (content : ℕ → List ℕ) (f : Entry → ℕ) (p : Carried → Bool) (xs : List Carried) → Each (λ (c : Carried). content c.word ≡ c.words) xs
@@ -153,8 +151,5 @@ module _ (z : Sizes) (m : RoomMemory) (content : ℕ → List ℕ) (is_key_word 
   first_word f = rows_at 0 BOUND_WORDS 0 f 0 (omega arith)
 
   pub open_rooms : RoomsStand z m' content hs'
-  open_rooms = restated z m content hs rule seat a here r x count generation (omega arith) (without_room r a.held) (ranges_left (copy_at z m r) a.moving)
-      (λ s is. let n = without_here r s a.held in let o = rows_are z m content hs rule seat a here r HELD (inr refl) held s is in let e = open_none x s opened is in omega arith)
-      (λ j s ne. without_else r j s a.held ne)
-      (λ _. record { few = may.few; prefix = may.prefix; sorted = sorted_here; bounds = subst (λ (t : ℕ × ℕ). AreBounds t.0 t.1) (λ i. (first_word (m.low r) i, first_word (m.high r) i)) may.bounds })
-      (λ weighs. absurd (let n = weight_held (m.pin r) is_held in omega arith)) (true_left content w a.moving (rule.carried seat a here)) (each_without (λ (h : HeldRoom). IsWholeHeld z h.held_as) r a.held (rule.passes seat a here).whole)
+  open_rooms = given_up z m content hs rule seat a here r x held count generation (omega arith) (λ s is. open_none x s opened is) (ranges_left (copy_at z m r) a.moving)
+      (λ _. record { few = may.few; prefix = may.prefix; sorted = sorted_here; bounds = subst (λ (t : ℕ × ℕ). AreBounds t.0 t.1) (λ i. (first_word (m.low r) i, first_word (m.high r) i)) may.bounds }) (true_left content w a.moving (rule.carried seat a here))

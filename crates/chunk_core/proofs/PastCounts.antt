@@ -9,15 +9,15 @@ use Rattle.oak_model.specs.declared.limits.TheConstants.{GREATEST_KEY}
 use Rattle.oak_model.specs.Counts.{one_at, put, rows}
 use Rattle.oak_model.specs.Limits.{Sizes}
 use Rattle.oak_model.proofs.Counting.{one_at-same, one_at-other, one_at-true, total_at}
-use Rattle.oak_model.proofs.Lists.{each_map, map_set_same}
+use Rattle.oak_model.proofs.Lists.{each_map}
 use Rattle.oak_model.proofs.PutLaws.{put-cases, put-level}
 use Rattle.chunk_core.specs.declared.layout.TheConstants.{BOUND_WORDS}
 use Rattle.chunk_core.specs.declared.holds.Latch.{Latch}
 use Rattle.chunk_core.specs.declared.holds.PinnedRoom.{PinnedRoom}
 use Rattle.chunk_core.specs.declared.holds.RoomHolds.{RoomHolds}
 use Rattle.chunk_core.specs.CoverRule.{CoversPartition}
-use Rattle.chunk_core.specs.CoverSums.{covers, all_of, weight}
-use Rattle.chunk_core.specs.Covers.{Entry, Cover, cover_at, entry_at, key_at, span_in, cover_from, moving_of}
+use Rattle.chunk_core.specs.CoverSums.{all_of, weight}
+use Rattle.chunk_core.specs.Covers.{Entry, Cover, cover_at, entry_at, key_at, span_in}
 use Rattle.chunk_core.specs.KeyWords.{low_number, high_number}
 use Rattle.chunk_core.specs.LinkedEntries.{entries_in, first_numbers}
 use Rattle.chunk_core.specs.PinnedRooms.{EntryStands, RoomPinHolds}
@@ -28,7 +28,7 @@ use Rattle.chunk_core.specs.RoomRule.{latches_on, LatchIsPinned, IsInOrder, Room
 use Rattle.chunk_core.specs.RoomStep.{EntryField, of_key, of_value, of_next, entry_spot, put_room}
 use Rattle.chunk_core.specs.Rooms.{RoomMemory, at_latch}
 use Rattle.chunk_core.proofs.CoverFrames.{partition_same}
-use Rattle.chunk_core.proofs.CoverLaws.{covers_same}
+use Rattle.chunk_core.proofs.CoverLaws.{all_still}
 use Rattle.chunk_core.proofs.EntryNumbers.{map_numbers}
 use Rattle.std.proofs.lemmas.Bool.{and_right}
 use Rattle.chunk_core.proofs.RoomFrames.{good_still, rooms_stepped}
@@ -51,8 +51,7 @@ module _ (z : Sizes) (m m' : RoomMemory) (content : ℕ → List ℕ) (s : Stays
   }) ∙ ap (λ (xs : List Entry). record { span = span_in m j; entries = xs }) (map_numbers (entry_at m' content j) (entry_at m content j) (entries_in (m.count j)) (λ k l. λ i. record { word = s.key j k l i; value = s.value j k l i; key = key_at content (s.key j k l i) }))
 
   pub below_covers : (hs : List RoomHolds) (seat : ℕ) (a b : RoomHolds) → get_elem? hs seat ≡ some a → b.moving ≡ a.moving → (F : Cover → ℕ) → all_of z m' content (set hs seat b) F ≡ all_of z m content hs F
-  below_covers hs seat a b here moving F = covers_same z.chunks m.pin m'.pin (cover_at m content) (cover_at m' content) (map moving_of (set hs seat b)) F (λ j _. λ i. weight (s.pin j i) * F (cover_below j i))
-      ∙ ap (λ (ms : List (List Cover)). covers z.chunks m.pin (cover_at m content) ms F) (map_set_same moving_of hs seat a b here (ap (map cover_from) moving))
+  below_covers hs seat a b here moving F = all_still z m m' content content hs seat a b here moving F (λ j _. λ i. weight (s.pin j i) * F (cover_below j i))
 
   pub pin_below : (p : PinnedRoom) → RoomPinHolds z m content p → RoomPinHolds z m' content p
   pin_below p h = record {

@@ -7,7 +7,6 @@ use native.Mathlib.Decide.{ℕ_discrete}
 use lib.ListN.{get_elem?}
 use Rattle.chunk_core.specs.declared.states.TheConstants.{FREE, HELD}
 use Rattle.chunk_core.specs.declared.holds.Carried.{Carried}
-use Rattle.chunk_core.specs.declared.holds.HeldRoom.{HeldRoom}
 use Rattle.chunk_core.specs.declared.holds.MovingRange.{MovingRange}
 use Rattle.chunk_core.specs.declared.holds.RoomHolds.{RoomHolds}
 use Rattle.oak_model.specs.Counts.{total, Each}
@@ -24,18 +23,17 @@ use Rattle.chunk_core.specs.KeyWords.{low_number, high_number}
 use Rattle.chunk_core.specs.MayOnRooms.{MayRetire}
 use Rattle.chunk_core.specs.MovingRanges.{is_below, joined_range, joined_by, joined_to, range_of, ranges_without, ranges_joined}
 use Rattle.chunk_core.specs.RoomCopies.{without_room}
-use Rattle.chunk_core.specs.RoomRule.{in_room_state, AreTrueRanges, RoomsStand, IsWholeHeld}
+use Rattle.chunk_core.specs.RoomRule.{in_room_state, AreTrueRanges, RoomsStand}
 use Rattle.chunk_core.specs.RoomStep.{put_room}
 use Rattle.chunk_core.specs.Rooms.{RoomMemory, at_room_pin}
 use Rattle.chunk_core.specs.Spans.{within}
 use Rattle.chunk_core.specs.ValueWord.{names_header}
 use Rattle.chunk_core.proofs.CoverLaws.{all_aside, moves_le}
-use Rattle.chunk_core.proofs.HeldRooms.{without_here, without_else, each_without}
 use Rattle.chunk_core.proofs.RangeMoves.{joined_parted, ranges_apart, one_joined}
 use Rattle.chunk_core.proofs.Ranges.{Parted, parted_same, parted_covers}
-use Rattle.chunk_core.proofs.RoomStates.{restated}
+use Rattle.chunk_core.proofs.RoomStates.{given_up}
 use Rattle.chunk_core.proofs.SpanLaws.{past-le, ends_behind}
-use Rattle.chunk_core.proofs.Weights.{weight_free, weight_held, free_none, is_so, rows_are}
+use Rattle.chunk_core.proofs.Weights.{weight_free, weight_held, free_none, is_so}
 
 -- without a range of the room all ranges stay
 none_without : (r : ℕ) (gs : List MovingRange) → range_of r gs ≡ None → ranges_without r gs ≡ gs
@@ -133,8 +131,4 @@ module _ (z : Sizes) (m : RoomMemory) (content : ℕ → List ℕ) (is_key_word 
   retire_partition = parted_covers z m m' content is_key_word hs hs' left.gone left.come left.parted retire_step (gone_none (λ (y : Cover). 1 - within y.span y.span.low) parts.begun) (gone_none (each stray) parts.inside) (gone_none (λ (y : Cover). names_header y.span.base) parts.bases) parts
 
   pub retire_rooms : RoomsStand z m' content hs'
-  retire_rooms = restated z m content hs rule seat a here r x count generation (omega arith) (without_room r a.held) (ranges_joined r a.moving)
-      (λ s is. let n = without_here r s a.held in let o = rows_are z m content hs rule seat a here r HELD (inr refl) held s is in let e = free_none x s now is in omega arith)
-      (λ j s ne. without_else r j s a.held ne)
-      (λ weighs. absurd (let n = weight_free x now in omega arith)) (λ weighs. absurd (let n = weight_held (m.pin r) was in omega arith))
-      (true_after content r a.moving (rule.carried seat a here)) (each_without (λ (h : HeldRoom). IsWholeHeld z h.held_as) r a.held (rule.passes seat a here).whole)
+  retire_rooms = given_up z m content hs rule seat a here r x held count generation (omega arith) (λ s is. free_none x s now is) (ranges_joined r a.moving) (λ weighs. absurd (let n = weight_free x now in omega arith)) (true_after content r a.moving (rule.carried seat a here))

@@ -1,5 +1,5 @@
 -- The pin word of a room changes and its state stays, with the pin of a pass: a pin is made, or undone.
-use Rattle.std.proofs.Common.{◌≡◌, ℕ, ◌+◌, ◌-◌, ◌*◌, ◌%◌, ◌^◌, ◌<◌, List, map, set, sym, refl, ap, ◌∙◌, subst, arith, Option, Some, None}
+use Rattle.std.proofs.Common.{◌≡◌, ℕ, ◌+◌, ◌-◌, ◌*◌, ◌%◌, ◌^◌, ◌<◌, List, set, sym, refl, ap, ◌∙◌, subst, arith, Option, Some, None}
 use mathlib.Core.Option.{some}
 use lib.ListN.{get_elem?}
 use Rattle.pin_word.specs.PinWord.{state_of, generation_of, count_of}
@@ -10,11 +10,10 @@ use Rattle.chunk_core.specs.declared.holds.RoomHolds.{RoomHolds}
 use Rattle.oak_model.specs.Counts.{one_at, put}
 use Rattle.oak_model.specs.Limits.{Sizes}
 use Rattle.oak_model.proofs.Counting.{one_at-same, one_at-other, one_at-true, total_at}
-use Rattle.oak_model.proofs.Lists.{map_set_same}
 use Rattle.oak_model.proofs.PutLaws.{put-level, put-same}
 use Rattle.chunk_core.specs.CoverRule.{CoversPartition}
-use Rattle.chunk_core.specs.CoverSums.{covers, weight, all_of}
-use Rattle.chunk_core.specs.Covers.{Cover, cover_at, moving_of}
+use Rattle.chunk_core.specs.CoverSums.{weight, all_of}
+use Rattle.chunk_core.specs.Covers.{Cover, cover_at}
 use Rattle.chunk_core.specs.PinnedRooms.{OnRoomPin, IsGoodRoom, RoomPinHolds}
 use Rattle.chunk_core.specs.RoomHolds.{pins_of}
 use Rattle.chunk_core.specs.RoomReads.{pinned_at}
@@ -23,7 +22,7 @@ use Rattle.chunk_core.specs.RoomStep.{put_room}
 use Rattle.chunk_core.specs.Rooms.{RoomMemory, at_room_pin}
 use Rattle.chunk_core.proofs.CoverFrames.{partition_same}
 use Rattle.chunk_core.proofs.RoomFrames.{good_still, rooms_stepped}
-use Rattle.chunk_core.proofs.CoverLaws.{covers_same}
+use Rattle.chunk_core.proofs.CoverLaws.{all_still}
 
 module _ (z : Sizes) (m : RoomMemory) (content : ℕ → List ℕ) (hs : List RoomHolds) (rule : RoomsStand z m content hs) (seat : ℕ) (a : RoomHolds) (here : get_elem? hs seat ≡ some a)
     (r x : ℕ) (state : state_of x ≡ state_of (m.pin r)) (generation : generation_of x ≡ generation_of (m.pin r)) (o : Option PinnedRoom)
@@ -64,8 +63,7 @@ module _ (z : Sizes) (m : RoomMemory) (content : ℕ → List ℕ) (hs : List Ro
 
   -- nothing that is added up over the covers changes
   pub pins_covers : (F : Cover → ℕ) → all_of z m' content hs' F ≡ all_of z m content hs F
-  pins_covers F = covers_same z.chunks m.pin m'.pin (cover_at m content) (cover_at m' content) (map moving_of hs') F (λ j _. ap (λ (t : ℕ). t * F (cover_at m content j)) (weight_still j))
-      ∙ ap (λ (ms : List (List Cover)). covers z.chunks m.pin (cover_at m content) ms F) (map_set_same moving_of hs seat a b here refl)
+  pins_covers F = all_still z m m' content content hs seat a b here refl F (λ j _. ap (λ (t : ℕ). t * F (cover_at m content j)) (weight_still j))
 
   pub pins_partition : (is_key_word : ℕ → ℕ) → CoversPartition z m content is_key_word hs → CoversPartition z m' content is_key_word hs'
   pins_partition is_key_word = partition_same z m m' content content is_key_word hs hs' pins_covers

@@ -1,5 +1,5 @@
 -- The pin word of a room changes, and its count stays, with the rooms and ranges that a pass has: a room is frozen, held, claimed, opened or retired.
-use Rattle.std.proofs.Common.{◌≡◌, ◌≢◌, ℕ, ◌+◌, ◌≤◌, ◌⊎◌, List, set, sym, refl, ap, ◌∙◌, subst, ⊎_elim, arith, Some}
+use Rattle.std.proofs.Common.{◌≡◌, ◌≢◌, ℕ, ◌+◌, ◌<◌, ◌≤◌, ◌⊎◌, List, set, sym, refl, ap, ◌∙◌, subst, inr, ⊎_elim, arith, Some}
 use mathlib.Core.Option.{some}
 use lib.ListN.{get_elem?}
 use Rattle.pin_word.specs.PinWord.{state_of, generation_of, count_of}
@@ -18,7 +18,9 @@ use Rattle.chunk_core.specs.RoomHolds.{pins_of}
 use Rattle.chunk_core.specs.RoomRule.{room_pins, in_room_state, AreTrueRanges, IsInOrder, IsWholeHeld, RoomsStand}
 use Rattle.chunk_core.specs.RoomStep.{put_room}
 use Rattle.chunk_core.specs.Rooms.{RoomMemory, at_room_pin}
-use Rattle.chunk_core.proofs.HeldRooms.{room_rows}
+use Rattle.chunk_core.specs.RoomCopies.{without_room}
+use Rattle.chunk_core.proofs.HeldRooms.{room_rows, without_here, without_else, each_without}
+use Rattle.chunk_core.proofs.Weights.{weight_held, is_so, rows_are}
 use Rattle.chunk_core.proofs.RoomFrames.{good_still, rooms_stepped}
 
 module _ (z : Sizes) (m : RoomMemory) (content : ℕ → List ℕ) (hs : List RoomHolds) (rule : RoomsStand z m content hs) (seat : ℕ) (a : RoomHolds) (here : get_elem? hs seat ≡ some a)
@@ -64,3 +66,15 @@ module _ (z : Sizes) (m : RoomMemory) (content : ℕ → List ℕ) (hs : List Ro
     carried = true_ranges;
     stands = record { latch = (rule.passes seat a here).latch; claim = (rule.passes seat a here).claim; whole = whole };
   }) rule
+
+-- A pass gives a room that it holds up: the room comes to a state in which no pass has rooms.
+module _ (z : Sizes) (m : RoomMemory) (content : ℕ → List ℕ) (hs : List RoomHolds) (rule : RoomsStand z m content hs) (seat : ℕ) (a : RoomHolds) (here : get_elem? hs seat ≡ some a) (r x : ℕ) (mine : 0 < in_room_state r HELD a)
+    (count : count_of x ≡ count_of (m.pin r)) (generation : generation_of x ≡ generation_of (m.pin r)) (known : state_of x ≤ HELD) (none : (s : ℕ) → (s ≡ FROZEN) ⊎ (s ≡ HELD) → one_at (state_of x) s ≡ 0)
+    (moving : List MovingRange) (order : weight x ≡ 1 → IsInOrder z content (m.count r) (m.key r) (m.low r 0) (m.high r 0)) (true_ranges : AreTrueRanges content moving) where
+  pub was_held : state_of (m.pin r) ≡ HELD
+  was_held = is_so z m content hs rule seat a here r HELD (inr refl) mine
+
+  pub given_up : RoomsStand z (put_room m (at_room_pin r) x) content (set hs seat (record a { held = without_room r a.held; moving = moving }))
+  given_up = restated z m content hs rule seat a here r x count generation known (without_room r a.held) moving
+      (λ s is. let n = without_here r s a.held in let o = rows_are z m content hs rule seat a here r HELD (inr refl) mine s is in let e = none s is in omega arith) (λ j s ne. without_else r j s a.held ne) order
+      (λ weighs. absurd (let n = weight_held (m.pin r) was_held in omega arith)) true_ranges (each_without (λ (h : HeldRoom). IsWholeHeld z h.held_as) r a.held (rule.passes seat a here).whole)

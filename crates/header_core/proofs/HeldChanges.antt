@@ -4,6 +4,7 @@ use Rattle.std.proofs.Common.{◌≡◌, ◌≢◌, ℕ, ◌+◌, ◌*◌, ◌�
 use Rattle.oak_model.specs.Counts.{one_at, total, Each}
 use Rattle.oak_model.proofs.Counting.{decided, one_at-same, one_at-other, one_at-cases, total_map}
 use Rattle.oak_model.proofs.RowLaws.{total_le}
+use Rattle.oak_model.proofs.SumLaws.{times-none}
 use Rattle.header_core.specs.declared.states.TheConstants.{OWNED, LIVE, DEAD}
 use Rattle.header_core.specs.declared.holds.HeldAs.{HeldAs}
 use Rattle.header_core.specs.declared.holds.HeldAs.TheVariants.{Fresh, Buried}
@@ -137,7 +138,7 @@ pub without-cases : (h : ℕ) (r : HeldHeader) (rs : List HeldHeader) (P : List 
 without-cases h r rs P gone stays = decided r.header h (λ t. P (cond t (without_header h rs) (r ∷ without_header h rs))) gone stays
 
 none_of : (h s : ℕ) (r : HeldHeader) → r.header ≢ h → one_at r.header h * one_at (held_state r.held_as) s ≡ 0
-none_of h s r n = ap (λ (k : ℕ). k * one_at (held_state r.held_as) s) (one_at-other r.header h n) ∙ (let e : 0 * one_at (held_state r.held_as) s ≡ 0 = omega arith in e)
+none_of h s r n = times-none (one_at r.header h) (one_at (held_state r.held_as) s) (one_at-other r.header h n)
 
 -- a sum in which that header's count for nothing is as it was
 pub total_without : (f : HeldHeader → ℕ) (h : ℕ) (rs : List HeldHeader) → ((r : HeldHeader) → r.header ≡ h → f r ≡ 0) → total f (without_header h rs) ≡ total f rs
