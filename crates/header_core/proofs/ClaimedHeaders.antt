@@ -24,7 +24,8 @@ use Rattle.header_core.proofs.HeaderStores.{not_over}
 use Rattle.header_core.proofs.HeaderStates.{restated, unmoved, same_generations, same_retired, turned}
 use Rattle.header_core.proofs.HeaderFacts.{unheld_none, has_all, knows_fresh, held_is, held_alone, held_one, known_settled, free_unheld, unheld_by, pin_counted}
 use Rattle.header_core.proofs.HeaderLaws.{unstocked}
-use Rattle.header_core.proofs.PinWordChanges.{state_set, state_up, state_off}
+use Rattle.pin_word.proofs.StepLaws.{state_set, state_up}
+use Rattle.header_core.proofs.PinWordChanges.{state_off}
 
 module _ (m : HeaderMemory) (content : ℕ → List ℕ) (IsPlace : ℕ → Type 0) (known : ℕ → ℕ → ℕ) (hs : List HeaderHolds) (r : HeadersStand m content IsPlace known hs) (seat : ℕ) (a : HeaderHolds) (there : get_elem? hs seat ≡ some a) (h : ℕ) where
   pub claim_keeps : (old : ℕ) → IsFreeWord old → HeadersStand (put_header m (at_pin h) (header_effect (claim_header h old) (m.pin h))) content IsPlace known (set hs seat (headers_after m content (claim_header h old) a))

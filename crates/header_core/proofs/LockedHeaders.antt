@@ -26,7 +26,8 @@ use Rattle.header_core.proofs.HeaderStates.{restated, unmoved, same_generations,
 use Rattle.header_core.proofs.HeaderFacts.{holds_some, unheld_none, has_all, unheld_else, held_is, held_one, known_unheld, locked_known, unheld_by, generation_is, pin_counted}
 use Rattle.oak_model.proofs.PutLaws.{put-else}
 use Rattle.pin_word.proofs.Laws.{generation_small}
-use Rattle.header_core.proofs.PinWordChanges.{IsRenewed, state_set, state_up, state_down, renewed}
+use Rattle.pin_word.proofs.StepLaws.{state_set, state_up, state_down}
+use Rattle.header_core.proofs.PinWordChanges.{IsRenewed, renewed}
 
 -- a header that was taken back is over, and in no state in which a pass holds it or it has a block
 ended : (s : ℕ) → (s ≡ RETIRED) ⊎ (s ≡ FREE) → IsOver s × ((t : ℕ) → 0 < t → t < RETIRED → one_at s t ≡ 0)

@@ -13,22 +13,6 @@ use Rattle.header_core.specs.HeaderHolds.{held_state}
 use Rattle.header_core.specs.HeaderRule.{PinHolds, IsOver, RemovalStands}
 use Rattle.header_core.specs.HeaderStep.{renewal, put_header}
 
--- the next state, by an exchange and by an addition
-
-pub state_set : (w : ℕ) → state_of w < 15 → (count_of (w + STATE) ≡ count_of w) × (state_of (w + STATE) ≡ state_of w + 1) × (generation_of (w + STATE) ≡ generation_of w)
-unfolding count_of state_of generation_of
-state_set w h = ((omega arith), (omega arith), (omega arith))
-
-pub state_up : (w : ℕ) → state_of w < 15 → w < 2 ^ 64
-    → (count_of ((w + STATE) % 2 ^ 64) ≡ count_of w) × (state_of ((w + STATE) % 2 ^ 64) ≡ state_of w + 1) × (generation_of ((w + STATE) % 2 ^ 64) ≡ generation_of w)
-unfolding count_of state_of generation_of
-state_up w h b = ((omega arith), (omega arith), (omega arith))
-
--- the state before
-pub state_down : (w : ℕ) → 0 < state_of w → w < 2 ^ 64
-    → (count_of ((w + (2 ^ 64 - STATE)) % 2 ^ 64) ≡ count_of w) × (state_of ((w + (2 ^ 64 - STATE)) % 2 ^ 64) + 1 ≡ state_of w) × (generation_of ((w + (2 ^ 64 - STATE)) % 2 ^ 64) ≡ generation_of w)
-state_down w h b = state_back w 1 h b
-
 -- a held header becomes free
 pub state_off : (s : HeldAs) (w : ℕ) → state_of w ≡ held_state s → w < 2 ^ 64
     → (count_of ((w + (2 ^ 64 - held_state s * STATE)) % 2 ^ 64) ≡ count_of w) × (state_of ((w + (2 ^ 64 - held_state s * STATE)) % 2 ^ 64) ≡ FREE) × (generation_of ((w + (2 ^ 64 - held_state s * STATE)) % 2 ^ 64) ≡ generation_of w)

@@ -25,7 +25,8 @@ use Rattle.header_core.proofs.HeaderFacts.{headers_once, free_unheld, held_is, h
 use Rattle.header_core.proofs.StockedStates.{stocked_high}
 use Rattle.header_core.proofs.HeaderFacts as fact
 use Rattle.header_core.proofs.HeaderLaws.{unstocked}
-use Rattle.header_core.proofs.PinWordChanges.{state_set, state_up, state_off}
+use Rattle.pin_word.proofs.StepLaws.{state_set, state_up}
+use Rattle.header_core.proofs.PinWordChanges.{state_off}
 use Rattle.oak_core.specs.declared.states.PassState.{PassState}
 use Rattle.oak_core.specs.Memory.{Memory, in_headers, memory}
 use Rattle.oak_core.specs.Owners.{other_owners}

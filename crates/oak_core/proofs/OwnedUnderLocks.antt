@@ -22,7 +22,8 @@ use Rattle.header_core.proofs.HeldHeaders.{rows_split}
 use Rattle.header_core.proofs.HeaderFacts.{known_unheld, generation_is, holds_some}
 use Rattle.header_core.proofs.StockedStates.{stocked_high}
 use Rattle.pin_word.proofs.Laws.{generation_small}
-use Rattle.header_core.proofs.PinWordChanges.{IsRenewed, state_set, state_up, state_down, renewed}
+use Rattle.pin_word.proofs.StepLaws.{state_set, state_up, state_down}
+use Rattle.header_core.proofs.PinWordChanges.{IsRenewed, renewed}
 use Rattle.oak_core.specs.declared.states.PassState.{PassState}
 use Rattle.oak_core.specs.Memory.{Memory, memory}
 use Rattle.oak_core.specs.Known.{knows_life}
