@@ -21,7 +21,8 @@ use Rattle.chunk_core.specs.KeptRooms.{kept_of_entries, kept_of_latch, kept_of_c
 use Rattle.chunk_core.specs.RoomHolds.{latches_of}
 use Rattle.chunk_core.specs.RoomRule.{latches_on, room_state, in_room_state}
 use Rattle.chunk_core.specs.Rooms.{RoomSpot, same_room_spot, room_at, part_at, kind_at, at_low, at_high}
-use Rattle.chunk_core.proofs.RoomStores.{false_and}
+use Rattle.std.proofs.lemmas.Bool.{and_right}
+use Rattle.std.proofs.lemmas.Option.{none-some}
 
 -- all are words of the room
 abbrev pub AreOf : ℕ → List (KeptWord RoomSpot) → Type 0
@@ -31,7 +32,7 @@ AreOf r ws = Each (λ (w : KeptWord RoomSpot). room_at w.spot ≡ r) ws
 pub of_other : (q : RoomSpot) (r : ℕ) → r ≢ room_at q → (ws : List (KeptWord RoomSpot)) → AreOf r ws → keeps same_room_spot q ws ≡ 0
 unfolding total
 of_other q r ne [] h = refl
-of_other q r ne (w ∷ ws) h = let t = of_other q r ne ws h.1 in let e : one_if (same_room_spot w.spot q) ≡ 0 = ap one_if (false_and (kind_at w.spot == kind_at q) ((part_at w.spot == part_at q) && (room_at w.spot == room_at q)) (false_and (part_at w.spot == part_at q) (room_at w.spot == room_at q) (ne_eqb (room_at w.spot) (room_at q) (λ s. ne (sym h.0 ∙ s))))) in omega arith
+of_other q r ne (w ∷ ws) h = let t = of_other q r ne ws h.1 in let e : one_if (same_room_spot w.spot q) ≡ 0 = ap one_if (and_right (kind_at w.spot == kind_at q) ((part_at w.spot == part_at q) && (room_at w.spot == room_at q)) (and_right (part_at w.spot == part_at q) (room_at w.spot == room_at q) (ne_eqb (room_at w.spot) (room_at q) (λ s. ne (sym h.0 ∙ s))))) in omega arith
 
 entries_of : (r i : ℕ) (es : List EntryWords) → AreOf r (kept_of_entries r i es)
 unfolding kept_of_entries
@@ -63,10 +64,7 @@ latch_none q (Some l) e = of_other q l.room (λ s. let o = one_at-same l.room (r
 claim_none : (q : RoomSpot) (c : Option Claim) → c ≡ None → keeps same_room_spot q (kept_of_claim c) ≡ 0
 unfolding total
 claim_none q None e = refl
-claim_none q (Some c) e = absurd (no e)
-  where
-    no : Some c ≡ None → ⊥
-    no e = cc
+claim_none q (Some c) e = absurd (none-some c (sym e))
 
 held_none : (q : RoomSpot) (r : ℕ) (s : RoomHeldAs) → one_at r (room_at q) * one_at (room_state s) HELD ≡ 0 → keeps same_room_spot q (kept_of_held r s) ≡ 0
 unfolding total

@@ -19,7 +19,7 @@ use Rattle.header_core.proofs.HeldHeaders.{held_in, rows_split, stocked_split}
 use Rattle.header_core.proofs.HeaderFacts.{holds_some}
 use Rattle.header_core.proofs.HeaderLaws.{unstocked}
 use Rattle.header_core.proofs.HeaderSteps.{Needs, headers_keep, MayKnow, pins_kept, header_fits}
-use Rattle.header_core.proofs.PinWordChanges.{pin_up, pin_down}
+use Rattle.pin_word.proofs.StepLaws.{pin_up, pin_down}
 use Rattle.chunk_core.specs.declared.holds.RoomHolds.{RoomHolds}
 use Rattle.oak_core.specs.declared.states.PassState.{PassState}
 use Rattle.oak_core.specs.Memory.{Memory, in_headers, same_spot, read, write, memory, index}

@@ -33,7 +33,8 @@ use Rattle.header_core.proofs.HeaderFacts.{held_is, record_of, true_numbers}
 use Rattle.header_core.proofs.StockedStates.{stocked_high}
 use Rattle.header_core.proofs.HeaderLaws.{on_pin, reworded_keeps}
 use Rattle.header_core.proofs.HeldChanges.{fresh_reworded}
-use Rattle.header_core.proofs.HeldHeaders.{rows_have, total_has, each_has}
+use Rattle.oak_model.proofs.MemberLaws.{total_has, each_has}
+use Rattle.header_core.proofs.HeldHeaders.{rows_have}
 use Rattle.chunk_core.specs.declared.holds.RoomHolds.{RoomHolds}
 use Rattle.oak_core.specs.declared.states.PassState.{PassState}
 use Rattle.oak_core.specs.Memory.{Memory, Spot, in_arena, IsInside, memory, read, same_spot, write}

@@ -3,10 +3,10 @@ use Rattle.std.proofs.Common.{◌≡◌, ℕ, ◌+◌, ◌-◌, ◌*◌, ◌%◌
 use prog.Atomic.{either}
 use mathlib.Core.Option.{some}
 use lib.ListN.{get_elem?}
-use Rattle.pin_word.specs.PinWord.{state_of}
+use Rattle.pin_word.specs.PinWord.{state_of, STATE}
 use Rattle.oak_model.specs.Limits.{Sizes}
 use Rattle.oak_model.proofs.Lists.{at_map}
-use Rattle.oak_model.proofs.Counting.{total_at}
+use Rattle.oak_model.proofs.Counting.{total_at, decided}
 use Rattle.arena_core.specs.declared.blocks.HeldBlocks.{HeldBlocks}
 use Rattle.arena_core.specs.Blocks.{BlocksAreOwned, HoldsBlock}
 use Rattle.arena_core.specs.Place.{IsPlace, class_in, block_in, content}
@@ -19,14 +19,14 @@ use Rattle.header_core.specs.declared.holds.HeaderHolds.{HeaderHolds}
 use Rattle.header_core.specs.Headers.{HeaderSpot, at_pin}
 use Rattle.header_core.specs.HeaderHolds.{held_state, in_state, without_header}
 use Rattle.header_core.specs.HeaderRule.{stocked}
-use Rattle.header_core.specs.HeaderStep.{STATE, MayRelease, open_header, release_header, header_effect, headers_after, owned_at, put_header}
+use Rattle.header_core.specs.HeaderStep.{MayRelease, open_header, release_header, header_effect, headers_after, owned_at, put_header}
 use Rattle.header_core.proofs.HeldHeaders.{held_in, stocked_in, rows_split, stocked_split}
 use Rattle.header_core.proofs.HeaderFacts.{headers_once, free_unheld, held_is, holds_some}
 use Rattle.header_core.proofs.StockedStates.{stocked_high}
 use Rattle.header_core.proofs.HeaderFacts as fact
 use Rattle.header_core.proofs.HeaderLaws.{unstocked}
-use Rattle.header_core.proofs.HeaderStates.{decided}
-use Rattle.header_core.proofs.PinWordChanges.{state_set, state_up, state_off}
+use Rattle.pin_word.proofs.StepLaws.{state_set, state_up}
+use Rattle.header_core.proofs.PinWordChanges.{state_off}
 use Rattle.oak_core.specs.declared.states.PassState.{PassState}
 use Rattle.oak_core.specs.Memory.{Memory, in_headers, memory}
 use Rattle.oak_core.specs.EntryOwners.{entry_owners}

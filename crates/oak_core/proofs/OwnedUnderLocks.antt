@@ -3,7 +3,7 @@ use Rattle.std.proofs.Common.{◌≡◌, ℕ, ◌+◌, ◌-◌, ◌%◌, ◌^◌
 use prog.Atomic.{either}
 use mathlib.Core.Option.{some}
 use lib.ListN.{get_elem?}
-use Rattle.pin_word.specs.PinWord.{generation_of, state_of}
+use Rattle.pin_word.specs.PinWord.{generation_of, state_of, STATE}
 use Rattle.oak_model.specs.Limits.{Sizes}
 use Rattle.oak_model.specs.Counts.{one_at, total}
 use Rattle.oak_model.proofs.Lists.{at_map}
@@ -17,11 +17,13 @@ use Rattle.header_core.specs.declared.holds.HeaderHolds.{HeaderHolds}
 use Rattle.header_core.specs.Headers.{at_pin, at_place}
 use Rattle.header_core.specs.HeaderHolds.{in_state, place_held, generation_held, without_header}
 use Rattle.header_core.specs.HeaderRule.{stocked}
-use Rattle.header_core.specs.HeaderStep.{STATE, locked_at, changed_at, buried_at, renewal}
+use Rattle.header_core.specs.HeaderStep.{locked_at, changed_at, buried_at, renewal}
 use Rattle.header_core.proofs.HeldHeaders.{rows_split}
 use Rattle.header_core.proofs.HeaderFacts.{known_unheld, generation_is, holds_some}
 use Rattle.header_core.proofs.StockedStates.{stocked_high}
-use Rattle.header_core.proofs.PinWordChanges.{IsRenewed, state_set, state_up, state_down, renewed, generation_small}
+use Rattle.pin_word.proofs.Laws.{generation_small}
+use Rattle.pin_word.proofs.StepLaws.{state_set, state_up, state_down}
+use Rattle.header_core.proofs.PinWordChanges.{IsRenewed, renewed}
 use Rattle.oak_core.specs.declared.states.PassState.{PassState}
 use Rattle.oak_core.specs.Memory.{Memory, memory}
 use Rattle.oak_core.specs.Known.{knows_life}
