@@ -1,5 +1,5 @@
 -- The pin word of a room changes and its state stays, with the pin of a pass: a pin is made, or undone.
-use Rattle.std.proofs.Common.{◌≡◌, ℕ, ◌+◌, ◌-◌, ◌*◌, ◌%◌, ◌^◌, ◌<◌, List, set, sym, refl, ap, ◌∙◌, subst, arith, Option, Some, None}
+use Rattle.std.proofs.Common.{◌≡◌, ℕ, ◌+◌, ◌-◌, ◌*◌, ◌%◌, ◌^◌, ◌<◌, ◌≤◌, List, set, sym, refl, ap, ◌∙◌, subst, arith, Option, Some, None}
 use mathlib.Core.Option.{some}
 use lib.ListN.{get_elem?}
 use Rattle.pin_word.specs.PinWord.{state_of, generation_of, count_of}
@@ -9,7 +9,7 @@ use Rattle.chunk_core.specs.declared.holds.PinnedRoom.{PinnedRoom}
 use Rattle.chunk_core.specs.declared.holds.RoomHolds.{RoomHolds}
 use Rattle.oak_model.specs.Counts.{one_at, put}
 use Rattle.oak_model.specs.Limits.{Sizes}
-use Rattle.oak_model.proofs.Counting.{one_at-same, one_at-other, one_at-true, total_at}
+use Rattle.oak_model.proofs.Counting.{one_at-same, one_at-other, one_at-true, one_at-le, total_at}
 use Rattle.oak_model.proofs.PutLaws.{put-level, put-same}
 use Rattle.chunk_core.specs.CoverRule.{CoversPartition}
 use Rattle.chunk_core.specs.CoverSums.{weight, all_of}
@@ -23,6 +23,14 @@ use Rattle.chunk_core.specs.Rooms.{RoomMemory, at_room_pin}
 use Rattle.chunk_core.proofs.CoverFrames.{partition_same}
 use Rattle.chunk_core.proofs.RoomFrames.{good_still, rooms_stepped}
 use Rattle.chunk_core.proofs.CoverLaws.{all_still}
+
+-- a pass has one pin at most
+pub room_pins_most : (r : ℕ) (a : RoomHolds) → room_pins r a ≤ 1
+room_pins_most r a = most a.pin
+  where
+    most : (o : Option PinnedRoom) → pins_of r o ≤ 1
+    most None = omega arith
+    most (Some p) = one_at-le p.room r
 
 module _ (z : Sizes) (m : RoomMemory) (content : ℕ → List ℕ) (hs : List RoomHolds) (rule : RoomsStand z m content hs) (seat : ℕ) (a : RoomHolds) (here : get_elem? hs seat ≡ some a)
     (r x : ℕ) (state : state_of x ≡ state_of (m.pin r)) (generation : generation_of x ≡ generation_of (m.pin r)) (o : Option PinnedRoom)

@@ -26,7 +26,7 @@ use Rattle.oak_core.specs.Rule.{WordsStand, NumbersStand, FindingsStand, Histori
 use Rattle.oak_core.specs.EntryOwners.{all_others}
 use Rattle.oak_core.specs.Owners.{HeadersAreHeld}
 use Rattle.oak_core.specs.Known.{known}
-use Rattle.oak_core.specs.Step.{Step, load, give_number, on_arena, on_headers, store_locked, spot, effect, found, state_after, table_after, note_full}
+use Rattle.oak_core.specs.Step.{Step, load, give_number, on_arena, on_headers, on_rooms, store_locked, spot, effect, found, state_after, table_after, note_full}
 use Rattle.oak_core.specs.Lack.{FullsStand}
 use Rattle.oak_core.proofs.Words.{first_word, index_apart, index_below, memory_set, memory_read}
 use Rattle.oak_core.proofs.Found.{found_more}
@@ -52,6 +52,7 @@ going_after z call (load p) s v = refl
 going_after z call (give_number k) s v = refl
 going_after z call (on_arena a) s v = refl
 going_after z call (on_headers x) s v = refl
+going_after z call (on_rooms x) s v = refl
 going_after z call (store_locked h c b k x) s v = refl
 going_after z call (note_full lack began) s v = refl
 
@@ -61,6 +62,7 @@ joined_after z call (load p) s v = refl
 joined_after z call (give_number k) s v = refl
 joined_after z call (on_arena a) s v = refl
 joined_after z call (on_headers x) s v = refl
+joined_after z call (on_rooms x) s v = refl
 joined_after z call (store_locked h c b k x) s v = refl
 joined_after z call (note_full lack began) s v = refl
 

@@ -43,6 +43,7 @@ pub mod WholeHeaders
 pub mod KeepsHeaders
 pub mod KeepsLocked
 pub mod KeepsNotes
+pub mod KeepsRooms
 pub mod EachEvent
 pub mod Allowed
 pub mod ArenaNames
