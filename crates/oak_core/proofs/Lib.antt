@@ -49,6 +49,8 @@ pub mod Allowed
 pub mod ArenaNames
 pub mod ArenaPlaces
 pub mod HeaderNames
+pub mod RoomNames
+pub mod RoomPlaces
 pub mod FieldNames
 pub mod LockNames
 pub mod HeaderPlaces
