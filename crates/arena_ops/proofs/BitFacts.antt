@@ -19,8 +19,8 @@ use Rattle.oak_core.specs.declared.states.Finding.{Finding}
 use Rattle.oak_core.specs.declared.states.PassState.{PassState}
 use Rattle.oak_core.specs.Memory.{Spot, in_arena, index, rooms_at, memory}
 use Rattle.oak_core.specs.Finding.{finding, noted, grown}
-use Rattle.oak_core.specs.PassState.{blocks_of}
-use Rattle.oak_core.specs.Owners.{other_owners}
+use Rattle.oak_core.specs.PassState.{blocks_of, rooms_held}
+use Rattle.oak_core.specs.EntryOwners.{all_others}
 use Rattle.oak_core.specs.ArenaCalls.{Sets}
 use Rattle.oak_core.specs.Splitting.{Loads}
 use Rattle.oak_core.specs.Step.{on_arena}
@@ -103,7 +103,7 @@ module _ (z : Sizes) (call : ℕ) (c : Class) (v : PassState) where
     told_first = told_of z call (on_arena (take_bit c block)) v (grown [] v) (grown_none v) n w t
 
     pub now_taken : bit_at n (block % 64) ≡ 0 → Takes z call c block v w
-    now_taken e = let none = none_owns z (memory z t.table.words).arena (other_owners z (memory z t.table.words).headers) (map blocks_of t.table.states) t.seat v.blocks (at_map blocks_of t.table.states t.seat v t.here) t.rule.blocks (class_number c) block
+    now_taken e = let none = none_owns z (memory z t.table.words).arena (all_others z (memory z t.table.words) (map rooms_held t.table.states)) (map blocks_of t.table.states) t.seat v.blocks (at_map blocks_of t.table.states t.seat v t.here) t.rule.blocks (class_number c) block
         (ap (λ (m : ℕ). bit_at m (block % 64)) word_is ∙ e) in let n0 = none.0 in let n1 = none.1 in record {
           inside = lb;
           before = [];

@@ -12,8 +12,8 @@ use Rattle.arena_core.proofs.ArenaSteps.{clear_there, held_once}
 use Rattle.oak_core.specs.declared.states.PassState.{PassState}
 use Rattle.oak_core.specs.Memory.{Memory, in_arena, read, memory}
 use Rattle.oak_core.specs.Finding.{finding}
-use Rattle.oak_core.specs.Owners.{other_owners}
-use Rattle.oak_core.specs.PassState.{blocks_of}
+use Rattle.oak_core.specs.EntryOwners.{all_others}
+use Rattle.oak_core.specs.PassState.{blocks_of, rooms_held}
 use Rattle.oak_core.specs.Rule.{Rule}
 use Rattle.oak_core.specs.Step.{Step, on_arena, effect, found, table_after}
 use Rattle.oak_core.specs.TableState.{TableState}
@@ -44,7 +44,7 @@ module _ (z : Sizes) (call : ℕ) (c : Class) (b : ℕ) (v : PassState) (lb : b 
     -- the bit of a block that is held is set
     was_set : bit_at n (b % 64) ≡ 1
     was_set = let m : Memory = memory z t.table.words in ap (λ (k : ℕ). bit_at k (b % 64)) (sym (memory_read z t.table.words (bit_spot c b) (bit_inside z c b lb) ∙ t.finds))
-        ∙ (held_once z m.arena (other_owners z m.headers) (map blocks_of t.table.states) t.seat v.blocks (at_map blocks_of t.table.states t.seat v t.here) t.rule.blocks (class_number c) b t.may.held).0
+        ∙ (held_once z m.arena (all_others z m (map rooms_held t.table.states)) (map blocks_of t.table.states) t.seat v.blocks (at_map blocks_of t.table.states t.seat v t.here) t.rule.blocks (class_number c) b t.may.held).0
 
     pub gives : Gives z call c b v w
     gives = record {

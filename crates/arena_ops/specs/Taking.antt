@@ -11,18 +11,18 @@ use Rattle.oak_core.specs.declared.states.Finding.{Finding}
 use Rattle.oak_core.specs.declared.states.PassState.{PassState}
 use Rattle.oak_core.specs.Memory.{Spot, in_arena, index, memory, write}
 use Rattle.oak_core.specs.Finding.{IsOf, IsLoadOf, grown}
-use Rattle.oak_core.specs.PassState.{blocks_of}
+use Rattle.oak_core.specs.PassState.{blocks_of, rooms_held}
 use Rattle.oak_core.specs.ArenaCalls.{of_pass, store_step, Sets, Clears, Writes}
-use Rattle.oak_core.specs.Owners.{other_owners}
+use Rattle.oak_core.specs.EntryOwners.{all_others}
 use Rattle.oak_core.specs.AloneWords.{Runs}
 use Rattle.oak_core.specs.Step.{on_arena, table_after}
 use Rattle.oak_core.specs.TableState.{TableState}
 use Rattle.arena_core.specs.ArenaStep.{clear_bit, bit_of}
 use Rattle.arena_ops.specs.Looking.{bit_spot, IsSetIn, AllSet, Looked}
 
--- how many owners the block has
+-- how many owners the block has: passes that hold it, headers, and entries
 abbrev pub owners : Sizes → Class → ℕ → TableState → ℕ
-owners z c b s = total (holds (class_number c) b) (map blocks_of s.states) + other_owners z (memory z s.words).headers (class_number c) b
+owners z c b s = total (holds (class_number c) b) (map blocks_of s.states) + all_others z (memory z s.words) (map rooms_held s.states) (class_number c) b
 
 -- the bit of the block was clear, and is set; no other word changed
 abbrev pub SetsBit : Sizes → Class → ℕ → List ℕ → List ℕ → Type 0

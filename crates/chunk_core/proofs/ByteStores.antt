@@ -1,5 +1,5 @@
 -- The words of a block change that no entry has: no key changes, and what passes keep of keys stays true.
-use Rattle.std.proofs.Common.{◌≡◌, ℕ, suc, ◌+◌, ◌-◌, ◌*◌, ◌<◌, List, [], ◌∷◌, map, sym, refl, ap, ◌∙◌, subst, arith, Option, Some, None}
+use Rattle.std.proofs.Common.{◌≡◌, ℕ, suc, ◌+◌, ◌-◌, ◌*◌, ◌<◌, List, [], ◌∷◌, map, sym, refl, ap, ◌∙◌, subst, arith}
 use Rattle.std.specs.Prelude.{nat_lt}
 use Rattle.std.proofs.lemmas.Bool.{lt-ltb}
 use mathlib.Core.Logic.{dite}
@@ -12,8 +12,7 @@ use Rattle.chunk_core.specs.declared.holds.PinnedRoom.{PinnedRoom}
 use Rattle.chunk_core.specs.declared.holds.RoomHolds.{RoomHolds}
 use Rattle.oak_model.specs.Counts.{one_if, Has}
 use Rattle.oak_model.specs.Limits.{Sizes}
-use Rattle.oak_model.proofs.Counting.{total_at, total_map, below_at}
-use Rattle.oak_model.proofs.Lists.{at_map}
+use Rattle.oak_model.proofs.Counting.{total_map}
 use Rattle.oak_model.proofs.MemberLaws.{each_in, total_has}
 use Rattle.oak_model.proofs.SumLaws.{times-one, times-none, total_in}
 use Rattle.chunk_core.specs.CoverRule.{CoversPartition}
@@ -21,12 +20,13 @@ use Rattle.chunk_core.specs.CoverSums.{covers, weight, each, all_of, owning, own
 use Rattle.chunk_core.specs.Covers.{Entry, Cover, cover_at, used_at, span_in, entry_at, key_at, entry_from, cover_from, moving_of}
 use Rattle.chunk_core.specs.KeyWords.{key_in}
 use Rattle.chunk_core.specs.LinkedEntries.{linked, in_use, entries_in, first_numbers}
-use Rattle.chunk_core.specs.PinnedRooms.{OnRoomPin, IsGoodRoom, EntryStands, RoomPinHolds}
+use Rattle.chunk_core.specs.PinnedRooms.{EntryStands, RoomPinHolds}
 use Rattle.chunk_core.specs.RoomRule.{AreTrueRanges, RoomsStand}
 use Rattle.chunk_core.specs.Rooms.{RoomMemory}
-use Rattle.chunk_core.proofs.CoverLaws.{moves, covers_parts, covers_same, weight-le}
+use Rattle.chunk_core.proofs.CoverLaws.{covers_same, weight-le, room_le, range_le}
 use Rattle.chunk_core.proofs.CoverFrames.{partition_same}
 use Rattle.chunk_core.proofs.EntryNumbers.{map_numbers, numbers_once}
+use Rattle.chunk_core.proofs.RoomFrames.{good_still}
 
 -- a word that is not 0 does not name the block, where its entry has it not
 apart_of : (n word : ℕ) → 0 < word → one_if (nat_lt 0 word) * n ≡ 0 → n ≡ 0
@@ -36,7 +36,7 @@ apart_of n word l e = sym (times-one (one_if (nat_lt 0 word)) n (ap one_if (lt-l
 module _ (z : Sizes) (m : RoomMemory) (content content' : ℕ → List ℕ) (hs : List RoomHolds) (names_it is_key_word : ℕ → ℕ) (apart : (word : ℕ) → names_it word ≡ 0 → content' word ≡ content word) (key_some : (word : ℕ) → 0 < is_key_word word → 0 < word)
     (inside_of : (r : ℕ) → weight (m.pin r) ≡ 1 → r < z.chunks) (none : owners_in_rooms z m content hs names_it ≡ 0) (parts : CoversPartition z m content is_key_word hs) where
   nothing_at : (cover : ℕ → Cover) (F : Cover → ℕ) → covers z.chunks m.pin cover (map moving_of hs) F ≡ 0 → (r : ℕ) → r < z.chunks → weight (m.pin r) ≡ 1 → F (cover r) ≡ 0
-  nothing_at cover F e r l w = let p = covers_parts z.chunks m.pin cover hs F in let t = below_at (λ j. weight (m.pin j) * F (cover j)) z.chunks r l in let o = times-one (weight (m.pin r)) (F (cover r)) w in omega arith
+  nothing_at cover F e r l w = let t = room_le z.chunks m.pin cover (map moving_of hs) F r l w in omega arith
 
   -- no entry of a room has the block
   room_word : (r : ℕ) → r < z.chunks → weight (m.pin r) ≡ 1 → (i : ℕ) → i < entries_in (m.count r) → content' (m.key r i) ≡ content (m.key r i)
@@ -60,9 +60,9 @@ module _ (z : Sizes) (m : RoomMemory) (content content' : ℕ → List ℕ) (hs 
 
   -- a carried entry has not the block either
   carried_word : (j : ℕ) (a : RoomHolds) (i : ℕ) (g : MovingRange) (x : Carried) → get_elem? hs j ≡ some a → get_elem? a.moving i ≡ some g → Has x g.carried → content' x.word ≡ content x.word
-  carried_word j a i g x at range has = let p = covers_parts z.chunks m.pin (used_at m content) hs (each (owning names_it)) in let t = total_at (moves (each (owning names_it))) hs j a at in let q = total_at (each (owning names_it)) (moving_of a) i (cover_from g) (at_map cover_from a.moving i g range) in
+  carried_word j a i g x at range has = let l = range_le z.chunks m.pin (used_at m content) hs (each (owning names_it)) j a at i g range in
       let s = total_map entry_from (owning names_it (cover_from g).span) g.carried in let h = total_has (λ (y : Carried). owning names_it (cover_from g).span (entry_from y)) g.carried x has in
-      let p2 = covers_parts z.chunks m.pin (cover_at m content) hs (each (λ s y. 1 - is_key_word y.word)) in let t2 = total_at (moves (each (λ s y. 1 - is_key_word y.word))) hs j a at in let q2 = total_at (each (λ s y. 1 - is_key_word y.word)) (moving_of a) i (cover_from g) (at_map cover_from a.moving i g range) in
+      let l2 = range_le z.chunks m.pin (cover_at m content) hs (each (λ s y. 1 - is_key_word y.word)) j a at i g range in
       let s2 = total_map entry_from (λ (y : Entry). 1 - is_key_word y.word) g.carried in let h2 = total_has (λ (y : Carried). 1 - is_key_word y.word) g.carried x has in let pl = parts.placed in
       apart x.word (apart_of (names_it x.word) x.word (key_some x.word (omega arith)) (omega arith))
 
@@ -95,17 +95,13 @@ module _ (z : Sizes) (m : RoomMemory) (content content' : ℕ → List ℕ) (hs 
       sorted = λ i j lt k. subst (λ (t : ℕ × ℕ). t.0 < t.1) (λ q. (sym (same r inside w i (omega arith)) q, sym (same r inside w j (omega arith)) q)) (o.sorted i j lt k);
       bounds = o.bounds;
     };
-    good = λ j a at. on a.pin (s.good j a at);
+    good = λ j a at. good_still z m m content content' a.pin (λ p _ h. entry_on p h) (s.good j a at);
     carried = λ j a at. ranges j a at a.moving 0 (λ i g e. subst (λ (t : ℕ). get_elem? a.moving t ≡ some g) (let q : i ≡ 0 + i = omega arith in q) e) (s.carried j a at);
     passes = s.passes;
   }
     where
       same : (r : ℕ) → r < z.chunks → weight (m.pin r) ≡ 1 → (i : ℕ) → i < entries_in (m.count r) → key_at content' (m.key r i) ≡ key_at content (m.key r i)
       same r l w i lt = ap (key_in (m.key r i)) (room_word r l w i lt)
-
-      on : (o : Option PinnedRoom) → OnRoomPin (λ p. IsGoodRoom p → RoomPinHolds z m content p) o → OnRoomPin (λ p. IsGoodRoom p → RoomPinHolds z m content' p) o
-      on None h = tt
-      on (Some p) h = λ good. entry_on p (h good)
 
       ranges : (j : ℕ) (a : RoomHolds) → get_elem? hs j ≡ some a → (gs : List MovingRange) (n : ℕ) → ((i : ℕ) (g : MovingRange) → get_elem? gs i ≡ some g → get_elem? a.moving (n + i) ≡ some g) → AreTrueRanges content gs → AreTrueRanges content' gs
       ranges j a at [] n sub t = tt

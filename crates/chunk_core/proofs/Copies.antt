@@ -1,5 +1,6 @@
 -- What a pass keeps of a room that it holds is what stands in the room's words.
-use Rattle.std.proofs.Common.{◌≡◌, ℕ, zero, suc, ◌+◌, ◌<◌, ◌≤◌, cond, Bool, List, [], ◌∷◌, ◌++◌, length, get_or, sym, refl, ap, ◌∙◌, subst, arith, Option, Some, None, eq-eqb, ne_eqb}
+use Rattle.std.proofs.Common.{◌≡◌, ℕ, zero, suc, ◌+◌, ◌<◌, ◌≤◌, cond, Bool, List, [], ◌∷◌, ◌++◌, length, get_or, sym, refl, ap, ◌∙◌, subst, arith, Some, eq-eqb, ne_eqb}
+use Rattle.std.proofs.lemmas.Option.{none-some, same_Some}
 use mathlib.Core.Logic.{dite}
 use native.Mathlib.Decide.{ℕ_discrete}
 use Rattle.chunk_core.specs.declared.layout.TheConstants.{BOUND_WORDS}
@@ -47,26 +48,13 @@ copy_true z m r w whole h = let P : KeptWord RoomSpot → Type 0 = (λ (t : Kept
 -- the copy of a room that a pass holds, of all that it keeps of rooms
 pub held_true : (z : Sizes) (m : RoomMemory) (r : ℕ) (w : RoomCopy) (hs : List HeldRoom) → Each (λ (h : HeldRoom). IsWholeHeld z h.held_as) hs → AreTrueTo (read_room m) (kept_of_rooms_held hs) → copy_of r hs ≡ Some w → copy_at z m r ≡ w
 unfolding copy_of kept_of_rooms_held
-held_true z m r w [] whole h e = absurd (none e)
-  where
-    none : None ≡ Some w → ⊥
-    none e = cc
+held_true z m r w [] whole h e = absurd (none-some w e)
 held_true z m r w (x ∷ xs) whole h e = let P : KeptWord RoomSpot → Type 0 = (λ (t : KeptWord RoomSpot). read_room m t.spot ≡ t.number) in
     let first = each_first P (kept_of_held x.room x.held_as) (kept_of_rooms_held xs) h in let second = each_rest P (kept_of_held x.room x.held_as) (kept_of_rooms_held xs) h in
     dite (ℕ_discrete x.room r)
     (λ s. one x.room s x.held_as whole.0 first (sym (ap (λ (t : Bool). cond t (copy_in x.held_as) (copy_of r xs)) (eq-eqb x.room r s)) ∙ e))
     (λ n. held_true z m r w xs whole.1 second (sym (ap (λ (t : Bool). cond t (copy_in x.held_as) (copy_of r xs)) (ne_eqb x.room r n)) ∙ e))
   where
-    some_is : (v : RoomCopy) → Some v ≡ Some w → v ≡ w
-    some_is v e = ap (λ (o : Option RoomCopy). or o v) e
-      where
-        or : Option RoomCopy → RoomCopy → RoomCopy
-        or None d = d
-        or (Some y) d = y
-
     one : (q : ℕ) → q ≡ r → (s : RoomHeldAs) → IsWholeHeld z s → AreTrueTo (read_room m) (kept_of_held q s) → copy_in s ≡ Some w → copy_at z m r ≡ w
-    one q s Frozen u h e = absurd (no e)
-      where
-        no : None ≡ Some w → ⊥
-        no e = cc
-    one q s (Held v) u h e = ap (λ (t : ℕ). copy_at z m t) (sym s) ∙ (copy_true z m q v u h ∙ some_is v e)
+    one q s Frozen u h e = absurd (none-some w e)
+    one q s (Held v) u h e = ap (λ (t : ℕ). copy_at z m t) (sym s) ∙ (copy_true z m q v u h ∙ same_Some v w e)

@@ -6,15 +6,15 @@ use Rattle.pin_word.specs.PinWord.{state_of}
 use Rattle.chunk_core.specs.declared.layout.TheConstants.{BOUND_WORDS}
 use Rattle.oak_model.specs.Counts.{rows}
 use Rattle.oak_model.specs.Limits.{Sizes}
-use Rattle.oak_model.proofs.Lists.{map_set_same, rows_length}
+use Rattle.oak_model.proofs.Lists.{rows_length}
 use Rattle.oak_model.proofs.RowLaws.{each_rows}
 use Rattle.chunk_core.specs.declared.holds.FoundEntry.{FoundEntry}
 use Rattle.chunk_core.specs.declared.holds.Latch.{Latch}
 use Rattle.chunk_core.specs.declared.holds.PinnedRoom.{PinnedRoom}
 use Rattle.chunk_core.specs.declared.holds.RoomHolds.{RoomHolds}
 use Rattle.chunk_core.specs.CoverRule.{CoversPartition}
-use Rattle.chunk_core.specs.CoverSums.{covers, all_of, weight}
-use Rattle.chunk_core.specs.Covers.{Cover, cover_at, span_in, moving_of}
+use Rattle.chunk_core.specs.CoverSums.{all_of, weight}
+use Rattle.chunk_core.specs.Covers.{Cover, span_in}
 use Rattle.chunk_core.specs.KeyWords.{low_number, high_number}
 use Rattle.chunk_core.specs.LinkedEntries.{entries_in}
 use Rattle.chunk_core.specs.PinnedRooms.{OnRoomPin, IsGoodRoom, EntryStands, RoomPinHolds, span_of}
@@ -24,6 +24,7 @@ use Rattle.chunk_core.specs.RoomRule.{LatchIsPinned, RoomsStand}
 use Rattle.chunk_core.specs.Rooms.{RoomMemory}
 use Rattle.chunk_core.specs.RoomsAfter.{pin_with}
 use Rattle.chunk_core.proofs.CoverFrames.{partition_same}
+use Rattle.chunk_core.proofs.CoverLaws.{all_still}
 use Rattle.chunk_core.proofs.RoomFrames.{rooms_stepped}
 
 -- the parts of rows
@@ -93,7 +94,7 @@ module _ (z : Sizes) (m : RoomMemory) (content : ℕ → List ℕ) (is_key_word 
   }) rule
 
   pub count_covers : (F : Cover → ℕ) → all_of z m content (set hs seat (record a { pin = Some (pin_with m content (m.count p.room) p) })) F ≡ all_of z m content hs F
-  count_covers F = ap (λ (ms : List (List Cover)). covers z.chunks m.pin (cover_at m content) ms F) (map_set_same moving_of hs seat a (record a { pin = Some p' }) here refl)
+  count_covers F = all_still z m m content content hs seat a (record a { pin = Some p' }) here refl F (λ j _. refl)
 
   pub count_partition : CoversPartition z m content is_key_word (set hs seat (record a { pin = Some (pin_with m content (m.count p.room) p) }))
   count_partition = partition_same z m m content content is_key_word hs (set hs seat (record a { pin = Some p' })) count_covers parts

@@ -1,7 +1,7 @@
 -- A key word is taken away from a held room: the carried entries of that word without a value are dropped, and the base of their range rises to their floors.
-use Rattle.std.proofs.Common.{eqb-true, ◌≡◌, ◌≢◌, ℕ, zero, suc, ◌+◌, ◌-◌, ◌*◌, ◌<◌, ◌≤◌, ◌==◌, cond, Bool, true, List, [], ◌∷◌, map, sym, refl, ap, ◌∙◌, subst, inl, inr, arith}
+use Rattle.std.proofs.Common.{eqb-true, ◌≡◌, ◌≢◌, ℕ, ◌+◌, ◌-◌, ◌*◌, ◌<◌, ◌≤◌, ◌==◌, cond, Bool, true, List, [], ◌∷◌, map, sym, refl, ap, ◌∙◌, subst, inl, inr, arith}
 use Rattle.std.specs.Prelude.{filter, not}
-use mathlib.Core.Option.{some, some-injective, some-ne-none}
+use mathlib.Core.Option.{some}
 use lib.ListN.{get_elem?}
 use Rattle.chunk_core.specs.declared.holds.Carried.{Carried}
 use Rattle.chunk_core.specs.declared.holds.MovingRange.{MovingRange}
@@ -10,7 +10,7 @@ use Rattle.oak_model.specs.Counts.{one_at, total, Each, Has}
 use Rattle.oak_model.specs.Limits.{Sizes}
 use Rattle.oak_model.proofs.Counting.{one_at-same, one_at-other, test-cases, both_true, total_map, total_at, total_some, below_at}
 use Rattle.oak_model.proofs.Lists.{at_map}
-use Rattle.oak_model.proofs.MemberLaws.{total_has, has_filter, filter-cases, total_split}
+use Rattle.oak_model.proofs.MemberLaws.{each_at, total_has, has_filter, filter-cases, total_split}
 use Rattle.oak_model.proofs.SumLaws.{times-one, times-none, times_le, total_none}
 use Rattle.chunk_core.specs.CoverRule.{CoversPartition}
 use Rattle.chunk_core.specs.CoverSums.{weight, each, is_in, base_for, stray, naming, names, all_of, word_of, base_of}
@@ -22,7 +22,7 @@ use Rattle.chunk_core.specs.Rooms.{RoomMemory}
 use Rattle.chunk_core.specs.Spans.{Span, within}
 use Rattle.chunk_core.specs.ValueWord.{names_header, header_in}
 use Rattle.chunk_core.proofs.CoverFacts.{word_is}
-use Rattle.chunk_core.proofs.CoverLaws.{moves, covers_parts}
+use Rattle.chunk_core.proofs.CoverLaws.{moves, covers_parts, moves_le, range_le}
 use Rattle.chunk_core.proofs.Lookups.{no_word}
 use Rattle.chunk_core.proofs.RangeMoves.{greater-cases}
 use Rattle.chunk_core.proofs.SpanLaws.{past-le}
@@ -101,9 +101,7 @@ one_of content word [] t p = absurd (omega arith)
 one_of content word (c ∷ cs) t p = filter-cases (is_dropped word) c cs (λ l. 0 < total (λ (y : Carried). 1) l → (y : Carried) × Has y (c ∷ cs) × (is_dropped word y ≡ true) × (content y.word ≡ y.words)) (λ d _. (c, inl refl, d, t.0)) (λ _ q. let r = one_of content word cs t.1 q in (r.0, inr r.1, r.2, r.3)) p
 
 dropped_one : (content : ℕ → List ℕ) (word : ℕ) (gs : List MovingRange) (i : ℕ) (g : MovingRange) → get_elem? gs i ≡ some g → AreTrueRanges content gs → 0 < dropped_by (λ _. 1) word g → (c : Carried) × Has c g.carried × (is_dropped word c ≡ true) × (content c.word ≡ c.words)
-dropped_one content word [] i g at t p = absurd (some-ne-none g (sym at))
-dropped_one content word (y ∷ ys) zero g at t p = one_of content word g.carried (subst (λ (x : MovingRange). Each (λ (c : Carried). content c.word ≡ c.words) x.carried) (some-injective y g at) t.0) p
-dropped_one content word (y ∷ ys) (suc i) g at t p = dropped_one content word ys i g at t.1 p
+dropped_one content word gs i g at t p = one_of content word g.carried (each_at (λ (y : MovingRange). Each (λ (c : Carried). content c.word ≡ c.words) y.carried) gs t i g at) p
 
 -- A key word is taken away from a held room: the covers afterwards.
 module _ (z : Sizes) (m m' : RoomMemory) (content : ℕ → List ℕ) (is_key_word : ℕ → ℕ) (hs hs' : List RoomHolds) (parts : CoversPartition z m content is_key_word hs) (seat : ℕ) (a b : RoomHolds) (here : get_elem? hs seat ≡ some a) (true_to : AreTrueRanges content a.moving)
@@ -128,8 +126,8 @@ module _ (z : Sizes) (m m' : RoomMemory) (content : ℕ → List ℕ) (is_key_wo
   base_more k = let s = step (base_for k) in let r = ranges_base k word a.moving in let e = moving_is (base_for k) in omega arith
 
   -- what a pass's ranges add is no more than all
-  moves_le : (F : Cover → ℕ) → total F (moving_of a) ≤ all_of z m content hs F
-  moves_le F = let p = covers_parts z.chunks m.pin (cover_at m content) hs F in let t = total_at (moves F) hs seat a here in omega arith
+  ranges_le : (F : Cover → ℕ) → total F (moving_of a) ≤ all_of z m content hs F
+  ranges_le F = moves_le z.chunks m.pin (cover_at m content) hs F seat a here
 
   pub dropped_partition : CoversPartition z m' content is_key_word hs'
   dropped_partition = record {
@@ -138,7 +136,7 @@ module _ (z : Sizes) (m m' : RoomMemory) (content : ℕ → List ℕ) (is_key_wo
     inside = let s = step (each stray) in let r = ranges_stray word a.moving in let e = moving_is (each stray) in let i = parts.inside in omega arith;
     placed = let d = with_dropped (λ x. 1 - is_key_word x.word) in let p = parts.placed in omega arith;
     begun = spans_still (λ low high. 1 - within (record { low = low; high = high; base = 0 }) low) ∙ parts.begun;
-    bases = let s = step (λ c. names_header c.span.base) in let l = moves_le (λ c. names_header c.span.base) in let n = parts.bases in let r = ranges_names word a.moving (omega arith) in let e = moving_is (λ c. names_header c.span.base) in omega arith;
+    bases = let s = step (λ c. names_header c.span.base) in let l = ranges_le (λ c. names_header c.span.base) in let n = parts.bases in let r = ranges_names word a.moving (omega arith) in let e = moving_is (λ c. names_header c.span.base) in omega arith;
   }
 
   -- all that is dropped is of the key that the word names
@@ -174,7 +172,7 @@ module _ (z : Sizes) (m m' : RoomMemory) (content : ℕ → List ℕ) (is_key_wo
     key0 = key_is c0 drop true_word
 
     adds : (f : Span → Entry → ℕ) → f (cover_from g).span (entry_from c0) ≤ all_of z m content hs (each f)
-    adds f = let l = moves_le (each f) in let t = total_at (each f) (moving_of a) i (cover_from g) (at_map cover_from a.moving i g range) in let h = total_has (λ (c : Carried). f (cover_from g).span (entry_from c)) g.carried c0 has in let e = total_map entry_from (f (cover_from g).span) g.carried in omega arith
+    adds f = let l = range_le z.chunks m.pin (cover_at m content) hs (each f) seat a here i g range in let h = total_has (λ (c : Carried). f (cover_from g).span (entry_from c)) g.carried c0 has in let e = total_map entry_from (f (cover_from g).span) g.carried in omega arith
 
     pub word_was : word_of z m content hs k0 ≡ c0.value + 1
     word_was = word_is z m content hs parts.once (cover_from g).span (entry_from c0) k0 adds key0
@@ -190,7 +188,7 @@ module _ (z : Sizes) (m m' : RoomMemory) (content : ℕ → List ℕ) (is_key_wo
     inside0 = let s = adds stray in let pi = parts.inside in let p = past-le (low_number g.low) k0 in let e = ap (within (cover_from g).span) key0 in omega arith
 
     pub base_now : c0.value ≤ base_of z m' content hs' k0
-    base_now = let f = floor_under word g.base g.carried c0 has drop in let s = step (base_for k0) in let l = moves_le (base_for k0) in let e = moving_is (base_for k0) in
+    base_now = let f = floor_under word g.base g.carried c0 has drop in let s = step (base_for k0) in let l = ranges_le (base_for k0) in let e = moving_is (base_for k0) in
         let t = total_at (λ (y : MovingRange). base_for k0 (cover_from (range_without word y))) a.moving i g range in
         let q = total_map (range_without word) (λ (y : MovingRange). base_for k0 (cover_from y)) a.moving in let r = total_map cover_from (base_for k0) (map (range_without word) a.moving) in
         let in0 = inside0 in let w : base_for k0 (cover_from (range_without word g)) ≡ base_with word g.base g.carried = times-one (within (cover_from g).span k0) (base_with word g.base g.carried) in0 in omega arith

@@ -1,9 +1,7 @@
 -- The rooms that a pass has, where one of them comes or goes.
-use Rattle.std.proofs.Common.{◌≡◌, ◌≢◌, ℕ, ◌+◌, ◌*◌, cond, Bool, List, [], ◌∷◌, sym, refl, ◌∙◌, subst, arith, eq-eqb, ne_eqb}
-use mathlib.Core.Logic.{dite}
-use native.Mathlib.Decide.{ℕ_discrete}
+use Rattle.std.proofs.Common.{◌≡◌, ◌≢◌, ℕ, ◌+◌, ◌*◌, cond, List, [], ◌∷◌, sym, refl, ◌∙◌, arith}
 use Rattle.oak_model.specs.Counts.{one_at, total, Each}
-use Rattle.oak_model.proofs.Counting.{one_at-same, one_at-other}
+use Rattle.oak_model.proofs.Counting.{decided, one_at-same, one_at-other}
 use Rattle.oak_model.proofs.SumLaws.{times-one, times-none}
 use Rattle.chunk_core.specs.declared.holds.HeldRoom.{HeldRoom}
 use Rattle.chunk_core.specs.RoomCopies.{without_room}
@@ -27,8 +25,7 @@ row_else r j s h hs e ne = let t = times-none (one_at h.room j) (one_at (room_st
 
 without-cases : (r : ℕ) (h : HeldRoom) (hs : List HeldRoom) (P : List HeldRoom → Type 0) → (h.room ≡ r → P (without_room r hs)) → (h.room ≢ r → P (h ∷ without_room r hs)) → P (without_room r (h ∷ hs))
 unfolding without_room
-without-cases r h hs P same other = dite (ℕ_discrete h.room r) (λ e. subst (λ (t : Bool). P (cond t (without_room r hs) (h ∷ without_room r hs))) (sym (eq-eqb h.room r e)) (same e))
-    (λ n. subst (λ (t : Bool). P (cond t (without_room r hs) (h ∷ without_room r hs))) (sym (ne_eqb h.room r n)) (other n))
+without-cases r h hs P same other = decided h.room r (λ t. P (cond t (without_room r hs) (h ∷ without_room r hs))) same other
 
 pub without_here : (r s : ℕ) (hs : List HeldRoom) → room_rows r s (without_room r hs) ≡ 0
 unfolding total room_rows without_room

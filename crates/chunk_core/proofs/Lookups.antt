@@ -5,14 +5,14 @@ use native.Mathlib.Decide.{ℕ_discrete}
 use Rattle.chunk_core.specs.declared.holds.RoomHolds.{RoomHolds}
 use Rattle.oak_model.specs.Counts.{total, below}
 use Rattle.oak_model.specs.Limits.{Sizes}
-use Rattle.oak_model.proofs.Counting.{total_append, total_map, total_at, total_some, below_at}
+use Rattle.oak_model.proofs.Counting.{total_append, total_map, total_at, total_some}
 use Rattle.oak_model.proofs.RowLaws.{total_le}
 use Rattle.oak_model.proofs.SumLaws.{times-one, times-none}
 use Rattle.chunk_core.specs.CoverSums.{covers, each, weight, has_key, word_for, all_of, word_of}
 use Rattle.chunk_core.specs.Covers.{Entry, Cover, cover_at, moving_of}
 use Rattle.chunk_core.specs.Rooms.{RoomMemory}
 use Rattle.chunk_core.specs.Spans.{Span}
-use Rattle.chunk_core.proofs.CoverLaws.{weight-le, covers_le}
+use Rattle.chunk_core.proofs.CoverLaws.{weight-le, covers_le, room_le}
 
 unfoldable entries_of : Cover → List (Span × Entry)
 entries_of c = map (λ (x : Entry). (c.span, x)) c.entries
@@ -104,8 +104,7 @@ module _ (z : Sizes) (m : RoomMemory) (content : ℕ → List ℕ) (hs : List Ro
 
   -- what a room adds
   pub all_at : (r : ℕ) (F : Cover → ℕ) → r < z.chunks → weight (m.pin r) ≡ 1 → F (cover_at m content r) ≤ all_of z m content hs F
-  unfolding covers
-  all_at r F l e = let t = below_at (λ j. weight (m.pin j) * F (cover_at m content j)) z.chunks r l in let q = times-one (weight (m.pin r)) (F (cover_at m content r)) e in omega arith
+  all_at r F l e = room_le z.chunks m.pin (cover_at m content) (map moving_of hs) F r l e
 
   -- where entries add something, one of them does, and it is added up at each number
   pub entry_some : (f : Span → Entry → ℕ) → 0 < all_of z m content hs (each f) → (s : Span) × (x : Entry) × (0 < f s x) × ((g : Span → Entry → ℕ) → g s x ≤ all_of z m content hs (each g))

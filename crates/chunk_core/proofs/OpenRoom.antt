@@ -1,47 +1,45 @@
 -- A held room is opened, over a moving range or its upper part.
-use Rattle.std.proofs.Common.{◌≡◌, ◌≢◌, ℕ, zero, suc, ◌+◌, ◌-◌, ◌<◌, ◌==◌, cond, Bool, eqb-true, true, false, List, [], ◌∷◌, ◌++◌, map, set, sym, refl, ap, ◌∙◌, subst, inl, inr, ⊎_elim, arith, eq-eqb}
-use Rattle.std.proofs.lemmas.Bool.{leb-true}
+use Rattle.std.proofs.Common.{◌≡◌, ◌≢◌, ℕ, ◌+◌, ◌-◌, ◌<◌, ◌==◌, cond, Bool, eqb-true, List, [], ◌∷◌, ◌++◌, map, set, sym, refl, ap, ◌∙◌, subst, inl, inr, ⊎_elim, arith}
+use Rattle.std.proofs.lemmas.Bool.{leb-true, eqb-false}
 use Rattle.std.specs.Prelude.{nat_le, filter, not, slice_index}
-use mathlib.Core.Option.{some, some-injective, some-ne-none}
+use mathlib.Core.Option.{some}
 use lib.ListN.{get_elem?}
 use Rattle.chunk_core.specs.declared.layout.TheConstants.{BOUND_WORDS}
 use Rattle.chunk_core.specs.declared.states.TheConstants.{OPEN, HELD}
 use Rattle.chunk_core.specs.declared.holds.Carried.{Carried}
 use Rattle.chunk_core.specs.declared.holds.EntryWords.{EntryWords}
-use Rattle.chunk_core.specs.declared.holds.HeldRoom.{HeldRoom}
 use Rattle.chunk_core.specs.declared.holds.MovingRange.{MovingRange}
 use Rattle.chunk_core.specs.declared.holds.RoomCopy.{RoomCopy}
 use Rattle.chunk_core.specs.declared.holds.RoomHolds.{RoomHolds}
 use Rattle.oak_model.specs.Counts.{one_at, total, rows, Each, Has}
 use Rattle.oak_model.specs.Limits.{Sizes}
 use Rattle.oak_model.proofs.Changes.{stepped}
-use Rattle.oak_model.proofs.Counting.{one_at-same, one_at-true, test-cases, both_true, total_map, total_at}
-use Rattle.oak_model.proofs.Lists.{at_map, rows_at}
-use Rattle.oak_model.proofs.MemberLaws.{has_some, each_has, filter-cases, each_filter}
+use Rattle.oak_model.proofs.Counting.{one_at-same, one_at-true, test-cases, both_true, total_map}
+use Rattle.oak_model.proofs.Lists.{rows_at}
+use Rattle.oak_model.proofs.MemberLaws.{has_some, each_at, each_has, filter-cases, each_filter}
 use Rattle.oak_model.proofs.PutLaws.{put-here, put-else}
 use Rattle.oak_model.proofs.RowLaws.{rows_map}
 use Rattle.oak_model.proofs.SumLaws.{total_in}
 use Rattle.pin_word.specs.PinWord.{state_of, generation_of, count_of}
 use Rattle.chunk_core.specs.CoverRule.{CoversPartition}
 use Rattle.chunk_core.specs.CoverSums.{weight, each, stray, all_of}
-use Rattle.chunk_core.specs.Covers.{Entry, Cover, cover_at, entry_at, key_at, entry_from, cover_from, moving_of}
+use Rattle.chunk_core.specs.Covers.{Entry, Cover, cover_at, entry_at, key_at, entry_from, cover_from}
 use Rattle.chunk_core.specs.KeyWords.{key_in, low_number, high_from, high_number}
 use Rattle.chunk_core.specs.LinkedEntries.{linked, entries_in, prefix_in, first_numbers}
 use Rattle.chunk_core.specs.MayOnRooms.{MayOpenRoom}
 use Rattle.chunk_core.specs.MovingRanges.{takes, is_upper, upper_of, left_of, ranges_left}
 use Rattle.chunk_core.specs.RoomCopies.{without_room, entries_held, word_held}
 use Rattle.chunk_core.specs.RoomReads.{words_at, copy_at}
-use Rattle.chunk_core.specs.RoomRule.{in_room_state, AreTrueRanges, RoomsStand, IsWholeHeld, AreBounds}
+use Rattle.chunk_core.specs.RoomRule.{in_room_state, AreTrueRanges, RoomsStand, AreBounds}
 use Rattle.chunk_core.specs.RoomStep.{put_room}
 use Rattle.chunk_core.specs.Rooms.{RoomMemory, at_room_pin}
 use Rattle.chunk_core.specs.Spans.{within}
 use Rattle.chunk_core.specs.ValueWord.{names_header}
-use Rattle.chunk_core.proofs.CoverLaws.{moves, all_in, covers_parts}
+use Rattle.chunk_core.proofs.CoverLaws.{all_in, range_le}
 use Rattle.chunk_core.proofs.EntryNumbers.{numbers_once, take_rows, rows_total}
-use Rattle.chunk_core.proofs.HeldRooms.{without_here, without_else, each_without}
 use Rattle.chunk_core.proofs.Ranges.{whole_parted, Parted, upper_parted, ranges_left-is, parted_covers}
-use Rattle.chunk_core.proofs.RoomStates.{restated}
-use Rattle.chunk_core.proofs.Weights.{weight_open, weight_held, open_none, is_so, rows_are}
+use Rattle.chunk_core.proofs.RoomStates.{given_up}
+use Rattle.chunk_core.proofs.Weights.{weight_open, weight_held, open_none, is_so}
 
 -- carried entries by what their key words name
 total_true : (content : ℕ → List ℕ) (f : Entry → ℕ) (p : Carried → Bool) (xs : List Carried) → Each (λ (c : Carried). content c.word ≡ c.words) xs
@@ -59,12 +57,6 @@ true_left content w (g ∷ gs) h = test-cases (takes w g) (λ t. AreTrueRanges c
     (λ _. test-cases (low_number w.low == low_number g.low) (λ t. AreTrueRanges content (cond t [] (record g { high = high_from w.low; carried = filter (λ c. not (is_upper w c)) g.carried } ∷ []) ++ gs)) (λ _. h.1)
     (λ _. (each_filter (λ c. not (is_upper w c)) (λ (c : Carried). content c.word ≡ c.words) g.carried h.0, h.1)))
     (λ _. (h.0, true_left content w gs h.1))
-
--- a range among those whose words are true
-true_range : (content : ℕ → List ℕ) (gs : List MovingRange) (i : ℕ) (g : MovingRange) → get_elem? gs i ≡ some g → AreTrueRanges content gs → Each (λ (y : Carried). content y.word ≡ y.words) g.carried
-true_range content [] i g at h = absurd (some-ne-none g (sym at))
-true_range content (y ∷ ys) zero g at h = subst (λ (t : MovingRange). Each (λ (c : Carried). content c.word ≡ c.words) t.carried) (some-injective y g at) h.0
-true_range content (y ∷ ys) (suc i) g at h = true_range content ys i g at h.1
 
 just_one : (F : Cover → ℕ) (c : Cover) → F c ≡ 0 → total F (c ∷ []) ≡ 0
 unfolding total
@@ -107,7 +99,7 @@ module _ (z : Sizes) (m : RoomMemory) (content : ℕ → List ℕ) (is_key_word 
       let t = ranges_left-is w F a.moving may.place g may.there may.takes_it (λ j h at l. may.first j h at l) in omega arith
 
   true_words : Each (λ (y : Carried). content y.word ≡ y.words) g.carried
-  true_words = true_range content a.moving may.place g may.there (rule.carried seat a here)
+  true_words = each_at (λ (t : MovingRange). Each (λ (y : Carried). content y.word ≡ y.words) t.carried) a.moving (rule.carried seat a here) may.place g may.there
 
   -- the room's entries are those of the range's part
   entries : (f : Entry → ℕ) → total f C.entries ≡ total f (map entry_from (upper_of w g))
@@ -118,8 +110,7 @@ module _ (z : Sizes) (m : RoomMemory) (content : ℕ → List ℕ) (is_key_word 
 
   -- what is nothing over all covers is nothing of the range
   of_range : (F : Cover → ℕ) → all_of z m content hs F ≡ 0 → F (cover_from g) ≡ 0
-  of_range F e = let p = covers_parts z.chunks m.pin (cover_at m content) hs F in let t = total_at (moves F) hs seat a here in
-      let q = total_at F (moving_of a) may.place (cover_from g) (at_map cover_from a.moving may.place g may.there) in omega arith
+  of_range F e = let l = range_le z.chunks m.pin (cover_at m content) hs F seat a here may.place g may.there in omega arith
 
   no_stray : each stray (cover_from g) ≡ 0
   no_stray = of_range (each stray) parts.inside
@@ -127,11 +118,8 @@ module _ (z : Sizes) (m : RoomMemory) (content : ℕ → List ℕ) (is_key_word 
   pub open_parted : Parted (cover_from g ∷ []) (C ∷ map cover_from (left_of w g))
   open_parted = test-cases (low_number w.low == low_number g.low) (λ t. Parted (cover_from g ∷ []) (C ∷ map cover_from (cond t [] (record g { high = high_from w.low; carried = filter (λ y. not (is_upper w y)) g.carried } ∷ []))))
       (λ e. whole_parted w g C may.takes_it may.base may.under refl refl refl entries no_stray (eqb-true (low_number w.low) (low_number g.low) e))
-      (λ e. upper_parted w g C may.takes_it may.base may.under refl refl refl entries no_stray (lower (λ s. absurd (apart (sym (eq-eqb (low_number w.low) (low_number g.low) s) ∙ e)))))
+      (λ e. upper_parted w g C may.takes_it may.base may.under refl refl refl entries no_stray (lower (eqb-false (low_number w.low) (low_number g.low) e)))
     where
-      apart : true ≡ false → ⊥
-      apart e = cc
-
       lower : low_number w.low ≢ low_number g.low → low_number g.low < low_number w.low
       lower ne = let l = leb-true (low_number g.low) (low_number w.low) (both_true (high_number w.high == high_number g.high) (nat_le (low_number g.low) (low_number w.low)) may.takes_it).1 in omega arith
 
@@ -163,8 +151,5 @@ module _ (z : Sizes) (m : RoomMemory) (content : ℕ → List ℕ) (is_key_word 
   first_word f = rows_at 0 BOUND_WORDS 0 f 0 (omega arith)
 
   pub open_rooms : RoomsStand z m' content hs'
-  open_rooms = restated z m content hs rule seat a here r x count generation (omega arith) (without_room r a.held) (ranges_left (copy_at z m r) a.moving)
-      (λ s is. let n = without_here r s a.held in let o = rows_are z m content hs rule seat a here r HELD (inr refl) held s is in let e = open_none x s opened is in omega arith)
-      (λ j s ne. without_else r j s a.held ne)
-      (λ _. record { few = may.few; prefix = may.prefix; sorted = sorted_here; bounds = subst (λ (t : ℕ × ℕ). AreBounds t.0 t.1) (λ i. (first_word (m.low r) i, first_word (m.high r) i)) may.bounds })
-      (λ weighs. absurd (let n = weight_held (m.pin r) is_held in omega arith)) (true_left content w a.moving (rule.carried seat a here)) (each_without (λ (h : HeldRoom). IsWholeHeld z h.held_as) r a.held (rule.passes seat a here).whole)
+  open_rooms = given_up z m content hs rule seat a here r x held count generation (omega arith) (λ s is. open_none x s opened is) (ranges_left (copy_at z m r) a.moving)
+      (λ _. record { few = may.few; prefix = may.prefix; sorted = sorted_here; bounds = subst (λ (t : ℕ × ℕ). AreBounds t.0 t.1) (λ i. (first_word (m.low r) i, first_word (m.high r) i)) may.bounds }) (true_left content w a.moving (rule.carried seat a here))

@@ -9,18 +9,18 @@ use Rattle.oak_model.specs.declared.limits.TheConstants.{GREATEST_KEY}
 use Rattle.oak_model.specs.Counts.{one_at, put, rows}
 use Rattle.oak_model.specs.Limits.{Sizes}
 use Rattle.oak_model.proofs.Counting.{one_at-same, one_at-other, one_at-true, total_at}
-use Rattle.oak_model.proofs.Lists.{each_map, map_set_same}
-use Rattle.oak_model.proofs.PutLaws.{put-here, put-else, put-cases}
+use Rattle.oak_model.proofs.Lists.{each_map}
+use Rattle.oak_model.proofs.PutLaws.{put-cases, put-level}
 use Rattle.chunk_core.specs.declared.layout.TheConstants.{BOUND_WORDS}
 use Rattle.chunk_core.specs.declared.holds.Latch.{Latch}
 use Rattle.chunk_core.specs.declared.holds.PinnedRoom.{PinnedRoom}
 use Rattle.chunk_core.specs.declared.holds.RoomHolds.{RoomHolds}
 use Rattle.chunk_core.specs.CoverRule.{CoversPartition}
-use Rattle.chunk_core.specs.CoverSums.{covers, all_of, weight}
-use Rattle.chunk_core.specs.Covers.{Entry, Cover, cover_at, entry_at, key_at, span_in, cover_from, moving_of}
+use Rattle.chunk_core.specs.CoverSums.{all_of, weight}
+use Rattle.chunk_core.specs.Covers.{Entry, Cover, cover_at, entry_at, key_at, span_in}
 use Rattle.chunk_core.specs.KeyWords.{low_number, high_number}
 use Rattle.chunk_core.specs.LinkedEntries.{entries_in, first_numbers}
-use Rattle.chunk_core.specs.PinnedRooms.{OnRoomPin, IsGoodRoom, EntryStands, RoomPinHolds}
+use Rattle.chunk_core.specs.PinnedRooms.{EntryStands, RoomPinHolds}
 use Rattle.chunk_core.specs.RoomCopies.{latch_with}
 use Rattle.chunk_core.specs.RoomHolds.{latches_of}
 use Rattle.chunk_core.specs.RoomReads.{latched_at}
@@ -28,10 +28,10 @@ use Rattle.chunk_core.specs.RoomRule.{latches_on, LatchIsPinned, IsInOrder, Room
 use Rattle.chunk_core.specs.RoomStep.{EntryField, of_key, of_value, of_next, entry_spot, put_room}
 use Rattle.chunk_core.specs.Rooms.{RoomMemory, at_latch}
 use Rattle.chunk_core.proofs.CoverFrames.{partition_same}
-use Rattle.chunk_core.proofs.CoverLaws.{covers_same}
+use Rattle.chunk_core.proofs.CoverLaws.{all_still}
 use Rattle.chunk_core.proofs.EntryNumbers.{map_numbers}
-use Rattle.chunk_core.proofs.RoomStores.{false_and}
-use Rattle.chunk_core.proofs.RoomFrames.{rooms_stepped}
+use Rattle.std.proofs.lemmas.Bool.{and_right}
+use Rattle.chunk_core.proofs.RoomFrames.{good_still, rooms_stepped}
 
 -- no word changes that a cover, or a pin, has: those of entries may, from the count on
 pub record StaysBelow (m m' : RoomMemory) : Type 0 where
@@ -51,8 +51,7 @@ module _ (z : Sizes) (m m' : RoomMemory) (content : ℕ → List ℕ) (s : Stays
   }) ∙ ap (λ (xs : List Entry). record { span = span_in m j; entries = xs }) (map_numbers (entry_at m' content j) (entry_at m content j) (entries_in (m.count j)) (λ k l. λ i. record { word = s.key j k l i; value = s.value j k l i; key = key_at content (s.key j k l i) }))
 
   pub below_covers : (hs : List RoomHolds) (seat : ℕ) (a b : RoomHolds) → get_elem? hs seat ≡ some a → b.moving ≡ a.moving → (F : Cover → ℕ) → all_of z m' content (set hs seat b) F ≡ all_of z m content hs F
-  below_covers hs seat a b here moving F = covers_same z.chunks m.pin m'.pin (cover_at m content) (cover_at m' content) (map moving_of (set hs seat b)) F (λ j _. λ i. weight (s.pin j i) * F (cover_below j i))
-      ∙ ap (λ (ms : List (List Cover)). covers z.chunks m.pin (cover_at m content) ms F) (map_set_same moving_of hs seat a b here (ap (map cover_from) moving))
+  below_covers hs seat a b here moving F = all_still z m m' content content hs seat a b here moving F (λ j _. λ i. weight (s.pin j i) * F (cover_below j i))
 
   pub pin_below : (p : PinnedRoom) → RoomPinHolds z m content p → RoomPinHolds z m' content p
   pin_below p h = record {
@@ -64,10 +63,6 @@ module _ (z : Sizes) (m m' : RoomMemory) (content : ℕ → List ℕ) (s : Stays
     counted = h.counted;
     entries = each_map (EntryStands (m.count p.room) (m.key p.room) content) (EntryStands (m'.count p.room) (m'.key p.room) content) p.entries (λ e t. record { below = subst (λ (n : ℕ). e.number < entries_in n) (sym (s.count p.room)) t.below; word = s.key p.room e.number t.below ∙ t.word; words = t.words }) h.entries;
   }
-
-  pub pins_below : (o : Option PinnedRoom) → OnRoomPin (λ p. IsGoodRoom p → RoomPinHolds z m content p) o → OnRoomPin (λ p. IsGoodRoom p → RoomPinHolds z m' content p) o
-  pins_below None h = tt
-  pins_below (Some p) h = λ good. pin_below p (h good)
 
   pub order_below : (j : ℕ) → IsInOrder z content (m.count j) (m.key j) (m.low j 0) (m.high j 0) → IsInOrder z content (m'.count j) (m'.key j) (m'.low j 0) (m'.high j 0)
   order_below j o = subst (λ (t : ℕ). IsInOrder z content t (m'.key j) (m'.low j 0) (m'.high j 0)) (sym (s.count j)) (let l = o.prefix in record {
@@ -90,7 +85,7 @@ module _ (z : Sizes) (m m' : RoomMemory) (content : ℕ → List ℕ) (is_key_wo
     latches = latches;
     ordered = λ j w. order_below z m m' content s j (rule.ordered j (sym (ap weight (s.pin j)) ∙ w));
     others = λ j u p ne at is h. pin_below z m m' content s p h;
-    own = pins_below z m m' content s a.pin (rule.good seat a here);
+    own = good_still z m m' content content a.pin (λ p _ h. pin_below z m m' content s p h) (rule.good seat a here);
     carried = rule.carried seat a here;
     stands = record { latch = pinned; claim = (rule.passes seat a here).claim; whole = (rule.passes seat a here).whole };
   }) rule
@@ -105,19 +100,16 @@ stays_latch m r x = record { pin = λ j. refl; base = λ j. refl; count = λ j. 
 
 -- the latch is taken
 pub latch_taken : (m : RoomMemory) (r : ℕ) (a : RoomHolds) → a.latch ≡ None → m.latch r ≡ 0 → (j : ℕ) → latches_of j (Some (latched_at m r (m.count r))) + m.latch j ≡ latches_of j a.latch + put m.latch r 1 j
-latch_taken m r a none free j = let n = ap (latches_of j) none in dite (ℕ_discrete j r)
-    (λ e. let h = put-here m.latch r 1 j e in let o = one_at-same r j (sym e) in let w = ap m.latch e in omega arith)
-    (λ ne. let h = put-else m.latch r 1 j ne in let o = one_at-other r j (λ e. ne (sym e)) in omega arith)
+latch_taken m r a none free = put-level m.latch r 1 (λ t. t) (λ j. latches_of j a.latch) (λ j. one_at r j) (let n = ap (latches_of r) none in let o = one_at-same r r refl in omega arith) (λ j ne. one_at-other r j (λ e. ne (sym e)) ∙ sym (ap (latches_of j) none))
 
 -- the latch is given up
 pub latch_given : (z : Sizes) (m : RoomMemory) (content : ℕ → List ℕ) (hs : List RoomHolds) (rule : RoomsStand z m content hs) (seat : ℕ) (a : RoomHolds) → get_elem? hs seat ≡ some a → (r : ℕ) → latches_on r a ≡ 1 → (j : ℕ) → latches_of j None + m.latch j ≡ latches_of j a.latch + put m.latch r 0 j
-latch_given z m content hs rule seat a here r mine j = let t = total_at (latches_on r) hs seat a here in let k = rule.latched r in let few = rule.latches r in let own = own_latch a.latch mine in dite (ℕ_discrete j r)
-    (λ e. let h = put-here m.latch r 0 j e in let o = one_at-same r j (sym e) in let w = ap m.latch e in omega arith)
-    (λ ne. let h = put-else m.latch r 0 j ne in let o = one_at-other r j (λ e. ne (sym e)) in omega arith)
+latch_given z m content hs rule seat a here r mine = let t = total_at (latches_on r) hs seat a here in let k = rule.latched r in let few = rule.latches r in
+    put-level m.latch r 0 (λ t. t) (λ j. latches_of j a.latch) (λ _. 0) (omega arith) (λ j ne. sym (own_latch j a.latch mine ∙ one_at-other r j (λ e. ne (sym e))))
   where
-    own_latch : (l : Option Latch) → latches_of r l ≡ 1 → latches_of j l ≡ one_at r j
-    own_latch None e = absurd (omega arith)
-    own_latch (Some l) e = ap (λ (t : ℕ). one_at t j) (one_at-true l.room r (omega arith))
+    own_latch : (j : ℕ) (l : Option Latch) → latches_of r l ≡ 1 → latches_of j l ≡ one_at r j
+    own_latch j None e = absurd (omega arith)
+    own_latch j (Some l) e = ap (λ (t : ℕ). one_at t j) (one_at-true l.room r (omega arith))
 
 pub latches_put : (z : Sizes) (m : RoomMemory) (content : ℕ → List ℕ) (hs : List RoomHolds) → RoomsStand z m content hs → (r x : ℕ) → x ≤ 1 → (j : ℕ) → put m.latch r x j ≤ 1
 latches_put z m content hs rule r x l j = put-cases m.latch r x j (λ (t : ℕ). t ≤ 1) (λ _. l) (λ _. rule.latches j)
@@ -127,7 +119,7 @@ latches_put z m content hs rule r x l j = put-cases m.latch r x j (λ (t : ℕ).
 not_it : (m : RoomMemory) (r i j k : ℕ) → i ≡ entries_in (m.count r) → k < entries_in (m.count j) → ((k == i) && (j == r)) ≡ false
 not_it m r i j k past l = dite (ℕ_discrete j r)
     (λ e. ap (λ (t : Bool). t && (j == r)) (ne_eqb k i (λ q. let n = ap (λ (t : ℕ). entries_in (m.count t)) e in absurd (omega arith))))
-    (λ ne. false_and (k == i) (j == r) (ne_eqb j r ne))
+    (λ ne. and_right (k == i) (j == r) (ne_eqb j r ne))
 
 pub stays_entry : (m : RoomMemory) (f : EntryField) (r i x : ℕ) → i ≡ entries_in (m.count r) → StaysBelow m (put_room m (entry_spot f r i) x)
 stays_entry m of_key r i x past = record { pin = λ j. refl; base = λ j. refl; count = λ j. refl; low = λ j. refl; high = λ j. refl; key = λ j k l. ap (λ (t : Bool). cond t x (m.key j k)) (not_it m r i j k past l); value = λ j k l. refl }

@@ -94,7 +94,7 @@ module _ (z : Sizes) (m : RoomMemory) (content : ℕ → List ℕ) (is_key_word 
   floor_low = let a = all_at z m content hs r (λ u. names_header u.span.base) lr cover in let b = was.bases in omega arith
 
   pub names_same : m.value r n ≡ m.base r → (h : ℕ) → all_of z (put_room m (at_count r) (m.count r + 1)) content hs' (each (naming h)) ≡ all_of z m content hs (each (naming h))
-  names_same e h = let v = more_all (naming h) in let f = floor_low in let q : names h (m.value r n) ≡ 0 = ap (names h) e ∙ (ap (λ (t : ℕ). t * one_at (header_in (m.base r)) h) f ∙ (let y : 0 * one_at (header_in (m.base r)) h ≡ 0 = omega arith in y)) in omega arith
+  names_same e h = let v = more_all (naming h) in let f = floor_low in let q : names h (m.value r n) ≡ 0 = ap (names h) e ∙ times-none (names_header (m.base r)) (one_at (header_in (m.base r)) h) f in omega arith
 
 -- the points on rooms
 module _ (z : Sizes) (m : RoomMemory) (content : ℕ → List ℕ) (hs : List RoomHolds) (rule : RoomsStand z m content hs) (seat : ℕ) (a : RoomHolds) (here : get_elem? hs seat ≡ some a)

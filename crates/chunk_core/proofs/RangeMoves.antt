@@ -1,15 +1,13 @@
 -- A room comes to be held, and its range moves with the pass; a held room is retired, and its range joins the one just below.
-use Rattle.std.proofs.Common.{◌≡◌, ◌≢◌, ℕ, ◌+◌, ◌*◌, ◌<◌, ◌≤◌, ◌==◌, cond, Bool, true, false, List, [], ◌∷◌, ◌++◌, map, sym, refl, ap, subst, arith, Option, Some, None, eq-eqb, ne_eqb, le-leb}
-use Rattle.std.proofs.lemmas.Bool.{lt-leb}
-use mathlib.Core.Logic.{dite}
-use native.Mathlib.Decide.{ℕ_discrete, dec_le}
+use Rattle.std.proofs.Common.{◌≡◌, ◌≢◌, ℕ, ◌+◌, ◌*◌, ◌<◌, ◌≤◌, cond, true, List, [], ◌∷◌, ◌++◌, map, refl, ap, arith, Some}
+use Rattle.std.proofs.lemmas.Option.{none-some, same_Some}
 use Rattle.chunk_core.specs.declared.holds.Carried.{Carried}
 use Rattle.chunk_core.specs.declared.holds.MovingRange.{MovingRange}
 use Rattle.chunk_core.specs.declared.holds.RoomHolds.{RoomHolds}
 use Rattle.oak_model.specs.Counts.{one_at, one_if, total}
 use Rattle.oak_model.specs.Limits.{Sizes}
 use Rattle.oak_model.proofs.Changes.{Change}
-use Rattle.oak_model.proofs.Counting.{one_at-same, one_at-other, total_map, total_append, test-cases}
+use Rattle.oak_model.proofs.Counting.{decided, le-cases, one_at-same, one_at-other, total_map, total_append, test-cases}
 use Rattle.oak_model.proofs.RowLaws.{total_le}
 use Rattle.oak_model.proofs.SumLaws.{plus_times, times_le}
 use Rattle.chunk_core.specs.CoverSums.{weight, stray, all_of}
@@ -40,7 +38,7 @@ hold_still z m m' content hs hs' a b c r l pins same w w' moving F = let s = all
     let e = ap (λ (gs : List MovingRange). total F (map cover_from gs)) moving in let f = ap F (moving_cover m content r) in omega arith
 
 pub greater-cases : (a b : ℕ) (P : ℕ → Type 0) → (a ≤ b → P b) → (b < a → P a) → P (greater a b)
-greater-cases a b P high low = dite (dec_le a b) (λ l. subst (λ (t : Bool). P (cond t b a)) (sym (le-leb a b l)) (high l)) (λ no. subst (λ (t : Bool). P (cond t b a)) (sym (lt-leb a b (omega arith))) (low (omega arith)))
+greater-cases a b P high low = le-cases a b (λ t. P (cond t b a)) high low
 
 greater_left : (a b : ℕ) → a ≤ greater a b
 greater_left a b = greater-cases a b (λ t. a ≤ t) (λ l. l) (λ _. omega arith)
@@ -76,29 +74,16 @@ module _ (g h : MovingRange) (below : high_number h.high ≡ low_number g.low + 
 
 -- lists of ranges, as sums
 
-without-cases : (r : ℕ) (g : MovingRange) (gs : List MovingRange) (P : Bool → Type 0) → (g.room ≡ r → P true) → (g.room ≢ r → P false) → P (g.room == r)
-without-cases r g gs P same other = dite (ℕ_discrete g.room r) (λ e. subst P (sym (eq-eqb g.room r e)) (same e)) (λ n. subst P (sym (ne_eqb g.room r n)) (other n))
-
 ranges_same : (F : MovingRange → ℕ) (r : ℕ) (gs : List MovingRange) → total (λ (g : MovingRange). one_at g.room r) gs ≡ 0 → total F (ranges_without r gs) ≡ total F gs
 unfolding total ranges_without
 ranges_same F r [] z = refl
-ranges_same F r (x ∷ xs) z = let t = ranges_same F r xs (omega arith) in without-cases r x xs (λ b. total F (cond b (ranges_without r xs) (x ∷ ranges_without r xs)) ≡ F x + total F xs) (λ e. let o = one_at-same x.room r e in absurd (omega arith)) (λ _. omega arith)
+ranges_same F r (x ∷ xs) z = let t = ranges_same F r xs (omega arith) in decided x.room r (λ b. total F (cond b (ranges_without r xs) (x ∷ ranges_without r xs)) ≡ F x + total F xs) (λ e. let o = one_at-same x.room r e in absurd (omega arith)) (λ _. omega arith)
 
 pub ranges_apart : (F : MovingRange → ℕ) (r : ℕ) (gs : List MovingRange) (g : MovingRange) → total (λ (h : MovingRange). one_at h.room r) gs ≤ 1 → range_of r gs ≡ Some g → total F gs ≡ F g + total F (ranges_without r gs)
 unfolding total range_of ranges_without
-ranges_apart F r [] g one is = absurd (none is)
-  where
-    none : None ≡ Some g → ⊥
-    none e = cc
-ranges_apart F r (x ∷ xs) g one is = without-cases r x xs (λ b. cond b (Some x) (range_of r xs) ≡ Some g → F x + total F xs ≡ F g + total F (cond b (ranges_without r xs) (x ∷ ranges_without r xs)))
-    (λ e q. let o = one_at-same x.room r e in let t = ranges_same F r xs (omega arith) in let y : F x ≡ F g = some_is q in omega arith) (λ n q. let o = one_at-other x.room r n in let t = ranges_apart F r xs g (omega arith) q in omega arith) is
-  where
-    some_is : Some x ≡ Some g → F x ≡ F g
-    some_is e = ap (λ (o : Option MovingRange). or o) e
-      where
-        or : Option MovingRange → ℕ
-        or None = 0
-        or (Some y) = F y
+ranges_apart F r [] g one is = absurd (none-some g is)
+ranges_apart F r (x ∷ xs) g one is = decided x.room r (λ b. cond b (Some x) (range_of r xs) ≡ Some g → F x + total F xs ≡ F g + total F (cond b (ranges_without r xs) (x ∷ ranges_without r xs)))
+    (λ e q. let o = one_at-same x.room r e in let t = ranges_same F r xs (omega arith) in let y = ap F (same_Some x g q) in omega arith) (λ n q. let o = one_at-other x.room r n in let t = ranges_apart F r xs g (omega arith) q in omega arith) is
 
 none_joined : (F : MovingRange → ℕ) (g : MovingRange) (gs : List MovingRange) → total (λ (h : MovingRange). one_if (is_below g h)) gs ≡ 0 → total F (map (joined_range g) gs) ≡ total F gs
 unfolding total

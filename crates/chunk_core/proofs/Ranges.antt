@@ -1,15 +1,13 @@
 -- Ranges and entries are cut otherwise: a room takes all of a moving range, or its upper part. What is added up over the covers stays, and no base falls.
 use Rattle.std.proofs.Common.{eqb-true, ◌≡◌, ℕ, zero, suc, ◌+◌, ◌-◌, ◌*◌, ◌<◌, ◌≤◌, ◌==◌, cond, Bool, true, false, List, [], ◌∷◌, ◌++◌, map, sym, refl, ap, ◌∙◌, arith, le-leb}
 use Rattle.std.specs.Prelude.{not, filter, nat_le}
-use mathlib.Core.Logic.{dite}
 use mathlib.Core.Option.{some, some-injective, some-ne-none}
-use native.Mathlib.Decide.{dec_le}
 use lib.ListN.{get_elem?}
 use Rattle.chunk_core.specs.declared.holds.Carried.{Carried}
 use Rattle.chunk_core.specs.declared.holds.MovingRange.{MovingRange}
 use Rattle.chunk_core.specs.declared.holds.RoomCopy.{RoomCopy}
 use Rattle.chunk_core.specs.declared.holds.RoomHolds.{RoomHolds}
-use Rattle.std.proofs.lemmas.Bool.{leb-true}
+use Rattle.std.proofs.lemmas.Bool.{leb-true, leb-false, not-true}
 use Rattle.oak_model.specs.Counts.{one_at, total}
 use Rattle.oak_model.specs.Limits.{Sizes}
 use Rattle.oak_model.proofs.Counting.{total_append, total_map, both_true}
@@ -61,10 +59,6 @@ module _ (z : Sizes) (m m' : RoomMemory) (content : ℕ → List ℕ) (is_key_wo
     begun = let s = step (λ u. 1 - within u.span u.span.low) in let e = parted.begun all_begun in let t = c.begun in omega arith;
     bases = let s = step (λ u. names_header u.span.base) in let e = parted.bases names_header no_name in let t = c.bases in omega arith;
   }
-
-from_not : (b : Bool) → not b ≡ true → b ≡ false
-from_not true e = sym e
-from_not false e = refl
 
 -- the range that is taken is the one at its place, and of it what is left stays
 pub ranges_left-is : (w : RoomCopy) (F : Cover → ℕ) (gs : List MovingRange) (i : ℕ) (g : MovingRange) → get_elem? gs i ≡ some g → takes w g ≡ true → ((j : ℕ) (h : MovingRange) → get_elem? gs j ≡ some h → j < i → takes w h ≡ false)
@@ -132,13 +126,7 @@ module _ (w : RoomCopy) (g : MovingRange) (c : Cover) (taken : takes w g ≡ tru
   lower_in : total (stray rest.span) rest.entries ≡ 0
   lower_in = total_map entry_from (stray rest.span) (filter (λ x. not (is_upper w x)) g.carried)
       ∙ total_passed (λ x. not (is_upper w x)) (λ (x : Carried). stray (cover_from g).span (entry_from x)) (λ (x : Carried). stray rest.span (entry_from x)) g.carried (λ x passed e. let i = within-one (key_in x.word x.words) e in
-      let u = lower_at (record { low = low_number g.low; high = high_number g.high; base = 0 }) rest.span c.span (low_number w.low) refl (high_from-is w.low) c_low high_same under (key_in x.word x.words) i (leb_not (low_number w.low) (key_in x.word x.words) (from_not (is_upper w x) passed)) in omega arith) stray_on
-    where
-      leb_not : (a b : ℕ) → nat_le a b ≡ false → b < a
-      leb_not a b e = dite (dec_le a b) (λ l. absurd (apart (sym (le-leb a b l) ∙ e))) (λ no. omega arith)
-        where
-          apart : true ≡ false → ⊥
-          apart e = cc
+      let u = lower_at (record { low = low_number g.low; high = high_number g.high; base = 0 }) rest.span c.span (low_number w.low) refl (high_from-is w.low) c_low high_same under (key_in x.word x.words) i (leb-false (low_number w.low) (key_in x.word x.words) (not-true (is_upper w x) passed)) in omega arith) stray_on
 
   pub upper_parted : low_number g.low < low_number w.low → Parted (cover_from g ∷ []) (c ∷ rest ∷ [])
   unfolding total

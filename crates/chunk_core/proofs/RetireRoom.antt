@@ -1,18 +1,18 @@
 -- A held room is retired, and the range that came with it joins the one just below.
 use Rattle.std.proofs.Common.{◌≡◌, ℕ, ◌+◌, ◌-◌, ◌<◌, ◌≤◌, ◌==◌, cond, Bool, List, [], ◌∷◌, map, set, sym, refl, ap, ◌∙◌, subst, inr, arith, Option, Some, None, eq-eqb, ne_eqb, eqb-true}
+use Rattle.std.proofs.lemmas.Option.{none-some, same_Some}
 use mathlib.Core.Logic.{dite}
 use mathlib.Core.Option.{some}
 use native.Mathlib.Decide.{ℕ_discrete}
 use lib.ListN.{get_elem?}
 use Rattle.chunk_core.specs.declared.states.TheConstants.{FREE, HELD}
 use Rattle.chunk_core.specs.declared.holds.Carried.{Carried}
-use Rattle.chunk_core.specs.declared.holds.HeldRoom.{HeldRoom}
 use Rattle.chunk_core.specs.declared.holds.MovingRange.{MovingRange}
 use Rattle.chunk_core.specs.declared.holds.RoomHolds.{RoomHolds}
 use Rattle.oak_model.specs.Counts.{total, Each}
 use Rattle.oak_model.specs.Limits.{Sizes}
 use Rattle.oak_model.proofs.Changes.{stepped}
-use Rattle.oak_model.proofs.Counting.{test-cases, total_map, total_at}
+use Rattle.oak_model.proofs.Counting.{test-cases, total_map}
 use Rattle.oak_model.proofs.Lists.{each_append}
 use Rattle.oak_model.proofs.PutLaws.{put-here, put-else}
 use Rattle.pin_word.specs.PinWord.{state_of, generation_of, count_of}
@@ -23,28 +23,24 @@ use Rattle.chunk_core.specs.KeyWords.{low_number, high_number}
 use Rattle.chunk_core.specs.MayOnRooms.{MayRetire}
 use Rattle.chunk_core.specs.MovingRanges.{is_below, joined_range, joined_by, joined_to, range_of, ranges_without, ranges_joined}
 use Rattle.chunk_core.specs.RoomCopies.{without_room}
-use Rattle.chunk_core.specs.RoomRule.{in_room_state, AreTrueRanges, RoomsStand, IsWholeHeld}
+use Rattle.chunk_core.specs.RoomRule.{in_room_state, AreTrueRanges, RoomsStand}
 use Rattle.chunk_core.specs.RoomStep.{put_room}
 use Rattle.chunk_core.specs.Rooms.{RoomMemory, at_room_pin}
 use Rattle.chunk_core.specs.Spans.{within}
 use Rattle.chunk_core.specs.ValueWord.{names_header}
-use Rattle.chunk_core.proofs.CoverLaws.{moves, all_aside, covers_parts}
-use Rattle.chunk_core.proofs.HeldRooms.{without_here, without_else, each_without}
+use Rattle.chunk_core.proofs.CoverLaws.{all_aside, moves_le}
 use Rattle.chunk_core.proofs.RangeMoves.{joined_parted, ranges_apart, one_joined}
 use Rattle.chunk_core.proofs.Ranges.{Parted, parted_same, parted_covers}
-use Rattle.chunk_core.proofs.RoomStates.{restated}
+use Rattle.chunk_core.proofs.RoomStates.{given_up}
 use Rattle.chunk_core.proofs.SpanLaws.{past-le, ends_behind}
-use Rattle.chunk_core.proofs.Weights.{weight_free, weight_held, free_none, is_so, rows_are}
+use Rattle.chunk_core.proofs.Weights.{weight_free, weight_held, free_none, is_so}
 
 -- without a range of the room all ranges stay
 none_without : (r : ℕ) (gs : List MovingRange) → range_of r gs ≡ None → ranges_without r gs ≡ gs
 unfolding range_of ranges_without
 none_without r [] e = refl
-none_without r (g ∷ gs) e = dite (ℕ_discrete g.room r) (λ s. absurd (no (sym (ap (λ (b : Bool). cond b (Some g) (range_of r gs)) (eq-eqb g.room r s)) ∙ e)))
+none_without r (g ∷ gs) e = dite (ℕ_discrete g.room r) (λ s. absurd (none-some g (sym (sym (ap (λ (b : Bool). cond b (Some g) (range_of r gs)) (eq-eqb g.room r s)) ∙ e))))
     (λ n. ap (λ (b : Bool). cond b (ranges_without r gs) (g ∷ ranges_without r gs)) (ne_eqb g.room r n) ∙ ap (λ (l : List MovingRange). g ∷ l) (none_without r gs (sym (ap (λ (b : Bool). cond b (Some g) (range_of r gs)) (ne_eqb g.room r n)) ∙ e)))
-  where
-    no : Some g ≡ None → ⊥
-    no e = cc
 
 true_without : (content : ℕ → List ℕ) (r : ℕ) (gs : List MovingRange) → AreTrueRanges content gs → AreTrueRanges content (ranges_without r gs)
 unfolding ranges_without
@@ -53,19 +49,9 @@ true_without content r (g ∷ gs) h = test-cases (g.room == r) (λ t. AreTrueRan
 
 true_of : (content : ℕ → List ℕ) (r : ℕ) (gs : List MovingRange) (g : MovingRange) → range_of r gs ≡ Some g → AreTrueRanges content gs → Each (λ (c : Carried). content c.word ≡ c.words) g.carried
 unfolding range_of
-true_of content r [] g e h = absurd (no e)
-  where
-    no : None ≡ Some g → ⊥
-    no e = cc
-true_of content r (x ∷ xs) g e h = dite (ℕ_discrete x.room r) (λ s. subst (λ (t : MovingRange). Each (λ (c : Carried). content c.word ≡ c.words) t.carried) (some_is x g (sym (ap (λ (b : Bool). cond b (Some x) (range_of r xs)) (eq-eqb x.room r s)) ∙ e)) h.0)
+true_of content r [] g e h = absurd (none-some g e)
+true_of content r (x ∷ xs) g e h = dite (ℕ_discrete x.room r) (λ s. subst (λ (t : MovingRange). Each (λ (c : Carried). content c.word ≡ c.words) t.carried) (same_Some x g (sym (ap (λ (b : Bool). cond b (Some x) (range_of r xs)) (eq-eqb x.room r s)) ∙ e)) h.0)
     (λ n. true_of content r xs g (sym (ap (λ (b : Bool). cond b (Some x) (range_of r xs)) (ne_eqb x.room r n)) ∙ e) h.1)
-  where
-    some_is : (x y : MovingRange) → Some x ≡ Some y → x ≡ y
-    some_is x y e = ap (λ (o : Option MovingRange). or o x) e
-      where
-        or : Option MovingRange → MovingRange → MovingRange
-        or None d = d
-        or (Some t) d = t
 
 true_joined : (content : ℕ → List ℕ) (g : MovingRange) (gs : List MovingRange) → Each (λ (c : Carried). content c.word ≡ c.words) g.carried → AreTrueRanges content gs → AreTrueRanges content (map (joined_range g) gs)
 true_joined content g [] t h = h
@@ -123,12 +109,12 @@ module _ (z : Sizes) (m : RoomMemory) (content : ℕ → List ℕ) (is_key_word 
   abbrev hs' : List RoomHolds
   hs' = set hs seat (record a { held = without_room r a.held; moving = ranges_joined r a.moving })
 
-  moves_le : (F : Cover → ℕ) → total F (moving_of a) ≤ all_of z m content hs F
-  moves_le F = let p = covers_parts z.chunks m.pin (cover_at m content) hs F in let t = total_at (moves F) hs seat a here in omega arith
+  ranges_le : (F : Cover → ℕ) → total F (moving_of a) ≤ all_of z m content hs F
+  ranges_le F = moves_le z.chunks m.pin (cover_at m content) hs F seat a here
 
   -- the ranges that go, and those that come
   pub left : Retires a.moving r
-  left = retires r a.moving may (let l = moves_le (λ (y : Cover). 1 - within y.span y.span.low) in let g = parts.begun in omega arith)
+  left = retires r a.moving may (let l = ranges_le (λ (y : Cover). 1 - within y.span y.span.low) in let g = parts.begun in omega arith)
 
   was : state_of (m.pin r) ≡ HELD
   was = is_so z m content hs rule seat a here r HELD (inr refl) held
@@ -139,14 +125,10 @@ module _ (z : Sizes) (m : RoomMemory) (content : ℕ → List ℕ) (is_key_word 
       let t = left.sums F in omega arith
 
   gone_none : (F : Cover → ℕ) → all_of z m content hs F ≡ 0 → total F left.gone ≡ 0
-  gone_none F e = let l = left.less F in let k = moves_le F in omega arith
+  gone_none F e = let l = left.less F in let k = ranges_le F in omega arith
 
   pub retire_partition : CoversPartition z m' content is_key_word hs'
   retire_partition = parted_covers z m m' content is_key_word hs hs' left.gone left.come left.parted retire_step (gone_none (λ (y : Cover). 1 - within y.span y.span.low) parts.begun) (gone_none (each stray) parts.inside) (gone_none (λ (y : Cover). names_header y.span.base) parts.bases) parts
 
   pub retire_rooms : RoomsStand z m' content hs'
-  retire_rooms = restated z m content hs rule seat a here r x count generation (omega arith) (without_room r a.held) (ranges_joined r a.moving)
-      (λ s is. let n = without_here r s a.held in let o = rows_are z m content hs rule seat a here r HELD (inr refl) held s is in let e = free_none x s now is in omega arith)
-      (λ j s ne. without_else r j s a.held ne)
-      (λ weighs. absurd (let n = weight_free x now in omega arith)) (λ weighs. absurd (let n = weight_held (m.pin r) was in omega arith))
-      (true_after content r a.moving (rule.carried seat a here)) (each_without (λ (h : HeldRoom). IsWholeHeld z h.held_as) r a.held (rule.passes seat a here).whole)
+  retire_rooms = given_up z m content hs rule seat a here r x held count generation (omega arith) (λ s is. free_none x s now is) (ranges_joined r a.moving) (λ weighs. absurd (let n = weight_free x now in omega arith)) (true_after content r a.moving (rule.carried seat a here))

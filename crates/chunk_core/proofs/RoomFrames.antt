@@ -14,6 +14,12 @@ use Rattle.chunk_core.specs.PinnedRooms.{OnRoomPin, IsGoodRoom, RoomPinHolds}
 use Rattle.chunk_core.specs.RoomRule.{room_pins, latches_on, in_room_state, AreTrueRanges, IsInOrder, RoomHoldsStand, RoomsStand}
 use Rattle.chunk_core.specs.Rooms.{RoomMemory}
 
+-- what a good pin says stands after a change, where it does of that pin
+pub good_still : (z : Sizes) (m m' : RoomMemory) (content content' : ℕ → List ℕ) (o : Option PinnedRoom) → ((p : PinnedRoom) → o ≡ Some p → RoomPinHolds z m content p → RoomPinHolds z m' content' p)
+    → OnRoomPin (λ p. IsGoodRoom p → RoomPinHolds z m content p) o → OnRoomPin (λ p. IsGoodRoom p → RoomPinHolds z m' content' p) o
+good_still z m m' content content' None still h = tt
+good_still z m m' content content' (Some p) still h = λ good. still p refl (h good)
+
 -- what is owed where some parts of states go and others come
 pub record RoomsChange (z : Sizes) (m m' : RoomMemory) (content : ℕ → List ℕ) (hs : List RoomHolds) (Stays : ℕ → Type 0) (gone fresh : List RoomHolds) : Type 0 where
   pub pins : (j : ℕ) → total (room_pins j) fresh + count_of (m.pin j) ≡ total (room_pins j) gone + count_of (m'.pin j)
@@ -38,15 +44,10 @@ rooms_changed z m m' content hs hs' gone fresh c owes rule = record {
   latched = λ j. let s = c.sums (latches_on j) in let p = owes.latch j in let w = rule.latched j in omega arith;
   latches = owes.latches;
   ordered = owes.ordered;
-  good = c.every (λ (u : RoomHolds). OnRoomPin (λ p. IsGoodRoom p → RoomPinHolds z m' content p) u.pin) owes.own (λ j u stays at. on j u stays at u.pin (λ p is. is) (rule.good j u at));
+  good = c.every (λ (u : RoomHolds). OnRoomPin (λ p. IsGoodRoom p → RoomPinHolds z m' content p) u.pin) owes.own (λ j u stays at. good_still z m m' content content u.pin (λ p. owes.others j u p stays at) (rule.good j u at));
   carried = c.every (λ (u : RoomHolds). AreTrueRanges content u.moving) owes.carried (λ j u _ at. rule.carried j u at);
   passes = c.every (RoomHoldsStand z) owes.stands (λ j u _ at. rule.passes j u at);
 }
-  where
-    on : (j : ℕ) (u : RoomHolds) → c.Stays j → get_elem? hs j ≡ some u → (o : Option PinnedRoom) → ((p : PinnedRoom) → o ≡ Some p → u.pin ≡ Some p)
-        → OnRoomPin (λ p. IsGoodRoom p → RoomPinHolds z m content p) o → OnRoomPin (λ p. IsGoodRoom p → RoomPinHolds z m' content p) o
-    on j u stays at None is h = tt
-    on j u stays at (Some p) is h = λ good. owes.others j u p stays at (is p refl) (h good)
 
 -- what a step of one seat owes
 pub record RoomsStep (z : Sizes) (m m' : RoomMemory) (content : ℕ → List ℕ) (hs : List RoomHolds) (seat : ℕ) (a b : RoomHolds) : Type 0 where

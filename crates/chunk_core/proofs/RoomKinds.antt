@@ -7,7 +7,7 @@ use Rattle.oak_model.specs.Counts.{one_at, Each}
 use Rattle.oak_model.specs.Limits.{Sizes}
 use Rattle.oak_model.proofs.Changes.{stepped}
 use Rattle.oak_model.proofs.Lists.{map_set_same, rows_length}
-use Rattle.oak_model.proofs.PutLaws.{put-here, put-else, put-cases}
+use Rattle.oak_model.proofs.PutLaws.{put-else, put-here, put-same}
 use Rattle.chunk_core.specs.declared.layout.TheConstants.{BOUND_WORDS}
 use Rattle.chunk_core.specs.declared.states.TheConstants.{FREE, OPEN, FROZEN, HELD}
 use Rattle.chunk_core.specs.declared.holds.Carried.{Carried}
@@ -15,8 +15,8 @@ use Rattle.chunk_core.specs.declared.holds.HeldRoom.{HeldRoom}
 use Rattle.chunk_core.specs.declared.holds.RoomHeldAs.TheVariants.{Frozen, Held}
 use Rattle.chunk_core.specs.declared.holds.RoomHolds.{RoomHolds}
 use Rattle.chunk_core.specs.CoverRule.{CoversPartition}
-use Rattle.chunk_core.specs.CoverSums.{covers, all_of, weight}
-use Rattle.chunk_core.specs.Covers.{Cover, cover_at, cover_from, moving_of}
+use Rattle.chunk_core.specs.CoverSums.{covers, each, all_of, owning, owners_in_rooms, weight}
+use Rattle.chunk_core.specs.Covers.{Cover, cover_at, cover_from, moving_of, used_at}
 use Rattle.chunk_core.specs.LinkedEntries.{linked}
 use Rattle.chunk_core.specs.RoomCopies.{without_room}
 use Rattle.chunk_core.specs.RoomReads.{words_at, copy_at, carried_at, moving_at}
@@ -24,7 +24,7 @@ use Rattle.chunk_core.specs.RoomRule.{in_room_state, IsWholeHeld, IsWholeCopy, R
 use Rattle.chunk_core.specs.RoomStep.{put_room}
 use Rattle.chunk_core.specs.Rooms.{RoomMemory, at_room_pin}
 use Rattle.chunk_core.proofs.CoverFrames.{partition_same}
-use Rattle.chunk_core.proofs.CoverLaws.{covers_same}
+use Rattle.chunk_core.proofs.CoverLaws.{all_still, covers_same}
 use Rattle.chunk_core.proofs.HeldRooms.{row_here, row_else, without_here, without_else, each_without}
 use Rattle.chunk_core.proofs.RangeMoves.{hold_still}
 use Rattle.chunk_core.proofs.RoomStates.{restated}
@@ -37,9 +37,14 @@ whole_copy z m r = record { low = rows_length 0 BOUND_WORDS (m.low r); high = ro
 -- a room of the same weight, and the same moving ranges: nothing changes that is added up over the covers
 pub weight_covers : (z : Sizes) (m : RoomMemory) (content : ℕ → List ℕ) (hs : List RoomHolds) (seat : ℕ) (a b : RoomHolds) → get_elem? hs seat ≡ some a → b.moving ≡ a.moving → (r x : ℕ) → weight x ≡ weight (m.pin r)
     → (F : Cover → ℕ) → all_of z (put_room m (at_room_pin r) x) content (set hs seat b) F ≡ all_of z m content hs F
-weight_covers z m content hs seat a b here moving r x same F = covers_same z.chunks m.pin (put_room m (at_room_pin r) x).pin (cover_at m content) (cover_at (put_room m (at_room_pin r) x) content) (map moving_of (set hs seat b)) F
-    (λ j _. ap (λ (t : ℕ). t * F (cover_at m content j)) (put-cases m.pin r x j (λ w. weight w ≡ weight (m.pin j)) (λ e. same ∙ ap (λ (t : ℕ). weight (m.pin t)) (sym e)) (λ _. refl)))
-    ∙ ap (λ (ms : List (List Cover)). covers z.chunks m.pin (cover_at m content) ms F) (map_set_same moving_of hs seat a b here (ap (map cover_from) moving))
+weight_covers z m content hs seat a b here moving r x same F = all_still z m (put_room m (at_room_pin r) x) content content hs seat a b here moving F (λ j _. ap (λ (t : ℕ). t * F (cover_at m content j)) (put-same m.pin r x weight same j))
+
+-- nor does a block get another owner, or lose one
+pub weight_owners : (z : Sizes) (m : RoomMemory) (content : ℕ → List ℕ) (hs : List RoomHolds) (seat : ℕ) (a b : RoomHolds) → get_elem? hs seat ≡ some a → b.moving ≡ a.moving → (r x : ℕ) → weight x ≡ weight (m.pin r)
+    → (names_it : ℕ → ℕ) → owners_in_rooms z (put_room m (at_room_pin r) x) content (set hs seat b) names_it ≡ owners_in_rooms z m content hs names_it
+weight_owners z m content hs seat a b here moving r x same names_it =
+    covers_same z.chunks m.pin (put_room m (at_room_pin r) x).pin (used_at m content) (used_at (put_room m (at_room_pin r) x) content) (map moving_of (set hs seat b)) (each (owning names_it)) (λ j _. ap (λ (t : ℕ). t * each (owning names_it) (used_at m content j)) (put-same m.pin r x weight same j))
+    ∙ ap (λ (ms : List (List Cover)). covers z.chunks m.pin (used_at m content) ms (each (owning names_it))) (map_set_same moving_of hs seat a b here (ap (map cover_from) moving))
 
 module _ (z : Sizes) (m : RoomMemory) (content : ℕ → List ℕ) (is_key_word : ℕ → ℕ) (hs : List RoomHolds) (rule : RoomsStand z m content hs) (parts : CoversPartition z m content is_key_word hs) (seat : ℕ) (a : RoomHolds) (here : get_elem? hs seat ≡ some a)
     (r x : ℕ) (generation : generation_of x ≡ generation_of (m.pin r)) where

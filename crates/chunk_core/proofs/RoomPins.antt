@@ -1,8 +1,6 @@
 -- The pin word of a room changes and its state stays, with the pin of a pass: a pin is made, or undone.
-use Rattle.std.proofs.Common.{◌≡◌, ℕ, ◌+◌, ◌-◌, ◌*◌, ◌%◌, ◌^◌, ◌<◌, List, map, set, sym, refl, ap, ◌∙◌, subst, arith, Option, Some, None}
-use mathlib.Core.Logic.{dite}
+use Rattle.std.proofs.Common.{◌≡◌, ℕ, ◌+◌, ◌-◌, ◌*◌, ◌%◌, ◌^◌, ◌<◌, ◌≤◌, List, set, sym, refl, ap, ◌∙◌, subst, arith, Option, Some, None}
 use mathlib.Core.Option.{some}
-use native.Mathlib.Decide.{ℕ_discrete}
 use lib.ListN.{get_elem?}
 use Rattle.pin_word.specs.PinWord.{state_of, generation_of, count_of}
 use Rattle.pin_word.proofs.StepLaws.{pin_up, pin_down}
@@ -11,12 +9,11 @@ use Rattle.chunk_core.specs.declared.holds.PinnedRoom.{PinnedRoom}
 use Rattle.chunk_core.specs.declared.holds.RoomHolds.{RoomHolds}
 use Rattle.oak_model.specs.Counts.{one_at, put}
 use Rattle.oak_model.specs.Limits.{Sizes}
-use Rattle.oak_model.proofs.Counting.{one_at-same, one_at-other, one_at-true, total_at}
-use Rattle.oak_model.proofs.Lists.{map_set_same}
-use Rattle.oak_model.proofs.PutLaws.{put-here, put-else, put-cases}
+use Rattle.oak_model.proofs.Counting.{one_at-same, one_at-other, one_at-true, one_at-le, total_at}
+use Rattle.oak_model.proofs.PutLaws.{put-level, put-same}
 use Rattle.chunk_core.specs.CoverRule.{CoversPartition}
-use Rattle.chunk_core.specs.CoverSums.{covers, weight, all_of}
-use Rattle.chunk_core.specs.Covers.{Cover, cover_at, moving_of}
+use Rattle.chunk_core.specs.CoverSums.{weight, all_of}
+use Rattle.chunk_core.specs.Covers.{Cover, cover_at}
 use Rattle.chunk_core.specs.PinnedRooms.{OnRoomPin, IsGoodRoom, RoomPinHolds}
 use Rattle.chunk_core.specs.RoomHolds.{pins_of}
 use Rattle.chunk_core.specs.RoomReads.{pinned_at}
@@ -24,8 +21,16 @@ use Rattle.chunk_core.specs.RoomRule.{LatchIsPinned, room_pins, RoomHoldsStand, 
 use Rattle.chunk_core.specs.RoomStep.{put_room}
 use Rattle.chunk_core.specs.Rooms.{RoomMemory, at_room_pin}
 use Rattle.chunk_core.proofs.CoverFrames.{partition_same}
-use Rattle.chunk_core.proofs.RoomFrames.{rooms_stepped}
-use Rattle.chunk_core.proofs.CoverLaws.{covers_same}
+use Rattle.chunk_core.proofs.RoomFrames.{good_still, rooms_stepped}
+use Rattle.chunk_core.proofs.CoverLaws.{all_still}
+
+-- a pass has one pin at most
+pub room_pins_most : (r : ℕ) (a : RoomHolds) → room_pins r a ≤ 1
+room_pins_most r a = most a.pin
+  where
+    most : (o : Option PinnedRoom) → pins_of r o ≤ 1
+    most None = omega arith
+    most (Some p) = one_at-le p.room r
 
 module _ (z : Sizes) (m : RoomMemory) (content : ℕ → List ℕ) (hs : List RoomHolds) (rule : RoomsStand z m content hs) (seat : ℕ) (a : RoomHolds) (here : get_elem? hs seat ≡ some a)
     (r x : ℕ) (state : state_of x ≡ state_of (m.pin r)) (generation : generation_of x ≡ generation_of (m.pin r)) (o : Option PinnedRoom)
@@ -41,10 +46,7 @@ module _ (z : Sizes) (m : RoomMemory) (content : ℕ → List ℕ) (hs : List Ro
   hs' = set hs seat b
 
   pub state_still : (j : ℕ) → state_of (m'.pin j) ≡ state_of (m.pin j)
-  state_still j = put-cases m.pin r x j (λ w. state_of w ≡ state_of (m.pin j)) (λ e. state ∙ ap (λ (t : ℕ). state_of (m.pin t)) (sym e)) (λ _. refl)
-
-  generation_still : (j : ℕ) → generation_of (m'.pin j) ≡ generation_of (m.pin j)
-  generation_still j = put-cases m.pin r x j (λ w. generation_of w ≡ generation_of (m.pin j)) (λ e. generation ∙ ap (λ (t : ℕ). generation_of (m.pin t)) (sym e)) (λ _. refl)
+  state_still = put-same m.pin r x state_of state
 
   pub weight_still : (j : ℕ) → weight (m'.pin j) ≡ weight (m.pin j)
   weight_still j = ap (λ (t : ℕ). one_at t OPEN + one_at t FROZEN) (state_still j)
@@ -52,29 +54,24 @@ module _ (z : Sizes) (m : RoomMemory) (content : ℕ → List ℕ) (hs : List Ro
   still_holds : (p : PinnedRoom) → RoomPinHolds z m content p → RoomPinHolds z m' content p
   still_holds p h = record { inside = h.inside; cover = weight_still p.room ∙ h.cover; base = h.base; low = h.low; high = h.high; counted = h.counted; entries = h.entries }
 
-  on : (q : Option PinnedRoom) → OnRoomPin (λ p. IsGoodRoom p → RoomPinHolds z m content p) q → OnRoomPin (λ p. IsGoodRoom p → RoomPinHolds z m' content p) q
-  on None h = tt
-  on (Some p) h = λ is. still_holds p (h is)
-
   pub pins_stand : RoomsStand z m' content hs'
   pins_stand = rooms_stepped z m m' content hs seat a b here (record {
     pins = counts;
     held = λ j s is. let e = ap (λ (t : ℕ). one_at t s) (state_still j) in omega arith;
     states = λ j. let e = state_still j in let l = rule.states j in omega arith;
-    generations = generation_still;
+    generations = put-same m.pin r x generation_of generation;
     latch = λ j. refl;
     latches = rule.latches;
     ordered = λ j w. rule.ordered j (sym (weight_still j) ∙ w);
     others = λ j u p ne at is h. still_holds p h;
-    own = on o good;
+    own = good_still z m m' content content o (λ p _ h. still_holds p h) good;
     carried = rule.carried seat a here;
     stands = stands;
   }) rule
 
   -- nothing that is added up over the covers changes
   pub pins_covers : (F : Cover → ℕ) → all_of z m' content hs' F ≡ all_of z m content hs F
-  pins_covers F = covers_same z.chunks m.pin m'.pin (cover_at m content) (cover_at m' content) (map moving_of hs') F (λ j _. ap (λ (t : ℕ). t * F (cover_at m content j)) (weight_still j))
-      ∙ ap (λ (ms : List (List Cover)). covers z.chunks m.pin (cover_at m content) ms F) (map_set_same moving_of hs seat a b here refl)
+  pins_covers F = all_still z m m' content content hs seat a b here refl F (λ j _. ap (λ (t : ℕ). t * F (cover_at m content j)) (weight_still j))
 
   pub pins_partition : (is_key_word : ℕ → ℕ) → CoversPartition z m content is_key_word hs → CoversPartition z m' content is_key_word hs'
   pins_partition is_key_word = partition_same z m m' content content is_key_word hs hs' pins_covers
@@ -83,9 +80,8 @@ module _ (z : Sizes) (m : RoomMemory) (content : ℕ → List ℕ) (hs : List Ro
 module _ (z : Sizes) (m : RoomMemory) (content : ℕ → List ℕ) (hs : List RoomHolds) (rule : RoomsStand z m content hs) (seat : ℕ) (a : RoomHolds) (here : get_elem? hs seat ≡ some a)
     (r : ℕ) (inside : r < z.chunks) (none : a.pin ≡ None) (few : count_of (m.pin r) + 1 < 2 ^ 28) (small : m.pin r < 2 ^ 64) where
   up_counts : (j : ℕ) → pins_of j (Some (pinned_at m r)) + count_of (m.pin j) ≡ pins_of j a.pin + count_of (put m.pin r ((m.pin r + 1) % 2 ^ 64) j)
-  up_counts j = let u = pin_up (m.pin r) few small in let u0 = u.0 in let n = ap (pins_of j) none in dite (ℕ_discrete j r)
-      (λ e. let h = ap count_of (put-here m.pin r ((m.pin r + 1) % 2 ^ 64) j e) in let o = one_at-same r j (sym e) in let w = ap (λ (t : ℕ). count_of (m.pin t)) e in omega arith)
-      (λ ne. let h = ap count_of (put-else m.pin r ((m.pin r + 1) % 2 ^ 64) j ne) in let o = one_at-other r j (λ e. ne (sym e)) in omega arith)
+  up_counts = let u = pin_up (m.pin r) few small in put-level m.pin r ((m.pin r + 1) % 2 ^ 64) count_of (λ j. pins_of j a.pin) (λ j. one_at r j) (let u0 = u.0 in let n = ap (pins_of r) none in let o = one_at-same r r refl in omega arith)
+      (λ j ne. one_at-other r j (λ e. ne (sym e)) ∙ sym (ap (pins_of j) none))
 
   no_latch : a.latch ≡ None
   no_latch = go a.pin a.latch none (rule.passes seat a here).latch
@@ -118,9 +114,7 @@ module _ (z : Sizes) (m : RoomMemory) (content : ℕ → List ℕ) (hs : List Ro
       go (Some p) e = ap (λ (t : ℕ). one_at t j) (one_at-true p.room r (omega arith))
 
   down_counts : (j : ℕ) → pins_of j None + count_of (m.pin j) ≡ pins_of j a.pin + count_of (put m.pin r ((m.pin r + (2 ^ 64 - 1)) % 2 ^ 64) j)
-  down_counts j = let d = pin_down (m.pin r) some_pin small in let d0 = d.0 in let n = own_pin j in dite (ℕ_discrete j r)
-      (λ e. let h = ap count_of (put-here m.pin r ((m.pin r + (2 ^ 64 - 1)) % 2 ^ 64) j e) in let o = one_at-same r j (sym e) in let w = ap (λ (t : ℕ). count_of (m.pin t)) e in omega arith)
-      (λ ne. let h = ap count_of (put-else m.pin r ((m.pin r + (2 ^ 64 - 1)) % 2 ^ 64) j ne) in let o = one_at-other r j (λ e. ne (sym e)) in omega arith)
+  down_counts = let d = pin_down (m.pin r) some_pin small in put-level m.pin r ((m.pin r + (2 ^ 64 - 1)) % 2 ^ 64) count_of (λ j. pins_of j a.pin) (λ _. 0) (let d0 = d.0 in omega arith) (λ j ne. sym (own_pin j ∙ one_at-other r j (λ e. ne (sym e))))
 
   pub unpin_stands : RoomsStand z (put_room m (at_room_pin r) ((m.pin r + (2 ^ 64 - 1)) % 2 ^ 64)) content (set hs seat (record a { pin = None }))
   unpin_stands = let d = pin_down (m.pin r) some_pin small in pins_stand z m content hs rule seat a here r ((m.pin r + (2 ^ 64 - 1)) % 2 ^ 64) d.1 d.2 None down_counts tt

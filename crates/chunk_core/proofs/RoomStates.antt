@@ -1,27 +1,27 @@
 -- The pin word of a room changes, and its count stays, with the rooms and ranges that a pass has: a room is frozen, held, claimed, opened or retired.
-use Rattle.std.proofs.Common.{◌≡◌, ◌≢◌, ℕ, ◌+◌, ◌≤◌, ◌⊎◌, List, set, sym, refl, ap, ◌∙◌, subst, ⊎_elim, arith, Option, Some, None}
-use mathlib.Core.Logic.{dite}
+use Rattle.std.proofs.Common.{◌≡◌, ◌≢◌, ℕ, ◌+◌, ◌<◌, ◌≤◌, ◌⊎◌, List, set, sym, refl, ap, ◌∙◌, subst, inr, ⊎_elim, arith, Some}
 use mathlib.Core.Option.{some}
-use native.Mathlib.Decide.{ℕ_discrete}
 use lib.ListN.{get_elem?}
 use Rattle.pin_word.specs.PinWord.{state_of, generation_of, count_of}
 use Rattle.oak_model.specs.Counts.{one_at, Each}
 use Rattle.oak_model.specs.Limits.{Sizes}
 use Rattle.oak_model.proofs.Counting.{one_at-same, total_at}
-use Rattle.oak_model.proofs.PutLaws.{put-here, put-else, put-cases}
+use Rattle.oak_model.proofs.PutLaws.{put-cases, put-level, put-same}
 use Rattle.chunk_core.specs.declared.states.TheConstants.{FROZEN, HELD}
 use Rattle.chunk_core.specs.declared.holds.HeldRoom.{HeldRoom}
 use Rattle.chunk_core.specs.declared.holds.MovingRange.{MovingRange}
 use Rattle.chunk_core.specs.declared.holds.PinnedRoom.{PinnedRoom}
 use Rattle.chunk_core.specs.declared.holds.RoomHolds.{RoomHolds}
 use Rattle.chunk_core.specs.CoverSums.{weight}
-use Rattle.chunk_core.specs.PinnedRooms.{OnRoomPin, IsGoodRoom, RoomPinHolds}
+use Rattle.chunk_core.specs.PinnedRooms.{RoomPinHolds}
 use Rattle.chunk_core.specs.RoomHolds.{pins_of}
 use Rattle.chunk_core.specs.RoomRule.{room_pins, in_room_state, AreTrueRanges, IsInOrder, IsWholeHeld, RoomsStand}
 use Rattle.chunk_core.specs.RoomStep.{put_room}
 use Rattle.chunk_core.specs.Rooms.{RoomMemory, at_room_pin}
-use Rattle.chunk_core.proofs.HeldRooms.{room_rows}
-use Rattle.chunk_core.proofs.RoomFrames.{rooms_stepped}
+use Rattle.chunk_core.specs.RoomCopies.{without_room}
+use Rattle.chunk_core.proofs.HeldRooms.{room_rows, without_here, without_else, each_without}
+use Rattle.chunk_core.proofs.Weights.{weight_held, is_so, rows_are}
+use Rattle.chunk_core.proofs.RoomFrames.{good_still, rooms_stepped}
 
 module _ (z : Sizes) (m : RoomMemory) (content : ℕ → List ℕ) (hs : List RoomHolds) (rule : RoomsStand z m content hs) (seat : ℕ) (a : RoomHolds) (here : get_elem? hs seat ≡ some a)
     (r x : ℕ) (count : count_of x ≡ count_of (m.pin r)) (generation : generation_of x ≡ generation_of (m.pin r)) (known : state_of x ≤ HELD)
@@ -47,28 +47,34 @@ module _ (z : Sizes) (m : RoomMemory) (content : ℕ → List ℕ) (hs : List Ro
   pinned_once : (p : PinnedRoom) → pins_of p.room (Some p) ≡ 1
   pinned_once p = one_at-same p.room p.room refl
 
-  own : (o : Option PinnedRoom) → a.pin ≡ o → OnRoomPin (λ p. IsGoodRoom p → RoomPinHolds z m content p) o → OnRoomPin (λ p. IsGoodRoom p → RoomPinHolds z m' content p) o
-  own None is h = tt
-  own (Some p) is h = λ good. pin_stands seat a p here (ap (pins_of p.room) is ∙ pinned_once p) (h good)
-
   held_now : (j s : ℕ) → (s ≡ FROZEN) ⊎ (s ≡ HELD) → in_room_state j s b + one_at (state_of (m.pin j)) s ≡ in_room_state j s a + one_at (state_of (m'.pin j)) s
   unfolding room_rows
-  held_now j s is = dite (ℕ_discrete j r)
-      (λ e. subst (λ (t : ℕ). in_room_state t s b + one_at (state_of (m.pin t)) s ≡ in_room_state t s a + one_at (state_of (m'.pin t)) s) (sym e) (let h = rows_here s is in let n = ap (λ (t : ℕ). one_at (state_of t) s) (put-here m.pin r x r refl) in omega arith))
-      (λ ne. let h = rows_else j s ne in let n = ap (λ (t : ℕ). one_at (state_of t) s) (put-else m.pin r x j ne) in omega arith)
+  held_now j s is = put-level m.pin r x (λ w. one_at (state_of w) s) (λ i. in_room_state i s a) (λ i. in_room_state i s b) (rows_here s is) (λ i ne. rows_else i s ne) j
 
   pub restated : RoomsStand z (put_room m (at_room_pin r) x) content (set hs seat (record a { held = held; moving = moving }))
   restated = rooms_stepped z m m' content hs seat a b here (record {
-    pins = λ j. let e = put-cases m.pin r x j (λ t. count_of t ≡ count_of (m.pin j)) (λ e. count ∙ ap (λ (t : ℕ). count_of (m.pin t)) (sym e)) (λ _. refl) in omega arith;
+    pins = λ j. let e = put-same m.pin r x count_of count j in omega arith;
     held = held_now;
     states = λ j. put-cases m.pin r x j (λ t. state_of t ≤ HELD) (λ _. known) (λ _. rule.states j);
-    generations = λ j. put-cases m.pin r x j (λ t. generation_of t ≡ generation_of (m.pin j)) (λ e. generation ∙ ap (λ (t : ℕ). generation_of (m.pin t)) (sym e)) (λ _. refl);
+    generations = put-same m.pin r x generation_of generation;
     latch = λ j. refl;
     latches = rule.latches;
     ordered = λ j. put-cases m.pin r x j (λ t. weight t ≡ 1 → IsInOrder z content (m.count j) (m.key j) (m.low j 0) (m.high j 0))
         (λ e w. subst (λ (t : ℕ). IsInOrder z content (m.count t) (m.key t) (m.low t 0) (m.high t 0)) (sym e) (order w)) (λ _. rule.ordered j);
     others = λ j u p ne at is h. pin_stands j u p at (ap (pins_of p.room) is ∙ pinned_once p) h;
-    own = own a.pin refl (rule.good seat a here);
+    own = good_still z m m' content content a.pin (λ p is h. pin_stands seat a p here (ap (pins_of p.room) is ∙ pinned_once p) h) (rule.good seat a here);
     carried = true_ranges;
     stands = record { latch = (rule.passes seat a here).latch; claim = (rule.passes seat a here).claim; whole = whole };
   }) rule
+
+-- A pass gives a room that it holds up: the room comes to a state in which no pass has rooms.
+module _ (z : Sizes) (m : RoomMemory) (content : ℕ → List ℕ) (hs : List RoomHolds) (rule : RoomsStand z m content hs) (seat : ℕ) (a : RoomHolds) (here : get_elem? hs seat ≡ some a) (r x : ℕ) (mine : 0 < in_room_state r HELD a)
+    (count : count_of x ≡ count_of (m.pin r)) (generation : generation_of x ≡ generation_of (m.pin r)) (known : state_of x ≤ HELD) (none : (s : ℕ) → (s ≡ FROZEN) ⊎ (s ≡ HELD) → one_at (state_of x) s ≡ 0)
+    (moving : List MovingRange) (order : weight x ≡ 1 → IsInOrder z content (m.count r) (m.key r) (m.low r 0) (m.high r 0)) (true_ranges : AreTrueRanges content moving) where
+  pub was_held : state_of (m.pin r) ≡ HELD
+  was_held = is_so z m content hs rule seat a here r HELD (inr refl) mine
+
+  pub given_up : RoomsStand z (put_room m (at_room_pin r) x) content (set hs seat (record a { held = without_room r a.held; moving = moving }))
+  given_up = restated z m content hs rule seat a here r x count generation known (without_room r a.held) moving
+      (λ s is. let n = without_here r s a.held in let o = rows_are z m content hs rule seat a here r HELD (inr refl) mine s is in let e = none s is in omega arith) (λ j s ne. without_else r j s a.held ne) order
+      (λ weighs. absurd (let n = weight_held (m.pin r) was_held in omega arith)) true_ranges (each_without (λ (h : HeldRoom). IsWholeHeld z h.held_as) r a.held (rule.passes seat a here).whole)

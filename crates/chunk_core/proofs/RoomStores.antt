@@ -1,5 +1,6 @@
 -- A store to a word of a room that is no cover changes no cover.
-use Rattle.std.proofs.Common.{◌≡◌, ◌≢◌, ℕ, ◌+◌, ◌*◌, ◌==◌, ◌&&◌, cond, Bool, true, false, List, map, refl, ap, ◌∙◌, arith, ne_eqb}
+use Rattle.std.proofs.Common.{◌≡◌, ◌≢◌, ℕ, ◌+◌, ◌*◌, ◌==◌, ◌&&◌, cond, Bool, List, map, ap, ◌∙◌, arith, ne_eqb}
+use Rattle.std.proofs.lemmas.Bool.{and_right}
 use mathlib.Core.Logic.{dite}
 use mathlib.Core.Path.{fun_ext}
 use native.Mathlib.Decide.{ℕ_discrete}
@@ -17,14 +18,9 @@ use Rattle.chunk_core.specs.RoomStep.{put_room}
 use Rattle.chunk_core.specs.Rooms.{RoomMemory, RoomSpot, at_base, at_count, at_low, at_high, at_key, at_value, room_at, part_at, kind_at, same_room_spot, read_room}
 use Rattle.chunk_core.proofs.CoverLaws.{moves, covers_parts, covers_same}
 
--- a test that fails
-pub false_and : (b c : Bool) → c ≡ false → (b && c) ≡ false
-false_and true c e = e
-false_and false c e = refl
-
 -- a word of another room stays
 pub read_else : (m : RoomMemory) (p : RoomSpot) (x : ℕ) (q : RoomSpot) → room_at q ≢ room_at p → cond (same_room_spot q p) x (read_room m q) ≡ read_room m q
-read_else m p x q ne = ap (λ (t : Bool). cond t x (read_room m q)) (false_and (kind_at q == kind_at p) ((part_at q == part_at p) && (room_at q == room_at p)) (false_and (part_at q == part_at p) (room_at q == room_at p) (ne_eqb (room_at q) (room_at p) ne)))
+read_else m p x q ne = ap (λ (t : Bool). cond t x (read_room m q)) (and_right (kind_at q == kind_at p) ((part_at q == part_at p) && (room_at q == room_at p)) (and_right (part_at q == part_at p) (room_at q == room_at p) (ne_eqb (room_at q) (room_at p) ne)))
 
 pub cover_same : (m m' : RoomMemory) (content : ℕ → List ℕ) (j : ℕ) → m'.base j ≡ m.base j → m'.count j ≡ m.count j → m'.low j ≡ m.low j → m'.high j ≡ m.high j → m'.key j ≡ m.key j → m'.value j ≡ m.value j → cover_at m' content j ≡ cover_at m content j
 cover_same m m' content j b c l h k v = λ i. record {

@@ -1,17 +1,17 @@
 -- Bounds and the keys that are past them, and ranges that are cut in two or joined.
-use Rattle.std.proofs.Common.{◌≡◌, ◌≢◌, ℕ, ◌+◌, ◌-◌, ◌<◌, ◌≤◌, cond, Bool, List, sym, refl, ap, ◌∙◌, subst, arith, le-leb, ne_eqb}
+use Rattle.std.proofs.Common.{◌≡◌, ◌≢◌, ℕ, ◌+◌, ◌-◌, ◌<◌, ◌≤◌, cond, Bool, List, sym, refl, ap, ◌∙◌, arith, ne_eqb}
 use Rattle.std.specs.Prelude.{take, drop, slice_index}
-use Rattle.std.proofs.lemmas.Bool.{lt-leb}
 use mathlib.Core.Logic.{dite}
-use native.Mathlib.Decide.{ℕ_discrete, dec_le}
+use native.Mathlib.Decide.{ℕ_discrete}
 use Rattle.oak_model.specs.KeyNumber.{key_number}
 use Rattle.oak_model.specs.WordBytes.{bytes_of}
+use Rattle.oak_model.proofs.Counting.{le-cases}
 use Rattle.chunk_core.specs.KeyWords.{low_number, high_number, high_from}
 use Rattle.chunk_core.specs.Spans.{Span, past, past_high, within}
 
 pub past-cases : (b k : ℕ) (P : ℕ → Type 0) → (b ≤ k → P 1) → (k < b → P 0) → P (past b k)
 unfolding past
-past-cases b k P at_least below = dite (dec_le b k) (λ l. subst (λ (t : Bool). P (cond t 1 0)) (sym (le-leb b k l)) (at_least l)) (λ n. subst (λ (t : Bool). P (cond t 1 0)) (sym (lt-leb b k (omega arith))) (below (omega arith)))
+past-cases b k P at_least below = le-cases b k (λ t. P (cond t 1 0)) at_least below
 
 -- the higher bound is passed later
 pub past-rises : (a b k : ℕ) → a ≤ b → past b k ≤ past a k

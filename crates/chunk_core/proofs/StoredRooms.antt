@@ -35,7 +35,7 @@ use Rattle.chunk_core.specs.RoomRule.{latches_on, room_state, LatchIsPinned, Are
 use Rattle.chunk_core.specs.RoomStep.{of_key, of_value, of_next, put_room}
 use Rattle.chunk_core.specs.Rooms.{RoomMemory, RoomSpot, at_room_pin, at_base, at_count, at_latch, at_first, at_low, at_high, at_key, at_value, at_next, room_at}
 use Rattle.chunk_core.proofs.HeldRooms.{room_rows}
-use Rattle.chunk_core.proofs.RoomFrames.{rooms_stepped}
+use Rattle.chunk_core.proofs.RoomFrames.{good_still, rooms_stepped}
 use Rattle.chunk_core.proofs.RoomStores.{read_else}
 
 -- what a pass keeps of the rooms that it has
@@ -147,10 +147,6 @@ module _ (z : Sizes) (m : RoomMemory) (content : ℕ → List ℕ) (hs : List Ro
     entries = each_map (EntryStands (m.count q.room) (m.key q.room) content) (EntryStands (m'.count q.room) (m'.key q.room) content) q.entries (λ e t. record { below = subst (λ (n : ℕ). e.number < entries_in n) (sym (read_else m p x (at_count q.room) ne)) t.below; word = read_else m p x (at_key q.room e.number) ne ∙ t.word; words = t.words }) h.entries;
   }
 
-  own : (o : Option PinnedRoom) → OnRoomPin (λ q. IsGoodRoom q → RoomPinHolds z m content q) o → OnRoomPin (λ q. IsGoodRoom q → RoomPinHolds z m' content q) o
-  own None h = tt
-  own (Some q) h = λ good. pin_else q (h good)
-
   ordered : (j : ℕ) → j ≢ room_at p → IsInOrder z content (m.count j) (m.key j) (m.low j 0) (m.high j 0) → IsInOrder z content (m'.count j) (m'.key j) (m'.low j 0) (m'.high j 0)
   ordered j ne o = subst (λ (t : ℕ × (ℕ → ℕ) × ℕ × ℕ). IsInOrder z content t.0 t.1 t.2 t.3) (λ i. (sym (read_else m p x (at_count j) ne) i, sym (fun_ext (λ n. read_else m p x (at_key j n) ne)) i, sym (read_else m p x (at_low j 0) ne) i, sym (read_else m p x (at_high j 0) ne) i)) o
 
@@ -165,7 +161,7 @@ module _ (z : Sizes) (m : RoomMemory) (content : ℕ → List ℕ) (hs : List Ro
     latches = λ j. let e = latch_stays j in let o = rule.latches j in omega arith;
     ordered = λ j w. let was = sym (ap weight (pins j)) ∙ w in ordered j (other j was) (rule.ordered j was);
     others = λ j u q ne at is h. pin_else q h;
-    own = own a.pin (rule.good seat a here);
+    own = good_still z m m' content content a.pin (λ q _ h. pin_else q h) (rule.good seat a here);
     carried = true_ranges;
     stands = record { latch = (rule.passes seat a here).latch; claim = (rule.passes seat a here).claim; whole = whole_rooms z p x a.held (rule.passes seat a here).whole };
   }) rule

@@ -8,7 +8,7 @@ use Rattle.oak_model.specs.Limits.{Sizes}
 use Rattle.oak_model.proofs.Changes.{Change}
 use Rattle.oak_model.proofs.Counting.{one_at-other}
 use Rattle.oak_model.proofs.PutLaws.{put-here, put-else}
-use Rattle.oak_model.proofs.SumLaws.{total_put}
+use Rattle.oak_model.proofs.SumLaws.{total_put, times-none}
 use Rattle.chunk_core.specs.CoverRule.{CoversPartition}
 use Rattle.chunk_core.specs.CoverSums.{each, weight, has_key, word_for, stray, all_of, word_of, base_of}
 use Rattle.chunk_core.specs.Covers.{Entry, Cover, cover_at, span_in, entry_at, key_at}
@@ -44,11 +44,14 @@ module _ (z : Sizes) (m : RoomMemory) (content : ℕ → List ℕ) (is_key_word 
   abbrev k : ℕ
   k = key_at content (m.key r i)
 
+  step : (F : Cover → ℕ) → all_of z (put_room m (at_value r i) x) content hs' F + F (cover_at m content r) ≡ all_of z m content hs F + F (cover_at (put_room m (at_value r i) x) content r)
+  step F = let s = all_inside z m (put_room m (at_value r i) x) content hs hs' gone fresh c r lr (λ j _. refl) (λ j ne. cover_else m (at_value r i) x content j ne) cover cover F in let e = moving F in omega arith
+
   pub value_all : (g : Span → Entry → ℕ) → all_of z (put_room m (at_value r i) x) content hs' (each g) + g (span_in m r) (entry_at m content r i) ≡ all_of z m content hs (each g) + g (span_in m r) (record { word = m.key r i; value = x; key = key_at content (m.key r i) })
-  value_all g = let s = all_inside z m (put_room m (at_value r i) x) content hs hs' gone fresh c r lr (λ j _. refl) (λ j ne. cover_else m (at_value r i) x content j ne) cover cover (each g) in let v = value_step m r i x content g once in let e = moving (each g) in omega arith
+  value_all g = let s = step (each g) in let v = value_step m r i x content g once in omega arith
 
   pub span_all : (g : Span → ℕ) → all_of z (put_room m (at_value r i) x) content hs' (λ u. g u.span) ≡ all_of z m content hs (λ u. g u.span)
-  span_all g = let s = all_inside z m (put_room m (at_value r i) x) content hs hs' gone fresh c r lr (λ j _. refl) (λ j ne. cover_else m (at_value r i) x content j ne) cover cover (λ u. g u.span) in let e = moving (λ u. g u.span) in omega arith
+  span_all g = let s = step (λ u. g u.span) in omega arith
 
   pub covers_valued : CoversPartition z (put_room m (at_value r i) x) content is_key_word hs'
   covers_valued = record {
@@ -70,5 +73,4 @@ module _ (z : Sizes) (m : RoomMemory) (content : ℕ → List ℕ) (is_key_word 
   word_valued = entry_word z (put_room m (at_value r i) x) content hs' covers_valued.once r i k lr cover once refl ∙ ap (λ (y : ℕ). y + 1) (value_here m r i x i ∙ put-here (m.value r) i x i refl)
 
   pub word_others : (j : ℕ) → j ≢ k → word_of z (put_room m (at_value r i) x) content hs' j ≡ word_of z m content hs j
-  word_others j ne = let v = value_all (word_for j) in let o = one_at-other k j (λ e. ne (sym e)) in
-      let none : (y : ℕ) → one_at k j * y ≡ 0 = (λ y. ap (λ (t : ℕ). t * y) o ∙ (let u : 0 * y ≡ 0 = omega arith in u)) in let p = none (m.value r i + 1) in let q = none (x + 1) in omega arith
+  word_others j ne = let v = value_all (word_for j) in let o = one_at-other k j (λ e. ne (sym e)) in let p = times-none (one_at k j) (m.value r i + 1) o in let q = times-none (one_at k j) (x + 1) o in omega arith

@@ -2,7 +2,7 @@
 use Rattle.std.specs.Prelude.{◌≡◌, ◌≢◌, ℕ, ◌+◌, ◌^◌, ◌<◌, ◌≤◌, false, true, List, slice_index, Option, Some, None}
 use mathlib.Core.Option.{some}
 use lib.ListN.{get_elem?}
-use Rattle.pin_word.specs.PinWord.{state_of, count_of}
+use Rattle.pin_word.specs.PinWord.{state_of, HasNoPin}
 use Rattle.oak_model.specs.Limits.{Sizes}
 use Rattle.oak_model.specs.Counts.{one_at, one_if, total, Each, Has}
 use Rattle.chunk_core.specs.declared.holds.FoundEntry.{FoundEntry}
@@ -24,11 +24,6 @@ use Rattle.chunk_core.specs.RoomRule.{AreBounds, room_pins, latches_on, in_room_
 use Rattle.chunk_core.specs.RoomStep.{RoomStep, pin_room, unpin_room, latch_room, store_entry, publish_entry, unlatch_room, set_value, unlink_entry, freeze_room, hold_room, claim_room, store_room, open_room, retire_room}
 use Rattle.chunk_core.specs.RoomCopies.{copy_of, entries_held, word_held}
 use Rattle.chunk_core.specs.MovingRanges.{takes, upper_of, ranges_without, range_of, is_below}
-
--- a word in this state, without a pin
-pub record HasNoPin (s w : ℕ) : Type 0 where
-  pub state : state_of w ≡ s
-  pub count : count_of w ≡ 0
 
 -- the pass has a good pin on the room
 pub record PinsRoom (r : ℕ) (a : RoomHolds) (p : PinnedRoom) : Type 0 where

@@ -1,13 +1,10 @@
 -- The kinds of step on the words of the rooms: each names its word, and what becomes of it.
 use Rattle.std.specs.Prelude.{ℕ, ◌+◌, ◌-◌, ◌*◌, ◌%◌, ◌^◌, ◌==◌, cond, Option, Some, None}
 use prog.Atomic.{either}
+use Rattle.pin_word.specs.PinWord.{STATE}
 use Rattle.oak_model.specs.declared.writes.Kind.{Kind}
 use Rattle.chunk_core.specs.declared.states.TheConstants.{OPEN, HELD}
 use Rattle.chunk_core.specs.Rooms.{RoomMemory, RoomSpot, at_room_pin, at_count, at_latch, at_key, at_value, at_next, same_room_spot, read_room, rooms_of}
-
--- what one more in the state adds to a pin word
-abbrev pub STATE : ℕ
-STATE = 2 ^ 28
 
 -- the words of an entry
 pub data EntryField : Type 0 where

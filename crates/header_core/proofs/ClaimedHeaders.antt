@@ -5,9 +5,9 @@ use mathlib.Core.Option.{some, some-injective}
 use native.Mathlib.Decide.{ℕ_discrete, dec_lt}
 use lib.ListN.{get_elem?}
 use prog.Atomic.{either}
-use Rattle.pin_word.specs.PinWord.{generation_of, state_of, count_of}
+use Rattle.pin_word.specs.PinWord.{generation_of, state_of, count_of, STATE}
 use Rattle.oak_model.specs.Counts.{one_at, put, Every}
-use Rattle.oak_model.proofs.Counting.{one_at-same, one_at-other, total_at}
+use Rattle.oak_model.proofs.Counting.{one_at-same, one_at-other, total_at, decided}
 use Rattle.header_core.specs.declared.states.TheConstants.{FREE, OWNED, LIVE, LOCKED, DEAD}
 use Rattle.header_core.specs.declared.holds.HeldAs.{HeldAs}
 use Rattle.header_core.specs.declared.holds.HeldAs.TheVariants.{Owned, Fresh, Locked, Buried}
@@ -17,14 +17,15 @@ use Rattle.header_core.specs.declared.holds.HeaderHolds.{HeaderHolds}
 use Rattle.header_core.specs.Headers.{HeaderMemory, at_pin}
 use Rattle.header_core.specs.HeaderHolds.{pins_of, held_state, in_state, fresh_at, without_header}
 use Rattle.header_core.specs.HeaderRule.{OnPin, HeadersStand, PinsWhatItKnows}
-use Rattle.header_core.specs.HeaderStep.{STATE, claim_header, open_header, release_header, IsFreeWord, MayRelease, header_effect, headers_after, put_header, freshened, owned_at}
+use Rattle.header_core.specs.HeaderStep.{claim_header, open_header, release_header, IsFreeWord, MayRelease, header_effect, headers_after, put_header, freshened, owned_at}
 use Rattle.header_core.proofs.HeldChanges.{rows_taken-here, rows_taken-others, rows_freshened-live, rows_freshened-else, rows_freshened-others, each_freshened, rows_without-here, rows_without-others, each_without}
 use Rattle.header_core.proofs.StockedStates.{stocked_high}
 use Rattle.header_core.proofs.HeaderStores.{not_over}
-use Rattle.header_core.proofs.HeaderStates.{decided, restated, unmoved, same_generations, same_retired, turned}
+use Rattle.header_core.proofs.HeaderStates.{restated, unmoved, same_generations, same_retired, turned}
 use Rattle.header_core.proofs.HeaderFacts.{unheld_none, has_all, knows_fresh, held_is, held_alone, held_one, known_settled, free_unheld, unheld_by, pin_counted}
 use Rattle.header_core.proofs.HeaderLaws.{unstocked}
-use Rattle.header_core.proofs.PinWordChanges.{state_set, state_up, state_off}
+use Rattle.pin_word.proofs.StepLaws.{state_set, state_up}
+use Rattle.header_core.proofs.PinWordChanges.{state_off}
 
 module _ (m : HeaderMemory) (content : ℕ → List ℕ) (IsPlace : ℕ → Type 0) (known : ℕ → ℕ → ℕ) (hs : List HeaderHolds) (r : HeadersStand m content IsPlace known hs) (seat : ℕ) (a : HeaderHolds) (there : get_elem? hs seat ≡ some a) (h : ℕ) where
   pub claim_keeps : (old : ℕ) → IsFreeWord old → HeadersStand (put_header m (at_pin h) (header_effect (claim_header h old) (m.pin h))) content IsPlace known (set hs seat (headers_after m content (claim_header h old) a))

@@ -18,7 +18,9 @@ use Rattle.header_core.specs.HeaderHolds.{pins_of, pins_on, held_state, in_state
 use Rattle.header_core.specs.HeaderRule.{stocked, HeadersStand}
 use Rattle.header_core.proofs.HeaderLaws.{unstocked}
 use Rattle.header_core.proofs.StockedStates.{stocked_le, held_le, stocked_high}
-use Rattle.header_core.proofs.HeldHeaders.{held_in, stocked_in, each_has, total_sum, rows_split, stocked_split, row_of, rows_have, fresh_row, generation_in}
+use Rattle.oak_model.proofs.MemberLaws.{each_has}
+use Rattle.oak_model.proofs.SumLaws.{total_sum}
+use Rattle.header_core.proofs.HeldHeaders.{held_in, stocked_in, rows_split, stocked_split, row_of, rows_have, fresh_row, generation_in}
 
 -- a pass holds a header as owned, or in a state with a block
 pub holds_split : (h : ℕ) (a : HeaderHolds) → held_in h a.held ≡ in_state h OWNED a + stocked_in h a.held

@@ -14,7 +14,9 @@ use Rattle.header_core.specs.HeaderHolds.{pins_of, pins_on}
 use Rattle.header_core.specs.HeaderRule.{stocked, IsOver, HeadersStand}
 use Rattle.header_core.specs.HeaderStep.{pin_header, unpin_header, header_effect, headers_after, put_header}
 use Rattle.header_core.proofs.HeaderLaws.{OneStands, one_stands, still_stands, headers_change}
-use Rattle.header_core.proofs.PinWordChanges.{pin_up, pin_down, put-cases, with_pin, same_generation, still_holds, still_removed}
+use Rattle.pin_word.proofs.StepLaws.{pin_up, pin_down}
+use Rattle.oak_model.proofs.PutLaws.{put-level, put-same}
+use Rattle.header_core.proofs.PinWordChanges.{with_pin, same_generation, still_holds, still_removed}
 
 module _ (m : HeaderMemory) (content : ℕ → List ℕ) (IsPlace : ℕ → Type 0) (known : ℕ → ℕ → ℕ) (hs : List HeaderHolds) (r : HeadersStand m content IsPlace known hs) (seat : ℕ) (a : HeaderHolds) (there : get_elem? hs seat ≡ some a) (h : ℕ) (small : m.pin h < 2 ^ 64) where
   -- the count of h changes with the pass's pin, and nothing else
@@ -26,7 +28,7 @@ module _ (m : HeaderMemory) (content : ℕ → List ℕ) (IsPlace : ℕ → Type
     b = record a { pin = o }
 
     same_state : (k : ℕ) → state_of (m'.pin k) ≡ state_of (m.pin k)
-    same_state k = put-cases m.pin h x k (λ w. state_of w ≡ state_of (m.pin k)) (λ e. state ∙ ap (λ (i : ℕ). state_of (m.pin i)) (sym e)) (λ _. refl)
+    same_state = put-same m.pin h x state_of state
 
     still : (j : ℕ) (u : HeaderHolds) → get_elem? hs j ≡ some u → OneStands m' content u
     still j u at = still_stands m m' content content u (λ k _. same_generation m h x generation k) (λ p _ _ t. still_holds m h x content p (λ _ live wanted. (state ∙ live, generation ∙ wanted)) t)
@@ -46,9 +48,7 @@ module _ (m : HeaderMemory) (content : ℕ → List ℕ) (IsPlace : ℕ → Type
   pin_keeps g none few = let c = r.counted h in let u = pin_up (m.pin h) (omega arith) small in let x : ℕ = (m.pin h + 1) % 2 ^ 64 in
       let p : PinnedHeader = record { header = h; wanted = g; found = m.pin h; place = m.place h; stamp = m.stamp h; words = content (m.place h) } in
       repinned x (Some p) u.1 u.2
-      (λ k. put-cases m.pin h x k (λ w. one_at h k + count_of (m.pin k) ≡ pins_on k a + count_of w)
-      (λ e. let q = one_at-same h k (sym e) in let z = ap (pins_of k) none in let n = u.0 in let w = ap (λ (i : ℕ). count_of (m.pin i)) e in omega arith)
-      (λ ne. let q = one_at-other h k (λ e. ne (sym e)) in let z = ap (pins_of k) none in omega arith))
+      (put-level m.pin h x count_of (λ k. pins_on k a) (λ k. one_at h k) (let q = one_at-same h h refl in let z = ap (pins_of h) none in let n = u.0 in omega arith) (λ k ne. one_at-other h k (λ e. ne (sym e)) ∙ sym (ap (pins_of k) none)))
       record {
         generations = (still x (Some p) u.1 u.2 seat a there).generations;
         good = λ g. record { live = same_state x (Some p) u.1 u.2 h ∙ g.live; generation = same_generation m h x u.2 h ∙ g.wanted; place = refl; stamp = refl; words = refl };
@@ -58,9 +58,7 @@ module _ (m : HeaderMemory) (content : ℕ → List ℕ) (IsPlace : ℕ → Type
   pub unpin_keeps : pins_on h a ≡ 1 → HeadersStand (put_header m (at_pin h) (header_effect (unpin_header h) (m.pin h))) content IsPlace known (set hs seat (headers_after m content (unpin_header h) a))
   unpin_keeps one = let t = total_at (pins_on h) hs seat a there in let c = r.counted h in let d = pin_down (m.pin h) (omega arith) small in let x : ℕ = (m.pin h + (2 ^ 64 - 1)) % 2 ^ 64 in
       repinned x None d.1 d.2
-      (λ k. put-cases m.pin h x k (λ w. 0 + count_of (m.pin k) ≡ pins_on k a + count_of w)
-      (λ e. let q = ap (λ (i : ℕ). pins_on i a) e in let n = d.0 in let w = ap (λ (i : ℕ). count_of (m.pin i)) e in omega arith)
-      (λ ne. let q = others k ne a.pin one in omega arith))
+      (put-level m.pin h x count_of (λ k. pins_on k a) (λ _. 0) (let n = d.0 in omega arith) (λ k ne. sym (others k ne a.pin one)))
       record { generations = (still x None d.1 d.2 seat a there).generations; good = tt; dead = tt }
     where
       others : (k : ℕ) → k ≢ h → (o : Option PinnedHeader) → pins_of h o ≡ 1 → pins_of k o ≡ 0

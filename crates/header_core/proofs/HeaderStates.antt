@@ -1,8 +1,6 @@
 -- A pin word that comes to another state, or another generation, keeps the points on headers.
-use Rattle.std.proofs.Common.{◌≡◌, ◌≢◌, ℕ, ◌+◌, ◌<◌, ◌≤◌, ◌==◌, Bool, true, false, List, [], ◌∷◌, set, sym, refl, ap, ◌∙◌, subst, arith, Some, inr, eq-eqb, ne_eqb}
-use mathlib.Core.Logic.{dite}
+use Rattle.std.proofs.Common.{◌≡◌, ◌≢◌, ℕ, ◌+◌, ◌<◌, ◌≤◌, List, [], ◌∷◌, set, sym, refl, ap, ◌∙◌, subst, arith, Some, inr}
 use mathlib.Core.Option.{some}
-use native.Mathlib.Decide.{ℕ_discrete}
 use lib.ListN.{get_elem?}
 use Rattle.pin_word.specs.PinWord.{generation_of, state_of, count_of}
 use Rattle.oak_model.specs.Counts.{one_at, total, put, Each}
@@ -20,10 +18,8 @@ use Rattle.header_core.specs.HeaderStep.{put_header}
 use Rattle.header_core.proofs.HeldHeaders.{held_in, rows_in, total_alone}
 use Rattle.header_core.proofs.HeaderFacts.{holds_some, unheld_none, has_all, unheld_else}
 use Rattle.header_core.proofs.HeaderLaws.{on_pin, each_held, OneStands, headers_change}
-use Rattle.header_core.proofs.PinWordChanges.{put-cases, put-else, put-again, with_pin, same_generation, still_holds, still_removed}
-
-pub decided : (n old : ℕ) (F : Bool → Type 0) → (n ≡ old → F true) → (n ≢ old → F false) → F (n == old)
-decided n old F hit miss = dite (ℕ_discrete n old) (λ e. subst F (sym (eq-eqb n old e)) (hit e)) (λ ne. subst F (sym (ne_eqb n old ne)) (miss ne))
+use Rattle.oak_model.proofs.PutLaws.{put-cases, put-level, put-else, put-again}
+use Rattle.header_core.proofs.PinWordChanges.{with_pin, same_generation, still_holds, still_removed}
 
 -- What a new pin word x of h asks, where the pass that changes it comes to hold rs: no pin's finding is at stake, no other pass holds h, and the pass holds before and after what the two states say.
 pub record Restates (m : HeaderMemory) (IsPlace : ℕ → Type 0) (known : ℕ → ℕ → ℕ) (hs : List HeaderHolds) (seat : ℕ) (a : HeaderHolds) (h x : ℕ) (rs : List HeldHeader) : Type 0 where
@@ -51,9 +47,7 @@ module _ (m : HeaderMemory) (content : ℕ → List ℕ) (IsPlace : ℕ → Type
     b = record a { held = rs }
 
     level : (k s : ℕ) → 0 < s → s < RETIRED → s ≢ LIVE → rows_in k s rs + one_at (state_of (m.pin k)) s ≡ in_state k s a + one_at (state_of (m'.pin k)) s
-    level k s pos low n = put-cases m.pin h x k (λ w. rows_in k s rs + one_at (state_of (m.pin k)) s ≡ in_state k s a + one_at (state_of w) s)
-        (λ e. subst (λ (i : ℕ). rows_in i s rs + one_at (state_of (m.pin i)) s ≡ in_state i s a + one_at (state_of x) s) (sym e) (let p = q.was s pos low n in let t = q.now s pos low n in omega arith))
-        (λ ne. let o = q.others k s ne in omega arith)
+    level k s pos low n = put-level m.pin h x (λ w. one_at (state_of w) s) (λ i. in_state i s a) (λ i. rows_in i s rs) (let p = q.was s pos low n in let t = q.now s pos low n in omega arith) (λ i ne. q.others i s ne) k
 
     alone_live : total (in_state h LIVE) hs ≡ in_state h LIVE a
     alone_live = total_alone (in_state h LIVE) hs seat a there (λ j u at ne. unheld_none h LIVE u (q.alone j u at ne))

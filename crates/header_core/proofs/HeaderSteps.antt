@@ -11,7 +11,7 @@ use Rattle.header_core.proofs.HeldHeaders.{fresh_in}
 use Rattle.header_core.proofs.HeldChanges.{fresh_placed, fresh_stamped, fresh_changed, fresh_taken, fresh_freshened, fresh_without-others, fresh_buried-others}
 use Rattle.header_core.proofs.HeaderFacts.{held_is, fresh_at_is}
 use Rattle.header_core.proofs.HeaderLaws.{on_pin}
-use Rattle.pin_word.specs.PinWord.{generation_of, state_of}
+use Rattle.pin_word.specs.PinWord.{generation_of, state_of, STATE}
 use Rattle.oak_model.specs.Counts.{total, Every}
 use Rattle.header_core.specs.declared.states.TheConstants.{OWNED, LIVE, LOCKED, DEAD, RETIRED}
 use Rattle.header_core.specs.declared.holds.HeldAs.TheVariants.{Owned, Fresh, Locked, Buried}
@@ -19,10 +19,10 @@ use Rattle.header_core.specs.declared.holds.HeaderHolds.{HeaderHolds}
 use Rattle.header_core.specs.Headers.{HeaderMemory, read_header}
 use Rattle.header_core.specs.HeaderHolds.{pins_on, in_state, fresh_at, without_header}
 use Rattle.header_core.specs.HeaderRule.{OnPin, HeadersStand, PinsWhatItKnows}
-use Rattle.header_core.specs.HeaderStep.{STATE, HeaderStep, claim_header, store_place, store_stamp, change_place, open_header, pin_header, unpin_header, release_header, lock_header, unlock_header, mark_dead, take_back, header_spot, header_effect, MayHeader, headers_after, put_header, placed_at, stamped_at, freshened, changed_at, buried_at, owned_at, locked_at}
+use Rattle.header_core.specs.HeaderStep.{HeaderStep, claim_header, store_place, store_stamp, change_place, open_header, pin_header, unpin_header, release_header, lock_header, unlock_header, mark_dead, take_back, header_spot, header_effect, MayHeader, headers_after, put_header, placed_at, stamped_at, freshened, changed_at, buried_at, owned_at, locked_at}
 use Rattle.header_core.proofs.HeaderPins.{pin_keeps, unpin_keeps}
 use Rattle.header_core.proofs.HeaderStores.{store_place_keeps, store_stamp_keeps, change_place_keeps}
-use Rattle.header_core.proofs.HeaderStates.{decided}
+use Rattle.oak_model.proofs.Counting.{decided}
 use Rattle.header_core.proofs.ClaimedHeaders.{claim_keeps, open_keeps, release_keeps}
 use Rattle.header_core.proofs.LockedHeaders.{lock_keeps, unlock_keeps, bury_keeps, renew_keeps}
 
@@ -91,13 +91,15 @@ pins_kept m content IsPlace known hs r seat a there knows (unlock_header h kind)
 pins_kept m content IsPlace known hs r seat a there knows (mark_dead h) may know pins = fresher knows a (buried_at h a.held) (lost m content IsPlace known hs r seat a there h LOCKED may (λ e. omega arith) (omega arith) (omega arith) (buried_at h a.held) (λ k g ne. fresh_buried-others h k g a.held ne)) pins
 pins_kept m content IsPlace known hs r seat a there knows (take_back h x) may know pins = fresher knows a (without_header h a.held) (lost m content IsPlace known hs r seat a there h DEAD may.0 (λ e. omega arith) (omega arith) (omega arith) (without_header h a.held) (λ k g ne. fresh_without-others h k g a.held ne)) pins
 
+-- the next state of a word of 64 bits is one
+next_fits : (w : ℕ) → state_of w < 15 → w < 2 ^ 64 → w + STATE < 2 ^ 64
+unfolding state_of
+next_fits w low l = omega arith
+
 -- what a step leaves is a word of 64 bits
 pub header_fits : (x : HeaderStep) (a : HeaderHolds) (n : ℕ) → MayHeader x a → n < 2 ^ 64 → header_effect x n < 2 ^ 64
 unfolding state_of
 header_fits (claim_header h old) a n may l = decided n old (λ t. either t (old + STATE) n < 2 ^ 64) (λ e. next_fits old (let s = may.state in omega arith) (omega arith)) (λ _. l)
-  where
-    next_fits : (w : ℕ) → state_of w < 15 → w < 2 ^ 64 → w + STATE < 2 ^ 64
-    next_fits w low l = omega arith
 header_fits (store_place h x) a n may l = may.1
 header_fits (store_stamp h x) a n may l = may.1
 header_fits (change_place h x) a n may l = may.1
@@ -109,9 +111,6 @@ header_fits (release_header h Fresh) a n may l = omega arith
 header_fits (release_header h (Locked at)) a n may l = absurd may.1
 header_fits (release_header h Buried) a n may l = absurd may.1
 header_fits (lock_header h old) a n may l = decided n old (λ t. either t (old + STATE) n < 2 ^ 64) (λ e. next_fits old (let s = may.state in omega arith) (omega arith)) (λ _. l)
-  where
-    next_fits : (w : ℕ) → state_of w < 15 → w < 2 ^ 64 → w + STATE < 2 ^ 64
-    next_fits w low l = omega arith
 header_fits (unlock_header h kind) a n may l = omega arith
 header_fits (mark_dead h) a n may l = omega arith
 header_fits (take_back h x) a n may l = omega arith

@@ -18,7 +18,7 @@ use Rattle.header_core.proofs.HeldHeaders.{rows_in}
 use Rattle.header_core.proofs.HeldChanges.{rows_placed, each_placed, rows_stamped, each_stamped, rows_changed, each_changed}
 use Rattle.header_core.proofs.HeaderFacts.{held_is}
 use Rattle.header_core.proofs.HeaderLaws.{unstocked, OneStands, one_stands, still_stands, headers_change}
-use Rattle.header_core.proofs.PinWordChanges.{put-here, put-else}
+use Rattle.oak_model.proofs.PutLaws.{put-here, put-else}
 
 -- the header is in none of the states in which a pin's finding stands
 abbrev pub IsQuiet : ℕ → Type 0

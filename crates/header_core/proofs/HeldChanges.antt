@@ -2,8 +2,9 @@
 use Rattle.std.specs.Prelude.{slice_set}
 use Rattle.std.proofs.Common.{◌≡◌, ◌≢◌, ℕ, ◌+◌, ◌*◌, ◌≤◌, ◌==◌, Bool, true, false, cond, List, [], ◌∷◌, sym, refl, ap, ◌∙◌, subst, arith, eq-eqb, ne_eqb}
 use Rattle.oak_model.specs.Counts.{one_at, total, Each}
-use Rattle.oak_model.proofs.Counting.{one_at-same, one_at-other, one_at-cases, total_map}
+use Rattle.oak_model.proofs.Counting.{decided, one_at-same, one_at-other, one_at-cases, total_map}
 use Rattle.oak_model.proofs.RowLaws.{total_le}
+use Rattle.oak_model.proofs.SumLaws.{times-none}
 use Rattle.header_core.specs.declared.states.TheConstants.{OWNED, LIVE, DEAD}
 use Rattle.header_core.specs.declared.holds.HeldAs.{HeldAs}
 use Rattle.header_core.specs.declared.holds.HeldAs.TheVariants.{Fresh, Buried}
@@ -12,7 +13,7 @@ use Rattle.header_core.specs.HeaderHolds.{held_state, without_header}
 use Rattle.header_core.specs.Headers.{HeaderMemory}
 use Rattle.header_core.specs.HeaderStep.{placed_at, stamped_at, changed_at, reworded, freshened, buried_at, owned_at}
 use Rattle.header_core.proofs.HeldHeaders.{held_in, rows_in, fresh_in}
-use Rattle.header_core.proofs.HeldRecords.{at_header, each_kept, rows_kept, fresh_kept, rows_turned-here, rows_turned-else, rows_turned-others, fresh_turned-others}
+use Rattle.header_core.proofs.HeldRecords.{each_kept, rows_kept, fresh_kept, rows_turned-here, rows_turned-else, rows_turned-others, fresh_turned-others}
 
 -- a word of one header changes, or one of its block: it is held as before
 
@@ -134,10 +135,10 @@ each_buried h P rs e = each_kept (buried_one h) (λ _. refl) P rs (λ _. refl) e
 -- the list without one header
 
 pub without-cases : (h : ℕ) (r : HeldHeader) (rs : List HeldHeader) (P : List HeldHeader → Type 0) → (r.header ≡ h → P (without_header h rs)) → (r.header ≢ h → P (r ∷ without_header h rs)) → P (without_header h (r ∷ rs))
-without-cases h r rs P gone stays = at_header h r (λ t. P (cond t (without_header h rs) (r ∷ without_header h rs))) gone stays
+without-cases h r rs P gone stays = decided r.header h (λ t. P (cond t (without_header h rs) (r ∷ without_header h rs))) gone stays
 
 none_of : (h s : ℕ) (r : HeldHeader) → r.header ≢ h → one_at r.header h * one_at (held_state r.held_as) s ≡ 0
-none_of h s r n = ap (λ (k : ℕ). k * one_at (held_state r.held_as) s) (one_at-other r.header h n) ∙ (let e : 0 * one_at (held_state r.held_as) s ≡ 0 = omega arith in e)
+none_of h s r n = times-none (one_at r.header h) (one_at (held_state r.held_as) s) (one_at-other r.header h n)
 
 -- a sum in which that header's count for nothing is as it was
 pub total_without : (f : HeldHeader → ℕ) (h : ℕ) (rs : List HeldHeader) → ((r : HeldHeader) → r.header ≡ h → f r ≡ 0) → total f (without_header h rs) ≡ total f rs

@@ -1,11 +1,13 @@
 -- Lists of held headers: what is in them, how often one is in them in a state, and what of that a step changes.
-use Rattle.std.proofs.Common.{◌≡◌, ◌≢◌, ℕ, zero, suc, ◌+◌, ◌*◌, ◌<◌, ◌≤◌, List, [], ◌∷◌, sym, refl, ap, ◌∙◌, subst, arith, inl, inr, ⊎_elim, eq-eqb, ne_eqb, Bool, cond}
+use Rattle.std.proofs.Common.{◌≡◌, ◌≢◌, ℕ, zero, suc, ◌+◌, ◌*◌, ◌<◌, List, [], ◌∷◌, sym, refl, ap, ◌∙◌, subst, arith, eq-eqb, ne_eqb, Bool, cond}
 use mathlib.Core.Logic.{dite}
 use mathlib.Core.Option.{some, some-injective, some-ne-none}
-use native.Mathlib.Decide.{ℕ_discrete, dec_lt}
+use native.Mathlib.Decide.{ℕ_discrete}
 use lib.ListN.{get_elem?}
 use Rattle.oak_model.specs.Counts.{one_at, total, Each, Has}
 use Rattle.oak_model.proofs.Counting.{one_at-same, one_at-other, one_at-cases, one_at-true, total_zero}
+use Rattle.oak_model.proofs.MemberLaws.{has_some, total_has}
+use Rattle.oak_model.proofs.SumLaws.{total_sum}
 use Rattle.header_core.specs.declared.states.TheConstants.{OWNED, LIVE, LOCKED, DEAD}
 use Rattle.header_core.specs.declared.holds.HeldAs.{HeldAs}
 use Rattle.header_core.specs.declared.holds.HeldAs.TheVariants.{Owned, Fresh, Locked, Buried}
@@ -31,33 +33,12 @@ stocked_in h rs = total (λ (r : HeldHeader). one_at r.header h * stocked (held_
 -- of a list in general
 
 module _ {A : Type 0} where
-  pub each_has : (P : A → Type 0) (xs : List A) (x : A) → Each P xs → Has x xs → P x
-  each_has P [] x h m = absurd m
-  each_has P (y ∷ ys) x h m = ⊎_elim (λ (e : x ≡ y). subst P (sym e) h.0) (λ (r : Has x ys). each_has P ys x h.1 r) m
-
-  -- where the sum is positive, some element counts
-  pub has_some : (f : A → ℕ) (xs : List A) → 0 < total f xs → (x : A) × Has x xs × (0 < f x)
-  unfolding total
-  has_some f [] h = absurd (omega arith)
-  has_some f (x ∷ xs) h = dite (dec_lt 0 (f x)) (λ l. (x, inl refl, l)) (λ no. let r = has_some f xs (omega arith) in (r.0, inr r.1, r.2))
-
-  pub total_has : (f : A → ℕ) (xs : List A) (x : A) → Has x xs → f x ≤ total f xs
-  unfolding total
-  total_has f [] x m = absurd m
-  total_has f (y ∷ ys) x m = ⊎_elim (λ (e : x ≡ y). let s = ap f e in omega arith) (λ (r : Has x ys). let t = total_has f ys x r in omega arith) m
-
   -- where only one of a list counts, the sum is its
   pub total_alone : (f : A → ℕ) (xs : List A) (i : ℕ) (v : A) → get_elem? xs i ≡ some v → ((j : ℕ) (u : A) → get_elem? xs j ≡ some u → j ≢ i → f u ≡ 0) → total f xs ≡ f v
   unfolding total
   total_alone f [] i v at none = absurd (some-ne-none v (sym at))
   total_alone f (x ∷ xs) zero v at none = let s = ap f (some-injective x v at) in let z = total_zero f xs (λ j u e. none (suc j) u e (λ q. omega arith)) in omega arith
   total_alone f (x ∷ xs) (suc i) v at none = let z = none zero x refl (λ q. omega arith) in let t = total_alone f xs i v at (λ j u e ne. none (suc j) u e (λ q. ne (omega arith))) in omega arith
-
-  -- a sum of sums
-  pub total_sum : (f g k : A → ℕ) (xs : List A) → ((x : A) → f x ≡ g x + k x) → total f xs ≡ total g xs + total k xs
-  unfolding total
-  total_sum f g k [] h = refl
-  total_sum f g k (x ∷ xs) h = let a = h x in let t = total_sum f g k xs h in omega arith
 
 -- a held header is owned, or in a state with a block, which is one of three
 

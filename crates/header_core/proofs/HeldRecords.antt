@@ -1,22 +1,16 @@
 -- Lists of held headers, of which each record comes to have other words or another state.
-use Rattle.std.proofs.Common.{◌≡◌, ◌≢◌, ℕ, ◌*◌, ◌==◌, Bool, true, false, List, [], ◌∷◌, map, sym, refl, ap, ◌∙◌, subst, arith, eq-eqb, ne_eqb}
+use Rattle.std.proofs.Common.{◌≡◌, ◌≢◌, ℕ, ◌*◌, List, [], ◌∷◌, map, sym, refl, ap, ◌∙◌, subst, arith}
 use mathlib.Core.Logic.{dite}
 use native.Mathlib.Decide.{ℕ_discrete}
 use Rattle.oak_model.specs.Counts.{one_at, total, Each}
 use Rattle.oak_model.proofs.Counting.{one_at-same, one_at-other, total_map, total_zero}
+use Rattle.oak_model.proofs.SumLaws.{total_same}
 use Rattle.header_core.specs.declared.states.TheConstants.{LIVE}
 use Rattle.header_core.specs.declared.holds.HeldHeader.{HeldHeader}
 use Rattle.header_core.specs.HeaderHolds.{held_state}
 use Rattle.header_core.proofs.HeldHeaders.{held_in, rows_in, fresh_in}
 
--- a test of a record's header
-pub at_header : (h : ℕ) (r : HeldHeader) (P : Bool → Type 0) → (r.header ≡ h → P true) → (r.header ≢ h → P false) → P (r.header == h)
-at_header h r P here other = dite (ℕ_discrete r.header h) (λ e. subst P (sym (eq-eqb r.header h e)) (here e)) (λ n. subst P (sym (ne_eqb r.header h n)) (other n))
-
 -- the same records, with other words or other states
-
-total_same : {A : Type 0} (f g : A → ℕ) (xs : List A) → ((x : A) → f x ≡ g x) → total f xs ≡ total g xs
-total_same f g xs same = λ i. total (λ x. same x i) xs
 
 module _ (f : HeldHeader → HeldHeader) (header : (r : HeldHeader) → (f r).header ≡ r.header) where
   pub each_kept : (P : ℕ → ℕ → Type 0) (rs : List HeldHeader) → ((r : HeldHeader) → (f r).generation ≡ r.generation) → Each (λ (r : HeldHeader). P r.header r.generation) rs → Each (λ (r : HeldHeader). P r.header r.generation) (map f rs)

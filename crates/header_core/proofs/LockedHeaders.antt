@@ -5,9 +5,9 @@ use mathlib.Core.Option.{some}
 use native.Mathlib.Decide.{ℕ_discrete, dec_lt}
 use lib.ListN.{get_elem?}
 use prog.Atomic.{either}
-use Rattle.pin_word.specs.PinWord.{generation_of, state_of, count_of}
+use Rattle.pin_word.specs.PinWord.{generation_of, state_of, count_of, STATE}
 use Rattle.oak_model.specs.Counts.{one_at, put}
-use Rattle.oak_model.proofs.Counting.{one_at-same, one_at-other}
+use Rattle.oak_model.proofs.Counting.{one_at-same, one_at-other, decided}
 use Rattle.header_core.specs.declared.states.TheConstants.{FREE, LIVE, LOCKED, DEAD, RETIRED, LAST_GENERATION}
 use Rattle.header_core.specs.declared.holds.HeldHeader.{HeldHeader}
 use Rattle.header_core.specs.declared.holds.PinnedHeader.{PinnedHeader}
@@ -15,16 +15,19 @@ use Rattle.header_core.specs.declared.holds.HeaderHolds.{HeaderHolds}
 use Rattle.header_core.specs.Headers.{HeaderMemory, at_pin}
 use Rattle.header_core.specs.HeaderHolds.{in_state, without_header}
 use Rattle.header_core.specs.HeaderRule.{IsOver, HeadersStand}
-use Rattle.header_core.specs.HeaderStep.{STATE, lock_header, unlock_header, mark_dead, take_back, IsLiveWord, renewal, header_effect, headers_after, put_header, locked_at, buried_at}
+use Rattle.header_core.specs.HeaderStep.{lock_header, unlock_header, mark_dead, take_back, IsLiveWord, renewal, header_effect, headers_after, put_header, locked_at, buried_at}
 use Rattle.oak_model.specs.declared.writes.Kind.{Kind}
 use Rattle.header_core.specs.HeaderHolds.{generation_held}
 use Rattle.header_core.proofs.HeldHeaders.{held_in, rows_in}
 use Rattle.header_core.proofs.HeldChanges.{rows_taken-here, rows_taken-others, rows_buried-dead, rows_buried-else, rows_buried-others, each_buried, rows_without-here, rows_without-others, each_without, each_without-others}
 use Rattle.header_core.proofs.StockedStates.{stocked_high}
 use Rattle.header_core.proofs.HeaderStores.{not_over}
-use Rattle.header_core.proofs.HeaderStates.{decided, restated, unmoved, same_generations, same_retired, turned}
+use Rattle.header_core.proofs.HeaderStates.{restated, unmoved, same_generations, same_retired, turned}
 use Rattle.header_core.proofs.HeaderFacts.{holds_some, unheld_none, has_all, unheld_else, held_is, held_one, known_unheld, locked_known, unheld_by, generation_is, pin_counted}
-use Rattle.header_core.proofs.PinWordChanges.{IsRenewed, state_set, state_up, state_down, renewed, generation_small, put-else}
+use Rattle.oak_model.proofs.PutLaws.{put-else}
+use Rattle.pin_word.proofs.Laws.{generation_small}
+use Rattle.pin_word.proofs.StepLaws.{state_set, state_up, state_down}
+use Rattle.header_core.proofs.PinWordChanges.{IsRenewed, renewed}
 
 -- a header that was taken back is over, and in no state in which a pass holds it or it has a block
 ended : (s : ℕ) → (s ≡ RETIRED) ⊎ (s ≡ FREE) → IsOver s × ((t : ℕ) → 0 < t → t < RETIRED → one_at s t ≡ 0)

@@ -1,56 +1,22 @@
 -- What a step on a pin word does to its parts, and what stays of a header whose pin word changes.
-use Rattle.std.proofs.Common.{◌≡◌, ◌≢◌, ℕ, ◌+◌, ◌-◌, ◌*◌, ◌%◌, ◌^◌, ◌<◌, ◌⊎◌, inl, inr, cond, Bool, List, sym, refl, ap, ◌∙◌, subst, arith, eq-eqb, ne_eqb}
+use Rattle.std.proofs.Common.{◌≡◌, ◌≢◌, ℕ, ◌+◌, ◌-◌, ◌*◌, ◌%◌, ◌^◌, ◌<◌, ◌⊎◌, inl, inr, cond, Bool, List, sym, ap, ◌∙◌, subst, arith, eq-eqb, ne_eqb}
 use mathlib.Core.Logic.{dite}
-use mathlib.Core.Path.{fun_ext}
 use native.Mathlib.Decide.{ℕ_discrete}
-use Rattle.pin_word.specs.PinWord.{generation_of, state_of, count_of}
-use Rattle.oak_model.specs.Counts.{put}
+use Rattle.pin_word.specs.PinWord.{generation_of, state_of, count_of, STATE}
+use Rattle.pin_word.proofs.StepLaws.{state_back}
+use Rattle.oak_model.proofs.PutLaws.{put-cases, put-same}
 use Rattle.header_core.specs.declared.states.TheConstants.{FREE, LIVE, DEAD, RETIRED, LAST_GENERATION}
 use Rattle.header_core.specs.declared.holds.HeldAs.{HeldAs}
-use Rattle.header_core.specs.declared.holds.HeldAs.TheVariants.{Owned, Fresh, Locked, Buried}
 use Rattle.header_core.specs.declared.holds.PinnedHeader.{PinnedHeader}
 use Rattle.header_core.specs.Headers.{HeaderMemory, at_pin}
 use Rattle.header_core.specs.HeaderHolds.{held_state}
 use Rattle.header_core.specs.HeaderRule.{PinHolds, IsOver, RemovalStands}
-use Rattle.header_core.specs.HeaderStep.{STATE, renewal, put_header}
-
--- one pin more, and one less
-
-pub pin_up : (w : ℕ) → count_of w + 1 < 2 ^ 28 → w < 2 ^ 64
-    → (count_of ((w + 1) % 2 ^ 64) ≡ count_of w + 1) × (state_of ((w + 1) % 2 ^ 64) ≡ state_of w) × (generation_of ((w + 1) % 2 ^ 64) ≡ generation_of w)
-unfolding count_of state_of generation_of
-pin_up w h b = ((omega arith), (omega arith), (omega arith))
-
-pub pin_down : (w : ℕ) → 0 < count_of w → w < 2 ^ 64
-    → (count_of ((w + (2 ^ 64 - 1)) % 2 ^ 64) + 1 ≡ count_of w) × (state_of ((w + (2 ^ 64 - 1)) % 2 ^ 64) ≡ state_of w) × (generation_of ((w + (2 ^ 64 - 1)) % 2 ^ 64) ≡ generation_of w)
-unfolding count_of state_of generation_of
-pin_down w h b = ((omega arith), (omega arith), (omega arith))
-
--- the next state, by an exchange and by an addition
-
-pub state_set : (w : ℕ) → state_of w < 15 → (count_of (w + STATE) ≡ count_of w) × (state_of (w + STATE) ≡ state_of w + 1) × (generation_of (w + STATE) ≡ generation_of w)
-unfolding count_of state_of generation_of
-state_set w h = ((omega arith), (omega arith), (omega arith))
-
-pub state_up : (w : ℕ) → state_of w < 15 → w < 2 ^ 64
-    → (count_of ((w + STATE) % 2 ^ 64) ≡ count_of w) × (state_of ((w + STATE) % 2 ^ 64) ≡ state_of w + 1) × (generation_of ((w + STATE) % 2 ^ 64) ≡ generation_of w)
-unfolding count_of state_of generation_of
-state_up w h b = ((omega arith), (omega arith), (omega arith))
-
--- the state before
-pub state_down : (w : ℕ) → 0 < state_of w → w < 2 ^ 64
-    → (count_of ((w + (2 ^ 64 - STATE)) % 2 ^ 64) ≡ count_of w) × (state_of ((w + (2 ^ 64 - STATE)) % 2 ^ 64) + 1 ≡ state_of w) × (generation_of ((w + (2 ^ 64 - STATE)) % 2 ^ 64) ≡ generation_of w)
-unfolding count_of state_of generation_of
-state_down w h b = ((omega arith), (omega arith), (omega arith))
+use Rattle.header_core.specs.HeaderStep.{renewal, put_header}
 
 -- a held header becomes free
 pub state_off : (s : HeldAs) (w : ℕ) → state_of w ≡ held_state s → w < 2 ^ 64
     → (count_of ((w + (2 ^ 64 - held_state s * STATE)) % 2 ^ 64) ≡ count_of w) × (state_of ((w + (2 ^ 64 - held_state s * STATE)) % 2 ^ 64) ≡ FREE) × (generation_of ((w + (2 ^ 64 - held_state s * STATE)) % 2 ^ 64) ≡ generation_of w)
-unfolding count_of state_of generation_of
-state_off Owned w h b = ((omega arith), (omega arith), (omega arith))
-state_off Fresh w h b = ((omega arith), (omega arith), (omega arith))
-state_off (Locked at) w h b = ((omega arith), (omega arith), (omega arith))
-state_off Buried w h b = ((omega arith), (omega arith), (omega arith))
+state_off s w h b = let t = state_back w (held_state s) (omega arith) b in let r = t.1 in (t.0, (omega arith), t.2)
 
 -- a dead header comes to the next generation: it is free there, or retired where that is the last
 
@@ -70,32 +36,13 @@ renewed w dead room b = dite (ℕ_discrete (generation_of w + 2) (2 ^ 32))
     (λ e. subst (λ (t : Bool). IsRenewed w ((w + cond t (2 ^ 32 + STATE) (2 ^ 32 - DEAD * STATE)) % 2 ^ 64)) (sym (eq-eqb (generation_of w + 2) (2 ^ 32) e)) (to_last w dead e b))
     (λ ne. subst (λ (t : Bool). IsRenewed w ((w + cond t (2 ^ 32 + STATE) (2 ^ 32 - DEAD * STATE)) % 2 ^ 64)) (sym (ne_eqb (generation_of w + 2) (2 ^ 32) ne)) (to_next w dead room ne b))
 
-pub generation_small : (w : ℕ) → w < 2 ^ 64 → generation_of w < 2 ^ 32
-unfolding generation_of
-generation_small w b = omega arith
-
--- a function with one value exchanged
-
-pub put-here : (f : ℕ → ℕ) (i x k : ℕ) → k ≡ i → put f i x k ≡ x
-put-here f i x k e = ap (λ (t : Bool). cond t x (f k)) (eq-eqb k i e)
-
-pub put-else : (f : ℕ → ℕ) (i x k : ℕ) → k ≢ i → put f i x k ≡ f k
-put-else f i x k n = ap (λ (t : Bool). cond t x (f k)) (ne_eqb k i n)
-
--- what holds of the new value at i, and of the old ones elsewhere, holds of put f i x
-pub put-cases : (f : ℕ → ℕ) (i x k : ℕ) (P : ℕ → Type 0) → (k ≡ i → P x) → (k ≢ i → P (f k)) → P (put f i x k)
-put-cases f i x k P here other = dite (ℕ_discrete k i) (λ e. subst P (sym (put-here f i x k e)) (here e)) (λ n. subst P (sym (put-else f i x k n)) (other n))
-
-pub put-again : (f : ℕ → ℕ) (i : ℕ) → put f i (f i) ≡ f
-put-again f i = fun_ext (λ k. dite (ℕ_discrete k i) (λ e. put-here f i (f i) k e ∙ ap f (sym e)) (λ ne. put-else f i (f i) k ne))
-
 -- the pin word of h becomes x
 module _ (m : HeaderMemory) (h x : ℕ) where
   abbrev pub with_pin : HeaderMemory
   with_pin = put_header m (at_pin h) x
 
   pub same_generation : generation_of x ≡ generation_of (m.pin h) → (k : ℕ) → generation_of (with_pin.pin k) ≡ generation_of (m.pin k)
-  same_generation generation k = put-cases m.pin h x k (λ w. generation_of w ≡ generation_of (m.pin k)) (λ e. generation ∙ ap (λ (i : ℕ). generation_of (m.pin i)) (sym e)) (λ _. refl)
+  same_generation generation = put-same m.pin h x generation_of generation
 
   -- a pin that found its header live
   pub still_holds : (content : ℕ → List ℕ) (p : PinnedHeader) → (p.header ≡ h → state_of (m.pin h) ≡ LIVE → generation_of (m.pin h) ≡ p.wanted → (state_of x ≡ LIVE) × (generation_of x ≡ p.wanted)) → PinHolds m content p → PinHolds with_pin content p

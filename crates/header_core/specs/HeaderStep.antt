@@ -1,7 +1,7 @@
 -- The kinds of step on the words of the headers.
 use Rattle.std.specs.Prelude.{◌≡◌, ℕ, ◌+◌, ◌-◌, ◌*◌, ◌%◌, ◌^◌, ◌<◌, ◌==◌, cond, true, false, List, [], ◌∷◌, map, Option, Some, None, slice_set}
 use prog.Atomic.{either}
-use Rattle.pin_word.specs.PinWord.{generation_of, state_of, count_of}
+use Rattle.pin_word.specs.PinWord.{generation_of, STATE, HasNoPin}
 use Rattle.oak_model.specs.declared.writes.Kind.{Kind}
 use Rattle.header_core.specs.declared.states.TheConstants.{FREE, OWNED, LIVE, LOCKED, DEAD}
 use Rattle.header_core.specs.declared.holds.HeldAs.{HeldAs}
@@ -10,10 +10,6 @@ use Rattle.header_core.specs.declared.holds.HeldHeader.{HeldHeader}
 use Rattle.header_core.specs.declared.holds.HeaderHolds.{HeaderHolds}
 use Rattle.header_core.specs.Headers.{HeaderMemory, HeaderSpot, at_pin, at_place, at_stamp, read_header, same_header_spot, headers_of}
 use Rattle.header_core.specs.HeaderHolds.{pins_on, held_state, in_state, generation_held, without_header}
-
--- what one more in the state adds to a pin word
-abbrev pub STATE : ℕ
-STATE = 2 ^ 28
 
 pub data HeaderStep : Type 0 where
   -- a free header without a pin, whose word is the second number, becomes owned
@@ -76,11 +72,6 @@ header_found (store_place h x) n = None
 header_found (store_stamp h x) n = None
 header_found (change_place h x) n = None
 header_found _ n = Some n
-
--- a word in this state, without a pin
-pub record HasNoPin (s w : ℕ) : Type 0 where
-  pub state : state_of w ≡ s
-  pub count : count_of w ≡ 0
 
 -- a word of a free header without a pin, and of a live one
 

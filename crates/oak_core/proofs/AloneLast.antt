@@ -14,7 +14,7 @@ use Rattle.oak_core.specs.Memory.{index}
 use Rattle.oak_core.specs.PassState.{IsAlone, is_alone, rooted}
 use Rattle.oak_core.specs.TableState.{TableState}
 use Rattle.oak_core.specs.Rule.{Rule, AloneStands}
-use Rattle.oak_core.specs.Step.{Step, load, give_number, on_arena, on_headers, store_locked, note_full, spot, effect, found, state_after}
+use Rattle.oak_core.specs.Step.{Step, load, give_number, on_arena, on_headers, on_rooms, store_locked, note_full, spot, effect, found, state_after}
 use Rattle.oak_core.proofs.Alone.{others_spent}
 
 -- the last of a list that ends so
@@ -54,6 +54,7 @@ appends z call (load p) s v = record { finding = _; met = refl; says = λ a. (re
 appends z call (give_number k) s v = record { finding = _; met = refl; says = λ a. absurd (true≢false (sym a)) }
 appends z call (on_arena a) s v = record { finding = _; met = refl; says = λ a. (refl, a) }
 appends z call (on_headers h) s v = record { finding = _; met = refl; says = λ a. (refl, a) }
+appends z call (on_rooms h) s v = record { finding = _; met = refl; says = λ a. (refl, a) }
 appends z call (store_locked h c b k x) s v = record { finding = _; met = refl; says = λ a. (refl, a) }
 appends z call (note_full lack began) s v = record { finding = _; met = refl; says = λ a. (refl, a) }
 

@@ -14,7 +14,7 @@ use Rattle.oak_core.specs.declared.states.PassState.{PassState}
 use Rattle.oak_core.specs.AloneWords.{LeavesWords, Moment, Runs, RunsTo}
 use Rattle.oak_core.specs.Memory.{Spot, at_given, index}
 use Rattle.oak_core.specs.PassState.{IsAlone, is_alone, rooted}
-use Rattle.oak_core.specs.Step.{Step, load, give_number, on_arena, on_headers, store_locked, note_full, spot, effect, state_after, Told}
+use Rattle.oak_core.specs.Step.{Step, load, give_number, on_arena, on_headers, on_rooms, store_locked, note_full, spot, effect, state_after, Told}
 use Rattle.oak_core.specs.Splitting.{Loads, Ends}
 use Rattle.oak_model.proofs.Lists.{set_there}
 use Rattle.oak_core.proofs.AloneLast.{last_is}
@@ -35,6 +35,7 @@ Keeps (load p) = Unit {0}
 Keeps (give_number k) = ⊥
 Keeps (on_arena a) = Unit {0}
 Keeps (on_headers x) = Unit {0}
+Keeps (on_rooms x) = Unit {0}
 Keeps (store_locked h c b k x) = Unit {0}
 Keeps (note_full lack began) = Unit {0}
 
@@ -46,6 +47,7 @@ leaves z call (load p) s v k a = record { met = v.findings.met; finding = _; las
 leaves z call (give_number n) s v k a = absurd k
 leaves z call (on_arena x) s v k a = record { met = v.findings.met; finding = _; last = refl; alone = a; are = refl }
 leaves z call (on_headers x) s v k a = record { met = v.findings.met; finding = _; last = refl; alone = a; are = refl }
+leaves z call (on_rooms x) s v k a = record { met = v.findings.met; finding = _; last = refl; alone = a; are = refl }
 leaves z call (store_locked h c b n x) s v k a = record { met = v.findings.met; finding = _; last = refl; alone = a; are = refl }
 leaves z call (note_full lack began) s v k a = record { met = v.findings.met; finding = _; last = refl; alone = a; are = refl }
 

@@ -6,7 +6,7 @@ use Rattle.oak_model.specs.Limits.{Sizes}
 use Rattle.oak_core.specs.declared.states.PassState.{PassState}
 use Rattle.oak_core.specs.TableState.{TableState}
 use Rattle.oak_core.specs.Rule.{Rule}
-use Rattle.oak_core.specs.Step.{Step, load, give_number, on_arena, on_headers, store_locked, May, table_after, note_full}
+use Rattle.oak_core.specs.Step.{Step, load, give_number, on_arena, on_headers, on_rooms, store_locked, May, table_after, note_full}
 use Rattle.oak_core.specs.Schedule.{Event, steps, splits, joins, Goes, IsSchedule}
 use Rattle.oak_core.proofs.Keeps.{load_keeps}
 use Rattle.oak_core.proofs.KeepsGiven.{give_keeps}
@@ -14,6 +14,7 @@ use Rattle.oak_core.proofs.KeepsArena.{arena_keeps}
 use Rattle.oak_core.proofs.KeepsHeaders.{header_keeps}
 use Rattle.oak_core.proofs.KeepsLocked.{locked_keeps}
 use Rattle.oak_core.proofs.KeepsNotes.{note_keeps}
+use Rattle.oak_core.proofs.KeepsRooms.{room_keeps}
 use Rattle.oak_core.proofs.TwoSeats.{split_keeps, join_keeps}
 
 -- one clause for each kind
@@ -22,6 +23,7 @@ rule_keeps z s call seat v r here going (load p) may = load_keeps z s call seat 
 rule_keeps z s call seat v r here going (give_number k) may = give_keeps z s call seat v r here going k may
 rule_keeps z s call seat v r here going (on_arena a) may = arena_keeps z s call seat v r here going a may
 rule_keeps z s call seat v r here going (on_headers x) may = header_keeps z s call seat v r here going x may
+rule_keeps z s call seat v r here going (on_rooms x) may = room_keeps z s call seat v r here going x may
 rule_keeps z s call seat v r here going (store_locked h c b k x) may = locked_keeps z s call seat v r here going h c b k x may
 rule_keeps z s call seat v r here going (note_full lack began) may = note_keeps z s call seat v r here going lack began may
 

@@ -8,7 +8,7 @@ use Rattle.oak_core.specs.declared.states.Full.{Full}
 use Rattle.oak_core.specs.declared.states.PassState.{PassState}
 use Rattle.oak_core.specs.Growing.{GrowsTo}
 use Rattle.oak_core.specs.PassState.{no_findings, left_state, right_state, both_state, joined_from}
-use Rattle.oak_core.specs.Step.{Step, load, give_number, on_arena, on_headers, store_locked, note_full, state_after}
+use Rattle.oak_core.specs.Step.{Step, load, give_number, on_arena, on_headers, on_rooms, store_locked, note_full, state_after}
 use Rattle.oak_core.specs.TableState.{TableState}
 
 pub grows_self : (fs : Findings) → GrowsTo fs fs
@@ -25,6 +25,7 @@ step_grows z call (load p) s v = grows_met v.findings _
 step_grows z call (give_number k) s v = grows_met v.findings _
 step_grows z call (on_arena a) s v = grows_met v.findings _
 step_grows z call (on_headers x) s v = grows_met v.findings _
+step_grows z call (on_rooms x) s v = grows_met v.findings _
 step_grows z call (store_locked h c b k x) s v = grows_met v.findings _
 step_grows z call (note_full lack began) s v = grows_noted v.findings _ _
 

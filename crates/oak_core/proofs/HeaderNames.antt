@@ -9,7 +9,8 @@ use Rattle.header_core.specs.declared.holds.HeldAs.TheVariants.{Owned, Fresh, Lo
 use Rattle.header_core.specs.declared.holds.HeaderHolds.{HeaderHolds}
 use Rattle.header_core.specs.Headers.{HeaderSpot, at_pin, header_at}
 use Rattle.header_core.specs.HeaderHolds.{held_state}
-use Rattle.header_core.specs.HeaderStep.{STATE, MayRelease, claim_header, open_header, pin_header, unpin_header, release_header}
+use Rattle.pin_word.specs.PinWord.{STATE}
+use Rattle.header_core.specs.HeaderStep.{MayRelease, claim_header, open_header, pin_header, unpin_header, release_header}
 use Rattle.oak_core.specs.declared.states.PassState.{PassState}
 use Rattle.oak_core.specs.Memory.{Spot, in_headers, index, word_count}
 use Rattle.oak_core.specs.HeaderCalls.{NamesPin, NamesExchange, NamesClaim, NamesRelease, Claims, Opens, Pins, Unpins, Releases}

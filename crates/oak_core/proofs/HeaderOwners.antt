@@ -6,7 +6,7 @@ use Rattle.arena_core.specs.Place.{names_block}
 use Rattle.header_core.specs.Headers.{HeaderMemory, at_pin, at_place}
 use Rattle.header_core.specs.HeaderRule.{stocked}
 use Rattle.header_core.specs.HeaderStep.{put_header}
-use Rattle.header_core.proofs.PinWordChanges.{put-here, put-else, put-cases}
+use Rattle.oak_model.proofs.PutLaws.{put-here, put-else, put-cases}
 use Rattle.oak_core.specs.Owners.{has_block, other_owners}
 use Rattle.oak_core.proofs.OwnerLaws.{owners_put, owners_same}
 

@@ -36,7 +36,7 @@ use Rattle.oak_core.proofs.HeaderBlocks.{IsTrueBlock}
 use Rattle.oak_core.proofs.KnownLaws.{known_some}
 
 -- each word of the memory is one of 64 bits
-number_small : (z : Sizes) (ws : List ℕ) → ((i : ℕ) → get_or ws i 0 < 2 ^ 64) → (p : Spot) → number_at z ws p < 2 ^ 64
+pub number_small : (z : Sizes) (ws : List ℕ) → ((i : ℕ) → get_or ws i 0 < 2 ^ 64) → (p : Spot) → number_at z ws p < 2 ^ 64
 unfolding number_at
 number_small z ws small p = elim (is_inside z p) as (λ t. cond t (get_or ws (index z p) 0) 0 < 2 ^ 64) [ true ↦ small (index z p) | false ↦ omega arith ]
 

@@ -18,7 +18,8 @@ use Rattle.header_core.specs.declared.holds.HeldHeader.{HeldHeader}
 use Rattle.header_core.specs.declared.holds.HeaderHolds.{HeaderHolds}
 use Rattle.header_core.specs.HeaderHolds.{held_state}
 use Rattle.header_core.specs.HeaderRule.{stocked}
-use Rattle.header_core.proofs.HeldHeaders.{stocked_in, rows_have, total_sum}
+use Rattle.oak_model.proofs.SumLaws.{total_sum}
+use Rattle.header_core.proofs.HeldHeaders.{stocked_in, rows_have}
 use Rattle.header_core.proofs.HeaderFacts.{true_numbers, held_is, stocked_most}
 use Rattle.oak_core.specs.Known.{known}
 use Rattle.oak_core.specs.Memory.{Memory, memory}

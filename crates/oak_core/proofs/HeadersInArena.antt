@@ -24,8 +24,9 @@ use Rattle.header_core.specs.HeaderRule.{stocked, IsGood, PinHolds, GoodPinHolds
 use Rattle.header_core.proofs.HeaderLaws.{content_frame}
 use Rattle.oak_core.specs.declared.states.PassState.{PassState}
 use Rattle.oak_core.specs.Memory.{Memory, in_arena, write}
-use Rattle.oak_core.specs.Owners.{has_block, other_owners, HeadersAreHeld}
-use Rattle.oak_core.specs.PassState.{blocks_of, headers_held}
+use Rattle.oak_core.specs.EntryOwners.{all_others}
+use Rattle.oak_core.specs.Owners.{has_block, HeadersAreHeld}
+use Rattle.oak_core.specs.PassState.{blocks_of, headers_held, rooms_held}
 use Rattle.oak_core.proofs.OwnerLaws.{owner_counts}
 
 -- a block that the word does not name is not what the word names
@@ -52,7 +53,7 @@ live_stocked s e = ap stocked e
 pub pin_fact : (P : PinnedHeader → Type 0) (o : Option PinnedHeader) (p : PinnedHeader) → o ≡ Some p → OnPin P o → P p
 pin_fact P o p e f = subst (OnPin P) e f
 
-module _ (z : Sizes) (m : Memory) (vs : List PassState) (seat : ℕ) (v : PassState) (there : get_elem? vs seat ≡ some v) (r : BlocksAreOwned z m.arena.bits (other_owners z m.headers) (map blocks_of vs))
+module _ (z : Sizes) (m : Memory) (vs : List PassState) (seat : ℕ) (v : PassState) (there : get_elem? vs seat ≡ some v) (r : BlocksAreOwned z m.arena.bits (all_others z m (map rooms_held vs)) (map blocks_of vs))
     (known : ℕ → ℕ → ℕ) (hr : HeadersAreHeld m.headers m.arena.bytes known (map headers_held vs)) (inside : (h : ℕ) → 0 < stocked (state_of (m.headers.pin h)) → h < z.headers) where
   -- a block under a good pin is held by no pass
   pub pinned_unheld : (j : ℕ) (u : HeaderHolds) (p : PinnedHeader) (c b : ℕ) → get_elem? (map headers_held vs) j ≡ some u → u.pin ≡ Some p → IsGood p → 0 < holds c b v.blocks → ¬ ((class_in p.place ≡ c) × (block_in p.place ≡ b))
@@ -61,7 +62,7 @@ module _ (z : Sizes) (m : Memory) (vs : List PassState) (seat : ℕ) (v : PassSt
       let live = live_stocked (state_of (m.headers.pin p.header)) holds_it.live in
       let lt = inside p.header (omega arith) in
       let counts = owner_counts z m.headers p.header c b lt in
-      let none = (held_once z m.arena (other_owners z m.headers) (map blocks_of vs) seat v.blocks (at_map blocks_of vs seat v there) r c b held).3 in
+      let none = (held_once z m.arena (all_others z m (map rooms_held vs)) (map blocks_of vs) seat v.blocks (at_map blocks_of vs seat v there) r c b held).3 in
       let one : has_block m.headers c b p.header ≡ 1 = (λ i. live i * names_block c b (holds_it.place i)) ∙ (λ i. 1 * names_named c b p.place same.0 same.1 i) in
       omega arith
 

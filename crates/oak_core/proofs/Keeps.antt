@@ -13,23 +13,26 @@ use Rattle.oak_model.proofs.Lists.{at_map, map_set, map_set_same}
 use Rattle.oak_model.proofs.Changes.{stepped}
 use Rattle.arena_core.specs.Blocks.{BlocksAreOwned}
 use Rattle.header_core.specs.declared.holds.HeaderHolds.{HeaderHolds}
+use Rattle.chunk_core.specs.declared.holds.RoomHolds.{RoomHolds}
 use Rattle.oak_core.specs.declared.states.Finding.{Finding}
 use Rattle.oak_core.specs.declared.states.Joined.{Joined}
 use Rattle.oak_core.specs.declared.states.Knowledge.{Knowledge}
 use Rattle.oak_core.specs.declared.states.PassState.{PassState}
 use Rattle.oak_core.specs.Memory.{Memory, Spot, at_given, same_spot, read, write, memory, index, IsInside, word_count}
 use Rattle.oak_core.specs.Finding.{finding}
-use Rattle.oak_core.specs.PassState.{blocks_of, headers_held, numbers_of, findings_of, knowledge_of, kept_of}
+use Rattle.oak_core.specs.PassState.{blocks_of, headers_held, rooms_held, numbers_of, findings_of, knowledge_of, kept_of}
 use Rattle.oak_core.specs.TableState.{TableState}
 use Rattle.oak_core.specs.Rule.{WordsStand, NumbersStand, FindingsStand, HistoriesStand, SpentIsSpent, JoinedStand, FindingsHold, AloneStands, Rule, PassStands}
-use Rattle.oak_core.specs.Owners.{other_owners, HeadersAreHeld}
+use Rattle.oak_core.specs.EntryOwners.{all_others}
+use Rattle.oak_core.specs.Owners.{HeadersAreHeld}
 use Rattle.oak_core.specs.Known.{known}
-use Rattle.oak_core.specs.Step.{Step, load, give_number, on_arena, on_headers, store_locked, spot, effect, found, state_after, table_after, note_full}
+use Rattle.oak_core.specs.Step.{Step, load, give_number, on_arena, on_headers, on_rooms, store_locked, spot, effect, found, state_after, table_after, note_full}
 use Rattle.oak_core.specs.Lack.{FullsStand}
 use Rattle.oak_core.proofs.Words.{first_word, index_apart, index_below, memory_set, memory_read}
 use Rattle.oak_core.proofs.Found.{found_more}
 use Rattle.oak_core.proofs.Lacked.{fulls_met}
 use Rattle.oak_core.proofs.AloneLast.{alone_steps}
+use Rattle.oak_core.proofs.RoomBundles.{RoomBundles, rooms_now}
 
 pub same_number : (n k : ℕ) → Some n ≡ Some k → n ≡ k
 same_number n k e = cc
@@ -49,6 +52,7 @@ going_after z call (load p) s v = refl
 going_after z call (give_number k) s v = refl
 going_after z call (on_arena a) s v = refl
 going_after z call (on_headers x) s v = refl
+going_after z call (on_rooms x) s v = refl
 going_after z call (store_locked h c b k x) s v = refl
 going_after z call (note_full lack began) s v = refl
 
@@ -58,6 +62,7 @@ joined_after z call (load p) s v = refl
 joined_after z call (give_number k) s v = refl
 joined_after z call (on_arena a) s v = refl
 joined_after z call (on_headers x) s v = refl
+joined_after z call (on_rooms x) s v = refl
 joined_after z call (store_locked h c b k x) s v = refl
 joined_after z call (note_full lack began) s v = refl
 
@@ -81,12 +86,25 @@ module _ (z : Sizes) (s : TableState) (call seat : ℕ) (v : PassState) (r : Rul
   headers_stay w knowledge headers = subst (λ (p : List Knowledge × List HeaderHolds). HeadersAreHeld m.headers m.arena.bytes (known p.0) p.1)
       (λ i. (sym (map_set_same knowledge_of s.states seat v w here knowledge) i, sym (map_set_same headers_held s.states seat v w here headers) i)) r.headers
 
+  -- a step that leaves what its pass has of rooms leaves whatever is said of that
+  pub of_rooms : (w : PassState) → w.rooms ≡ v.rooms → (P : List RoomHolds → Type 0) → P (map rooms_held s.states) → P (map rooms_held (set s.states seat w))
+  of_rooms w same P h = subst P (sym (map_set_same rooms_held s.states seat v w here same)) h
+
+  -- blocks have the owners that they had, where the pass holds what it held
+  pub blocks_stay : (w : PassState) → w.blocks ≡ v.blocks → w.rooms ≡ v.rooms → BlocksAreOwned z m.arena.bits (all_others z m (map rooms_held (set s.states seat w))) (map blocks_of (set s.states seat w))
+  blocks_stay w blocks rooms = of_rooms w rooms (λ (hs : List RoomHolds). BlocksAreOwned z m.arena.bits (all_others z m hs) (map blocks_of (set s.states seat w)))
+      (subst (BlocksAreOwned z m.arena.bits (all_others z m (map rooms_held s.states))) (sym (map_set_same blocks_of s.states seat v w here blocks)) r.blocks)
+
+  pub rooms_stay : (w : PassState) → w.rooms ≡ v.rooms → RoomBundles z m.rooms m.arena.bytes (map rooms_held (set s.states seat w))
+  rooms_stay w same = of_rooms w same (RoomBundles z m.rooms m.arena.bytes) (rooms_now z s r)
+
   -- the rule after a step that changes its word, from the bundles over the memory and the parts of the states after it
   pub stepped_rule : (x : Step) → IsInside z (spot x) → effect x (found z x s) < 2 ^ 64 → let m' = write m (spot x) (effect x (found z x s)) in let after = set s.states seat (state_after z call x s v) in
-      NumbersStand z m'.given (map numbers_of after) → FindingsStand z m'.given (map findings_of after) → HistoriesStand (map knowledge_of after) → BlocksAreOwned z m'.arena.bits (other_owners z m'.headers) (map blocks_of after) → HeadersAreHeld m'.headers m'.arena.bytes (known (map knowledge_of after)) (map headers_held after) → KeptNumbersStand same_spot (read m') (map kept_of after)
-      → PassStands (state_after z call x s v) → Rule z (table_after z call x seat v s)
-  stepped_rule x inside small numbers findings histories blocks headers kept pin =
-      let y : ℕ = effect x (found z x s) in let after : List PassState = set s.states seat (state_after z call x s v) in let law = memory_set z s.words (spot x) y r.words.counted inside in record {
+      NumbersStand z m'.given (map numbers_of after) → FindingsStand z m'.given (map findings_of after) → HistoriesStand (map knowledge_of after) → BlocksAreOwned z m'.arena.bits (all_others z m' (map rooms_held after)) (map blocks_of after) → HeadersAreHeld m'.headers m'.arena.bytes (known (map knowledge_of after)) (map headers_held after) → RoomBundles z m'.rooms m'.arena.bytes (map rooms_held after)
+      → KeptNumbersStand same_spot (read m') (map kept_of after) → PassStands (state_after z call x s v) → Rule z (table_after z call x seat v s)
+  stepped_rule x inside small numbers findings histories blocks headers rooms kept pin =
+      let y : ℕ = effect x (found z x s) in let after : List PassState = set s.states seat (state_after z call x s v) in let law = memory_set z s.words (spot x) y r.words.counted inside in
+      let later : List ℕ = set s.words (index z (spot x)) y in let now : RoomBundles z (memory z later).rooms (memory z later).arena.bytes (map rooms_held after) = subst (λ (a : Memory). RoomBundles z a.rooms a.arena.bytes (map rooms_held after)) (sym law) rooms in record {
         sizes = r.sizes;
         words = words_put z s.words (index z (spot x)) y (index_below z (spot x) inside) small r.words;
         numbers = subst (λ (a : Memory). NumbersStand z a.given (map numbers_of after)) (sym law) numbers;
@@ -94,11 +112,14 @@ module _ (z : Sizes) (s : TableState) (call seat : ℕ) (v : PassState) (r : Rul
         joined = joined_stays x;
         histories = histories;
         spent = spent_stays x;
-        blocks = subst (λ (a : Memory). BlocksAreOwned z a.arena.bits (other_owners z a.headers) (map blocks_of after)) (sym law) blocks;
+        blocks = subst (λ (a : Memory). BlocksAreOwned z a.arena.bits (all_others z a (map rooms_held after)) (map blocks_of after)) (sym law) blocks;
         headers = subst (λ (a : Memory). HeadersAreHeld a.headers a.arena.bytes (known (map knowledge_of after)) (map headers_held after)) (sym law) headers;
+        rooms = now.rooms;
+        covers = now.covers;
         passes = passes_stay (state_after z call x s v) pin;
         alone = alone_steps z s r seat v here going call x;
         kept = subst (λ (a : Memory). KeptNumbersStand same_spot (read a) (map kept_of after)) (sym law) kept;
+        kept_in_rooms = now.kept;
       }
 
   -- one more finding, at a word other than word 0
@@ -115,16 +136,16 @@ module _ (z : Sizes) (s : TableState) (call seat : ℕ) (v : PassState) (r : Rul
 
   -- a step that stores to a word other than word 0, and leaves the numbers of its pass and what it knows, owes the bundles of the holds alone
   pub elsewhere_rule : (x : Step) (f : Finding) → IsInside z (spot x) → effect x (found z x s) < 2 ^ 64 → same_spot at_given (spot x) ≡ false → let w = state_after z call x s v in f.word ≡ index z (spot x) → w.findings ≡ record v.findings { met = v.findings.met ++ f ∷ [] }
-      → w.numbers ≡ v.numbers → w.knowledge ≡ v.knowledge → (let m' = write m (spot x) (effect x (found z x s)) in BlocksAreOwned z m'.arena.bits (other_owners z m'.headers) (map blocks_of (set s.states seat w)))
+      → w.numbers ≡ v.numbers → w.knowledge ≡ v.knowledge → (let m' = write m (spot x) (effect x (found z x s)) in BlocksAreOwned z m'.arena.bits (all_others z m' (map rooms_held (set s.states seat w))) (map blocks_of (set s.states seat w)))
       → (let m' = write m (spot x) (effect x (found z x s)) in HeadersAreHeld m'.headers m'.arena.bytes (known (map knowledge_of s.states)) (map headers_held (set s.states seat w)))
-      → KeptNumbersStand same_spot (read (write m (spot x) (effect x (found z x s)))) (map kept_of (set s.states seat w)) → PassStands w → Rule z (table_after z call x seat v s)
-  elsewhere_rule x f inside small other at grew numbers knowledge blocks headers kept pin =
+      → (let m' = write m (spot x) (effect x (found z x s)) in RoomBundles z m'.rooms m'.arena.bytes (map rooms_held (set s.states seat w))) → KeptNumbersStand same_spot (read (write m (spot x) (effect x (found z x s)))) (map kept_of (set s.states seat w)) → PassStands w → Rule z (table_after z call x seat v s)
+  elsewhere_rule x f inside small other at grew numbers knowledge blocks headers rooms kept pin =
       let w : PassState = state_after z call x s v in let y : ℕ = effect x (found z x s) in let same : (write m (spot x) y).given ≡ m.given = ap (λ (b : Bool). cond b y m.given) other in
       stepped_rule x inside small
       (subst (λ (g : ℕ). NumbersStand z g (map numbers_of (set s.states seat w))) (sym same) (subst (NumbersStand z m.given) (sym (map_set_same numbers_of s.states seat v w here numbers)) r.numbers))
       (subst (λ (g : ℕ). FindingsStand z g (map findings_of (set s.states seat w))) (sym same) (findings_elsewhere (spot x) f w inside other at grew))
       (subst HistoriesStand (sym (map_set_same knowledge_of s.states seat v w here knowledge)) r.histories) blocks
-      (subst (λ (qs : List Knowledge). HeadersAreHeld (write m (spot x) y).headers (write m (spot x) y).arena.bytes (known qs) (map headers_held (set s.states seat w))) (sym (map_set_same knowledge_of s.states seat v w here knowledge)) headers) kept pin
+      (subst (λ (qs : List Knowledge). HeadersAreHeld (write m (spot x) y).headers (write m (spot x) y).arena.bytes (known qs) (map headers_held (set s.states seat w))) (sym (map_set_same knowledge_of s.states seat v w here knowledge)) headers) rooms kept pin
 
   -- one more finding at a word that stays, in a state whose other parts stay
   pub findings_stay : (p : Spot) (n : ℕ) (w : PassState) → w.findings.met ≡ v.findings.met ++ finding z call p (Some n) n s.words v ∷ [] → FullsStand z w.findings → IsInside z p → n ≡ get_or s.words (index z p) 0
@@ -152,9 +173,12 @@ module _ (z : Sizes) (s : TableState) (call seat : ℕ) (v : PassState) (r : Rul
         joined = joined_stays (load p);
         histories = subst HistoriesStand (sym (map_set_same knowledge_of s.states seat v w here refl)) r.histories;
         spent = spent_stays (load p);
-        blocks = subst (BlocksAreOwned z m.arena.bits (other_owners z m.headers)) (sym (map_set_same blocks_of s.states seat v w here refl)) r.blocks;
+        blocks = blocks_stay w refl refl;
         headers = headers_stay w refl refl;
+        rooms = (rooms_stay w refl).rooms;
+        covers = (rooms_stay w refl).covers;
         passes = passes_stay w (r.passes seat v here);
         alone = subst (λ (ws : List ℕ). Every (AloneStands ws) (set s.states seat w)) (set-get_or s.words (index z p) 0) (alone_steps z s r seat v here going call (load p));
         kept = subst (KeptNumbersStand same_spot (read m)) (sym (map_set_same kept_of s.states seat v w here refl)) r.kept;
+        kept_in_rooms = (rooms_stay w refl).kept;
       }

@@ -1,5 +1,5 @@
 -- A step on the arena keeps the rule.
-use Rattle.std.proofs.Common.{◌≡◌, ℕ, ◌-◌, ◌^◌, ◌<◌, false, map, get_or, set, sym, refl, subst, arith}
+use Rattle.std.proofs.Common.{◌≡◌, ℕ, ◌-◌, ◌^◌, ◌<◌, false, List, map, get_or, set, sym, refl, subst, arith}
 use Rattle.std.proofs.lemmas.Nat.{or_lt, and_le_l}
 use mathlib.Core.Option.{some}
 use lib.ListN.{get_elem?}
@@ -15,20 +15,24 @@ use Rattle.arena_core.specs.Arena.{read_arena, IsInArena, blocks}
 use Rattle.arena_core.specs.Blocks.{BlocksAreOwned}
 use Rattle.arena_core.specs.ArenaStep.{ArenaStep, take_bit, clear_bit, store_word, arena_spot, bit_of, arena_effect, arena_found, MayArena, blocks_after, put_arena}
 use Rattle.arena_core.proofs.ArenaSteps.{bit_of_below, arena_owned}
+use Rattle.chunk_core.specs.declared.holds.RoomHolds.{RoomHolds}
 use Rattle.oak_core.specs.declared.states.PassState.{PassState}
 use Rattle.oak_core.specs.Memory.{Memory, Spot, in_arena, same_spot, read, write, memory, index, IsInside}
 use Rattle.oak_core.specs.Finding.{finding}
-use Rattle.oak_core.specs.PassState.{blocks_of, headers_held, knowledge_of, kept_of}
+use Rattle.oak_core.specs.PassState.{blocks_of, headers_held, rooms_held, knowledge_of, kept_of}
 use Rattle.oak_core.specs.TableState.{TableState}
-use Rattle.oak_core.specs.Owners.{other_owners, HeadersAreHeld}
+use Rattle.oak_core.specs.EntryOwners.{all_others}
+use Rattle.oak_core.specs.Owners.{HeadersAreHeld}
 use Rattle.oak_core.specs.Known.{known}
 use Rattle.oak_core.specs.Rule.{Rule}
 use Rattle.oak_core.specs.Step.{on_arena, state_after, table_after}
 use Rattle.oak_core.proofs.Words.{memory_read}
 use Rattle.oak_core.proofs.OwnerLaws.{live_inside}
 use Rattle.oak_core.proofs.HeaderSums.{headers_own}
-use Rattle.oak_core.proofs.Keeps.{elsewhere_rule}
+use Rattle.oak_core.proofs.EntryBlocks.{owned_whatever, rooms_on_arena}
+use Rattle.oak_core.proofs.Keeps.{of_rooms, elsewhere_rule}
 use Rattle.oak_core.proofs.KeptWords.{kept_with}
+use Rattle.oak_core.proofs.RoomBundles.{RoomBundles}
 use Rattle.oak_core.proofs.KeptInArena.{arena_kept}
 use Rattle.oak_core.proofs.HeadersInArena.{headers_on_arena}
 
@@ -70,10 +74,16 @@ module _ (z : Sizes) (s : TableState) (call seat : ℕ) (v : PassState) (r : Rul
   read_is : read_arena m.arena (arena_spot x) ≡ n
   read_is = memory_read z s.words p inside
 
-  owned_after : BlocksAreOwned z (write m p y).arena.bits (other_owners z m.headers) (map blocks_of (set s.states seat w))
-  owned_after = subst (BlocksAreOwned z (write m p y).arena.bits (other_owners z m.headers)) (sym (map_set blocks_of s.states seat w))
-      (subst (λ (i : ℕ). BlocksAreOwned z (put_arena m.arena (arena_spot x) (arena_effect x i)).bits (other_owners z m.headers) (set (map blocks_of s.states) seat (blocks_after m.arena.bytes x i v.blocks))) read_is
-      (arena_owned z m.arena (other_owners z m.headers) (map blocks_of s.states) seat v.blocks (at_map blocks_of s.states seat v here) r.blocks x may))
+  abbrev rs : List RoomHolds
+  rs = map rooms_held s.states
+
+  owned_before : BlocksAreOwned z (write m p y).arena.bits (all_others z m rs) (map blocks_of (set s.states seat w))
+  owned_before = subst (BlocksAreOwned z (write m p y).arena.bits (all_others z m rs)) (sym (map_set blocks_of s.states seat w))
+      (subst (λ (i : ℕ). BlocksAreOwned z (put_arena m.arena (arena_spot x) (arena_effect x i)).bits (all_others z m rs) (set (map blocks_of s.states) seat (blocks_after m.arena.bytes x i v.blocks))) read_is
+      (arena_owned z m.arena (all_others z m rs) (map blocks_of s.states) seat v.blocks (at_map blocks_of s.states seat v here) r.blocks x may))
+
+  owned_after : BlocksAreOwned z (write m p y).arena.bits (all_others z (write m p y) (map rooms_held (set s.states seat w))) (map blocks_of (set s.states seat w))
+  owned_after = of_rooms z s call seat v r here going w refl (λ (hs : List RoomHolds). BlocksAreOwned z (write m p y).arena.bits (all_others z (write m p y) hs) (map blocks_of (set s.states seat w))) (owned_whatever z m (arena_spot x) y rs (write m p y).arena.bits (map blocks_of (set s.states seat w)) owned_before)
 
   abbrev knows : ℕ → ℕ → ℕ
   knows = known (map knowledge_of s.states)
@@ -85,7 +95,7 @@ module _ (z : Sizes) (s : TableState) (call seat : ℕ) (v : PassState) (r : Rul
   kept_after : KeptNumbersStand same_spot (read (write m p y)) (map kept_of (set s.states seat w))
   kept_after = subst (KeptNumbersStand same_spot (read (write m p y))) (sym (map_set kept_of s.states seat w))
       (subst (λ (i : ℕ). KeptNumbersStand same_spot (read (write m p (arena_effect x i))) (set (map kept_of s.states) seat (kept_with (blocks_after m.arena.bytes x i v.blocks) v.headers))) read_is
-      (arena_kept z m (other_owners z m.headers) s.states seat v here r.blocks (headers_own z s r) r.kept x may))
+      (arena_kept z m (all_others z m rs) s.states seat v here r.blocks (λ c b. let o = headers_own z s r c b in omega arith) r.kept x may))
 
   pub arena_keeps : Rule z (table_after z call (on_arena x) seat v s)
-  arena_keeps = elsewhere_rule z s call seat v r here going (on_arena x) (finding z call p (arena_found x n) y s.words v) inside (arena_small z x v.blocks n may (r.words.small (index z p))) refl refl refl refl refl owned_after headers_after_it kept_after (r.passes seat v here)
+  arena_keeps = elsewhere_rule z s call seat v r here going (on_arena x) (finding z call p (arena_found x n) y s.words v) inside (arena_small z x v.blocks n may (r.words.small (index z p))) refl refl refl refl refl owned_after headers_after_it (of_rooms z s call seat v r here going w refl (RoomBundles z m.rooms (write m p y).arena.bytes) (rooms_on_arena z s seat v r here x y may)) kept_after (r.passes seat v here)

@@ -10,21 +10,19 @@ use Rattle.oak_model.specs.Kept.{KeptNumbersStand}
 use Rattle.oak_model.proofs.Lists.{at_map, map_set, map_set_same}
 use Rattle.oak_model.proofs.Changes.{stepped}
 use Rattle.oak_model.proofs.KeptLaws.{kept_unkept}
-use Rattle.arena_core.specs.Blocks.{BlocksAreOwned}
 use Rattle.oak_core.specs.declared.states.Findings.{Findings}
 use Rattle.oak_core.specs.declared.states.PassState.{PassState}
 use Rattle.oak_core.specs.Memory.{Memory, at_given, same_spot, read, write, memory, index}
 use Rattle.oak_core.specs.Finding.{finding, leaving}
-use Rattle.oak_core.specs.PassState.{blocks_of, numbers_of, findings_of, knowledge_of, kept_of}
+use Rattle.oak_core.specs.PassState.{numbers_of, findings_of, knowledge_of, kept_of}
 use Rattle.oak_core.specs.TableState.{TableState}
 use Rattle.oak_core.specs.Rule.{NumbersStand, FoundStays, FindingsStand, HistoriesStand, FindingsHold, Rule}
-use Rattle.oak_core.specs.Owners.{other_owners}
 use Rattle.oak_core.specs.Step.{give_number, MayGive, found, state_after, table_after}
 use Rattle.oak_core.proofs.Words.{read-write, memory_read}
 use Rattle.oak_core.proofs.KeptWords.{given_unkept}
 use Rattle.oak_core.proofs.GivenNumbers.{number_given, bits_stay}
 use Rattle.oak_core.proofs.Found.{found_on, found_more}
-use Rattle.oak_core.proofs.Keeps.{same_number, headers_stay, stepped_rule}
+use Rattle.oak_core.proofs.Keeps.{same_number, headers_stay, blocks_stay, rooms_stay, stepped_rule}
 use Rattle.oak_core.proofs.Lacked.{fulls_met}
 
 module _ (z : Sizes) (s : TableState) (call seat : ℕ) (v : PassState) (r : Rule z s) (here : get_elem? s.states seat ≡ some v) (going : v.numbers.spent ≡ false) (k : ℕ) (may : MayGive z k v) where
@@ -78,7 +76,8 @@ module _ (z : Sizes) (s : TableState) (call seat : ℕ) (v : PassState) (r : Rul
       (subst (NumbersStand z x) (sym (map_set numbers_of s.states seat w)) (number_given z n k (map numbers_of s.states) seat v.numbers at stands may.few may.hand going lower))
       findings_after
       (subst HistoriesStand (sym (map_set_same knowledge_of s.states seat v w here refl)) r.histories)
-      (subst (BlocksAreOwned z m.arena.bits (other_owners z m.headers)) (sym (map_set_same blocks_of s.states seat v w here refl)) r.blocks)
+      (blocks_stay z s call seat v r here going w refl refl)
       (headers_stay z s call seat v r here going w refl refl)
+      (rooms_stay z s call seat v r here going w refl)
       (subst (KeptNumbersStand same_spot (read (write m at_given x))) (sym (map_set_same kept_of s.states seat v w here refl))
       (kept_unkept same_spot (read m) (read (write m at_given x)) at_given x (λ q. read-write m at_given q x) (map kept_of s.states) (given_unkept s.states) r.kept)) (r.passes seat v here)

@@ -19,18 +19,20 @@ use Rattle.header_core.proofs.HeldHeaders.{held_in, rows_split, stocked_split}
 use Rattle.header_core.proofs.HeaderFacts.{holds_some}
 use Rattle.header_core.proofs.HeaderLaws.{unstocked}
 use Rattle.header_core.proofs.HeaderSteps.{Needs, headers_keep, MayKnow, pins_kept, header_fits}
-use Rattle.header_core.proofs.PinWordChanges.{pin_up, pin_down}
+use Rattle.pin_word.proofs.StepLaws.{pin_up, pin_down}
+use Rattle.chunk_core.specs.declared.holds.RoomHolds.{RoomHolds}
 use Rattle.oak_core.specs.declared.states.PassState.{PassState}
 use Rattle.oak_core.specs.Memory.{Memory, in_headers, same_spot, read, write, memory, index}
 use Rattle.oak_core.specs.Finding.{finding}
 use Rattle.oak_core.specs.Known.{knows_life}
-use Rattle.oak_core.specs.Owners.{other_owners, HeadersAreHeld}
-use Rattle.oak_core.specs.PassState.{blocks_of, headers_held, knowledge_of, kept_of}
+use Rattle.oak_core.specs.EntryOwners.{all_others}
+use Rattle.oak_core.specs.Owners.{HeadersAreHeld}
+use Rattle.oak_core.specs.PassState.{blocks_of, headers_held, rooms_held, knowledge_of, kept_of}
 use Rattle.oak_core.specs.TableState.{TableState}
 use Rattle.oak_core.specs.Rule.{Rule}
 use Rattle.oak_core.specs.Step.{on_headers, MayOnHeaders, blocks_with, state_after, table_after}
 use Rattle.oak_core.proofs.Words.{memory_read}
-use Rattle.oak_core.proofs.Keeps.{elsewhere_rule}
+use Rattle.oak_core.proofs.Keeps.{of_rooms, rooms_stay, elsewhere_rule}
 use Rattle.oak_core.proofs.WholeHeaders.{headers_whole}
 use Rattle.oak_core.proofs.FewPins.{few_pins}
 use Rattle.oak_core.proofs.HeaderOwners.{place_owners-same}
@@ -124,8 +126,10 @@ module _ (z : Sizes) (s : TableState) (seat : ℕ) (v : PassState) (r : Rule z s
     pub header_keeps_it : Rule z (table_after z call (on_headers x) seat v s)
     header_keeps_it = elsewhere_rule z s call seat v r here going (on_headers x) (finding z call (in_headers (header_spot x)) (header_found x n) y s.words v) may.inside
         (header_fits x v.headers n may.headers (r.words.small (index z (in_headers (header_spot x))))) refl refl refl refl refl
-        (subst (BlocksAreOwned z m.arena.bits (other_owners z (put_header m.headers (header_spot x) y))) (sym (map_set blocks_of s.states seat w)) holds.owned)
+        (of_rooms z s call seat v r here going w refl (λ (rs : List RoomHolds). BlocksAreOwned z m.arena.bits (all_others z (write m (in_headers (header_spot x)) y) rs) (map blocks_of (set s.states seat w)))
+        (subst (BlocksAreOwned z m.arena.bits (all_others z (write m (in_headers (header_spot x)) y) (map rooms_held s.states))) (sym (map_set blocks_of s.states seat w)) holds.owned))
         (subst (HeadersAreHeld (put_header m.headers (header_spot x) y) m.arena.bytes (knows s)) (sym (map_set headers_held s.states seat w)) stands)
+        (rooms_stay z s call seat v r here going w refl)
         (subst (KeptNumbersStand same_spot (read (write m (in_headers (header_spot x)) y))) (sym (map_set kept_of s.states seat w)) holds.kept)
         record { pin = pin_known; whole = headers_whole z s seat v r here (r.passes seat v here).whole x may }
 

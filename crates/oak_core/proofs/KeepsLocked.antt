@@ -1,5 +1,5 @@
 -- A store to a word of the block of a locked header keeps the rule.
-use Rattle.std.proofs.Common.{◌≡◌, ℕ, ◌+◌, ◌*◌, ◌<◌, true, false, List, [], ◌∷◌, map, set, sym, refl, ap, ◌∙◌, subst, arith, inl, inr, eq-eqb, ne_eqb, None, Some}
+use Rattle.std.proofs.Common.{◌≡◌, ℕ, ◌+◌, ◌*◌, ◌/◌, ◌%◌, ◌<◌, true, false, List, [], ◌∷◌, map, set, sym, refl, ap, ◌∙◌, subst, arith, inl, inr, eq-eqb, ne_eqb, None, Some}
 use mathlib.Core.Option.{some}
 use mathlib.Core.Logic.{dite}
 use native.Mathlib.Decide.{ℕ_discrete, dec_lt}
@@ -7,6 +7,7 @@ use lib.ListN.{get_elem?}
 use Rattle.pin_word.specs.PinWord.{state_of}
 use Rattle.oak_model.specs.Limits.{Sizes}
 use Rattle.oak_model.specs.Class.{class_number}
+use Rattle.std.proofs.lemmas.Nat.Bits.{bit_at-lt}
 use Rattle.oak_model.specs.Counts.{one_if, total, Each, Has}
 use Rattle.oak_model.specs.Kept.{keeps, KeptNumbersStand}
 use Rattle.oak_model.specs.declared.classes.Class.{Class}
@@ -32,21 +33,26 @@ use Rattle.header_core.proofs.HeaderFacts.{held_is, record_of, true_numbers}
 use Rattle.header_core.proofs.StockedStates.{stocked_high}
 use Rattle.header_core.proofs.HeaderLaws.{on_pin, reworded_keeps}
 use Rattle.header_core.proofs.HeldChanges.{fresh_reworded}
-use Rattle.header_core.proofs.HeldHeaders.{rows_have, total_has, each_has}
+use Rattle.oak_model.proofs.MemberLaws.{total_has, each_has}
+use Rattle.header_core.proofs.HeldHeaders.{rows_have}
+use Rattle.chunk_core.specs.declared.holds.RoomHolds.{RoomHolds}
 use Rattle.oak_core.specs.declared.states.PassState.{PassState}
 use Rattle.oak_core.specs.Memory.{Memory, Spot, in_arena, IsInside, memory, read, same_spot, write}
 use Rattle.oak_core.specs.Finding.{finding}
 use Rattle.oak_core.specs.Known.{knows_life}
 use Rattle.oak_core.proofs.WholeRecords.{whole_reworded, whole_blocks}
-use Rattle.oak_core.specs.Owners.{has_block, block_of_header, header_blocks, other_owners, IsWholeHeader, HeadersAreHeld}
-use Rattle.oak_core.specs.PassState.{blocks_of, headers_held, kept_of}
+use Rattle.oak_core.specs.EntryOwners.{entry_owners, all_others}
+use Rattle.oak_core.specs.Owners.{has_block, block_of_header, header_blocks, IsWholeHeader, HeadersAreHeld}
+use Rattle.oak_core.specs.PassState.{blocks_of, headers_held, rooms_held, kept_of}
 use Rattle.oak_core.specs.Rule.{Rule}
 use Rattle.oak_core.specs.Step.{store_locked, LocksBlock, MayStoreLocked, state_after, table_after}
 use Rattle.oak_core.specs.TableState.{TableState}
 use Rattle.oak_core.proofs.HeaderWeights.{header_weight, weigh_headers}
 use Rattle.oak_core.proofs.HeaderStanding.{knows, stand, parts, at_headers}
 use Rattle.oak_core.proofs.HeadersInArena.{live_stocked, names_named, other_content, pin_fact}
-use Rattle.oak_core.proofs.Keeps.{elsewhere_rule}
+use Rattle.oak_core.proofs.EntryBlocks.{bytes_stored, owned_whatever}
+use Rattle.oak_core.proofs.Keeps.{of_rooms, elsewhere_rule}
+use Rattle.oak_core.proofs.RoomBundles.{RoomBundles}
 use Rattle.oak_core.proofs.KeptInLocked.{Agrees, locked_kept}
 use Rattle.oak_core.proofs.OneOwner.{two_headers, unowned_held, state_locked, place_locked, inside_locked, has_locked}
 use Rattle.oak_core.proofs.OwnerLaws.{live_inside, owner_counts, place_below}
@@ -121,6 +127,10 @@ module _ (z : Sizes) (s : TableState) (seat : ℕ) (v : PassState) (r : Rule z s
       let live = holds_it.live in let e = only_header p.header (live_stocked (state_of (m.headers.pin p.header)) live) (ap class_in holds_it.place ∙ same.0) (ap block_in holds_it.place ∙ same.1) in
       let same_state = ap (λ (i : ℕ). state_of (m.headers.pin i)) e in let locked = state_locked z s r seat v here_is h c b locks in omega arith
 
+  -- and no entry has it
+  no_entry : entry_owners z m.rooms (content m.arena.bytes) (map rooms_held s.states) n b ≡ 0
+  no_entry = let o = r.blocks.owned n b in let counts = owner_counts z m.headers h n b inside in let one = has in let l = bit_at-lt (m.arena.bits n (b / 64)) (b % 64) in omega arith
+
   module _ (call : ℕ) (going : v.numbers.spent ≡ false) (k x : ℕ) (may : MayStoreLocked h c b k x v.headers) where
     abbrev p : Spot
     p = in_arena (at_bytes n b k)
@@ -141,8 +151,10 @@ module _ (z : Sizes) (s : TableState) (seat : ℕ) (v : PassState) (r : Rule z s
 
     pub locked_keeps_it : Rule z (table_after z call (store_locked h c b k x) seat v s)
     locked_keeps_it = elsewhere_rule z s call seat v r here_is going (store_locked h c b k x) (finding z call p None x s.words v) inside_it may.small refl refl refl refl refl
-        (subst (BlocksAreOwned z m.arena.bits (other_owners z m.headers)) (sym (map_set_same blocks_of s.states seat v w here_is refl)) r.blocks)
+        (of_rooms z s call seat v r here_is going w refl (λ (rs : List RoomHolds). BlocksAreOwned z m.arena.bits (all_others z (write m p x) rs) (map blocks_of (set s.states seat w)))
+        (owned_whatever z m (at_bytes n b k) x (map rooms_held s.states) m.arena.bits (map blocks_of (set s.states seat w)) (subst (BlocksAreOwned z m.arena.bits (all_others z m (map rooms_held s.states))) (sym (map_set_same blocks_of s.states seat v w here_is refl)) r.blocks)))
         (subst (HeadersAreHeld m.headers (write m p x).arena.bytes (knows s)) (sym (map_set headers_held s.states seat w)) stands)
+        (of_rooms z s call seat v r here_is going w refl (RoomBundles z m.rooms (write m p x).arena.bytes) (bytes_stored z s r n b k x no_entry))
         (subst (KeptNumbersStand same_spot (read (write m p x))) (sym (map_set kept_of s.states seat w))
         (locked_kept m s.states seat v here_is r.kept h n b k x (each_of (Agrees n b h) v.headers.held agrees) whole (unkept k) (keeps_some n b k (header_blocks v.headers.held) in_blocks may.word)))
         record { pin = pin_known; whole = whole_reworded h v.headers.held (r.passes seat v here_is).whole k x }

@@ -7,17 +7,15 @@ use Rattle.oak_model.specs.Kept.{KeptNumbersStand}
 use Rattle.oak_model.specs.Limits.{Sizes}
 use Rattle.oak_model.proofs.Lists.{at_map, map_set_same}
 use Rattle.oak_model.proofs.KeptLaws.{kept_unkept}
-use Rattle.arena_core.specs.Blocks.{BlocksAreOwned}
 use Rattle.oak_core.specs.declared.states.PassState.{PassState}
 use Rattle.oak_core.specs.Memory.{Memory, at_given, same_spot, read, write, memory, index}
 use Rattle.oak_core.specs.Finding.{finding}
 use Rattle.oak_core.specs.Lack.{Lacks}
-use Rattle.oak_core.specs.PassState.{blocks_of, numbers_of, findings_of, knowledge_of, kept_of}
+use Rattle.oak_core.specs.PassState.{numbers_of, findings_of, knowledge_of, kept_of}
 use Rattle.oak_core.specs.Rule.{NumbersStand, FindingsStand, HistoriesStand, Rule}
-use Rattle.oak_core.specs.Owners.{other_owners}
 use Rattle.oak_core.specs.Step.{note_full, found, state_after, table_after}
 use Rattle.oak_core.specs.TableState.{TableState}
-use Rattle.oak_core.proofs.Keeps.{findings_stay, headers_stay, stepped_rule}
+use Rattle.oak_core.proofs.Keeps.{findings_stay, headers_stay, blocks_stay, rooms_stay, stepped_rule}
 use Rattle.oak_core.proofs.KeptWords.{given_unkept}
 use Rattle.oak_core.proofs.Lacked.{fulls_noted}
 use Rattle.oak_core.proofs.Words.{memory_read, read-write}
@@ -42,7 +40,8 @@ module _ (z : Sizes) (s : TableState) (call seat : ℕ) (v : PassState) (r : Rul
       (subst (λ (g : ℕ). FindingsStand z g (map findings_of (set s.states seat w))) given_is
       (findings_stay z s call seat v r here going at_given n w refl (fulls_noted z call lack began (finding z call at_given (Some n) n s.words v) v may (r.findings seat v.findings (at_map findings_of s.states seat v here)).noted) tt refl))
       (subst HistoriesStand (sym (map_set_same knowledge_of s.states seat v w here refl)) r.histories)
-      (subst (BlocksAreOwned z m.arena.bits (other_owners z m.headers)) (sym (map_set_same blocks_of s.states seat v w here refl)) r.blocks)
+      (blocks_stay z s call seat v r here going w refl refl)
       (headers_stay z s call seat v r here going w refl refl)
+      (rooms_stay z s call seat v r here going w refl)
       (subst (KeptNumbersStand same_spot (read (write m at_given n))) (sym (map_set_same kept_of s.states seat v w here refl))
       (kept_unkept same_spot (read m) (read (write m at_given n)) at_given n (λ q. read-write m at_given q n) (map kept_of s.states) (given_unkept s.states) r.kept)) (r.passes seat v here)

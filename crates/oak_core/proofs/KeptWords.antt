@@ -69,7 +69,7 @@ given_unkept vs = unkept_by_all at_given times_given vs
 pub bits_unkept : (c i : ℕ) (vs : List PassState) → total (times (in_arena (at_bits c i))) (map kept_of vs) ≡ 0
 bits_unkept c i vs = unkept_by_all (in_arena (at_bits c i)) (λ a h. let t = times_in_arena (at_bits c i) a h in let b = keeps_bits c i a.held in let f = keeps_bits c i (header_blocks h.held) in omega arith) vs
 
-sum_of : (f g : PassState → ℕ) (xs : List PassState) → total (λ v. f v + g v) xs ≡ total f xs + total g xs
+pub sum_of : (f g : PassState → ℕ) (xs : List PassState) → total (λ v. f v + g v) xs ≡ total f xs + total g xs
 unfolding total
 sum_of f g [] = refl
 sum_of f g (x ∷ xs) = let t = sum_of f g xs in omega arith

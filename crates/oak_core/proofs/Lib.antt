@@ -9,6 +9,10 @@ pub mod MetLists
 pub mod MetMore
 pub mod FoundThere
 pub mod Lacked
+pub mod RoomBundles
+pub mod KeptWhole
+pub mod EntryBlocks
+pub mod OpeningRooms
 pub mod Keeps
 pub mod KeepsGiven
 pub mod KnownInTwo
@@ -39,11 +43,14 @@ pub mod WholeHeaders
 pub mod KeepsHeaders
 pub mod KeepsLocked
 pub mod KeepsNotes
+pub mod KeepsRooms
 pub mod EachEvent
 pub mod Allowed
 pub mod ArenaNames
 pub mod ArenaPlaces
 pub mod HeaderNames
+pub mod RoomNames
+pub mod RoomPlaces
 pub mod FieldNames
 pub mod LockNames
 pub mod HeaderPlaces

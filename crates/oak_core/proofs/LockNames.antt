@@ -5,7 +5,8 @@ use Rattle.atomic_table.specs.Table.{Me, Allows}
 use Rattle.oak_model.specs.declared.writes.Kind.{Kind}
 use Rattle.oak_model.specs.Limits.{Sizes}
 use Rattle.header_core.specs.declared.states.TheConstants.{LIVE}
-use Rattle.header_core.specs.HeaderStep.{STATE, lock_header, unlock_header, mark_dead, take_back}
+use Rattle.pin_word.specs.PinWord.{STATE}
+use Rattle.header_core.specs.HeaderStep.{lock_header, unlock_header, mark_dead, take_back}
 use Rattle.oak_core.specs.declared.states.PassState.{PassState}
 use Rattle.oak_core.specs.HeaderCalls.{NamesPin, NamesLock, Locks, Unlocks, MarksDead, TakesBack}
 use Rattle.oak_core.specs.Running.{Holds, KeepsSeat}

@@ -6,11 +6,13 @@ use Rattle.oak_model.specs.Counts.{below}
 use Rattle.oak_model.proofs.Lists.{rows_at}
 use Rattle.arena_core.specs.Arena.{at_bits, at_bytes, block_words, bit_words, byte_words}
 use Rattle.header_core.specs.Headers.{at_pin, at_place, at_stamp}
+use Rattle.chunk_core.specs.Rooms.{at_room_pin}
 use Rattle.oak_core.specs.declared.offsets.Offsets.{Offsets}
-use Rattle.oak_core.specs.Memory.{Spot, in_arena, in_headers, headers_at, word_count, IsInside, index}
+use Rattle.oak_core.specs.Memory.{Spot, in_arena, in_headers, in_rooms, headers_at, word_count, IsInside, index}
 use Rattle.oak_core.specs.Offsets.{bits_begin, bytes_begin, offsets_of}
 use Rattle.oak_core.proofs.ArenaPlaces.{bits_place, bytes_place}
 use Rattle.oak_core.proofs.HeaderPlaces.{pin_place, place_place, stamp_place}
+use Rattle.oak_core.proofs.RoomPlaces.{room_place}
 use Rattle.oak_core.proofs.Words.{index_below}
 
 module _ (z shape : Sizes) (o : Offsets) (same : shape ≡ z) (are : o ≡ offsets_of shape) (few : word_count shape < 2 ^ 32) where
@@ -31,6 +33,9 @@ module _ (z shape : Sizes) (o : Offsets) (same : shape ≡ z) (are : o ≡ offse
 
   pub pin_number : (h : ℕ) → o.headers + h * 3 ≡ index z (in_headers (at_pin h))
   pin_number h = ap (λ (x : Offsets). x.headers + h * 3) here ∙ pin_place z h
+
+  pub room_number : (k : ℕ) → o.rooms + k * o.room_width ≡ index z (in_rooms (at_room_pin k))
+  room_number k = ap (λ (x : Offsets). x.rooms + k * x.room_width) here ∙ room_place z k
 
 -- the place and the stamp word lie behind the pin word
 pub place_behind : (z : Sizes) (h n : ℕ) → n ≡ index z (in_headers (at_pin h)) → n + 1 ≡ index z (in_headers (at_place h))

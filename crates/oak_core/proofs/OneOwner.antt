@@ -22,8 +22,9 @@ use Rattle.header_core.proofs.HeaderFacts.{holds_some, held_is, place_is}
 use Rattle.oak_core.specs.declared.states.PassState.{PassState}
 use Rattle.oak_core.specs.Memory.{Memory, memory}
 use Rattle.oak_core.specs.Known.{known}
-use Rattle.oak_core.specs.Owners.{has_block, other_owners}
-use Rattle.oak_core.specs.PassState.{blocks_of, headers_held, knowledge_of, kept_of}
+use Rattle.oak_core.specs.EntryOwners.{all_others}
+use Rattle.oak_core.specs.Owners.{has_block}
+use Rattle.oak_core.specs.PassState.{blocks_of, headers_held, rooms_held, knowledge_of, kept_of}
 use Rattle.oak_core.specs.Rule.{Rule}
 use Rattle.oak_core.specs.Step.{LocksBlock}
 use Rattle.oak_core.specs.TableState.{TableState}
@@ -55,7 +56,7 @@ module _ (z : Sizes) (s : TableState) (r : Rule z s) where
   module _ (seat : ℕ) (v : PassState) (here : get_elem? s.states seat ≡ some v) where
     -- a block that the pass holds is no header's
     pub unowned_held : (c b h : ℕ) → 0 < holds c b v.blocks → has_block m.headers c b h ≡ 1 → h < z.headers → ⊥
-    unowned_held c b h held has lt = let none = (held_once z m.arena (other_owners z m.headers) (map blocks_of s.states) seat v.blocks (at_map blocks_of s.states seat v here) r.blocks c b held).3 in
+    unowned_held c b h held has lt = let none = (held_once z m.arena (all_others z m (map rooms_held s.states)) (map blocks_of s.states) seat v.blocks (at_map blocks_of s.states seat v here) r.blocks c b held).3 in
         let counts = owner_counts z m.headers h c b lt in omega arith
 
     -- a header that it has locked is one of the table's, and has the block that is recorded

@@ -12,7 +12,11 @@ use Rattle.oak_model.specs.Kept.{KeptNumbersStand}
 use Rattle.oak_model.proofs.Lists.{every_one, rows_length, rows_at, same_elements}
 use Rattle.oak_model.proofs.Counting.{test-cases, one_at-same, one_at-other}
 use Rattle.arena_core.specs.HeldBlocks.{kept_of_blocks}
-use Rattle.chunk_core.specs.Rooms.{RoomSpot, at_room_pin}
+use Rattle.arena_core.specs.Place.{content}
+use Rattle.chunk_core.specs.KeptRooms.{kept_of_rooms}
+use Rattle.chunk_core.specs.RoomHolds.{no_rooms}
+use Rattle.chunk_core.specs.Rooms.{RoomMemory, RoomSpot, at_room_pin, read_room}
+use Rattle.oak_core.specs.EntryOwners.{is_key_word}
 use Rattle.arena_core.specs.Arena.{at_bits}
 use Rattle.header_core.specs.HeaderHolds.{kept_of_headers}
 use Rattle.header_core.specs.Headers.{at_pin}
@@ -32,6 +36,8 @@ use Rattle.oak_core.proofs.AloneLast.{alone_last}
 use Rattle.oak_core.proofs.AloneRuns.{is_alone-true}
 use Rattle.oak_core.proofs.HeaderPlaces.{pin_place}
 use Rattle.oak_core.proofs.OpeningBlocks.{arena_zero, opening_blocks, opening_headers}
+use Rattle.oak_core.proofs.OpeningRooms.{opening_rooms, opening_covers, no_owners}
+use Rattle.oak_core.proofs.RoomBundles.{RoomBundles, keeps_none, none_true}
 
 either_small : (b : Bool) (x y : ℕ) → x < 2 ^ 64 → y < 2 ^ 64 → cond b x y < 2 ^ 64
 either_small true x y h k = h
@@ -78,29 +84,6 @@ module _ (z : Sizes) (g : ℕ) (is : IsInLimits z) (lt : g < LAST_GENERATION) wh
   opening_kept : KeptNumbersStand same_spot (read (memory z (opening z g).words)) (kept_of bare_state ∷ [])
   unfolding kept_of_blocks kept_of_headers total
   opening_kept = record { true_to = every_one _ (kept_of bare_state) tt; once = λ p. omega arith }
-
-  abbrev first : PassState
-  first = first_state z g
-
-  -- by the making of the table the pass found nothing
-  first_found : (given : ℕ) → FoundStays given first.findings
-  first_found given = found_more given no_findings first.findings (making z g) refl (λ _ n e. absurd cc) (none_found given no_findings refl)
-
-  pub opening_rule : Rule z (opening z g)
-  opening_rule = record {
-    sizes = is;
-    words = words_stand;
-    numbers = subst (λ (n : ℕ). NumbersStand z n (bare_state.numbers ∷ [])) (sym first_given) opening_numbers;
-    findings = every_one (FindingsHold z (memory z (opening z g).words).given) first.findings record { found = first_found (memory z (opening z g).words).given; noted = tt };
-    joined = every_one (JoinedStand z) first tt;
-    histories = λ k. every_one _ bare_state.knowledge tt;
-    spent = every_one SpentIsSpent first (λ e. absurd (true≢false (sym e)));
-    blocks = opening_blocks z g lt;
-    headers = opening_headers z g lt;
-    passes = every_one PassStands first record { pin = tt; whole = tt };
-    alone = every_one (AloneStands (opening z g).words) first (alone_last (opening z g).words bare_state first record { finding = making z g; met = refl; says = λ _. (refl, is_alone-true first (first_alone z g)) });
-    kept = opening_kept;
-  }
 
 -- what the opening words are
 
@@ -159,6 +142,47 @@ module _ (z : Sizes) (g : ℕ) where
   -- the first pass was alone when the table was made, and has its words
   first_leaves : LeavesWords (opening z g).words (first_state z g)
   first_leaves = record { met = []; finding = making z g; last = refl; alone = refl; are = refl }
+
+module _ (z : Sizes) (g : ℕ) (is : IsInLimits z) (lt : g < LAST_GENERATION) where
+  abbrev first : PassState
+  first = first_state z g
+
+  -- by the making of the table the pass found nothing
+  first_found : (given : ℕ) → FoundStays given first.findings
+  first_found given = found_more given no_findings first.findings (making z g) refl (λ _ n e. absurd cc) (none_found given no_findings refl)
+
+  abbrev rs : RoomMemory
+  rs = (memory z (opening z g).words).rooms
+
+  open_words : IsOpened z g (opening z g).words
+  open_words = opened z g is.chunks_least
+
+  rooms_open : RoomBundles z rs (memory z (opening z g).words).arena.bytes (no_rooms ∷ [])
+  unfolding total
+  rooms_open = let bytes : ℕ → List ℕ = content (memory z (opening z g).words).arena.bytes in record {
+    rooms = opening_rooms z rs bytes is.chunks_least open_words.room open_words.others;
+    covers = opening_covers z rs bytes is.chunks_least open_words.room open_words.others is_key_word;
+    kept = record { true_to = every_one _ (kept_of_rooms no_rooms) (none_true (read_room rs)); once = λ p. let e = keeps_none p in omega arith };
+  }
+
+  pub opening_rule : Rule z (opening z g)
+  opening_rule = record {
+    sizes = is;
+    words = words_stand z g is lt;
+    numbers = subst (λ (n : ℕ). NumbersStand z n (bare_state.numbers ∷ [])) (sym (first_given z g is lt)) (opening_numbers z g is lt);
+    findings = every_one (FindingsHold z (memory z (opening z g).words).given) first.findings record { found = first_found (memory z (opening z g).words).given; noted = tt };
+    joined = every_one (JoinedStand z) first tt;
+    histories = λ k. every_one _ bare_state.knowledge tt;
+    spent = every_one SpentIsSpent first (λ e. absurd (true≢false (sym e)));
+    blocks = opening_blocks z g lt (no_owners z (memory z (opening z g).words).rooms (content (memory z (opening z g).words).arena.bytes) is.chunks_least open_words.room open_words.others);
+    headers = opening_headers z g lt;
+    passes = every_one PassStands first record { pin = tt; whole = tt };
+    alone = every_one (AloneStands (opening z g).words) first (alone_last (opening z g).words bare_state first record { finding = making z g; met = refl; says = λ _. (refl, is_alone-true first (first_alone z g)) });
+    rooms = rooms_open.rooms;
+    covers = rooms_open.covers;
+    kept = opening_kept z g is lt;
+    kept_in_rooms = rooms_open.kept;
+  }
 
 -- the same of a table with that key and its pass
 

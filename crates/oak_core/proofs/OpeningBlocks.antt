@@ -20,6 +20,9 @@ use Rattle.header_core.specs.HeaderRule.{stocked}
 use Rattle.header_core.proofs.HeaderLaws.{headers_open}
 use Rattle.oak_core.specs.Memory.{in_arena, in_headers, headers_at, rooms_at, word_count, is_inside, index, number_at, memory}
 use Rattle.oak_core.specs.PassState.{bare_state}
+use Rattle.chunk_core.specs.CoverSums.{owners_in_rooms}
+use Rattle.chunk_core.specs.RoomHolds.{no_rooms}
+use Rattle.oak_core.specs.EntryOwners.{all_others}
 use Rattle.oak_core.specs.Owners.{has_block, other_owners, HeadersAreHeld}
 use Rattle.oak_core.specs.Known.{known}
 use Rattle.oak_core.specs.Opening.{opening_number}
@@ -75,10 +78,11 @@ none_known h g = refl
 pub opening_headers : (z : Sizes) (g : ℕ) → g < LAST_GENERATION → HeadersAreHeld (memory z (opening z g).words).headers (memory z (opening z g).words).arena.bytes (known (bare_state.knowledge ∷ [])) (bare_state.headers ∷ [])
 opening_headers z g lt = headers_open (memory z (opening z g).words).headers (content (memory z (opening z g).words).arena.bytes) IsPlace (known (bare_state.knowledge ∷ [])) none_known (λ h. header_free z g h lt)
 
-pub opening_blocks : (z : Sizes) (g : ℕ) → g < LAST_GENERATION → BlocksAreOwned z (memory z (opening z g).words).arena.bits (other_owners z (memory z (opening z g).words).headers) (bare_state.blocks ∷ [])
+pub opening_blocks : (z : Sizes) (g : ℕ) → g < LAST_GENERATION → ((names_it : ℕ → ℕ) → owners_in_rooms z (memory z (opening z g).words).rooms (content (memory z (opening z g).words).arena.bytes) (no_rooms ∷ []) names_it ≡ 0)
+    → BlocksAreOwned z (memory z (opening z g).words).arena.bits (all_others z (memory z (opening z g).words) (no_rooms ∷ [])) (bare_state.blocks ∷ [])
 unfolding total
-opening_blocks z g lt = record {
-  owned = λ c b. let n = none_owned z g c b lt in let e : bit_at ((memory z (opening z g).words).arena.bits c (b / 64)) (b % 64) ≡ 0 = ap (λ (n : ℕ). bit_at n (b % 64)) (arena_zero z g (at_bits c (b / 64))) ∙ bit_at-zero (b % 64) in omega arith;
-  inside = λ c b le. let n = none_owned z g c b lt in omega arith;
+opening_blocks z g lt entries = record {
+  owned = λ c b. let n = none_owned z g c b lt in let o = entries (names_block c b) in let e : bit_at ((memory z (opening z g).words).arena.bits c (b / 64)) (b % 64) ≡ 0 = ap (λ (n : ℕ). bit_at n (b % 64)) (arena_zero z g (at_bits c (b / 64))) ∙ bit_at-zero (b % 64) in omega arith;
+  inside = λ c b le. let n = none_owned z g c b lt in let o = entries (names_block c b) in omega arith;
   whole = every_one AreWhole bare_state.blocks tt;
 }

@@ -3,10 +3,10 @@ use Rattle.std.proofs.Common.{◌≡◌, ℕ, ◌+◌, ◌-◌, ◌*◌, ◌%◌
 use prog.Atomic.{either}
 use mathlib.Core.Option.{some}
 use lib.ListN.{get_elem?}
-use Rattle.pin_word.specs.PinWord.{state_of}
+use Rattle.pin_word.specs.PinWord.{state_of, STATE}
 use Rattle.oak_model.specs.Limits.{Sizes}
 use Rattle.oak_model.proofs.Lists.{at_map}
-use Rattle.oak_model.proofs.Counting.{total_at}
+use Rattle.oak_model.proofs.Counting.{total_at, decided}
 use Rattle.arena_core.specs.declared.blocks.HeldBlocks.{HeldBlocks}
 use Rattle.arena_core.specs.Blocks.{BlocksAreOwned, HoldsBlock}
 use Rattle.arena_core.specs.Place.{IsPlace, class_in, block_in, content}
@@ -19,22 +19,23 @@ use Rattle.header_core.specs.declared.holds.HeaderHolds.{HeaderHolds}
 use Rattle.header_core.specs.Headers.{HeaderSpot, at_pin}
 use Rattle.header_core.specs.HeaderHolds.{held_state, in_state, without_header}
 use Rattle.header_core.specs.HeaderRule.{stocked}
-use Rattle.header_core.specs.HeaderStep.{STATE, MayRelease, open_header, release_header, header_effect, headers_after, owned_at, put_header}
+use Rattle.header_core.specs.HeaderStep.{MayRelease, open_header, release_header, header_effect, headers_after, owned_at, put_header}
 use Rattle.header_core.proofs.HeldHeaders.{held_in, stocked_in, rows_split, stocked_split}
 use Rattle.header_core.proofs.HeaderFacts.{headers_once, free_unheld, held_is, holds_some}
 use Rattle.header_core.proofs.StockedStates.{stocked_high}
 use Rattle.header_core.proofs.HeaderFacts as fact
 use Rattle.header_core.proofs.HeaderLaws.{unstocked}
-use Rattle.header_core.proofs.HeaderStates.{decided}
-use Rattle.header_core.proofs.PinWordChanges.{state_set, state_up, state_off}
+use Rattle.pin_word.proofs.StepLaws.{state_set, state_up}
+use Rattle.header_core.proofs.PinWordChanges.{state_off}
 use Rattle.oak_core.specs.declared.states.PassState.{PassState}
 use Rattle.oak_core.specs.Memory.{Memory, in_headers, memory}
+use Rattle.oak_core.specs.EntryOwners.{entry_owners}
 use Rattle.oak_core.specs.Owners.{other_owners}
-use Rattle.oak_core.specs.PassState.{blocks_of, headers_held}
+use Rattle.oak_core.specs.PassState.{blocks_of, headers_held, rooms_held}
 use Rattle.oak_core.specs.Rule.{Rule}
 use Rattle.oak_core.specs.Step.{MayOpen, block_back, blocks_with}
 use Rattle.oak_core.specs.TableState.{TableState}
-use Rattle.oak_core.proofs.BlocksWithHeaders.{owned_alike, open_owned, block_back-owned}
+use Rattle.oak_core.proofs.BlocksWithHeaders.{with_others, owned_alike, open_owned, block_back-owned}
 use Rattle.oak_core.proofs.HeaderOwners.{pin_owners-same}
 use Rattle.oak_core.proofs.HeaderStanding.{knows, stand, at_headers, place_of, small_pin}
 use Rattle.oak_core.proofs.KeptInHeaders.{Stand, same_kept, claim_kept, open_kept, without_kept, back_kept}
@@ -47,17 +48,20 @@ module _ (z : Sizes) (s : TableState) (seat : ℕ) (v : PassState) (r : Rule z s
   abbrev hs : List HeaderHolds
   hs = map headers_held s.states
 
+  abbrev pub entries : ℕ → ℕ → ℕ
+  entries = entry_owners z m.rooms (content m.arena.bytes) (map rooms_held s.states)
+
   pub at_blocks : get_elem? (map blocks_of s.states) seat ≡ some v.blocks
   at_blocks = at_map blocks_of s.states seat v here_is
 
   -- the word p becomes y, and the pass holds these blocks and headers
   pub record OwnedAndKept (p : HeaderSpot) (y : ℕ) (a : HeldBlocks) (b : HeaderHolds) : Type 0 where
-    pub owned : BlocksAreOwned z m.arena.bits (other_owners z (put_header m.headers p y)) (set (map blocks_of s.states) seat a)
+    pub owned : BlocksAreOwned z m.arena.bits (with_others entries z (put_header m.headers p y)) (set (map blocks_of s.states) seat a)
     pub kept : Stand z s seat v r here_is (in_headers p) y a b
 
   -- no block changes its owner
   pub quiet : (p : HeaderSpot) (y : ℕ) (b : HeaderHolds) → ((c n : ℕ) → other_owners z (put_header m.headers p y) c n ≡ other_owners z m.headers c n) → Stand z s seat v r here_is (in_headers p) y v.blocks b → OwnedAndKept p y v.blocks b
-  quiet p y b owners kept = record { owned = owned_alike z m.arena.bits (other_owners z m.headers) (other_owners z (put_header m.headers p y)) (map blocks_of s.states) seat v.blocks at_blocks owners r.blocks; kept = kept }
+  quiet p y b owners kept = record { owned = owned_alike z m.arena.bits (with_others entries z m.headers) (with_others entries z (put_header m.headers p y)) (map blocks_of s.states) seat v.blocks at_blocks (λ c n. let e = owners c n in omega arith) r.blocks; kept = kept }
 
   pub quiet_pin : (h y : ℕ) (b : HeaderHolds) → stocked (state_of y) ≡ stocked (state_of (m.headers.pin h)) → Stand z s seat v r here_is (in_headers (at_pin h)) y v.blocks b → OwnedAndKept (at_pin h) y v.blocks b
   quiet_pin h y b same kept = quiet (at_pin h) y b (λ c n. pin_owners-same z m.headers h y c n same) kept
@@ -97,17 +101,17 @@ module _ (z : Sizes) (s : TableState) (seat : ℕ) (v : PassState) (r : Rule z s
   pub opens : (h : ℕ) → h < z.headers → 0 < in_state h OWNED v.headers → MayOpen z h v → let x = open_header h in OwnedAndKept (at_pin h) (header_effect x (m.headers.pin h)) (blocks_with x m v.blocks) (headers_after m.headers (content m.arena.bytes) x v.headers)
   opens h inside own may = let w : ℕ = m.headers.place h in let is = place_of z s seat v r here_is h (holds_some h OWNED v.headers own) in let place : IsPlace w = subst IsPlace (sym is) may.place in
       let held : HoldsBlock z (class_in w) (block_in w) v.blocks = subst (λ (i : ℕ). HoldsBlock z (class_in i) (block_in i) v.blocks) (sym is) may.block in
-      let one_block = (held_once z m.arena (other_owners z m.headers) (map blocks_of s.states) seat v.blocks at_blocks r.blocks (class_in w) (block_in w) held.held).2 in
+      let one_block = (held_once z m.arena (with_others entries z m.headers) (map blocks_of s.states) seat v.blocks at_blocks r.blocks (class_in w) (block_in w) held.held).2 in
       let was = state_is h OWNED (omega arith) (omega arith) own in let up = state_up (m.headers.pin h) (omega arith) (small_pin z s seat v r here_is h) in let y : ℕ = (m.headers.pin h + STATE) % 2 ^ 64 in
       let one = fact.held_once m.headers (content m.arena.bytes) IsPlace (knows s) hs (stand z s seat v r here_is) seat v.headers h OWNED (at_headers z s seat v r here_is) (omega arith) (omega arith) own in record {
-        owned = open_owned z m.headers m.arena.bits (map blocks_of s.states) seat h y v.blocks at_blocks inside r.blocks (place_below w place) (stocked_high (state_of y) (let u = up.1 in omega arith) (let u = up.1 in omega arith)) (unstocked (state_of (m.headers.pin h)) (omega arith)) one_block;
+        owned = open_owned z m.headers m.arena.bits entries (map blocks_of s.states) seat h y v.blocks at_blocks inside r.blocks (place_below w place) (stocked_high (state_of y) (let u = up.1 in omega arith) (let u = up.1 in omega arith)) (unstocked (state_of (m.headers.pin h)) (omega arith)) one_block;
         kept = open_kept z s seat v r here_is h y one.0 (few h) place one_block;
       }
 
   -- a header gives its block back
   pub gives_back : (h y : ℕ) → h < z.headers → stocked_in h v.headers.held ≡ 1 → stocked (state_of (m.headers.pin h)) ≡ 1 → stocked (state_of y) ≡ 0 → OwnedAndKept (at_pin h) y (block_back m.arena.bytes (m.headers.place h) v.blocks) (record v.headers { held = without_header h v.headers.held })
   gives_back h y inside one before now = record {
-    owned = block_back-owned z m.headers m.arena.bits (map blocks_of s.states) seat h y v.blocks at_blocks inside r.blocks (place_below (m.headers.place h) ((stand z s seat v r here_is).placed h (omega arith))) now before m.arena.bytes;
+    owned = block_back-owned z m.headers m.arena.bits entries (map blocks_of s.states) seat h y v.blocks at_blocks inside r.blocks (place_below (m.headers.place h) ((stand z s seat v r here_is).placed h (omega arith))) now before m.arena.bytes;
     kept = back_kept z s seat v r here_is h y (few h) one (place_of z s seat v r here_is h (let p = rows_split h v.headers.held in omega arith));
   }
 

@@ -3,7 +3,7 @@ use Rattle.std.proofs.Common.{◌≡◌, ℕ, ◌+◌, ◌-◌, ◌%◌, ◌^◌
 use prog.Atomic.{either}
 use mathlib.Core.Option.{some}
 use lib.ListN.{get_elem?}
-use Rattle.pin_word.specs.PinWord.{generation_of, state_of}
+use Rattle.pin_word.specs.PinWord.{generation_of, state_of, STATE}
 use Rattle.oak_model.specs.Limits.{Sizes}
 use Rattle.oak_model.specs.Counts.{one_at, total}
 use Rattle.oak_model.proofs.Lists.{at_map}
@@ -17,16 +17,18 @@ use Rattle.header_core.specs.declared.holds.HeaderHolds.{HeaderHolds}
 use Rattle.header_core.specs.Headers.{at_pin, at_place}
 use Rattle.header_core.specs.HeaderHolds.{in_state, place_held, generation_held, without_header}
 use Rattle.header_core.specs.HeaderRule.{stocked}
-use Rattle.header_core.specs.HeaderStep.{STATE, locked_at, changed_at, buried_at, renewal}
+use Rattle.header_core.specs.HeaderStep.{locked_at, changed_at, buried_at, renewal}
 use Rattle.header_core.proofs.HeldHeaders.{rows_split}
 use Rattle.header_core.proofs.HeaderFacts.{known_unheld, generation_is, holds_some}
 use Rattle.header_core.proofs.StockedStates.{stocked_high}
-use Rattle.header_core.proofs.PinWordChanges.{IsRenewed, state_set, state_up, state_down, renewed, generation_small}
+use Rattle.pin_word.proofs.Laws.{generation_small}
+use Rattle.pin_word.proofs.StepLaws.{state_set, state_up, state_down}
+use Rattle.header_core.proofs.PinWordChanges.{IsRenewed, renewed}
 use Rattle.oak_core.specs.declared.states.PassState.{PassState}
 use Rattle.oak_core.specs.Memory.{Memory, memory}
 use Rattle.oak_core.specs.Known.{knows_life}
-use Rattle.oak_core.specs.Owners.{other_owners}
-use Rattle.oak_core.specs.PassState.{blocks_of, headers_held, knowledge_of}
+use Rattle.oak_core.specs.EntryOwners.{all_others}
+use Rattle.oak_core.specs.PassState.{blocks_of, headers_held, rooms_held, knowledge_of}
 use Rattle.oak_core.specs.Rule.{Rule}
 use Rattle.oak_core.specs.Step.{MayChange, same_block, block_back, block_exchanged}
 use Rattle.oak_core.specs.TableState.{TableState}
@@ -37,7 +39,7 @@ use Rattle.oak_core.proofs.KeptUnderLocks.{lock_kept, bury_kept}
 use Rattle.oak_core.proofs.KeptFields.{change_kept}
 use Rattle.oak_core.proofs.KnownLaws.{known_some}
 use Rattle.oak_core.proofs.OwnerLaws.{place_below}
-use Rattle.oak_core.proofs.OwnedAndKept.{OwnedAndKept, at_blocks, quiet_pin, few, takes, gives_back, state_is, with_block}
+use Rattle.oak_core.proofs.OwnedAndKept.{OwnedAndKept, entries, at_blocks, quiet_pin, few, takes, gives_back, state_is, with_block}
 
 -- a header that is free or retired has no block
 unstocked_end : (s : ℕ) → (s ≡ RETIRED) ⊎ (s ≡ FREE) → stocked s ≡ 0
@@ -90,10 +92,10 @@ module _ (z : Sizes) (s : TableState) (seat : ℕ) (v : PassState) (r : Rule z s
   pub changes : (h x : ℕ) → h < z.headers → 0 < in_state h LOCKED v.headers → MayChange z h x v → OwnedAndKept z s seat v r here_is (at_place h) x (block_exchanged m.arena.bytes (m.headers.place h) x v.blocks) (record v.headers { held = changed_at h x (content m.arena.bytes x) v.headers.held })
   changes h x inside own may = let was = state_is z s seat v r here_is h LOCKED (omega arith) (omega arith) own in let stock = stocked_high (state_of (m.headers.pin h)) (omega arith) (omega arith) in let w : ℕ = m.headers.place h in
       let either_block = exchangeable may.block in record {
-        owned = change_owned z m.headers m.arena.bits (map blocks_of s.states) seat h x v.blocks (at_blocks z s seat v r here_is) inside r.blocks (place_below w ((stand z s seat v r here_is).placed h (omega arith))) stock (place_below x may.place) m.arena.bytes either_block;
+        owned = change_owned z m.headers m.arena.bits (entries z s seat v r here_is) (map blocks_of s.states) seat h x v.blocks (at_blocks z s seat v r here_is) inside r.blocks (place_below w ((stand z s seat v r here_is).placed h (omega arith))) stock (place_below x may.place) m.arena.bytes either_block;
         kept = change_kept z s seat v r here_is h x (few z s seat v r here_is h) (with_block z s seat v r here_is h (omega arith)) (place_below x may.place) either_block;
       }
     where
       exchangeable : (same_block x (place_held h v.headers.held) ≡ true) ⊎ HoldsBlock z (class_in x) (block_in x) v.blocks → (same_block x (m.headers.place h) ≡ true) ⊎ (total (here (class_in x) (block_in x)) v.blocks.held ≡ 1)
       exchangeable (inl same) = inl (ap (same_block x) (place_of z s seat v r here_is h (holds_some h LOCKED v.headers own)) ∙ same)
-      exchangeable (inr held) = inr (held_once z m.arena (other_owners z m.headers) (map blocks_of s.states) seat v.blocks (at_blocks z s seat v r here_is) r.blocks (class_in x) (block_in x) held.held).2
+      exchangeable (inr held) = inr (held_once z m.arena (all_others z m (map rooms_held s.states)) (map blocks_of s.states) seat v.blocks (at_blocks z s seat v r here_is) r.blocks (class_in x) (block_in x) held.held).2

@@ -14,7 +14,8 @@ use Rattle.header_core.specs.Headers.{HeaderMemory}
 use Rattle.header_core.specs.HeaderHolds.{held_state, without_header}
 use Rattle.header_core.specs.HeaderRule.{stocked}
 use Rattle.header_core.specs.HeaderStep.{placed_at, stamped_at, freshened, changed_at, reworded, buried_at, owned_at, locked_at}
-use Rattle.header_core.proofs.HeldHeaders.{rows_in, stocked_in, total_has}
+use Rattle.oak_model.proofs.MemberLaws.{total_has}
+use Rattle.header_core.proofs.HeldHeaders.{rows_in, stocked_in}
 use Rattle.header_core.proofs.HeldChanges.{each_without}
 use Rattle.oak_core.specs.Owners.{block_of_header, blocks_of_header, header_blocks, IsWholeHeader}
 

@@ -6,7 +6,8 @@ use Rattle.header_core.specs.declared.states.TheConstants.{FREE, LIVE}
 use Rattle.header_core.specs.declared.holds.HeldAs.{HeldAs}
 use Rattle.header_core.specs.Headers.{HeaderSpot, at_pin, at_place, at_stamp}
 use Rattle.header_core.specs.HeaderHolds.{held_state}
-use Rattle.header_core.specs.HeaderStep.{STATE, HeaderStep, claim_header, store_place, store_stamp, change_place, open_header, pin_header, unpin_header, release_header, lock_header, unlock_header, mark_dead, take_back, HasNoPin}
+use Rattle.pin_word.specs.PinWord.{STATE, HasNoPin}
+use Rattle.header_core.specs.HeaderStep.{HeaderStep, claim_header, store_place, store_stamp, change_place, open_header, pin_header, unpin_header, release_header, lock_header, unlock_header, mark_dead, take_back}
 use Rattle.oak_core.specs.declared.states.PassState.{PassState}
 use Rattle.oak_core.specs.Memory.{in_headers, index}
 use Rattle.oak_core.specs.Step.{on_headers, Told}

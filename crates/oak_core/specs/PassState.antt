@@ -8,6 +8,8 @@ use Rattle.arena_core.specs.declared.blocks.HeldBlocks.{HeldBlocks}
 use Rattle.arena_core.specs.HeldBlocks.{no_blocks, kept_of_blocks}
 use Rattle.header_core.specs.declared.holds.HeaderHolds.{HeaderHolds}
 use Rattle.header_core.specs.HeaderHolds.{no_headers, kept_of_headers}
+use Rattle.chunk_core.specs.declared.holds.RoomHolds.{RoomHolds}
+use Rattle.chunk_core.specs.KeptRooms.{kept_of_rooms}
 use Rattle.chunk_core.specs.RoomHolds.{no_rooms}
 use Rattle.oak_core.specs.declared.states.KeyedWrite.{KeyedWrite}
 use Rattle.oak_core.specs.declared.states.Knowledge.{Knowledge}
@@ -15,7 +17,7 @@ use Rattle.oak_core.specs.declared.states.Findings.{Findings}
 use Rattle.oak_core.specs.declared.states.Joined.{Joined}
 use Rattle.oak_core.specs.declared.states.Numbers.{Numbers}
 use Rattle.oak_core.specs.declared.states.PassState.{PassState}
-use Rattle.oak_core.specs.Memory.{Spot, in_arena, in_headers}
+use Rattle.oak_core.specs.Memory.{Spot, in_arena, in_headers, in_rooms}
 use Rattle.oak_core.specs.Owners.{header_blocks}
 
 abbrev pub blocks_of : PassState → HeldBlocks
@@ -23,6 +25,9 @@ blocks_of v = v.blocks
 
 abbrev pub headers_held : PassState → HeaderHolds
 headers_held v = v.headers
+
+abbrev pub rooms_held : PassState → RoomHolds
+rooms_held v = v.rooms
 
 abbrev pub numbers_of : PassState → Numbers
 numbers_of v = v.numbers
@@ -33,12 +38,16 @@ findings_of v = v.findings
 abbrev pub knowledge_of : PassState → Knowledge
 knowledge_of v = v.knowledge
 
--- the words that no other pass may change, each with its number: those of its blocks, and with its headers, those of the headers' blocks and the place and stamp words
+-- the words of the arena and of headers that no other pass may change, each with its number: those of its blocks, and with its headers, those of the headers' blocks and the place and stamp words
 abbrev pub kept_with_headers : PassState → List (KeptWord Spot)
 kept_with_headers v = renamed in_arena (kept_of_blocks (header_blocks v.headers.held)) ++ renamed in_headers (kept_of_headers v.headers.held)
 
 abbrev pub kept_of : PassState → List (KeptWord Spot)
 kept_of v = renamed in_arena (kept_of_blocks v.blocks.held) ++ kept_with_headers v
+
+-- with those of rooms
+abbrev pub kept_of_all : PassState → List (KeptWord Spot)
+kept_of_all v = kept_of v ++ renamed in_rooms (kept_of_rooms v.rooms)
 
 -- numbers
 

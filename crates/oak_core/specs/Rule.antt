@@ -5,6 +5,11 @@ use Rattle.oak_model.specs.Limits.{Sizes, IsInLimits}
 use Rattle.oak_model.specs.Counts.{total, Every, Each, Begins}
 use Rattle.oak_model.specs.Kept.{KeptNumbersStand}
 use Rattle.arena_core.specs.Blocks.{BlocksAreOwned}
+use Rattle.arena_core.specs.Place.{content}
+use Rattle.chunk_core.specs.CoverRule.{CoversPartition}
+use Rattle.chunk_core.specs.KeptRooms.{kept_of_rooms}
+use Rattle.chunk_core.specs.RoomRule.{RoomsStand}
+use Rattle.chunk_core.specs.Rooms.{read_room, same_room_spot}
 use Rattle.header_core.specs.declared.holds.HeaderHolds.{HeaderHolds}
 use Rattle.header_core.specs.HeaderRule.{PinsWhatItKnows}
 use Rattle.oak_core.specs.declared.states.Finding.{Finding}
@@ -16,9 +21,10 @@ use Rattle.oak_core.specs.declared.states.Numbers.{Numbers}
 use Rattle.oak_core.specs.declared.states.PassState.{PassState}
 use Rattle.oak_core.specs.Memory.{memory, read, same_spot, word_count}
 use Rattle.oak_core.specs.Finding.{Shows}
-use Rattle.oak_core.specs.Owners.{other_owners, HeadersAreWhole, HeadersAreHeld}
+use Rattle.oak_core.specs.EntryOwners.{all_others, is_key_word}
+use Rattle.oak_core.specs.Owners.{HeadersAreWhole, HeadersAreHeld}
 use Rattle.oak_core.specs.Known.{knows_life, known}
-use Rattle.oak_core.specs.PassState.{blocks_of, headers_held, numbers_of, findings_of, knowledge_of, kept_of, has_number, is_parent, IsAlone, of_key, history, spent_state}
+use Rattle.oak_core.specs.PassState.{blocks_of, headers_held, rooms_held, numbers_of, findings_of, knowledge_of, kept_of, has_number, is_parent, IsAlone, of_key, history, spent_state}
 use Rattle.oak_core.specs.Lack.{FullsStand}
 use Rattle.oak_core.specs.TableState.{TableState}
 
@@ -80,8 +86,12 @@ pub record Rule (z : Sizes) (s : TableState) : Type 0 where
   pub joined : Every (JoinedStand z) s.states
   pub histories : HistoriesStand (map knowledge_of s.states)
   pub spent : Every SpentIsSpent s.states
-  pub blocks : BlocksAreOwned z (memory z s.words).arena.bits (other_owners z (memory z s.words).headers) (map blocks_of s.states)
+  pub blocks : BlocksAreOwned z (memory z s.words).arena.bits (all_others z (memory z s.words) (map rooms_held s.states)) (map blocks_of s.states)
   pub headers : HeadersAreHeld (memory z s.words).headers (memory z s.words).arena.bytes (known (map knowledge_of s.states)) (map headers_held s.states)
+  pub rooms : RoomsStand z (memory z s.words).rooms (content (memory z s.words).arena.bytes) (map rooms_held s.states)
+  pub covers : CoversPartition z (memory z s.words).rooms (content (memory z s.words).arena.bytes) is_key_word (map rooms_held s.states)
   pub passes : Every PassStands s.states
   pub alone : Every (AloneStands s.words) s.states
   pub kept : KeptNumbersStand same_spot (read (memory z s.words)) (map kept_of s.states)
+  -- no word of a room is one of the arena or of a header, so those that passes keep of rooms are apart
+  pub kept_in_rooms : KeptNumbersStand same_room_spot (read_room (memory z s.words).rooms) (map kept_of_rooms (map rooms_held s.states))

@@ -22,7 +22,11 @@ use Rattle.header_core.specs.declared.states.TheConstants.{LOCKED}
 use Rattle.header_core.specs.declared.holds.HeaderHolds.{HeaderHolds}
 use Rattle.header_core.specs.HeaderHolds.{in_state, place_held}
 use Rattle.header_core.specs.HeaderStep.{HeaderStep, change_place, open_header, pin_header, release_header, lock_header, take_back, header_spot, header_effect, header_found, MayHeader, headers_after, reworded}
-use Rattle.oak_core.specs.Memory.{Memory, Spot, at_given, in_arena, in_headers, index, IsInside, memory}
+use Rattle.chunk_core.specs.MayOnRooms.{MayRoom}
+use Rattle.chunk_core.specs.RoomStep.{RoomStep, pin_room, unpin_room, room_spot, room_effect, room_found}
+use Rattle.chunk_core.specs.Rooms.{IsInRooms}
+use Rattle.chunk_core.specs.RoomsAfter.{rooms_after}
+use Rattle.oak_core.specs.Memory.{Memory, Spot, at_given, in_arena, in_headers, in_rooms, index, IsInside, memory}
 use Rattle.oak_core.specs.Finding.{finding, leaving, noted, Shows}
 use Rattle.oak_core.specs.Known.{knows_life, KnowsHeader}
 use Rattle.oak_core.specs.Lack.{Lacks, full_state}
@@ -38,6 +42,8 @@ pub data Step : Type 0 where
   on_arena : ArenaStep → Step
   -- a step on a word of a header
   on_headers : HeaderStep → Step
+  -- a step on a word of a room
+  on_rooms : RoomStep → Step
   -- word k of the block of a locked header, of this class and number, becomes x
   store_locked : (h : ℕ) → Class → (b k x : ℕ) → Step
   -- word 0 is loaded, and the call is noted as one that lacks something; it began where so many findings were met
@@ -48,6 +54,7 @@ spot (load p) = p
 spot (give_number k) = at_given
 spot (on_arena a) = in_arena (arena_spot a)
 spot (on_headers x) = in_headers (header_spot x)
+spot (on_rooms x) = in_rooms (room_spot x)
 spot (store_locked h c b k x) = in_arena (at_bytes (class_number c) b k)
 spot (note_full lack began) = at_given
 
@@ -57,6 +64,7 @@ effect (load p) n = n
 effect (give_number k) n = bit_or n (2 ^ k)
 effect (on_arena a) n = arena_effect a n
 effect (on_headers x) n = header_effect x n
+effect (on_rooms x) n = room_effect x n
 effect (store_locked h c b k x) n = x
 effect (note_full lack began) n = n
 
@@ -97,6 +105,17 @@ pub record MayOnHeaders (z : Sizes) (x : HeaderStep) (v : PassState) : Type 0 wh
   pub block : MayWithBlock z x v
   pub known : MayKnowing x v
 
+-- the word is one of the table's, and the pass has of rooms what the step asks
+pub record MayOnPin (z : Sizes) (x : RoomStep) (v : PassState) : Type 0 where
+  pub inside : IsInRooms z (room_spot x)
+  pub rooms : MayRoom z x v.rooms
+
+-- a pass pins a room and undoes its pin; the other kinds none makes yet
+abbrev pub MayOnRooms : Sizes → RoomStep → PassState → Type 0
+MayOnRooms z (pin_room r) v = MayOnPin z (pin_room r) v
+MayOnRooms z (unpin_room r) v = MayOnPin z (unpin_room r) v
+MayOnRooms z _ v = ⊥
+
 -- the pass has the header locked, and the block is the header's
 pub record LocksBlock (h : ℕ) (c : Class) (b : ℕ) (a : HeaderHolds) : Type 0 where
   pub locked : 0 < in_state h LOCKED a
@@ -115,6 +134,7 @@ May z call (load p) v = IsInside z p
 May z call (give_number k) v = MayGive z k v
 May z call (on_arena a) v = MayArena z a v.blocks
 May z call (on_headers x) v = MayOnHeaders z x v
+May z call (on_rooms x) v = MayOnRooms z x v
 May z call (store_locked h c b k x) v = MayStoreLocked h c b k x v.headers
 May z call (note_full lack began) v = Lacks z call lack began (length v.findings.met) v.findings
 
@@ -158,6 +178,9 @@ state_after z call (on_arena a) s v =
 state_after z call (on_headers x) s v =
     let n = found z (on_headers x) s in let m = memory z s.words in
     record (noted (finding z call (in_headers (header_spot x)) (header_found x n) (header_effect x n) s.words v) v) { blocks = blocks_with x m v.blocks; headers = headers_after m.headers (content m.arena.bytes) x v.headers }
+state_after z call (on_rooms x) s v =
+    let n = found z (on_rooms x) s in let m = memory z s.words in
+    record (noted (finding z call (in_rooms (room_spot x)) (room_found x n) (room_effect x n) s.words v) v) { rooms = rooms_after z m.rooms (content m.arena.bytes) x v.rooms }
 state_after z call (store_locked h c b k x) s v = record (noted (finding z call (in_arena (at_bytes (class_number c) b k)) None x s.words v) v) { headers = record v.headers { held = reworded h k x v.headers.held } }
 state_after z call (note_full lack began) s v = let n = found z (note_full lack began) s in full_state call lack (finding z call at_given (Some n) n s.words v) v
 

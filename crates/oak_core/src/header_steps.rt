@@ -1,7 +1,8 @@
 //! The steps on the words of the headers, which callers find in [`crate::steps`].
 ghost use Rattle.std.specs.Prelude.{◌≡◌, ℕ};
 ghost use Rattle.header_core.specs.declared.holds.HeldAs.{HeldAs};
-ghost use Rattle.header_core.specs.HeaderStep.{STATE, open_header, pin_header, unpin_header, release_header, lock_header, unlock_header, mark_dead, take_back};
+ghost use Rattle.pin_word.specs.PinWord.{STATE};
+ghost use Rattle.header_core.specs.HeaderStep.{open_header, pin_header, unpin_header, release_header, lock_header, unlock_header, mark_dead, take_back};
 ghost use Rattle.oak_core.specs.HeaderCalls.{HeaderField, field_step, NamesPin, NamesClaim, NamesField, NamesRelease, NamesLock, Claims, StoresField, Opens, Pins, Unpins, Releases, Locks, Unlocks, MarksDead, TakesBack};
 ghost use Rattle.oak_core.specs.Step.{MayOnHeaders};
 ghost use Rattle.oak_core.specs.Passes.{IsPassOf, Stays, state, key, call_of};

@@ -12,6 +12,8 @@ pub mod loads;
 pub mod notes;
 mod offsets;
 pub mod passes;
+mod room_steps;
+pub mod rooms;
 pub mod schedules;
 pub mod scratch;
 pub mod states;

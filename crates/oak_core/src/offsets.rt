@@ -2,16 +2,20 @@
 ghost use Rattle.std.specs.Prelude.{◌≡◌};
 ghost use Rattle.oak_core.specs.Offsets.{offsets_of};
 
-use crate::layout::headers_at;
+use crate::layout::{headers_at, rooms_at};
 use arena_core::layout::{bits_below, bytes_below};
+use chunk_core::layout::room_width;
 use oak_model::{CLASSES, Shape};
 
-/// The number of the first word of the bits and of the bytes of each class, and of the headers.
+/// The number of the first word of the bits and of the bytes of each class, of the headers and of the
+/// rooms, and how many words a room has.
 #[derive(Clone, Copy)]
 pub struct Offsets {
     pub(crate) bits: [u32; CLASSES],
     pub(crate) bytes: [u32; CLASSES],
     pub(crate) headers: u32,
+    pub(crate) rooms: u32,
+    pub(crate) room_width: u32,
 }
 
 impl Offsets {
@@ -30,6 +34,8 @@ impl Offsets {
             bits,
             bytes,
             headers: headers_at(shape) as u32,
+            rooms: rooms_at(shape) as u32,
+            room_width: room_width(shape) as u32,
         }
     }
 }

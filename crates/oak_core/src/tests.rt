@@ -7,8 +7,11 @@ ghost use Rattle.oak_core.specs.Passes.{IsPassOf, Stays, state, key, call_of, sc
 ghost use Rattle.oak_core.specs.Scratch.{StaysButScratch};
 ghost use Rattle.oak_core.specs.Splitting.{LooksAtGiven};
 
+use crate::steps::{pin_room, unpin_room};
 use crate::{OakTable, Pass, SplitFault, Writing, load};
+use chunk_core::OPEN;
 use oak_model::{BadShape, Shape, ShapeField, Usage};
+use pin_word::pack;
 use std::alloc::Global;
 use std::process::Abort;
 use std::test::Fail;
@@ -159,5 +162,31 @@ fn a_scratch(rt: HostRuntime) -> Result<(), Fail> {
     assert_eq!(rt; scratch.len(), 2);
     assert_eq!(rt; scratch.byte(1), 5);
     assert!(rt; scratch.bytes() == [0, 5].as_slice());
+    Ok(())
+}
+
+/// Pins room 0 of a new table, and undoes that pin.
+fn pin_and_unpin(rt: &impl Abort, table: &OakTable, pass: &mut Pass)
+    requires own { IsPassOf table.now pass.old }
+    requires idle { HoldsNothing (state pass.old) }
+    requires alone { IsAlone (state pass.old) }
+    ensures own { Stays pass.old pass.new }
+    ensures idle { HoldsNothing (state pass.new) }
+    ensures alone { IsAlone (state pass.new) }
+{
+    let _rooms = table.rooms();
+    let word = table.room_at(0);
+    let before = pin_room(table, pass, word, 1);
+    let pinned = unpin_room(table, pass, word, 1);
+    assert_eq!(rt; before, pack(0, OPEN, 0));
+    assert_eq!(rt; pinned, pack(0, OPEN, 1));
+}
+
+#[test]
+fn a_pinned_room(rt: HostRuntime) -> Result<(), Fail> {
+    let shape = Shape::make(1, 1, 4, 1, [1, 1, 1, 1])?;
+    let (table, mut pass) = OakTable::create(rt.alloc(), &shape)?;
+    pin_and_unpin(&rt, &table, &mut pass);
+    table.close(pass);
     Ok(())
 }

@@ -1,10 +1,20 @@
 -- Sums after a change, and tests on numbers.
-use Rattle.std.proofs.Common.{◌≡◌, ◌≢◌, ℕ, zero, suc, ◌+◌, ◌-◌, ◌*◌, ◌<◌, ◌≤◌, cond, Bool, true, false, ◌&&◌, List, [], ◌∷◌, ◌++◌, map, set, sym, refl, ap, ◌∙◌, subst, arith, eq-eqb, ne_eqb, mul-le-mul_right, suc-mul}
+use Rattle.std.proofs.Common.{◌≡◌, ◌≢◌, ℕ, zero, suc, ◌+◌, ◌-◌, ◌*◌, ◌<◌, ◌≤◌, ◌==◌, cond, Bool, true, false, ◌&&◌, List, [], ◌∷◌, ◌++◌, map, set, sym, refl, ap, ◌∙◌, subst, arith, eq-eqb, ne_eqb, le-leb, mul-le-mul_right, suc-mul}
+use Rattle.std.specs.Prelude.{nat_le}
+use Rattle.std.proofs.lemmas.Bool.{lt-leb}
 use mathlib.Core.Logic.{dite}
 use mathlib.Core.Option.{some, some-injective, some-ne-none}
-use native.Mathlib.Decide.{ℕ_discrete, dec_lt}
+use native.Mathlib.Decide.{ℕ_discrete, dec_lt, dec_le}
 use lib.ListN.{get_elem?}
 use Rattle.oak_model.specs.Counts.{one_if, one_at, total, below}
+
+-- a test of two numbers, with what it says
+
+pub decided : (n old : ℕ) (F : Bool → Type 0) → (n ≡ old → F true) → (n ≢ old → F false) → F (n == old)
+decided n old F hit miss = dite (ℕ_discrete n old) (λ e. subst F (sym (eq-eqb n old e)) (hit e)) (λ ne. subst F (sym (ne_eqb n old ne)) (miss ne))
+
+pub le-cases : (a b : ℕ) (P : Bool → Type 0) → (a ≤ b → P true) → (b < a → P false) → P (nat_le a b)
+le-cases a b P low high = dite (dec_le a b) (λ l. subst P (sym (le-leb a b l)) (low l)) (λ no. subst P (sym (lt-leb a b (omega arith))) (high (omega arith)))
 
 pub one_if_le : (b : Bool) → one_if b ≤ 1
 one_if_le true = omega arith
@@ -20,7 +30,8 @@ one_at-other a b n = ap (λ (t : Bool). cond t 1 0) (ne_eqb a b n)
 
 -- a case split for a number of this kind
 pub one_at-cases : (a b : ℕ) (P : ℕ → Type 0) → (a ≡ b → P 1) → (a ≢ b → P 0) → P (one_at a b)
-one_at-cases a b P same other = dite (ℕ_discrete a b) (λ e. subst P (sym (one_at-same a b e)) (same e)) (λ n. subst P (sym (one_at-other a b n)) (other n))
+unfolding one_at
+one_at-cases a b P same other = decided a b (λ t. P (cond t 1 0)) same other
 
 pub one_at-le : (a b : ℕ) → one_at a b ≤ 1
 one_at-le a b = one_at-cases a b (λ k. k ≤ 1) (λ e. omega arith) (λ n. omega arith)

@@ -1,15 +1,16 @@
 -- A longer history keeps what was said of the places of a shorter one.
-use Rattle.std.proofs.Common.{◌≡◌, ℕ, zero, suc, ◌+◌, ◌-◌, ◌<◌, ◌≤◌, Bool, true, false, cond, leb, [], ◌∷◌, ◌++◌, length, Some, None, refl, sym, ap, subst, ◌∙◌, append_assoc, arith, inl, inr}
+use Rattle.std.proofs.Common.{◌≡◌, ℕ, zero, suc, ◌+◌, ◌-◌, ◌<◌, ◌≤◌, Bool, true, false, cond, leb, [], ◌∷◌, ◌++◌, length, Some, None, refl, sym, ap, subst, ◌∙◌, arith, inl, inr}
 use Rattle.std.specs.Prelude.{IsSome, ⊤, MatchBool}
 use Rattle.std.specs.List.{slice_get}
-use Rattle.std.proofs.lemmas.Bool.{cases_lt}
-use Rattle.std.proofs.lemmas.Bool.Decides.{nat_tests}
-use Rattle.std.proofs.lemmas.List.{append-nil, take_at, length-append, take-append-le}
+use Rattle.std.proofs.lemmas.Bool.{cases_lt, lt-leb}
+use Rattle.std.proofs.lemmas.List.{take_at, take-append-le}
 use Rattle.std.proofs.lemmas.List.Sums.{fold-append}
 use Rattle.oak_model.specs.declared.writes.Write.{Write}
 use Rattle.oak_model.specs.declared.cells.CellCall.{CellCall}
 use Rattle.oak_model.specs.declared.cells.CellReply.{CellReply}
+use Rattle.oak_model.specs.Counts.{Begins}
 use Rattle.oak_model.specs.State.{State}
+use Rattle.oak_model.proofs.Lists.{begins_self, begins_trans, begins_length}
 use Rattle.oak_model.specs.Cell.{is_write}
 use Rattle.oak_model.specs.History.{History, last_state, state_at, place_of}
 use Rattle.oak_model.specs.Life.{IsLifeAt, EndsAt}
@@ -17,16 +18,16 @@ use Rattle.oak_model.specs.Fits.{WriteFits, ReadFits, ReplyFits}
 
 -- the longer one begins with the shorter
 abbrev pub Extends : History → History → Type 0
-Extends h e = (rest : History) × (e ≡ h ++ rest)
+Extends h e = Begins h e
 
 pub Extends-self : (h : History) → Extends h h
-Extends-self h = ([], sym (append-nil h))
+Extends-self h = begins_self h
 
 pub Extends-then : (a b c : History) → Extends a b → Extends b c → Extends a c
-Extends-then a b c p q = (p.0 ++ q.0, q.1 ∙ rw (p.1, append_assoc) refl)
+Extends-then a b c p q = begins_trans a b c p q
 
 pub length-extends : (h e : History) → Extends h e → length h ≤ length e
-length-extends h e x = rw x.1 (omega (arith, length-append h x.0))
+length-extends h e x = begins_length h e x
 
 pub state_at-extends : (h e : History) (r : ℕ) → Extends h e → r ≤ length h → state_at e r ≡ state_at h r
 state_at-extends h e r x le = rw (x.1, take-append-le r h x.0 le) refl
@@ -53,15 +54,9 @@ abbrev pub StampsAbove : ℕ → History → Type 0
 StampsAbove at [] = ⊤
 StampsAbove at (w ∷ ws) = (at < w.stamp) × StampsAbove at ws
 
-leb-above : (m n : ℕ) → n < m → leb m n ≡ false
-leb-above m n h = grind (arith, nat_tests)
-
-pub leb-within : (m n : ℕ) → m ≤ n → leb m n ≡ true
-leb-within m n h = grind (arith, nat_tests)
-
 pub place_of-above : (at : ℕ) (ws : History) → StampsAbove at ws → place_of ws at ≡ 0
 place_of-above at [] above = refl
-place_of-above at (w ∷ ws) above = rw (leb-above w.stamp at above.0) (place_of-above at ws above.1)
+place_of-above at (w ∷ ws) above = rw (lt-leb w.stamp at above.0) (place_of-above at ws above.1)
 
 pub place_of-append : (at : ℕ) (h rest : History) → StampsAbove at rest → place_of (h ++ rest) at ≡ place_of h at
 place_of-append at [] rest above = place_of-above at rest above

@@ -1,7 +1,6 @@
 -- When two keys are one, and which lists are keys.
-use Rattle.std.proofs.Common.{◌≡◌, ℕ, zero, suc, ◌<◌, ◌≤◌, ◌&&◌, Bool, true, false, leb, ltb, List, [], ◌∷◌, length, refl, ap, sym, ◌∙◌, arith}
-use Rattle.std.proofs.lemmas.Bool.{ltb-true, lt-ltb}
-use Rattle.std.proofs.lemmas.Bool.Decides.{nat_tests}
+use Rattle.std.proofs.Common.{◌≡◌, ℕ, zero, suc, ◌<◌, ◌&&◌, Bool, true, false, leb, ltb, List, [], ◌∷◌, length, refl, ap, sym, ◌∙◌, arith}
+use Rattle.std.proofs.lemmas.Bool.{ltb-true, lt-ltb, leb-true, le-leb, and_parts}
 use Rattle.std.specs.Ordering.{is_eq}
 use Rattle.std.specs.Cmp.Lexicographic.{nat_list_cmp_total}
 use Rattle.std.proofs.lemmas.Cmp.{tied_itself}
@@ -18,20 +17,10 @@ same_is a b e = (bytes_eq-Decides a b).0 (sym (is_eq-slice_cmp a b) ∙ e)
 
 -- ---- the test of a key
 
-both : (a b : Bool) → (a && b) ≡ true → (a ≡ true) × (b ≡ true)
-both true b e = (refl, e)
-both false b e = absurd cc
-
-within-leb : (m n : ℕ) → leb m n ≡ true → m ≤ n
-within-leb m n e = grind (arith, nat_tests)
-
-leb-within : (m n : ℕ) → m ≤ n → leb m n ≡ true
-leb-within m n e = grind (arith, nat_tests)
-
 are_bytes-is : (k : List ℕ) → are_bytes k ≡ true → AreBytes k
 are_bytes-is [] e i = omega arith
-are_bytes-is (x ∷ xs) e zero = ltb-true x 256 (both (ltb x 256) (are_bytes xs) e).0
-are_bytes-is (x ∷ xs) e (suc i) = are_bytes-is xs (both (ltb x 256) (are_bytes xs) e).1 i
+are_bytes-is (x ∷ xs) e zero = ltb-true x 256 (and_parts (ltb x 256) (are_bytes xs) e).0
+are_bytes-is (x ∷ xs) e (suc i) = are_bytes-is xs (and_parts (ltb x 256) (are_bytes xs) e).1 i
 
 are_bytes-of : (k : List ℕ) → AreBytes k → are_bytes k ≡ true
 are_bytes-of [] b = refl
@@ -39,12 +28,12 @@ are_bytes-of (x ∷ xs) b = rw (lt-ltb x 256 (b 0)) (are_bytes-of xs (λ i. b (s
 
 pub is_key-is : (k : List ℕ) → is_key k ≡ true → IsKey k × AreBytes k
 is_key-is k e =
-    let some = both (ltb 0 (length k)) (leb (length k) GREATEST_KEY && are_bytes k) e in
-    let few = both (leb (length k) GREATEST_KEY) (are_bytes k) some.1 in
-    ((ltb-true 0 (length k) some.0, within-leb (length k) GREATEST_KEY few.0), are_bytes-is k few.1)
+    let some = and_parts (ltb 0 (length k)) (leb (length k) GREATEST_KEY && are_bytes k) e in
+    let few = and_parts (leb (length k) GREATEST_KEY) (are_bytes k) some.1 in
+    ((ltb-true 0 (length k) some.0, leb-true (length k) GREATEST_KEY few.0), are_bytes-is k few.1)
 
 pub is_key-of : (k : List ℕ) → IsKey k → AreBytes k → is_key k ≡ true
-is_key-of k is b = rw (lt-ltb 0 (length k) is.0, leb-within (length k) GREATEST_KEY is.1) (are_bytes-of k b)
+is_key-of k is b = rw (lt-ltb 0 (length k) is.0, le-leb (length k) GREATEST_KEY is.1) (are_bytes-of k b)
 
 -- of a list of bytes that is not empty the length alone says it
 pub is_key-bytes : (k : List ℕ) → 0 < length k → AreBytes k → leb (length k) GREATEST_KEY ≡ is_key k

@@ -1,11 +1,11 @@
 -- Histories whose stamps count up by one.
 use Rattle.std.proofs.Common.{◌≡◌, ℕ, suc, ◌+◌, ◌≤◌, [], ◌∷◌, ◌++◌, length, None, arith, inl, inr}
 use Rattle.std.specs.Prelude.{fold, ⊤}
-use Rattle.std.proofs.lemmas.Bool.{cases_lt}
+use Rattle.std.proofs.lemmas.Bool.{cases_lt, le-leb}
 use Rattle.oak_model.specs.declared.writes.Write.{Write}
 use Rattle.oak_model.specs.State.{State}
 use Rattle.oak_model.specs.History.{History, StampsRise, FollowsCell, IsWriteOn, IsLegal, last_state, place_of}
-use Rattle.oak_model.proofs.HistoryLaws.{StampsAbove, place_of-above, leb-within}
+use Rattle.oak_model.proofs.HistoryLaws.{StampsAbove, place_of-above}
 
 -- the stamps count up by one from above n
 abbrev pub DenseFrom : ℕ → History → Type 0
@@ -34,7 +34,7 @@ place_dense : (n at : ℕ) (h : History) → DenseFrom n h → n ≤ at → at �
 place_dense n at [] d low high = omega arith
 place_dense n at (w ∷ ws) d low high =
     elim (cases_lt n at) [
-      | inl lt ↦ rw (leb-within w.stamp at (omega (arith, d.0))) (let ih = place_dense (suc n) at ws d.1 (omega arith) (omega arith) in omega (arith, ih))
+      | inl lt ↦ rw (le-leb w.stamp at (omega (arith, d.0))) (let ih = place_dense (suc n) at ws d.1 (omega arith) (omega arith) in omega (arith, ih))
       | inr ge ↦ rw (place_of-above at (w ∷ ws) (dense-above n at (w ∷ ws) d ge)) (omega arith)
     ]
 

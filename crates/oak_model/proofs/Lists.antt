@@ -1,11 +1,11 @@
 -- Lists read by `get_elem?`, of which one element is exchanged, or which are lengthened or mapped.
-use Rattle.std.proofs.Common.{get_or, ◌+◌, ◌≡◌, ◌≢◌, ℕ, zero, suc, ◌<◌, ◌≤◌, ◌⊎◌, List, [], ◌∷◌, ◌++◌, map, length, set, sym, refl, ap, ◌∙◌, subst, inl, inr, ⊎_elim, arith, append_assoc, append-nil, length-append, cond, Bool, le-leb}
-use Rattle.std.proofs.lemmas.Bool.{lt-leb}
+use Rattle.std.proofs.Common.{get_or, ◌+◌, ◌≡◌, ◌≢◌, ℕ, zero, suc, ◌<◌, ◌≤◌, ◌⊎◌, List, [], ◌∷◌, ◌++◌, map, length, set, sym, refl, ap, ◌∙◌, subst, inl, inr, ⊎_elim, arith, append_assoc, append-nil, length-append, cond}
 use mathlib.Core.Logic.{dite}
 use mathlib.Core.Option.{some, some-injective, some-ne-none}
 use native.Mathlib.Decide.{dec_le}
 use lib.ListN.{get_elem?}
 use Rattle.oak_model.specs.Counts.{rows, Every, Each, Begins, longest}
+use Rattle.oak_model.proofs.Counting.{le-cases}
 
 module _ {A : Type 0} where
   pub at_set : (l : List A) (i j : ℕ) (a b : A) → get_elem? (set l i a) j ≡ some b → ((j ≡ i) × (a ≡ b)) ⊎ ((j ≢ i) × (get_elem? l j ≡ some b))
@@ -107,8 +107,7 @@ module _ {A : Type 0} where
 
   pub longest-cases : (x : List A) (xs : List (List A)) (P : List A → Type 0) → (length x ≤ length (longest xs) → P (longest xs)) → (length (longest xs) < length x → P x) → P (longest (x ∷ xs))
   unfolding longest
-  longest-cases x xs P short long = dite (dec_le (length x) (length (longest xs))) (λ l. subst (λ (t : Bool). P (cond t (longest xs) x)) (sym (le-leb (length x) (length (longest xs)) l)) (short l))
-      (λ no. subst (λ (t : Bool). P (cond t (longest xs) x)) (sym (lt-leb (length x) (length (longest xs)) (omega arith))) (long (omega arith)))
+  longest-cases x xs P short long = le-cases (length x) (length (longest xs)) (λ t. P (cond t (longest xs) x)) short long
 
   pub longest_begins : (L : List A) (xs : List (List A)) → Each (λ s. Begins s L) xs → Begins (longest xs) L
   unfolding longest

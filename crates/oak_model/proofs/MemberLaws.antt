@@ -1,8 +1,11 @@
 -- Members of lists: what holds of each holds of one, what counts is that of one, and what passes a test.
-use Rattle.std.proofs.Common.{◌≡◌, ℕ, ◌+◌, ◌<◌, ◌≤◌, cond, Bool, true, false, List, [], ◌∷◌, sym, refl, ap, ◌∙◌, subst, inl, inr, ⊎_elim, arith}
+use Rattle.std.proofs.Common.{◌≡◌, ℕ, zero, suc, ◌+◌, ◌<◌, ◌≤◌, cond, Bool, true, false, List, [], ◌∷◌, sym, refl, ap, ◌∙◌, subst, inl, inr, ⊎_elim, arith}
 use Rattle.std.specs.Prelude.{not, filter}
+use Rattle.std.proofs.lemmas.Bool.{both_ways}
 use mathlib.Core.Logic.{dite}
+use mathlib.Core.Option.{some, some-injective, some-ne-none}
 use native.Mathlib.Decide.{dec_lt}
+use lib.ListN.{get_elem?}
 use Rattle.oak_model.specs.Counts.{total, Each, Has}
 use Rattle.oak_model.proofs.Counting.{test-cases}
 
@@ -10,6 +13,11 @@ module _ {A : Type 0} where
   pub each_has : (P : A → Type 0) (xs : List A) (x : A) → Each P xs → Has x xs → P x
   each_has P [] x h m = absurd m
   each_has P (y ∷ ys) x h m = ⊎_elim (λ (e : x ≡ y). subst P (sym e) h.0) (λ (r : Has x ys). each_has P ys x h.1 r) m
+
+  pub each_at : (P : A → Type 0) (xs : List A) → Each P xs → (i : ℕ) (x : A) → get_elem? xs i ≡ some x → P x
+  each_at P [] h i x e = absurd (some-ne-none x (sym e))
+  each_at P (y ∷ ys) h zero x e = subst P (some-injective y x e) h.0
+  each_at P (y ∷ ys) h (suc i) x e = each_at P ys h.1 i x e
 
   -- what follows for each member
   pub each_in : (P Q : A → Type 0) (xs : List A) → ((x : A) → Has x xs → P x → Q x) → Each P xs → Each Q xs
@@ -47,10 +55,7 @@ module _ {A : Type 0} (p : A → Bool) where
   pub filter_all : (f : A → ℕ) (xs : List A) → ((x : A) → f x ≡ 0 → p x ≡ true) → total f xs ≡ 0 → filter p xs ≡ xs
   unfolding total
   filter_all f [] h e = refl
-  filter_all f (x ∷ xs) h e = filter-cases x xs (λ l. l ≡ x ∷ xs) (λ _. ap (λ (l : List A). x ∷ l) (filter_all f xs h (omega arith))) (λ no. absurd (apart (sym (h x (omega arith)) ∙ no)))
-    where
-      apart : true ≡ false → ⊥
-      apart e = cc
+  filter_all f (x ∷ xs) h e = filter-cases x xs (λ l. l ≡ x ∷ xs) (λ _. ap (λ (l : List A). x ∷ l) (filter_all f xs h (omega arith))) (λ no. absurd (both_ways (p x) no (h x (omega arith))))
 
   pub each_filter : (P : A → Type 0) (xs : List A) → Each P xs → Each P (filter p xs)
   each_filter P [] h = h
@@ -58,8 +63,5 @@ module _ {A : Type 0} (p : A → Bool) where
 
   pub has_filter : (xs : List A) (y : A) → Has y xs → p y ≡ true → Has y (filter p xs)
   has_filter [] y h d = h
-  has_filter (x ∷ xs) y (inl e) d = filter-cases x xs (Has y) (λ _. inl e) (λ no. absurd (apart (sym d ∙ (ap p e ∙ no))))
-    where
-      apart : true ≡ false → ⊥
-      apart e = cc
+  has_filter (x ∷ xs) y (inl e) d = filter-cases x xs (Has y) (λ _. inl e) (λ no. absurd (both_ways (p x) no (sym (ap p e) ∙ d)))
   has_filter (x ∷ xs) y (inr h) d = filter-cases x xs (Has y) (λ _. inr (has_filter xs y h d)) (λ _. has_filter xs y h d)

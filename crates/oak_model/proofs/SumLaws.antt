@@ -57,6 +57,10 @@ module _ {A : Type 0} where
   total_plus f g [] = refl
   total_plus f g (x ∷ xs) = let t = total_plus f g xs in omega arith
 
+  -- a sum of sums
+  pub total_sum : (f g k : A → ℕ) (xs : List A) → ((x : A) → f x ≡ g x + k x) → total f xs ≡ total g xs + total k xs
+  total_sum f g k xs h = total_same f (λ x. g x + k x) xs h ∙ total_plus g k xs
+
   -- where f is nothing, g is nothing too
   pub total_none : (f g : A → ℕ) (xs : List A) → ((x : A) → f x ≡ 0 → g x ≡ 0) → total f xs ≡ 0 → total g xs ≡ 0
   unfolding total

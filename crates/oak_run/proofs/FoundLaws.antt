@@ -1,5 +1,5 @@
 -- A plain run, closed by hand, found what its replies tell, and refused nothing.
-use Rattle.std.proofs.Common.{◌≡◌, ℕ, zero, suc, ◌+◌, ◌<◌, ◌≤◌, ◌==◌, Bool, true, false, cond, leb, List, [], ◌∷◌, length, Option, Some, None, refl, sym, ap, subst, ◌∙◌, arith, inl, inr}
+use Rattle.std.proofs.Common.{◌≡◌, ℕ, zero, suc, ◌+◌, ◌<◌, ◌≤◌, ◌==◌, Bool, true, false, cond, leb, le-leb, List, [], ◌∷◌, length, Option, Some, None, refl, sym, ap, subst, ◌∙◌, arith, inl, inr}
 use Rattle.std.specs.Prelude.{IfSome, IsSomeAnd, MatchBool, MatchOption, fold, take, ⊤}
 use Rattle.std.specs.List.{AllByRecursion, slice_get}
 use Rattle.oak_model.specs.declared.replies.Pair.{Pair}
@@ -16,7 +16,7 @@ use Rattle.oak_model.specs.Fits.{WriteFits}
 use Rattle.oak_model.specs.History.{History, Histories, place_of, StampsRise, IsLegal}
 use Rattle.oak_model.specs.Scan.{in_range}
 use Rattle.oak_model.proofs.KeyLaws.{same_itself}
-use Rattle.oak_model.proofs.HistoryLaws.{StampsAbove, place_of-above, leb-within}
+use Rattle.oak_model.proofs.HistoryLaws.{StampsAbove, place_of-above}
 use Rattle.oak_script.specs.declared.scripts.Call.{Call}
 use Rattle.oak_script.specs.declared.scripts.Call.TheVariants.{Put, Get, PutNew, Compute, Upsert, Remove, Hold, Look, Scan, Back}
 use Rattle.oak_run.specs.Told.{Ask, ask_of, wrote_at, wrote_writes, reply_at, is_full, WroteTells}
@@ -49,7 +49,7 @@ place-stamp : (n r : ℕ) (h : History) → StampsRise n h → r ≤ length h �
 place-stamp n zero h rise le = place_of-above n h (stamps-above n n h (omega arith) rise)
 place-stamp n (suc r) [] rise le = absurd (omega (arith, le))
 place-stamp n (suc r) (w ∷ ws) rise le =
-    rw (leb-within w.stamp (stamp_from w.stamp (take r ws)) (stamp-least w.stamp r ws rise.1)) (ap suc (place-stamp w.stamp r ws rise.1 (omega (arith, le))))
+    rw (le-leb w.stamp (stamp_from w.stamp (take r ws)) (stamp-least w.stamp r ws rise.1)) (ap suc (place-stamp w.stamp r ws rise.1 (omega (arith, le))))
 
 place-within : (h : History) (at : ℕ) → place_of h at ≤ length h
 place-within [] at = omega arith

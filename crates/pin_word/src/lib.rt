@@ -2,7 +2,7 @@
 #![tactic(auto, unfolding(crate::specs::PinWord::packed, crate::specs::PinWord::generation_of, crate::specs::PinWord::state_of, crate::specs::PinWord::count_of))]
 
 ghost use Rattle.std.specs.Prelude.{◌≡◌, ◌<◌, ◌≤◌, ◌+◌, ◌-◌, ◌*◌, ◌^◌};
-ghost use Rattle.pin_word.specs.PinWord.{packed, generation_of, state_of, count_of, renewal};
+ghost use Rattle.pin_word.specs.PinWord.{packed, generation_of, state_of, count_of};
 
 /// What one more in the state adds to a word.
 const STATE: u64 = 1 << 28;

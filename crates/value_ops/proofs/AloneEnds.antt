@@ -2,7 +2,7 @@
 use Rattle.std.proofs.Common.{◌≡◌, ℕ, ◌+◌, ◌-◌, ◌*◌, ◌%◌, ◌^◌, ◌<◌, ◌≤◌, cond, Bool, List, get_or, set, sym, refl, ap, ◌∙◌, subst, arith, eq-eqb, ne_eqb}
 use mathlib.Core.Logic.{dite}
 use native.Mathlib.Decide.{ℕ_discrete}
-use Rattle.pin_word.specs.PinWord.{generation_of, state_of}
+use Rattle.pin_word.specs.PinWord.{generation_of, state_of, STATE}
 use Rattle.oak_model.specs.declared.classes.Class.{Class}
 use Rattle.oak_model.specs.declared.writes.Kind.{Kind}
 use Rattle.oak_model.specs.declared.writes.Kind.TheVariants.{Put}
@@ -12,7 +12,7 @@ use Rattle.arena_core.specs.Place.{place_word, class_in, block_in}
 use Rattle.header_core.specs.declared.states.TheConstants.{LIVE, LOCKED, DEAD, RETIRED}
 use Rattle.header_core.specs.Headers.{HeaderSpot, at_pin, at_place, at_stamp}
 use Rattle.header_core.specs.HeaderHolds.{in_state, place_held, generation_held}
-use Rattle.header_core.specs.HeaderStep.{STATE, HeaderStep, store_stamp, change_place, unlock_header, mark_dead, take_back, header_spot, header_effect, renewal}
+use Rattle.header_core.specs.HeaderStep.{HeaderStep, store_stamp, change_place, unlock_header, mark_dead, take_back, header_spot, header_effect, renewal}
 use Rattle.oak_core.specs.declared.states.PassState.{PassState}
 use Rattle.oak_core.specs.AloneWords.{Moment, Runs}
 use Rattle.oak_core.specs.HeaderCalls.{Unlocks, MarksDead}

@@ -2,7 +2,8 @@
 use Rattle.std.proofs.Common.{◌≡◌, ◌≢◌, ℕ, ◌+◌, ◌<◌, true, false, List, get_or, set, sym, ap, ◌∙◌, eq-eqb}
 use prog.Atomic.{either}
 use Rattle.oak_model.specs.Limits.{Sizes}
-use Rattle.header_core.specs.HeaderStep.{STATE, lock_header}
+use Rattle.pin_word.specs.PinWord.{STATE}
+use Rattle.header_core.specs.HeaderStep.{lock_header}
 use Rattle.oak_core.specs.declared.states.PassState.{PassState}
 use Rattle.oak_core.specs.AloneWords.{Runs}
 use Rattle.oak_core.specs.HeaderCalls.{Locks}

@@ -1,7 +1,7 @@
 -- What a load of a pin word and a try to claim its header tell.
 use Rattle.std.proofs.Common.{◌≡◌, ◌≢◌, ℕ, ◌+◌, ◌<◌, ◌==◌, ◌⊎◌, true, false, List, [], ◌∷◌, map, sym, refl, ap, ◌∙◌, subst, inl, inr, Some, eqb-true, eq-eqb, ne_eqb, Bool, set, get_or}
 use prog.Atomic.{either}
-use Rattle.pin_word.specs.PinWord.{generation_of, state_of, count_of}
+use Rattle.pin_word.specs.PinWord.{generation_of, state_of, count_of, STATE}
 use Rattle.pin_word.proofs.Laws.{parts_equal}
 use Rattle.oak_model.specs.Limits.{Sizes}
 use Rattle.oak_model.proofs.Counting.{both_true, true_both, test-cases}
@@ -10,7 +10,7 @@ use Rattle.header_core.specs.declared.states.TheConstants.{FREE}
 use Rattle.header_core.specs.declared.holds.HeldHeader.{HeldHeader}
 use Rattle.header_core.specs.declared.holds.HeaderHolds.{HeaderHolds}
 use Rattle.header_core.specs.Headers.{at_pin}
-use Rattle.header_core.specs.HeaderStep.{STATE, IsFreeWord, claim_header, owned_at}
+use Rattle.header_core.specs.HeaderStep.{IsFreeWord, claim_header, owned_at}
 use Rattle.header_core.proofs.HeaderFacts.{free_unheld}
 use Rattle.oak_core.specs.declared.states.Finding.{Finding}
 use Rattle.oak_core.specs.declared.states.PassState.{PassState}

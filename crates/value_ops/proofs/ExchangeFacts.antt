@@ -1,11 +1,10 @@
 -- What an exchange of a header's pin word leaves, by which a pass comes to hold the header.
 use Rattle.std.proofs.Common.{List, ◌≡◌, ◌≢◌, ℕ, ◌+◌, ◌^◌, ◌<◌, ◌==◌, Bool, true, cond, ◌∷◌, slice_index, ap, ◌∙◌, arith, Some, eq-eqb, ne_eqb}
 use prog.Atomic.{either}
-use Rattle.pin_word.specs.PinWord.{state_of}
+use Rattle.pin_word.specs.PinWord.{state_of, STATE}
 use Rattle.oak_model.specs.Limits.{Sizes}
 use Rattle.header_core.specs.declared.states.TheConstants.{RETIRED}
 use Rattle.header_core.specs.declared.holds.HeldHeader.{HeldHeader}
-use Rattle.header_core.specs.HeaderStep.{STATE}
 use Rattle.oak_core.specs.declared.states.Finding.{Finding}
 use Rattle.oak_core.specs.declared.states.PassState.{PassState}
 use Rattle.oak_core.specs.Memory.{Memory, index, memory}

@@ -1,10 +1,10 @@
 -- What the three steps that fill a header do to the words of a table, where their pass is alone.
 use Rattle.std.proofs.Common.{◌≡◌, ℕ, ◌+◌, ◌<◌, List, set, sym, ap, ◌∙◌, refl, arith, get_or-set_other}
-use Rattle.pin_word.specs.PinWord.{state_of}
+use Rattle.pin_word.specs.PinWord.{state_of, STATE}
 use Rattle.oak_model.specs.Limits.{Sizes}
 use Rattle.header_core.specs.declared.states.TheConstants.{OWNED}
 use Rattle.header_core.specs.Headers.{at_place, at_stamp}
-use Rattle.header_core.specs.HeaderStep.{STATE, store_place, store_stamp, open_header}
+use Rattle.header_core.specs.HeaderStep.{store_place, store_stamp, open_header}
 use Rattle.oak_core.specs.declared.states.PassState.{PassState}
 use Rattle.oak_core.specs.AloneWords.{Runs}
 use Rattle.oak_core.specs.HeaderCalls.{StoresPlace, StoresStamp, Opens}

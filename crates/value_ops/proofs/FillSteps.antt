@@ -1,6 +1,6 @@
 -- The steps that fill a header, one behind the other.
 use Rattle.std.proofs.Common.{◌≡◌, ℕ, ◌+◌, ◌%◌, ◌^◌, ◌<◌, List, [], ◌∷◌, map, sym, refl, ap, ◌∙◌, subst, arith, Some, None}
-use Rattle.pin_word.specs.PinWord.{generation_of, state_of}
+use Rattle.pin_word.specs.PinWord.{generation_of, state_of, STATE}
 use Rattle.oak_model.specs.declared.classes.Class.{Class}
 use Rattle.oak_model.specs.Class.{class_number, class_of}
 use Rattle.oak_model.specs.Counts.{rows}
@@ -13,7 +13,7 @@ use Rattle.arena_core.proofs.PlaceLaws.{class_in-word, block_in-word}
 use Rattle.header_core.specs.declared.states.TheConstants.{OWNED}
 use Rattle.header_core.specs.Headers.{at_pin, at_place, at_stamp}
 use Rattle.header_core.specs.HeaderHolds.{in_state, place_held, IsFreshAt}
-use Rattle.header_core.specs.HeaderStep.{STATE, store_place, store_stamp, open_header, placed_at, stamped_at, freshened}
+use Rattle.header_core.specs.HeaderStep.{store_place, store_stamp, open_header, placed_at, stamped_at, freshened}
 use Rattle.header_core.proofs.HeldChanges.{rows_placed, rows_stamped}
 use Rattle.header_core.proofs.HeaderFacts.{holds_some, held_is, record_of}
 use Rattle.oak_core.specs.declared.states.Finding.{Finding}

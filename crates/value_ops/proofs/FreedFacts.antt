@@ -1,6 +1,6 @@
 -- What a step that frees a header leaves.
 use Rattle.std.proofs.Common.{◌≡◌, ℕ, ◌+◌, ◌-◌, ◌*◌, ◌%◌, ◌^◌, ◌<◌, [], ◌∷◌, map, sym, refl, ap, ◌∙◌, arith}
-use Rattle.pin_word.specs.PinWord.{generation_of, state_of}
+use Rattle.pin_word.specs.PinWord.{generation_of, state_of, STATE}
 use Rattle.oak_model.specs.Limits.{Sizes}
 use Rattle.arena_core.specs.Place.{IsPlace, content}
 use Rattle.header_core.specs.declared.states.TheConstants.{FREE, RETIRED}
@@ -8,7 +8,7 @@ use Rattle.header_core.specs.declared.holds.HeldAs.{HeldAs}
 use Rattle.header_core.specs.declared.holds.HeldAs.TheVariants.{Owned, Fresh, Locked, Buried}
 use Rattle.header_core.specs.HeaderHolds.{held_state}
 use Rattle.header_core.specs.Headers.{at_pin}
-use Rattle.header_core.specs.HeaderStep.{STATE, release_header}
+use Rattle.header_core.specs.HeaderStep.{release_header}
 use Rattle.header_core.proofs.HeaderFacts.{held_is}
 use Rattle.header_core.proofs.PinWordChanges.{state_off}
 use Rattle.oak_core.specs.declared.states.PassState.{PassState}

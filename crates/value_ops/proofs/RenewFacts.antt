@@ -2,7 +2,7 @@
 use Rattle.std.proofs.Common.{◌≡◌, ℕ, suc, ◌+◌, ◌-◌, ◌*◌, ◌%◌, ◌^◌, ◌<◌, ◌==◌, ◌⊎◌, ⊎_elim, cond, Bool, List, [], ◌∷◌, sym, refl, ap, ◌∙◌, subst, arith, eq-eqb, ne_eqb, Some}
 use mathlib.Core.Logic.{dite}
 use native.Mathlib.Decide.{ℕ_discrete}
-use Rattle.pin_word.specs.PinWord.{generation_of, state_of, count_of}
+use Rattle.pin_word.specs.PinWord.{generation_of, state_of, count_of, STATE}
 use Rattle.oak_model.specs.Class.{class_number}
 use Rattle.oak_model.specs.Limits.{Sizes}
 use Rattle.oak_model.proofs.Counting.{one_at-same, one_at-other}
@@ -15,8 +15,9 @@ use Rattle.header_core.specs.declared.states.TheConstants.{FREE, DEAD, RETIRED, 
 use Rattle.header_core.specs.declared.holds.HeldHeader.{HeldHeader}
 use Rattle.header_core.specs.Headers.{at_pin}
 use Rattle.header_core.specs.HeaderHolds.{place_held, without_header}
-use Rattle.header_core.specs.HeaderStep.{STATE, take_back, renewal}
-use Rattle.header_core.proofs.PinWordChanges.{renewed, generation_small}
+use Rattle.header_core.specs.HeaderStep.{take_back, renewal}
+use Rattle.pin_word.proofs.Laws.{generation_small}
+use Rattle.header_core.proofs.PinWordChanges.{renewed}
 use Rattle.oak_core.specs.declared.states.Finding.{Finding}
 use Rattle.oak_core.specs.declared.states.PassState.{PassState}
 use Rattle.oak_core.specs.Memory.{Memory, memory}

@@ -17,7 +17,7 @@ use Rattle.oak_core.specs.Memory.{memory}
 use Rattle.oak_core.specs.PassState.{left_state, right_state, both_state, spent_state}
 use Rattle.oak_core.specs.Rule.{Rule}
 use Rattle.oak_core.specs.Schedule.{Event, steps, splits, joins, Goes, IsSchedule}
-use Rattle.oak_core.specs.Step.{Step, load, give_number, on_arena, on_headers, store_locked, note_full, May, state_after}
+use Rattle.oak_core.specs.Step.{Step, load, give_number, on_arena, on_headers, on_rooms, store_locked, note_full, May, state_after}
 use Rattle.oak_core.specs.TableState.{TableState}
 use Rattle.value_ops.specs.Readers.{StandsAt, KeepsBlock, IsUnpin, Undoes}
 use Rattle.value_ops.proofs.LoadFacts.{holds, live_block, block_owned}
@@ -30,6 +30,7 @@ block_kept z s r seat p at good = let owned = r.blocks.owned (class_in p.place) 
       unheld = omega arith;
       owned = live_block z s r seat at.0 at.1 p at.2 good;
       alone = omega arith;
+      unkeyed = omega arith;
       words = (holds z s r seat at.0 at.1 p at.2 good).words;
     }
 
@@ -53,6 +54,7 @@ own_step z call (load q) s v p may is not_undone = is
 own_step z call (give_number k) s v p may is not_undone = is
 own_step z call (on_arena a) s v p may is not_undone = is
 own_step z call (on_headers x) s v p may is not_undone = header_step z call x s v p may is not_undone
+own_step z call (on_rooms x) s v p may is not_undone = is
 own_step z call (store_locked h c b k x) s v p may is not_undone = is
 own_step z call (note_full lack began) s v p may is not_undone = is
 

@@ -10,7 +10,7 @@ use Rattle.header_core.specs.HeaderHolds.{in_state, generation_held, without_hea
 use Rattle.header_core.specs.HeaderStep.{HeaderStep, unlock_header, mark_dead, header_spot, stamped_at, buried_at}
 use Rattle.header_core.proofs.HeaderFacts.{holds_some}
 use Rattle.header_core.proofs.HeldChanges.{rows_buried-dead}
-use Rattle.header_core.proofs.PinWordChanges.{state_down, state_up}
+use Rattle.pin_word.proofs.StepLaws.{state_down, state_up}
 use Rattle.oak_core.specs.declared.states.PassState.{PassState}
 use Rattle.oak_core.specs.Memory.{memory}
 use Rattle.oak_core.specs.HeaderCalls.{Unlocks, MarksDead}

@@ -1,6 +1,6 @@
 -- What the calls on locks do to the words of the table, where the pass is alone.
 use Rattle.std.specs.Prelude.{◌≡◌, ℕ, suc, ◌+◌, ◌-◌, true, false, List, [], ◌∷◌, length, take, slice_set}
-use Rattle.pin_word.specs.PinWord.{generation_of, state_of}
+use Rattle.pin_word.specs.PinWord.{generation_of, state_of, STATE}
 use Rattle.oak_model.specs.declared.classes.Class.{Class}
 use Rattle.oak_model.specs.declared.recipes.RecipeKind.{RecipeKind}
 use Rattle.oak_model.specs.Class.{class_number}
@@ -10,7 +10,7 @@ use Rattle.arena_core.specs.Arena.{at_bytes}
 use Rattle.arena_core.specs.Place.{place_word, class_in, block_in, length_in, content}
 use Rattle.header_core.specs.declared.states.TheConstants.{LOCKED, DEAD}
 use Rattle.header_core.specs.Headers.{at_pin, at_place, at_stamp}
-use Rattle.header_core.specs.HeaderStep.{STATE, renewal}
+use Rattle.header_core.specs.HeaderStep.{renewal}
 use Rattle.oak_core.specs.Memory.{Spot, in_arena, in_headers, index, memory, read}
 use Rattle.value_ops.specs.declared.locking.NoLock.{NoLock}
 use Rattle.value_ops.specs.Claiming.{ChangesPin}

@@ -1,13 +1,13 @@
 -- What a search for a free header finds, and what a claim does.
 use Rattle.std.specs.Prelude.{◌≡◌, ◌≢◌, ℕ, ◌+◌, ◌<◌, ◌⊎◌, true, false, slice_set, List, ◌∷◌, map}
-use Rattle.pin_word.specs.PinWord.{generation_of}
+use Rattle.pin_word.specs.PinWord.{generation_of, STATE}
 use Rattle.oak_model.specs.Counts.{one_at, total, Each}
 use Rattle.oak_model.specs.Limits.{Sizes}
 use Rattle.header_core.specs.declared.holds.HeldHeader.{HeldHeader}
 use Rattle.header_core.specs.declared.holds.HeaderHolds.{HeaderHolds}
 use Rattle.header_core.specs.Headers.{at_pin}
 use Rattle.header_core.specs.HeaderHolds.{pins_on}
-use Rattle.header_core.specs.HeaderStep.{STATE, IsFreeWord, owned_at}
+use Rattle.header_core.specs.HeaderStep.{IsFreeWord, owned_at}
 use Rattle.oak_core.specs.declared.states.Finding.{Finding}
 use Rattle.oak_core.specs.declared.states.PassState.{PassState}
 use Rattle.oak_core.specs.AloneWords.{Runs}

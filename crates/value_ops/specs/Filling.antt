@@ -2,7 +2,7 @@
 use Rattle.std.specs.Prelude.{◌≡◌, ℕ, ◌+◌, ◌-◌, ◌*◌, cond, List, [], ◌∷◌, slice_set}
 use mathlib.Core.Option.{some}
 use lib.ListN.{get_elem?}
-use Rattle.pin_word.specs.PinWord.{generation_of, state_of, count_of}
+use Rattle.pin_word.specs.PinWord.{generation_of, state_of, count_of, STATE}
 use Rattle.oak_model.specs.declared.classes.Class.{Class}
 use Rattle.oak_model.specs.Class.{class_number}
 use Rattle.oak_model.specs.Counts.{Each}
@@ -15,7 +15,7 @@ use Rattle.header_core.specs.declared.holds.HeldAs.{HeldAs}
 use Rattle.header_core.specs.declared.holds.HeldAs.TheVariants.{Owned, Fresh}
 use Rattle.header_core.specs.HeaderHolds.{place_held, without_header}
 use Rattle.header_core.specs.Headers.{at_place, at_stamp}
-use Rattle.header_core.specs.HeaderStep.{STATE, HeaderStep, release_header, placed_at, stamped_at, freshened}
+use Rattle.header_core.specs.HeaderStep.{HeaderStep, release_header, placed_at, stamped_at, freshened}
 use Rattle.oak_core.specs.declared.states.Finding.{Finding}
 use Rattle.oak_core.specs.declared.states.PassState.{PassState}
 use Rattle.oak_core.specs.AloneWords.{Runs}

@@ -1,7 +1,8 @@
 use Rattle.std.proofs.Common.{rules, ◌≡◌, ◌<◌, ℕ, subst, ◌+◌, true, false, sym, ◌∙◌, arith, eqb-true}
 use Rattle.std.proofs.lemmas.Bool.{eqb-false}
 use Rattle.oak_model.specs.Limits.{Sizes}
-use Rattle.header_core.specs.HeaderStep.{STATE, claim_header}
+use Rattle.pin_word.specs.PinWord.{STATE}
+use Rattle.header_core.specs.HeaderStep.{claim_header}
 use Rattle.header_core.specs.Headers.{at_pin}
 use Rattle.oak_core.specs.Memory.{rooms_at}
 use Rattle.oak_core.specs.Passes.{state, key, call_of}

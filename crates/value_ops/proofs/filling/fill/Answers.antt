@@ -3,7 +3,8 @@ use Rattle.oak_model.specs.declared.classes.Class.{Class}
 use Rattle.oak_model.specs.Class.{class_number}
 use Rattle.oak_model.specs.Limits.{Sizes}
 use Rattle.arena_core.specs.Place.{place_word}
-use Rattle.header_core.specs.HeaderStep.{STATE, store_place, store_stamp, open_header}
+use Rattle.pin_word.specs.PinWord.{STATE}
+use Rattle.header_core.specs.HeaderStep.{store_place, store_stamp, open_header}
 use Rattle.header_core.specs.HeaderHolds.{IsFreshAt}
 use Rattle.oak_core.specs.declared.states.PassState.{PassState}
 use Rattle.oak_core.specs.HeaderCalls.{of_place, of_stamp, StoresPlace, StoresStamp, Opens}

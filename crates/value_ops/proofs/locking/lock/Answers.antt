@@ -1,6 +1,7 @@
 use Rattle.std.proofs.Common.{◌+◌, sym, refl, ◌∙◌, subst, arith}
 use Rattle.oak_model.specs.Limits.{Sizes}
-use Rattle.header_core.specs.HeaderStep.{STATE, lock_header}
+use Rattle.pin_word.specs.PinWord.{STATE}
+use Rattle.header_core.specs.HeaderStep.{lock_header}
 use Rattle.oak_core.specs.AloneWords.{Runs}
 use Rattle.value_ops.specs.AloneLocks.{RefusesPin}
 use Rattle.value_ops.proofs.AloneLock.{refuses_first, never_lost, locks_alone}

@@ -11,4 +11,6 @@ returns c = let z : Sizes = c.args.shape.now in let over = c.loop-class-test.fal
       bits = row_full (bits_begin z) c.loop-class.bits CLASSES inv.bits_long (λ k lt. inv.bits k (omega arith)) i;
       bytes = row_full (bytes_begin z) c.loop-class.bytes CLASSES inv.bytes_long (λ k lt. inv.bytes k (omega arith)) i;
       headers = c.headers_at.ensures.is i;
+      rooms = c.rooms_at.ensures.is i;
+      room_width = c.room_width.ensures.is i;
     }

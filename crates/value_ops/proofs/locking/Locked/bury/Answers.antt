@@ -1,5 +1,6 @@
 use Rattle.oak_model.specs.Limits.{Sizes}
-use Rattle.header_core.specs.HeaderStep.{STATE, mark_dead, stamped_at}
+use Rattle.pin_word.specs.PinWord.{STATE}
+use Rattle.header_core.specs.HeaderStep.{mark_dead, stamped_at}
 use Rattle.oak_core.specs.HeaderCalls.{MarksDead}
 use Rattle.value_ops.proofs.AloneEnds.{buries_alone}
 use Rattle.oak_core.specs.Passes.{state, key, call_of}

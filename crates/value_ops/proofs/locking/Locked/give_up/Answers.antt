@@ -1,6 +1,6 @@
 use Rattle.oak_model.specs.declared.writes.Kind.TheVariants.{Put}
 use Rattle.oak_model.specs.Limits.{Sizes}
-use Rattle.header_core.specs.HeaderStep.{STATE}
+use Rattle.pin_word.specs.PinWord.{STATE}
 use Rattle.value_ops.proofs.AloneEnds.{gives_up_alone}
 use Rattle.oak_core.specs.Passes.{state, key, call_of}
 use Rattle.value_ops.specs.HeldValue.{stamp_held}

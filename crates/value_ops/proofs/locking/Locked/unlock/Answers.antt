@@ -1,5 +1,6 @@
 use Rattle.oak_model.specs.Limits.{Sizes}
-use Rattle.header_core.specs.HeaderStep.{STATE, unlock_header}
+use Rattle.pin_word.specs.PinWord.{STATE}
+use Rattle.header_core.specs.HeaderStep.{unlock_header}
 use Rattle.value_ops.proofs.AloneEnds.{writes_alone}
 use Rattle.oak_core.specs.Passes.{state, key, call_of}
 use Rattle.oak_core.specs.Step.{on_headers}
