@@ -1,6 +1,8 @@
 -- The numbers that a pass keeps for the words of a latched and of a held room, after its own store to one of them.
-use Rattle.std.proofs.Common.{◌≡◌, ℕ, ◌==◌, ◌&&◌, cond, Bool, true, [], ◌∷◌, sym, refl, ap, ◌∙◌, Some, eq-eqb}
-use Rattle.oak_model.specs.Kept.{restored}
+use Rattle.std.proofs.Common.{◌≡◌, ℕ, ◌+◌, ◌==◌, ◌&&◌, cond, Bool, true, List, [], ◌∷◌, sym, refl, ap, ◌∙◌, arith, Some, eq-eqb}
+use Rattle.oak_model.specs.Counts.{one_if, total}
+use Rattle.oak_model.specs.Kept.{KeptWord, keeps, restored}
+use Rattle.oak_model.proofs.Counting.{test-cases}
 use Rattle.chunk_core.specs.declared.holds.EntryWords.{EntryWords}
 use Rattle.chunk_core.specs.declared.holds.Latch.{Latch}
 use Rattle.chunk_core.specs.KeptRooms.{kept_of_entry, kept_of_latch}
@@ -23,3 +25,13 @@ pub latch_restored : (f : EntryField) (x : ℕ) (l : Latch) → kept_of_latch (l
 latch_restored of_key x l = λ j. record { spot = at_count l.room; number = l.count } ∷ entry_restored of_key l.room (entries_in l.count) x l.entry j
 latch_restored of_value x l = λ j. record { spot = at_count l.room; number = l.count } ∷ entry_restored of_value l.room (entries_in l.count) x l.entry j
 latch_restored of_next x l = λ j. record { spot = at_count l.room; number = l.count } ∷ entry_restored of_next l.room (entries_in l.count) x l.entry j
+
+-- a word that is not kept is not restored
+pub restored_unkept : {P : Type 0} (same : P → P → Bool) (p : P) (x : ℕ) (ws : List (KeptWord P)) → keeps same p ws ≡ 0 → restored same p x ws ≡ ws
+unfolding total
+restored_unkept same p x [] e = refl
+restored_unkept same p x (w ∷ ws) e = let t = restored_unkept same p x ws (omega arith) in
+    (λ i. record { spot = w.spot; number = as_it_was i } ∷ t i)
+  where
+    as_it_was : cond (same w.spot p) x w.number ≡ w.number
+    as_it_was = test-cases (same w.spot p) (λ b. one_if b + keeps same p ws ≡ 0 → cond b x w.number ≡ w.number) (λ _ h. absurd (omega arith)) (λ _ _. refl) e

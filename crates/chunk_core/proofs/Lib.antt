@@ -26,5 +26,6 @@ pub mod PastCounts
 pub mod Publish
 pub mod StoredRooms
 pub mod ValueWords
+pub mod KeptLatches
 pub mod KeptRoomWords
 pub mod UnkeptRooms

@@ -20,7 +20,7 @@ use Rattle.chunk_core.specs.declared.holds.RoomHolds.{RoomHolds}
 use Rattle.chunk_core.specs.KeptRooms.{kept_of_entries, kept_of_latch, kept_of_claim, kept_of_copy, kept_of_held, kept_of_rooms_held, kept_of_rooms}
 use Rattle.chunk_core.specs.RoomHolds.{latches_of}
 use Rattle.chunk_core.specs.RoomRule.{latches_on, room_state, in_room_state}
-use Rattle.chunk_core.specs.Rooms.{RoomSpot, same_room_spot, room_at, part_at, kind_at, at_room_pin, at_low, at_high}
+use Rattle.chunk_core.specs.Rooms.{RoomSpot, same_room_spot, room_at, part_at, kind_at, at_room_pin, at_latch, at_low, at_high}
 use Rattle.std.proofs.lemmas.Bool.{and_right}
 use Rattle.std.proofs.lemmas.Option.{none-some}
 
@@ -56,7 +56,7 @@ copy_of_room r w = let P : KeptWord RoomSpot → Type 0 = (λ (t : KeptWord Room
       ),
     )
 
-latch_none : (q : RoomSpot) (l : Option Latch) → latches_of (room_at q) l ≡ 0 → keeps same_room_spot q (kept_of_latch l) ≡ 0
+pub latch_none : (q : RoomSpot) (l : Option Latch) → latches_of (room_at q) l ≡ 0 → keeps same_room_spot q (kept_of_latch l) ≡ 0
 unfolding total
 latch_none q None e = refl
 latch_none q (Some l) e = of_other q l.room (λ s. let o = one_at-same l.room (room_at q) s in absurd (omega arith)) (kept_of_latch (Some l)) (refl, (refl, (refl, (refl, tt))))
@@ -76,10 +76,24 @@ unfolding total kept_of_rooms_held
 rooms_none q [] e = refl
 rooms_none q (h ∷ hs) e = let a = held_none q h.room h.held_as (omega arith) in let t = rooms_none q hs (omega arith) in let s = total_append (λ (w : KeptWord RoomSpot). one_if (same_room_spot w.spot q)) (kept_of_held h.room h.held_as) (kept_of_rooms_held hs) in omega arith
 
-pub none_kept : (q : RoomSpot) (a : RoomHolds) → latches_on (room_at q) a ≡ 0 → a.claim ≡ None → in_room_state (room_at q) HELD a ≡ 0 → keeps same_room_spot q (kept_of_rooms a) ≡ 0
-none_kept q a latch claim held = let l = latch_none q a.latch latch in let c = claim_none q a.claim claim in let h = rooms_none q a.held held in
+-- with the latch's part, which a word of the room may be of
+none_with : (q : RoomSpot) (a : RoomHolds) → keeps same_room_spot q (kept_of_latch a.latch) ≡ 0 → a.claim ≡ None → in_room_state (room_at q) HELD a ≡ 0 → keeps same_room_spot q (kept_of_rooms a) ≡ 0
+none_with q a l claim held = let c = claim_none q a.claim claim in let h = rooms_none q a.held held in
     let s = total_append (λ (w : KeptWord RoomSpot). one_if (same_room_spot w.spot q)) (kept_of_latch a.latch) (kept_of_claim a.claim ++ kept_of_rooms_held a.held) in
     let t = total_append (λ (w : KeptWord RoomSpot). one_if (same_room_spot w.spot q)) (kept_of_claim a.claim) (kept_of_rooms_held a.held) in omega arith
+
+pub none_kept : (q : RoomSpot) (a : RoomHolds) → latches_on (room_at q) a ≡ 0 → a.claim ≡ None → in_room_state (room_at q) HELD a ≡ 0 → keeps same_room_spot q (kept_of_rooms a) ≡ 0
+none_kept q a latch = none_with q a (latch_none q a.latch latch)
+
+-- The latch word: who has the latch keeps others.
+
+no_latch_word : (r : ℕ) (l : Option Latch) → keeps same_room_spot (at_latch r) (kept_of_latch l) ≡ 0
+unfolding total
+no_latch_word r None = refl
+no_latch_word r (Some l) = refl
+
+pub latch_unkept : (r : ℕ) (a : RoomHolds) → a.claim ≡ None → in_room_state r HELD a ≡ 0 → keeps same_room_spot (at_latch r) (kept_of_rooms a) ≡ 0
+latch_unkept r a = none_with (at_latch r) a (no_latch_word r a.latch)
 
 -- Pin words: no pass keeps one.
 

@@ -26,7 +26,8 @@ use Rattle.oak_core.specs.Memory.{Memory, Spot, at_given, in_arena, in_headers, 
 use Rattle.oak_core.specs.Owners.{header_blocks, has_in_headers}
 use Rattle.oak_core.specs.PassState.{blocks_of, headers_held, kept_of}
 use Rattle.oak_core.proofs.Words.{read-write}
-use Rattle.oak_core.proofs.KeptWords.{block_once, kept_with, times, times_of, times_in_arena, times_in_headers, bits_unkept, still_true, parts_put, restored_unkept}
+use Rattle.chunk_core.proofs.KeptRoomWords.{restored_unkept}
+use Rattle.oak_core.proofs.KeptWords.{block_once, kept_with, times, times_of, times_in_arena, times_in_headers, bits_unkept, still_true, parts_put}
 
 -- the words of a block that no pass has had are kept by none
 module _ (z : Sizes) (m : Memory) (o : ℕ → ℕ → ℕ) (vs : List PassState) (seat : ℕ) (v : PassState) (there : get_elem? vs seat ≡ some v) (r : BlocksAreOwned z m.arena.bits o (map blocks_of vs))

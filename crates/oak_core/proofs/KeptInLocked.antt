@@ -26,7 +26,8 @@ use Rattle.oak_core.specs.declared.states.PassState.{PassState}
 use Rattle.oak_core.specs.Memory.{Memory, Spot, in_arena, in_headers, same_spot, read, write}
 use Rattle.oak_core.specs.Owners.{block_of_header, blocks_of_header, header_blocks}
 use Rattle.oak_core.specs.PassState.{kept_of}
-use Rattle.oak_core.proofs.KeptWords.{kept_with, times_in_arena, restored_unkept}
+use Rattle.chunk_core.proofs.KeptRoomWords.{restored_unkept}
+use Rattle.oak_core.proofs.KeptWords.{kept_with, times_in_arena}
 use Rattle.oak_core.proofs.Words.{read-write}
 
 -- of the headers that have a block, only h has this one

@@ -1,10 +1,10 @@
 -- The words that a pass keeps, part by part: those of its blocks, those of the blocks of its headers, and those of its headers.
-use Rattle.std.proofs.Common.{◌≡◌, ℕ, ◌+◌, ◌≤◌, cond, Bool, List, [], ◌∷◌, ◌++◌, map, set, refl, ◌∙◌, subst, arith}
+use Rattle.std.proofs.Common.{◌≡◌, ℕ, ◌+◌, ◌≤◌, List, [], ◌∷◌, ◌++◌, map, set, refl, ◌∙◌, subst, arith}
 use mathlib.Core.Option.{some}
 use lib.ListN.{get_elem?}
 use Rattle.oak_model.specs.Class.{class_number}
 use Rattle.oak_model.specs.Counts.{total, one_if}
-use Rattle.oak_model.specs.Kept.{KeptWord, keeps, AreTrueTo, KeptNumbersStand, renamed, restored}
+use Rattle.oak_model.specs.Kept.{KeptWord, keeps, AreTrueTo, KeptNumbersStand, renamed}
 use Rattle.oak_model.proofs.Lists.{at_map, each_append}
 use Rattle.oak_model.proofs.Counting.{test-cases, total_append, total_map, total_zero}
 use Rattle.oak_model.proofs.KeptLaws.{kept_put, kept_unkept}
@@ -128,13 +128,3 @@ module _ (m : Memory) (vs : List PassState) (seat : ℕ) (v : PassState) (there 
   pub parts_put : (a : HeldBlocks) (h : HeaderHolds) → PartsAreTrue (write m p y) a h → ((q : Spot) → total (times q) (map kept_of vs) + times q (kept_with a h) ≤ 1 + times q (kept_of v))
       → KeptNumbersStand same_spot (read (write m p y)) (set (map kept_of vs) seat (kept_with a h))
   parts_put a h true_to few = kept_put same_spot (read (write m p y)) (map kept_of vs) seat (kept_of v) (kept_with a h) (at_map kept_of vs seat v there) (of_parts (write m p y) a h true_to) few written
-
--- a word that is not kept is not restored
-pub restored_unkept : {P : Type 0} (same : P → P → Bool) (p : P) (x : ℕ) (ws : List (KeptWord P)) → keeps same p ws ≡ 0 → restored same p x ws ≡ ws
-unfolding total
-restored_unkept same p x [] e = refl
-restored_unkept same p x (w ∷ ws) e = let t = restored_unkept same p x ws (omega arith) in
-    (λ i. record { spot = w.spot; number = as_it_was i } ∷ t i)
-  where
-    as_it_was : cond (same w.spot p) x w.number ≡ w.number
-    as_it_was = test-cases (same w.spot p) (λ b. one_if b + keeps same p ws ≡ 0 → cond b x w.number ≡ w.number) (λ _ h. absurd (omega arith)) (λ _ _. refl) e

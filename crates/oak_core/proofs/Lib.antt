@@ -43,6 +43,8 @@ pub mod WholeHeaders
 pub mod KeepsHeaders
 pub mod KeepsLocked
 pub mod KeepsNotes
+pub mod KeepsLatches
+pub mod KeepsRoomPins
 pub mod KeepsRooms
 pub mod EachEvent
 pub mod Allowed

@@ -23,7 +23,7 @@ use Rattle.header_core.specs.declared.holds.HeaderHolds.{HeaderHolds}
 use Rattle.header_core.specs.HeaderHolds.{in_state, place_held}
 use Rattle.header_core.specs.HeaderStep.{HeaderStep, change_place, open_header, pin_header, release_header, lock_header, take_back, header_spot, header_effect, header_found, MayHeader, headers_after, reworded}
 use Rattle.chunk_core.specs.MayOnRooms.{MayRoom}
-use Rattle.chunk_core.specs.RoomStep.{RoomStep, pin_room, unpin_room, room_spot, room_effect, room_found}
+use Rattle.chunk_core.specs.RoomStep.{RoomStep, pin_room, unpin_room, latch_room, store_entry, unlatch_room, room_spot, room_effect, room_found}
 use Rattle.chunk_core.specs.Rooms.{IsInRooms}
 use Rattle.chunk_core.specs.RoomsAfter.{rooms_after}
 use Rattle.oak_core.specs.Memory.{Memory, Spot, at_given, in_arena, in_headers, in_rooms, index, IsInside, memory}
@@ -106,14 +106,17 @@ pub record MayOnHeaders (z : Sizes) (x : HeaderStep) (v : PassState) : Type 0 wh
   pub known : MayKnowing x v
 
 -- the word is one of the table's, and the pass has of rooms what the step asks
-pub record MayOnPin (z : Sizes) (x : RoomStep) (v : PassState) : Type 0 where
+pub record MayOnRoom (z : Sizes) (x : RoomStep) (v : PassState) : Type 0 where
   pub inside : IsInRooms z (room_spot x)
   pub rooms : MayRoom z x v.rooms
 
--- a pass pins a room and undoes its pin; the other kinds none makes yet
+-- a pass pins a room, takes its latch, stores to the entry past the count, gives the latch up, and undoes its pin; the other kinds none makes yet
 abbrev pub MayOnRooms : Sizes → RoomStep → PassState → Type 0
-MayOnRooms z (pin_room r) v = MayOnPin z (pin_room r) v
-MayOnRooms z (unpin_room r) v = MayOnPin z (unpin_room r) v
+MayOnRooms z (pin_room r) v = MayOnRoom z (pin_room r) v
+MayOnRooms z (unpin_room r) v = MayOnRoom z (unpin_room r) v
+MayOnRooms z (latch_room r) v = MayOnRoom z (latch_room r) v
+MayOnRooms z (store_entry f r i x) v = MayOnRoom z (store_entry f r i x) v
+MayOnRooms z (unlatch_room r) v = MayOnRoom z (unlatch_room r) v
 MayOnRooms z _ v = ⊥
 
 -- the pass has the header locked, and the block is the header's
