@@ -1,8 +1,8 @@
 -- What a word names among the rooms, and what the steps on them tell.
 use Rattle.std.specs.Prelude.{◌≡◌, ℕ, ◌<◌}
 use Rattle.oak_model.specs.Limits.{Sizes}
-use Rattle.chunk_core.specs.Rooms.{at_room_pin}
-use Rattle.chunk_core.specs.RoomStep.{pin_room, unpin_room}
+use Rattle.chunk_core.specs.Rooms.{at_room_pin, at_latch}
+use Rattle.chunk_core.specs.RoomStep.{EntryField, entry_spot, pin_room, unpin_room, latch_room, store_entry, unlatch_room}
 use Rattle.oak_core.specs.declared.states.PassState.{PassState}
 use Rattle.oak_core.specs.Memory.{in_rooms, index}
 use Rattle.oak_core.specs.Step.{on_rooms, Told}
@@ -19,3 +19,26 @@ PinsRoomWord z call r v n w = Told z call (on_rooms (pin_room r)) v n w
 -- the pin was undone
 abbrev pub UnpinsRoomWord : Sizes → ℕ → ℕ → PassState → ℕ → PassState → Type 0
 UnpinsRoomWord z call r v n w = Told z call (on_rooms (unpin_room r)) v n w
+
+-- the latch word of the room
+pub record NamesLatch (z : Sizes) (r word : ℕ) : Type 0 where
+  pub inside : r < z.chunks
+  pub word_is : word ≡ index z (in_rooms (at_latch r))
+
+-- a word of the entry i of the room
+pub record NamesEntryWord (z : Sizes) (f : EntryField) (r i word : ℕ) : Type 0 where
+  pub inside : r < z.chunks
+  pub entry : i < z.entries
+  pub word_is : word ≡ index z (in_rooms (entry_spot f r i))
+
+-- the latch was taken, where n is 0
+abbrev pub TakesLatch : Sizes → ℕ → ℕ → PassState → ℕ → PassState → Type 0
+TakesLatch z call r v n w = Told z call (on_rooms (latch_room r)) v n w
+
+-- the word became x
+abbrev pub StoresEntry : Sizes → ℕ → EntryField → (r i x : ℕ) → PassState → PassState → Type 0
+StoresEntry z call f r i x v w = (n : ℕ) × Told z call (on_rooms (store_entry f r i x)) v n w
+
+-- the latch was given up
+abbrev pub GivesLatch : Sizes → ℕ → ℕ → PassState → PassState → Type 0
+GivesLatch z call r v w = (n : ℕ) × Told z call (on_rooms (unlatch_room r)) v n w

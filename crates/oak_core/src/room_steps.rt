@@ -1,11 +1,11 @@
 //! The steps on the words of the rooms, which callers find in [`crate::steps`].
 ghost use Rattle.std.specs.Prelude.{◌≡◌, ℕ};
-ghost use Rattle.chunk_core.specs.RoomStep.{pin_room, unpin_room};
-ghost use Rattle.oak_core.specs.RoomCalls.{NamesRoomPin, PinsRoomWord, UnpinsRoomWord};
+ghost use Rattle.chunk_core.specs.RoomStep.{EntryField, pin_room, unpin_room, latch_room, store_entry, unlatch_room};
+ghost use Rattle.oak_core.specs.RoomCalls.{NamesRoomPin, NamesLatch, NamesEntryWord, PinsRoomWord, UnpinsRoomWord, TakesLatch, StoresEntry, GivesLatch};
 ghost use Rattle.oak_core.specs.Step.{MayOnRooms};
 ghost use Rattle.oak_core.specs.Passes.{IsPassOf, Stays, state, key, call_of};
 
-use crate::atoms::{add_said, sub_said};
+use crate::atoms::{add_said, exchange_said, store_said, sub_said};
 use crate::table::{OakTable, Pass};
 use std::marker::Brand;
 
@@ -29,4 +29,36 @@ pub fn unpin_room(table: &OakTable, pass: &mut Pass, word: u32, operand: u64) ->
     ensures told { (r : ℕ) → NamesRoomPin (key table.now) r word → UnpinsRoomWord (key table.now) (call_of pass.old) r (state pass.old) result (state pass.new) }
 {
     sub_said::<Brand>(table, pass, word as usize, operand)
+}
+
+/// Takes the latch of a room on which the pass has a good pin, where it is free: `word` is its latch
+/// word, `old` 0 and `new` 1. The pass has the latch where 0 was found. A pass has one latch at most.
+pub fn latch_room(table: &OakTable, pass: &mut Pass, word: u32, old: u64, new: u64) -> u64
+    requires own { IsPassOf table.now pass.old }
+    requires names { (r : ℕ) × NamesLatch (key table.now) r word × (old ≡ 0) × (new ≡ 1) × MayOnRooms (key table.now) (latch_room r) (state pass.old) }
+    ensures own { Stays pass.old pass.new }
+    ensures told { (r : ℕ) → NamesLatch (key table.now) r word → TakesLatch (key table.now) (call_of pass.old) r (state pass.old) result (state pass.new) }
+{
+    exchange_said::<Brand>(table, pass, word as usize, old, new)
+}
+
+/// Stores a number to `word`, a word of the entry past the count of a room whose latch the pass has.
+pub fn store_entry(table: &OakTable, pass: &mut Pass, word: u32, value: u64)
+    requires own { IsPassOf table.now pass.old }
+    requires names { (f : EntryField) × (r : ℕ) × (i : ℕ) × NamesEntryWord (key table.now) f r i word × MayOnRooms (key table.now) (store_entry f r i value) (state pass.old) }
+    ensures own { Stays pass.old pass.new }
+    ensures told { (f : EntryField) (r i : ℕ) → NamesEntryWord (key table.now) f r i word → StoresEntry (key table.now) (call_of pass.old) f r i value (state pass.old) (state pass.new) }
+{
+    store_said::<Brand>(table, pass, word as usize, value);
+}
+
+/// Gives up the pass's latch: `word` is the room's latch word, and `value` 0. What the pass stored to
+/// the entry past the count is lost to it, unless the entry was published.
+pub fn unlatch_room(table: &OakTable, pass: &mut Pass, word: u32, value: u64)
+    requires own { IsPassOf table.now pass.old }
+    requires names { (r : ℕ) × NamesLatch (key table.now) r word × (value ≡ 0) × MayOnRooms (key table.now) (unlatch_room r) (state pass.old) }
+    ensures own { Stays pass.old pass.new }
+    ensures told { (r : ℕ) → NamesLatch (key table.now) r word → GivesLatch (key table.now) (call_of pass.old) r (state pass.old) (state pass.new) }
+{
+    store_said::<Brand>(table, pass, word as usize, value);
 }
