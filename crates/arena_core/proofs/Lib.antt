@@ -6,3 +6,4 @@ pub mod OwnedBlocks
 pub mod ArenaSteps
 pub mod KeptBlocks
 pub mod BlockSums
+pub mod HeldWords

@@ -46,3 +46,8 @@ without c b (h ∷ hs) = cond (is_block c b h) (without c b hs) (h ∷ without c
 -- word k of the block is x
 abbrev pub rewritten : ℕ → ℕ → ℕ → ℕ → List HeldBlock → List HeldBlock
 rewritten c b k x hs = map (λ (h : HeldBlock). record h { words = cond (is_block c b h) (slice_set h.words k x) h.words }) hs
+
+-- the words of the block, of those that the pass holds
+abbrev pub words_held : ℕ → ℕ → List HeldBlock → List ℕ
+words_held c b [] = []
+words_held c b (h ∷ hs) = cond (is_block c b h) h.words (words_held c b hs)

@@ -1,5 +1,5 @@
 -- The numbers that passes keep for words of rooms, where one takes a latch, stores to the entry past the count, or gives the latch up.
-use Rattle.std.proofs.Common.{◌≡◌, ℕ, ◌+◌, ◌<◌, ◌≤◌, cond, List, ◌++◌, map, set, refl, sym, ap, ◌∙◌, subst, inr, arith, Option, Some, None}
+use Rattle.std.proofs.Common.{◌≡◌, ℕ, ◌+◌, ◌<◌, ◌≤◌, cond, List, [], ◌++◌, map, set, refl, sym, ap, ◌∙◌, subst, inr, arith, Option, Some, None, ◌≢◌, ⊎_elim}
 use Rattle.std.proofs.lemmas.List.{map-append}
 use mathlib.Core.Logic.{dite}
 use mathlib.Core.Option.{some}
@@ -9,9 +9,9 @@ use Rattle.pin_word.specs.PinWord.{state_of}
 use Rattle.oak_model.specs.Counts.{one_at, one_if, total}
 use Rattle.oak_model.specs.Kept.{KeptWord, KeptNumbersStand, AreTrueTo, keeps, restored}
 use Rattle.oak_model.specs.Limits.{Sizes}
-use Rattle.oak_model.proofs.Counting.{one_at-cases, one_at-other, one_if_le, total_append, total_at, total_map, total_zero}
-use Rattle.oak_model.proofs.KeptLaws.{kept_put, kept_unkept, kept_own}
-use Rattle.oak_model.proofs.Lists.{at_map, each_append}
+use Rattle.oak_model.proofs.Counting.{one_at-cases, one_at-other, one_if_le, total_append, total_at, total_map, total_zero, one_at-same, total_set, total_two}
+use Rattle.oak_model.proofs.KeptLaws.{kept_put, kept_unkept, kept_own, now_true, same_spots}
+use Rattle.oak_model.proofs.Lists.{at_map, each_append, at_set, at_unmap, set_there}
 use Rattle.oak_model.proofs.RowLaws.{each_rest}
 use Rattle.chunk_core.specs.declared.states.TheConstants.{HELD}
 use Rattle.chunk_core.specs.declared.holds.Latch.{Latch}
@@ -28,6 +28,9 @@ use Rattle.chunk_core.proofs.KeptRoomWords.{latch_restored, restored_unkept}
 use Rattle.chunk_core.proofs.RoomWords.{read_room-of, same_room_spot-self}
 use Rattle.chunk_core.proofs.UnkeptRooms.{latch_none, latch_unkept, none_kept}
 use Rattle.chunk_core.proofs.Weights.{weight_held}
+use lib.Seq.{set-set}
+use Rattle.chunk_core.specs.RoomHolds.{latches_of}
+use Rattle.oak_model.proofs.PutLaws.{put-here}
 
 -- what a pass keeps beside the words under its latch
 abbrev rest_of : RoomHolds → List (KeptWord RoomSpot)
@@ -118,3 +121,61 @@ module _ (z : Sizes) (m : RoomMemory) (content : ℕ → List ℕ) (hs : List Ro
           ∙ (ap (λ (ws : List (KeptWord RoomSpot)). ws ++ rest_of a) (latch_restored f x l)
           ∙ (ap (λ (ws : List (KeptWord RoomSpot)). back (kept_of_latch (Some l)) ++ ws) (sym (restored_unkept same_room_spot p x (rest_of a) rest_none))
           ∙ (sym (map-append (λ (w : KeptWord RoomSpot). record { spot = w.spot; number = cond (same_room_spot w.spot p) x w.number }) (kept_of_latch (Some l)) (rest_of a)) ∙ ap (λ (o : Option Latch). back (kept_of_latch o ++ rest_of a)) (sym is))))
+
+  -- The count becomes x, one more: the words of the entry past it are newly kept, in place of those of the entry that is in use from now on.
+  module _ (l : Latch) (is : a.latch ≡ Some l) (w : weight (m.pin l.room) ≡ 1) (x : ℕ) where
+    abbrev next : Latch
+    next = latched_at m l.room x
+
+    abbrev counted : RoomSpot → ℕ
+    counted = read_room (put_room m (at_count l.room) x)
+
+    here_latch : keeps same_room_spot (at_count l.room) (kept_of_latch (Some l)) ≡ 1
+    unfolding total
+    here_latch = let o = ap one_if (same_room_spot-self (at_count l.room)) in omega arith
+
+    parts_are : (q : RoomSpot) → keeps same_room_spot q (kept_of_rooms a) ≡ keeps same_room_spot q (kept_of_latch (Some l)) + keeps same_room_spot q (rest_of a)
+    parts_are q = ap (λ (o : Option Latch). keeps same_room_spot q (kept_of_latch o ++ rest_of a)) is ∙ keeps_parts q (Some l) a
+
+    -- beside its latch the pass keeps no word of the room
+    rest_unkept : (q : RoomSpot) → room_at q ≡ l.room → keeps same_room_spot q (rest_of a) ≡ 0
+    rest_unkept q at = none_kept q (record a { latch = None }) refl (rule.passes seat a here).claim (subst (λ (t : ℕ). in_room_state t HELD a ≡ 0) (sym at) (unheld l.room w seat a here))
+
+    -- nor does any other
+    others_unkept : (q : RoomSpot) → room_at q ≡ l.room → total (keeps same_room_spot q) (map kept_of_rooms hs) ≤ keeps same_room_spot q (kept_of_rooms a)
+    unfolding total
+    others_unkept q at = let t = total_set (keeps same_room_spot q) (map kept_of_rooms hs) seat (kept_of_rooms a) [] mine in
+        let n : total (keeps same_room_spot q) (set (map kept_of_rooms hs) seat []) ≡ 0 = total_zero (keeps same_room_spot q) (set (map kept_of_rooms hs) seat []) none_there in let e = empty in omega arith
+      where
+        empty : keeps same_room_spot q [] ≡ 0
+        empty = refl
+
+        not_latched : (j : ℕ) (u : RoomHolds) → j ≢ seat → get_elem? hs j ≡ some u → latches_on (room_at q) u ≡ 0
+        not_latched j u ne there = let two = total_two (latches_on (room_at q)) hs j seat u a ne there here in let d = rule.latched (room_at q) in let f = rule.latches (room_at q) in
+            let own : latches_on (room_at q) a ≡ 1 = ap (latches_of (room_at q)) is ∙ one_at-same l.room (room_at q) (sym at) in omega arith
+
+        none_there : (j : ℕ) (ws : List (KeptWord RoomSpot)) → get_elem? (set (map kept_of_rooms hs) seat []) j ≡ some ws → keeps same_room_spot q ws ≡ 0
+        none_there j ws e = ⊎_elim (λ (t : (j ≡ seat) × ([] ≡ ws)). ap (keeps same_room_spot q) (sym t.1))
+            (λ (t : (j ≢ seat) × (get_elem? (map kept_of_rooms hs) j ≡ some ws)). let u = at_unmap kept_of_rooms hs j ws t.1 in
+            ap (keeps same_room_spot q) (sym u.2) ∙ none_kept q u.0 (not_latched j u.0 t.0 u.1) (rule.passes j u.0 u.1).claim (subst (λ (r : ℕ). in_room_state r HELD u.0 ≡ 0) (sym at) (unheld l.room w j u.0 u.1)))
+            (at_set (map kept_of_rooms hs) seat j [] ws e)
+
+    pub kept_published : KeptNumbersStand same_room_spot (read_room (put_room m (at_count l.room) x)) (set (map kept_of_rooms hs) seat (kept_of_rooms (record a { latch = Some (latched_at m l.room x) })))
+    kept_published = let ks = map kept_of_rooms hs in let p = at_count l.room in let back = restored same_room_spot p x (kept_of_rooms a) in
+        let stored = kept_own same_room_spot (read_room m) counted p x (read_room-of _) ks seat (kept_of_rooms a) mine (let e = parts_are p in let o = here_latch in omega arith) kept in
+        subst (KeptNumbersStand same_room_spot counted) (set-set ks seat back (kept_of_latch (Some next) ++ rest_of a))
+        (kept_put same_room_spot counted (set ks seat back) seat back (kept_of_latch (Some next) ++ rest_of a) (set_there ks seat (kept_of_rooms a) back mine) true_to few stored)
+      where
+        -- what it keeps beside is true
+        true_to : AreTrueTo (read_room (put_room m (at_count l.room) x)) (kept_of_latch (Some (latched_at m l.room x)) ++ rest_of a)
+        true_to = each_append (λ (t : KeptWord RoomSpot). counted t.spot ≡ t.number) (kept_of_latch (Some next)) (rest_of a) (put-here m.count l.room x l.room refl, (refl, (refl, (refl, tt))))
+            (subst (AreTrueTo counted) (restored_unkept same_room_spot (at_count l.room) x (rest_of a) (rest_unkept (at_count l.room) refl))
+            (now_true same_room_spot (read_room m) counted (at_count l.room) x (read_room-of _) (rest_of a) (each_rest (λ (t : KeptWord RoomSpot). read_room m t.spot ≡ t.number) (kept_of_latch a.latch) (rest_of a) (kept.true_to seat (kept_of_rooms a) mine))))
+
+        few : (q : RoomSpot) → total (keeps same_room_spot q) (set (map kept_of_rooms hs) seat (restored same_room_spot (at_count l.room) x (kept_of_rooms a))) + keeps same_room_spot q (kept_of_latch (Some (latched_at m l.room x)) ++ rest_of a) ≤ 1 + keeps same_room_spot q (restored same_room_spot (at_count l.room) x (kept_of_rooms a))
+        few q = let back = restored same_room_spot (at_count l.room) x (kept_of_rooms a) in let t = total_set (keeps same_room_spot q) (map kept_of_rooms hs) seat (kept_of_rooms a) back mine in
+            let s = same_spots same_room_spot (read_room m) counted (at_count l.room) x (read_room-of _) q (kept_of_rooms a) in
+            let p = keeps_parts q (Some next) a in let e = parts_are q in dite (ℕ_discrete (room_at q) l.room)
+            (λ at. let o = others_unkept q at in let n = rest_unkept q at in let k = latch_most q next in omega arith)
+            (λ ne. let n = latch_none q (Some next) (one_at-other l.room (room_at q) (λ d. ne (sym d))) in let o = kept.once q in omega arith)
+

@@ -23,6 +23,7 @@ use Rattle.oak_core.proofs.EachEvent.{rule_keeps}
 use Rattle.oak_core.proofs.Keeps.{going_after}
 use Rattle.oak_core.proofs.TwoSeats.{split_keeps, join_keeps}
 use Rattle.oak_core.proofs.Words.{first_word, index_covers}
+use Rattle.oak_core.proofs.PlainLoads.{plain_state}
 
 pub same_power : (k j : ℕ) → 2 ^ k ≡ 2 ^ j → k ≡ j
 same_power k j e = dite (ℕ_discrete k j) (λ q. q) (λ ne. let a = bit_at-pow_same k in let b = bit_at-pow_other j k ne in let c = ap (λ (n : ℕ). bit_at n k) e in absurd (omega arith))
@@ -49,7 +50,7 @@ module _ (z : Sizes) (call : ℕ) (slots id : ℕ) (me : Me (Unit {0}) PassState
 
   pub allows_load : (word : ℕ) → word < word_count z → Allows (Holds z) slots id me word (λ n. n) (λ n m. Loads z call word me.0 n m.0 × KeepsSeat me m)
   allows_load word lt = let t = index_covers z word lt in allows_at (load t.0) (Loads z call word me.0) word (λ n. n) t.2 refl t.1
-      (λ n w told. record { spot = t.0; inside = t.1; at = t.2; told = told; met = told.after ∙ ap (λ (k : ℕ). grown (finding z call t.0 (Some k) k told.table.words me.0 ∷ []) me.0) told.finds })
+      (λ n w told. record { spot = t.0; inside = t.1; at = t.2; told = told; met = λ plain. told.after ∙ (plain_state z call told.table me.0 t.0 plain ∙ ap (λ (k : ℕ). grown (finding z call t.0 (Some k) k told.table.words me.0 ∷ []) me.0) told.finds) })
 
   -- the number is that which the bits name
   pub allows_give : (k bits : ℕ) → bits ≡ 2 ^ k → MayGive z k me.0 → Allows (Holds z) slots id me 0 (λ n. bit_or n bits) (λ n m. ((j : ℕ) → bits ≡ 2 ^ j → Told z call (give_number j) me.0 n m.0) × KeepsSeat me m)

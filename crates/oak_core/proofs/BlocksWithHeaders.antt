@@ -46,7 +46,7 @@ held_alike F w bs lt once =
     let k : ℕ = of_place F w in let o : ℕ = total (here (class_in w) (block_in w)) bs * k in let o' : o ≡ k = ap (λ (i : ℕ). i * k) once ∙ (let e : 1 * k ≡ k = omega arith in e) in
     let x : ℕ = weigh F (without (class_in w) (block_in w) bs) in let y : ℕ = weigh F bs in let out' : x + o ≡ y = out in let res : x + k ≡ y = omega arith in res
 
-held_named : (c b w : ℕ) (bs : List HeldBlock) → class_in w < 4 → total (here (class_in w) (block_in w)) bs ≡ 1 → weigh (only c b) (without (class_in w) (block_in w) bs) + names_block c b w ≡ weigh (only c b) bs
+pub held_named : (c b w : ℕ) (bs : List HeldBlock) → class_in w < 4 → total (here (class_in w) (block_in w)) bs ≡ 1 → weigh (only c b) (without (class_in w) (block_in w) bs) + names_block c b w ≡ weigh (only c b) bs
 held_named c b w bs lt once = ap (λ (n : ℕ). weigh (only c b) (without (class_in w) (block_in w) bs) + n) (sym (only_named c b w lt)) ∙ held_alike (only c b) w bs lt once
 
 module _ (z : Sizes) (m : HeaderMemory) (bits entries : ℕ → ℕ → ℕ) (bs : List HeldBlocks) (seat h x : ℕ) (a : HeldBlocks) (at : get_elem? bs seat ≡ some a) (inside : h < z.headers) (r : BlocksAreOwned z bits (with_others entries z m) bs) (lt : class_in (m.place h) < 4) where

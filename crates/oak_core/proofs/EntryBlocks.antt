@@ -13,15 +13,15 @@ use Rattle.oak_model.proofs.Lists.{at_map}
 use Rattle.arena_core.specs.declared.blocks.HeldBlocks.{HeldBlocks}
 use Rattle.arena_core.specs.Arena.{ArenaSpot, at_bytes}
 use Rattle.arena_core.specs.ArenaStep.{ArenaStep, take_bit, clear_bit, store_word, arena_spot, MayArena}
-use Rattle.arena_core.specs.Blocks.{BlocksAreOwned}
+use Rattle.arena_core.specs.Blocks.{BlocksAreOwned, holds}
 use Rattle.arena_core.proofs.ArenaSteps.{held_once}
 use Rattle.arena_core.specs.Place.{length_in, names_block, content}
 use Rattle.chunk_core.specs.declared.holds.RoomHolds.{RoomHolds}
-use Rattle.chunk_core.specs.CoverSums.{weight, each, owning, owners_in_rooms}
-use Rattle.chunk_core.specs.Covers.{span_in, entry_at, used_at, moving_of}
+use Rattle.chunk_core.specs.CoverSums.{weight, each, owning, owners_in_rooms, all_of}
+use Rattle.chunk_core.specs.Covers.{span_in, entry_at, used_at, moving_of, Cover}
 use Rattle.chunk_core.specs.LinkedEntries.{in_use}
 use Rattle.chunk_core.specs.Rooms.{RoomMemory, at_room_pin}
-use Rattle.chunk_core.proofs.ByteStores.{bytes_partition, bytes_rooms}
+use Rattle.chunk_core.proofs.ByteStores.{bytes_partition, bytes_rooms, bytes_covers}
 use Rattle.chunk_core.proofs.CoverLaws.{covers_same}
 use Rattle.oak_core.specs.declared.states.PassState.{PassState}
 use Rattle.oak_core.specs.EntryOwners.{entry_owners, all_others, is_key_word}
@@ -31,6 +31,7 @@ use Rattle.oak_core.specs.Rule.{Rule}
 use Rattle.oak_core.specs.TableState.{TableState}
 use Rattle.oak_core.proofs.HeadersInArena.{other_content, names_named}
 use Rattle.oak_core.proofs.RoomBundles.{RoomBundles, rooms_now}
+use Rattle.oak_model.specs.declared.classes.Class.{Class}
 
 -- entries own the same blocks whatever the words of these are
 pub owners_content : (z : Sizes) (m : RoomMemory) (content content' : ℕ → List ℕ) (hs : List RoomHolds) (names_it : ℕ → ℕ) → owners_in_rooms z m content' hs names_it ≡ owners_in_rooms z m content hs names_it
@@ -42,7 +43,7 @@ no_key_word : is_key_word 0 ≡ 0
 unfolding length_in
 no_key_word = refl
 
-key_some : (word : ℕ) → 0 < is_key_word word → 0 < word
+pub key_some : (word : ℕ) → 0 < is_key_word word → 0 < word
 key_some word l = dite (ℕ_discrete word 0) (λ e. absurd (let o = no_key_word in let q = ap is_key_word e in omega arith)) (λ ne. omega arith)
 
 pub no_weight : weight 0 ≡ 0
@@ -75,6 +76,10 @@ module _ (z : Sizes) (s : TableState) (r : Rule z s) (c b k x : ℕ) (none : ent
     kept = r.kept_in_rooms;
   }
 
+  -- and whatever is added up over covers
+  pub sums_stored : (F : Cover → ℕ) → all_of z m.rooms (content m'.arena.bytes) hs F ≡ all_of z m.rooms (content m.arena.bytes) hs F
+  sums_stored = bytes_covers z m.rooms (content m.arena.bytes) (content m'.arena.bytes) hs (names_block c b) is_key_word apart key_some (cover_inside z s.words) none r.covers
+
 -- a step on the arena leaves the owners that are headers and entries
 pub owned_whatever : (z : Sizes) (m : Memory) (p : ArenaSpot) (y : ℕ) (hs : List RoomHolds) (bits : ℕ → ℕ → ℕ) (bs : List HeldBlocks) → BlocksAreOwned z bits (all_others z m hs) bs → BlocksAreOwned z bits (all_others z (write m (in_arena p) y) hs) bs
 owned_whatever z m p y hs bits bs r = record {
@@ -83,9 +88,18 @@ owned_whatever z m p y hs bits bs r = record {
   whole = r.whole;
 }
 
+-- no entry has a block that a pass holds
+no_entry_holds : (z : Sizes) (s : TableState) (seat : ℕ) (v : PassState) → Rule z s → get_elem? s.states seat ≡ some v → (c : Class) (b : ℕ) → 0 < holds (class_number c) b v.blocks → entry_owners z (memory z s.words).rooms (content (memory z s.words).arena.bytes) (map rooms_held s.states) (class_number c) b ≡ 0
+no_entry_holds z s seat v r here c b held = let o = (held_once z (memory z s.words).arena (all_others z (memory z s.words) (map rooms_held s.states)) (map blocks_of s.states) seat v.blocks (at_map blocks_of s.states seat v here) r.blocks (class_number c) b held).3 in omega arith
+
 -- and the points on rooms: a pass stores to blocks that it holds alone
 pub rooms_on_arena : (z : Sizes) (s : TableState) (seat : ℕ) (v : PassState) → Rule z s → get_elem? s.states seat ≡ some v → (x : ArenaStep) (y : ℕ) → MayArena z x v.blocks → RoomBundles z (memory z s.words).rooms (write (memory z s.words) (in_arena (arena_spot x)) y).arena.bytes (map rooms_held s.states)
 rooms_on_arena z s seat v r here (take_bit c b) y may = rooms_now z s r
 rooms_on_arena z s seat v r here (clear_bit c b) y may = rooms_now z s r
-rooms_on_arena z s seat v r here (store_word c b k x) y may = bytes_stored z s r (class_number c) b k y
-    (let o = (held_once z (memory z s.words).arena (all_others z (memory z s.words) (map rooms_held s.states)) (map blocks_of s.states) seat v.blocks (at_map blocks_of s.states seat v here) r.blocks (class_number c) b may.block.held).3 in omega arith)
+rooms_on_arena z s seat v r here (store_word c b k x) y may = bytes_stored z s r (class_number c) b k y (no_entry_holds z s seat v r here c b may.block.held)
+
+pub sums_on_arena : (z : Sizes) (s : TableState) (seat : ℕ) (v : PassState) → Rule z s → get_elem? s.states seat ≡ some v → (x : ArenaStep) (y : ℕ) → MayArena z x v.blocks → (F : Cover → ℕ)
+    → all_of z (memory z s.words).rooms (content (write (memory z s.words) (in_arena (arena_spot x)) y).arena.bytes) (map rooms_held s.states) F ≡ all_of z (memory z s.words).rooms (content (memory z s.words).arena.bytes) (map rooms_held s.states) F
+sums_on_arena z s seat v r here (take_bit c b) y may F = refl
+sums_on_arena z s seat v r here (clear_bit c b) y may F = refl
+sums_on_arena z s seat v r here (store_word c b k x) y may F = sums_stored z s r (class_number c) b k y (no_entry_holds z s seat v r here c b may.block.held) F

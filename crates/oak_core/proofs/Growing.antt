@@ -10,6 +10,8 @@ use Rattle.oak_core.specs.Growing.{GrowsTo}
 use Rattle.oak_core.specs.PassState.{no_findings, left_state, right_state, both_state, joined_from}
 use Rattle.oak_core.specs.Step.{Step, load, give_number, on_arena, on_headers, on_rooms, store_locked, note_full, state_after}
 use Rattle.oak_core.specs.TableState.{TableState}
+use Rattle.oak_core.specs.Memory.{memory}
+use Rattle.oak_core.proofs.PlainLoads.{sights_grow}
 
 pub grows_self : (fs : Findings) → GrowsTo fs fs
 grows_self fs = record { met = begins_self fs.met; fulls = begins_self fs.fulls; swept = begins_self fs.swept; sights = begins_self fs.sights; gones = begins_self fs.gones }
@@ -21,7 +23,7 @@ grows_noted : (fs : Findings) (f : Finding) (n : Full) → GrowsTo fs (record fs
 grows_noted fs f n = record { met = (f ∷ [], refl); fulls = (n ∷ [], refl); swept = begins_self fs.swept; sights = begins_self fs.sights; gones = begins_self fs.gones }
 
 pub step_grows : (z : Sizes) (call : ℕ) (x : Step) (s : TableState) (v : PassState) → GrowsTo v.findings (state_after z call x s v).findings
-step_grows z call (load p) s v = grows_met v.findings _
+step_grows z call (load p) s v = record { met = (_, refl); fulls = begins_self v.findings.fulls; swept = begins_self v.findings.swept; sights = sights_grow p call (memory z s.words) v; gones = begins_self v.findings.gones }
 step_grows z call (give_number k) s v = grows_met v.findings _
 step_grows z call (on_arena a) s v = grows_met v.findings _
 step_grows z call (on_headers x) s v = grows_met v.findings _

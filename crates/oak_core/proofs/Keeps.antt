@@ -5,7 +5,6 @@ use mathlib.Core.Option.{some}
 use mathlib.Core.Logic.{dite}
 use native.Mathlib.Decide.{ℕ_discrete}
 use lib.ListN.{get_elem?}
-use lib.Seq.{set-get_or}
 use Rattle.oak_model.specs.Limits.{Sizes}
 use Rattle.oak_model.specs.Counts.{Every, Each}
 use Rattle.oak_model.specs.Kept.{KeptNumbersStand}
@@ -22,7 +21,7 @@ use Rattle.oak_core.specs.Memory.{Memory, Spot, at_given, same_spot, read, write
 use Rattle.oak_core.specs.Finding.{finding}
 use Rattle.oak_core.specs.PassState.{blocks_of, headers_held, rooms_held, numbers_of, findings_of, knowledge_of, kept_of}
 use Rattle.oak_core.specs.TableState.{TableState}
-use Rattle.oak_core.specs.Rule.{WordsStand, NumbersStand, FindingsStand, HistoriesStand, SpentIsSpent, JoinedStand, FindingsHold, AloneStands, Rule, PassStands}
+use Rattle.oak_core.specs.Rule.{WordsStand, NumbersStand, FindingsStand, HistoriesStand, SpentIsSpent, JoinedStand, FindingsHold, Rule, PassStands}
 use Rattle.oak_core.specs.EntryOwners.{all_others}
 use Rattle.oak_core.specs.Owners.{HeadersAreHeld}
 use Rattle.oak_core.specs.Known.{known}
@@ -33,6 +32,7 @@ use Rattle.oak_core.proofs.Found.{found_more}
 use Rattle.oak_core.proofs.Lacked.{fulls_met}
 use Rattle.oak_core.proofs.AloneLast.{alone_steps}
 use Rattle.oak_core.proofs.RoomBundles.{RoomBundles, rooms_now}
+use Rattle.oak_core.proofs.KeyBundles.{KeyBundles}
 
 pub same_number : (n k : ℕ) → Some n ≡ Some k → n ≡ k
 same_number n k e = cc
@@ -70,15 +70,15 @@ module _ (z : Sizes) (s : TableState) (call seat : ℕ) (v : PassState) (r : Rul
   abbrev m : Memory
   m = memory z s.words
 
-  spent_stays : (x : Step) → Every SpentIsSpent (set s.states seat (state_after z call x s v))
+  pub spent_stays : (x : Step) → Every SpentIsSpent (set s.states seat (state_after z call x s v))
   spent_stays x = (stepped s.states seat v (state_after z call x s v) here).every SpentIsSpent ((λ e. absurd (true≢false (sym e ∙ (going_after z call x s v ∙ going)))), tt) (λ j u _ at. r.spent j u at)
 
-  joined_stays : (x : Step) → Every (JoinedStand z) (set s.states seat (state_after z call x s v))
+  pub joined_stays : (x : Step) → Every (JoinedStand z) (set s.states seat (state_after z call x s v))
   joined_stays x = (stepped s.states seat v (state_after z call x s v) here).every (JoinedStand z) (subst (λ (js : List Joined). Each (λ (j : Joined). FullsStand z j.findings) js) (sym (joined_after z call x s v)) (r.joined seat v here), tt)
       (λ j u _ at. r.joined j u at)
 
   -- the pins stay known, if that of this pass does
-  passes_stay : (w : PassState) → PassStands w → Every PassStands (set s.states seat w)
+  pub passes_stay : (w : PassState) → PassStands w → Every PassStands (set s.states seat w)
   passes_stay w mine = (stepped s.states seat v w here).every PassStands (mine, tt) (λ j u _ at. r.passes j u at)
 
   -- a step that leaves what its pass knows, and its headers, leaves the points on headers
@@ -101,10 +101,11 @@ module _ (z : Sizes) (s : TableState) (call seat : ℕ) (v : PassState) (r : Rul
   -- the rule after a step that changes its word, from the bundles over the memory and the parts of the states after it
   pub stepped_rule : (x : Step) → IsInside z (spot x) → effect x (found z x s) < 2 ^ 64 → let m' = write m (spot x) (effect x (found z x s)) in let after = set s.states seat (state_after z call x s v) in
       NumbersStand z m'.given (map numbers_of after) → FindingsStand z m'.given (map findings_of after) → HistoriesStand (map knowledge_of after) → BlocksAreOwned z m'.arena.bits (all_others z m' (map rooms_held after)) (map blocks_of after) → HeadersAreHeld m'.headers m'.arena.bytes (known (map knowledge_of after)) (map headers_held after) → RoomBundles z m'.rooms m'.arena.bytes (map rooms_held after)
-      → KeptNumbersStand same_spot (read m') (map kept_of after) → PassStands (state_after z call x s v) → Rule z (table_after z call x seat v s)
-  stepped_rule x inside small numbers findings histories blocks headers rooms kept pin =
+      → KeyBundles z m' after → KeptNumbersStand same_spot (read m') (map kept_of after) → PassStands (state_after z call x s v) → Rule z (table_after z call x seat v s)
+  stepped_rule x inside small numbers findings histories blocks headers rooms keys kept pin =
       let y : ℕ = effect x (found z x s) in let after : List PassState = set s.states seat (state_after z call x s v) in let law = memory_set z s.words (spot x) y r.words.counted inside in
-      let later : List ℕ = set s.words (index z (spot x)) y in let now : RoomBundles z (memory z later).rooms (memory z later).arena.bytes (map rooms_held after) = subst (λ (a : Memory). RoomBundles z a.rooms a.arena.bytes (map rooms_held after)) (sym law) rooms in record {
+      let later : List ℕ = set s.words (index z (spot x)) y in let now : RoomBundles z (memory z later).rooms (memory z later).arena.bytes (map rooms_held after) = subst (λ (a : Memory). RoomBundles z a.rooms a.arena.bytes (map rooms_held after)) (sym law) rooms in
+      let known_now : KeyBundles z (memory z later) after = subst (λ (a : Memory). KeyBundles z a after) (sym law) keys in record {
         sizes = r.sizes;
         words = words_put z s.words (index z (spot x)) y (index_below z (spot x) inside) small r.words;
         numbers = subst (λ (a : Memory). NumbersStand z a.given (map numbers_of after)) (sym law) numbers;
@@ -116,6 +117,8 @@ module _ (z : Sizes) (s : TableState) (call seat : ℕ) (v : PassState) (r : Rul
         headers = subst (λ (a : Memory). HeadersAreHeld a.headers a.arena.bytes (known (map knowledge_of after)) (map headers_held after)) (sym law) headers;
         rooms = now.rooms;
         covers = now.covers;
+        written = known_now.written;
+        heard = known_now.heard;
         passes = passes_stay (state_after z call x s v) pin;
         alone = alone_steps z s r seat v here going call x;
         kept = subst (λ (a : Memory). KeptNumbersStand same_spot (read a) (map kept_of after)) (sym law) kept;
@@ -138,14 +141,15 @@ module _ (z : Sizes) (s : TableState) (call seat : ℕ) (v : PassState) (r : Rul
   pub elsewhere_rule : (x : Step) (f : Finding) → IsInside z (spot x) → effect x (found z x s) < 2 ^ 64 → same_spot at_given (spot x) ≡ false → let w = state_after z call x s v in f.word ≡ index z (spot x) → w.findings ≡ record v.findings { met = v.findings.met ++ f ∷ [] }
       → w.numbers ≡ v.numbers → w.knowledge ≡ v.knowledge → (let m' = write m (spot x) (effect x (found z x s)) in BlocksAreOwned z m'.arena.bits (all_others z m' (map rooms_held (set s.states seat w))) (map blocks_of (set s.states seat w)))
       → (let m' = write m (spot x) (effect x (found z x s)) in HeadersAreHeld m'.headers m'.arena.bytes (known (map knowledge_of s.states)) (map headers_held (set s.states seat w)))
-      → (let m' = write m (spot x) (effect x (found z x s)) in RoomBundles z m'.rooms m'.arena.bytes (map rooms_held (set s.states seat w))) → KeptNumbersStand same_spot (read (write m (spot x) (effect x (found z x s)))) (map kept_of (set s.states seat w)) → PassStands w → Rule z (table_after z call x seat v s)
-  elsewhere_rule x f inside small other at grew numbers knowledge blocks headers rooms kept pin =
+      → (let m' = write m (spot x) (effect x (found z x s)) in RoomBundles z m'.rooms m'.arena.bytes (map rooms_held (set s.states seat w)))
+      → KeyBundles z (write m (spot x) (effect x (found z x s))) (set s.states seat w) → KeptNumbersStand same_spot (read (write m (spot x) (effect x (found z x s)))) (map kept_of (set s.states seat w)) → PassStands w → Rule z (table_after z call x seat v s)
+  elsewhere_rule x f inside small other at grew numbers knowledge blocks headers rooms keys kept pin =
       let w : PassState = state_after z call x s v in let y : ℕ = effect x (found z x s) in let same : (write m (spot x) y).given ≡ m.given = ap (λ (b : Bool). cond b y m.given) other in
       stepped_rule x inside small
       (subst (λ (g : ℕ). NumbersStand z g (map numbers_of (set s.states seat w))) (sym same) (subst (NumbersStand z m.given) (sym (map_set_same numbers_of s.states seat v w here numbers)) r.numbers))
       (subst (λ (g : ℕ). FindingsStand z g (map findings_of (set s.states seat w))) (sym same) (findings_elsewhere (spot x) f w inside other at grew))
       (subst HistoriesStand (sym (map_set_same knowledge_of s.states seat v w here knowledge)) r.histories) blocks
-      (subst (λ (qs : List Knowledge). HeadersAreHeld (write m (spot x) y).headers (write m (spot x) y).arena.bytes (known qs) (map headers_held (set s.states seat w))) (sym (map_set_same knowledge_of s.states seat v w here knowledge)) headers) rooms kept pin
+      (subst (λ (qs : List Knowledge). HeadersAreHeld (write m (spot x) y).headers (write m (spot x) y).arena.bytes (known qs) (map headers_held (set s.states seat w))) (sym (map_set_same knowledge_of s.states seat v w here knowledge)) headers) rooms keys kept pin
 
   -- one more finding at a word that stays, in a state whose other parts stay
   pub findings_stay : (p : Spot) (n : ℕ) (w : PassState) → w.findings.met ≡ v.findings.met ++ finding z call p (Some n) n s.words v ∷ [] → FullsStand z w.findings → IsInside z p → n ≡ get_or s.words (index z p) 0
@@ -162,23 +166,3 @@ module _ (z : Sizes) (s : TableState) (call seat : ℕ) (v : PassState) (r : Rul
         tt,
       )
       (λ j x _ e. r.findings j x e))
-
-  pub load_keeps : (p : Spot) → IsInside z p → Rule z (table_after z call (load p) seat v s)
-  load_keeps p inside = let n : ℕ = get_or s.words (index z p) 0 in let w : PassState = state_after z call (load p) s v in
-      subst (λ (ws : List ℕ). Rule z record { words = ws; states = set s.states seat w }) (sym (set-get_or s.words (index z p) 0)) record {
-        sizes = r.sizes;
-        words = r.words;
-        numbers = subst (NumbersStand z m.given) (sym (map_set_same numbers_of s.states seat v w here refl)) r.numbers;
-        findings = findings_stay p n w refl (fulls_met z v.findings w.findings (finding z call p (Some n) n s.words v) refl (r.findings seat v.findings (at_map findings_of s.states seat v here)).noted) inside refl;
-        joined = joined_stays (load p);
-        histories = subst HistoriesStand (sym (map_set_same knowledge_of s.states seat v w here refl)) r.histories;
-        spent = spent_stays (load p);
-        blocks = blocks_stay w refl refl;
-        headers = headers_stay w refl refl;
-        rooms = (rooms_stay w refl).rooms;
-        covers = (rooms_stay w refl).covers;
-        passes = passes_stay w (r.passes seat v here);
-        alone = subst (λ (ws : List ℕ). Every (AloneStands ws) (set s.states seat w)) (set-get_or s.words (index z p) 0) (alone_steps z s r seat v here going call (load p));
-        kept = subst (KeptNumbersStand same_spot (read m)) (sym (map_set_same kept_of s.states seat v w here refl)) r.kept;
-        kept_in_rooms = (rooms_stay w refl).kept;
-      }

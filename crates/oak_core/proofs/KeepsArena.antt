@@ -1,5 +1,5 @@
 -- A step on the arena keeps the rule.
-use Rattle.std.proofs.Common.{◌≡◌, ℕ, ◌-◌, ◌^◌, ◌<◌, false, List, map, get_or, set, sym, refl, subst, arith}
+use Rattle.std.proofs.Common.{◌≡◌, ℕ, ◌-◌, ◌^◌, ◌<◌, false, List, map, get_or, set, sym, ◌∙◌, refl, subst, arith}
 use Rattle.std.proofs.lemmas.Nat.{or_lt, and_le_l}
 use mathlib.Core.Option.{some}
 use lib.ListN.{get_elem?}
@@ -29,12 +29,15 @@ use Rattle.oak_core.specs.Step.{on_arena, state_after, table_after}
 use Rattle.oak_core.proofs.Words.{memory_read}
 use Rattle.oak_core.proofs.OwnerLaws.{live_inside}
 use Rattle.oak_core.proofs.HeaderSums.{headers_own}
-use Rattle.oak_core.proofs.EntryBlocks.{owned_whatever, rooms_on_arena}
+use Rattle.oak_core.proofs.EntryBlocks.{owned_whatever, rooms_on_arena, sums_on_arena}
 use Rattle.oak_core.proofs.Keeps.{of_rooms, elsewhere_rule}
 use Rattle.oak_core.proofs.KeptWords.{kept_with}
 use Rattle.oak_core.proofs.RoomBundles.{RoomBundles}
 use Rattle.oak_core.proofs.KeptInArena.{arena_kept}
 use Rattle.oak_core.proofs.HeadersInArena.{headers_on_arena}
+use Rattle.oak_core.proofs.KeyBundles.{keys_now, keys_framed, rooms_still}
+use Rattle.oak_core.proofs.UnwrittenHeaders.{unnamed_here}
+use Rattle.oak_core.proofs.PinsKnown.{pins_same}
 
 pub class_below : (c : Class) → class_number c < CLASSES
 class_below B16 = omega arith
@@ -98,4 +101,5 @@ module _ (z : Sizes) (s : TableState) (call seat : ℕ) (v : PassState) (r : Rul
       (arena_kept z m (all_others z m rs) s.states seat v here r.blocks (λ c b. let o = headers_own z s r c b in omega arith) r.kept x may))
 
   pub arena_keeps : Rule z (table_after z call (on_arena x) seat v s)
-  arena_keeps = elsewhere_rule z s call seat v r here going (on_arena x) (finding z call p (arena_found x n) y s.words v) inside (arena_small z x v.blocks n may (r.words.small (index z p))) refl refl refl refl refl owned_after headers_after_it (of_rooms z s call seat v r here going w refl (RoomBundles z m.rooms (write m p y).arena.bytes) (rooms_on_arena z s seat v r here x y may)) kept_after (r.passes seat v here)
+  arena_keeps = elsewhere_rule z s call seat v r here going (on_arena x) (finding z call p (arena_found x n) y s.words v) inside (arena_small z x v.blocks n may (r.words.small (index z p))) refl refl refl refl refl owned_after headers_after_it (of_rooms z s call seat v r here going w refl (RoomBundles z m.rooms (write m p y).arena.bytes) (rooms_on_arena z s seat v r here x y may))
+      (keys_framed z m (write m p y) s.states seat v w here (keys_now z s r) (λ F. rooms_still z (write m p y) s.states seat v w here refl F ∙ sums_on_arena z s seat v r here x y may F) refl (unnamed_here z s r seat v here) (pins_same v w refl refl refl (r.heard.pins seat v here))) kept_after (r.passes seat v here)

@@ -41,6 +41,8 @@ use Rattle.oak_core.proofs.KeptFields.{place_kept, stamp_kept}
 use Rattle.oak_core.proofs.KnownLaws.{known_some}
 use Rattle.oak_core.proofs.OwnedAndKept.{OwnedAndKept, quiet, state_is, without_block, claims, counts, opens, releases}
 use Rattle.oak_core.proofs.OwnedUnderLocks.{locks, takes_back, unlocks, buries, changes}
+use Rattle.oak_core.proofs.KeyBundles.{keys_now, keys_framed, rooms_still}
+use Rattle.oak_core.proofs.UnwrittenHeaders.{unnamed_after, pins_know_after}
 
 module _ (z : Sizes) (s : TableState) (seat : ℕ) (v : PassState) (r : Rule z s) (here : get_elem? s.states seat ≡ some v) where
   abbrev m : Memory
@@ -130,6 +132,7 @@ module _ (z : Sizes) (s : TableState) (seat : ℕ) (v : PassState) (r : Rule z s
         (subst (BlocksAreOwned z m.arena.bits (all_others z (write m (in_headers (header_spot x)) y) (map rooms_held s.states))) (sym (map_set blocks_of s.states seat w)) holds.owned))
         (subst (HeadersAreHeld (put_header m.headers (header_spot x) y) m.arena.bytes (knows s)) (sym (map_set headers_held s.states seat w)) stands)
         (rooms_stay z s call seat v r here going w refl)
+        (keys_framed z m (write m (in_headers (header_spot x)) y) s.states seat v w here (keys_now z s r) (rooms_still z m s.states seat v w here refl) refl (unnamed_after z s r seat v here x may) (pins_know_after z s r seat v here x w refl refl refl))
         (subst (KeptNumbersStand same_spot (read (write m (in_headers (header_spot x)) y))) (sym (map_set kept_of s.states seat w)) holds.kept)
         record { pin = pin_known; whole = headers_whole z s seat v r here (r.passes seat v here).whole x may }
 

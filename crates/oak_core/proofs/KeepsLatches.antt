@@ -13,7 +13,7 @@ use Rattle.arena_core.specs.Place.{names_block, content}
 use Rattle.chunk_core.specs.declared.holds.Latch.{Latch}
 use Rattle.chunk_core.specs.declared.holds.PinnedRoom.{PinnedRoom}
 use Rattle.chunk_core.specs.declared.holds.RoomHolds.{RoomHolds}
-use Rattle.chunk_core.specs.CoverSums.{each, owning, weight}
+use Rattle.chunk_core.specs.CoverSums.{each, owning, weight, all_of}
 use Rattle.chunk_core.specs.KeptRooms.{kept_of_latch, kept_of_claim, kept_of_rooms_held, kept_of_rooms}
 use Rattle.chunk_core.specs.LinkedEntries.{entries_in}
 use Rattle.chunk_core.specs.MayOnRooms.{PinsRoom, HasLatch}
@@ -36,6 +36,8 @@ use Rattle.oak_core.specs.TableState.{TableState}
 use Rattle.oak_core.proofs.KeepsRoomPins.{at_rooms, step_rule}
 use Rattle.oak_core.proofs.RoomBundles.{RoomBundles}
 use Rattle.oak_core.proofs.Words.{memory_read}
+use Rattle.oak_core.proofs.PinsKnown.{pins_same}
+use Rattle.chunk_core.specs.Covers.{Cover}
 
 module _ (z : Sizes) (s : TableState) (seat : ℕ) (v : PassState) (r : Rule z s) (here : get_elem? s.states seat ≡ some v) where
   abbrev m : Memory
@@ -51,6 +53,7 @@ module _ (z : Sizes) (s : TableState) (seat : ℕ) (v : PassState) (r : Rule z s
   record Stands (p : RoomSpot) (x : ℕ) (l : Option Latch) : Type 0 where
     bundles : RoomBundles z (write m (in_rooms p) x).rooms m.arena.bytes (set hs seat (record v.rooms { latch = l }))
     blocks : BlocksAreOwned z m.arena.bits (all_others z (write m (in_rooms p) x) (set hs seat (record v.rooms { latch = l }))) (map blocks_of s.states)
+    covers : (F : Cover → ℕ) → all_of z (write m (in_rooms p) x).rooms (content m.arena.bytes) (set hs seat (record v.rooms { latch = l })) F ≡ all_of z m.rooms (content m.arena.bytes) hs F
 
   -- no cover has the word
   module _ (p : RoomSpot) (x : ℕ) (l : Option Latch) (stays : StaysBelow m.rooms (put_room m.rooms p x)) (level : (j : ℕ) → latches_of j l + m.rooms.latch j ≡ latches_of j v.rooms.latch + (put_room m.rooms p x).latch j)
@@ -73,6 +76,7 @@ module _ (z : Sizes) (s : TableState) (seat : ℕ) (v : PassState) (r : Rule z s
         inside = λ c b le. let e = owners c b in let w = r.blocks.inside c b le in omega arith;
         whole = r.blocks.whole;
       };
+      covers = below_covers z m.rooms (put_room m.rooms p x) (content m.arena.bytes) stays hs seat v.rooms (record v.rooms { latch = l }) own refl;
     }
 
   -- what the pass keeps, in its place among what all keep
@@ -130,10 +134,10 @@ module _ (z : Sizes) (s : TableState) (seat : ℕ) (v : PassState) (r : Rule z s
     latch_keeps k may = let n : ℕ = get_or s.words (index z (in_rooms (at_latch k))) 0 in let t = latch_stands k may.rooms.0 may.rooms.1 may.rooms.2 in
         let read_is : m.rooms.latch k ≡ n = memory_read z s.words (in_rooms (at_latch k)) may.inside in
         let u = subst (λ (i : ℕ). Stands (at_latch k) (either (i == 0) 1 i) (cond (m.rooms.latch k == 0) (Some (latched_at m.rooms k (m.rooms.count k))) v.rooms.latch)) read_is t in
-        step_rule z s seat v r here call going (latch_room k) may.inside (test-cases (n == 0) (λ b. either b 1 n < 2 ^ 64) (λ _. omega arith) (λ _. r.words.small (index z (in_rooms (at_latch k))))) u.bundles u.blocks
+        step_rule z s seat v r here call going (latch_room k) may.inside refl (test-cases (n == 0) (λ b. either b 1 n < 2 ^ 64) (λ _. omega arith) (λ _. r.words.small (index z (in_rooms (at_latch k))))) u.bundles u.blocks u.covers (pins_same v _ refl refl refl (r.heard.pins seat v here))
 
     pub store_keeps : (f : EntryField) (k i x : ℕ) → MayOnRoom z (store_entry f k i x) v → Rule z (table_after z call (on_rooms (store_entry f k i x)) seat v s)
-    store_keeps f k i x may = let t = store_stands f k i x may.rooms.0 may.rooms.1 may.rooms.2 may.rooms.3 in step_rule z s seat v r here call going (store_entry f k i x) may.inside may.rooms.4 t.bundles t.blocks
+    store_keeps f k i x may = let t = store_stands f k i x may.rooms.0 may.rooms.1 may.rooms.2 may.rooms.3 in step_rule z s seat v r here call going (store_entry f k i x) may.inside refl may.rooms.4 t.bundles t.blocks t.covers (pins_same v _ refl refl refl (r.heard.pins seat v here))
 
     pub unlatch_keeps : (k : ℕ) → MayOnRoom z (unlatch_room k) v → Rule z (table_after z call (on_rooms (unlatch_room k)) seat v s)
-    unlatch_keeps k may = let t = unlatch_stands k may.rooms in step_rule z s seat v r here call going (unlatch_room k) may.inside (omega arith) t.bundles t.blocks
+    unlatch_keeps k may = let t = unlatch_stands k may.rooms in step_rule z s seat v r here call going (unlatch_room k) may.inside refl (omega arith) t.bundles t.blocks t.covers (pins_same v _ refl refl refl (r.heard.pins seat v here))

@@ -56,6 +56,7 @@ use Rattle.oak_core.proofs.RoomBundles.{RoomBundles}
 use Rattle.oak_core.proofs.KeptInLocked.{Agrees, locked_kept}
 use Rattle.oak_core.proofs.OneOwner.{two_headers, unowned_held, state_locked, place_locked, inside_locked, has_locked}
 use Rattle.oak_core.proofs.OwnerLaws.{live_inside, owner_counts, place_below}
+use Rattle.oak_core.proofs.UnwrittenHeaders.{none_locked, unnamed_here}
 
 each_of : {A : Type 0} (P : A → Type 0) (xs : List A) → ((x : A) → Has x xs → P x) → Each P xs
 each_of P [] h = tt
@@ -155,6 +156,7 @@ module _ (z : Sizes) (s : TableState) (seat : ℕ) (v : PassState) (r : Rule z s
         (owned_whatever z m (at_bytes n b k) x (map rooms_held s.states) m.arena.bits (map blocks_of (set s.states seat w)) (subst (BlocksAreOwned z m.arena.bits (all_others z m (map rooms_held s.states))) (sym (map_set_same blocks_of s.states seat v w here_is refl)) r.blocks)))
         (subst (HeadersAreHeld m.headers (write m p x).arena.bytes (knows s)) (sym (map_set headers_held s.states seat w)) stands)
         (of_rooms z s call seat v r here_is going w refl (RoomBundles z m.rooms (write m p x).arena.bytes) (bytes_stored z s r n b k x no_entry))
+        (absurd (let e = none_locked h v.headers (unnamed_here z s r seat v here_is) in let l = locks.locked in omega arith))
         (subst (KeptNumbersStand same_spot (read (write m p x))) (sym (map_set kept_of s.states seat w))
         (locked_kept m s.states seat v here_is r.kept h n b k x (each_of (Agrees n b h) v.headers.held agrees) whole (unkept k) (keeps_some n b k (header_blocks v.headers.held) in_blocks may.word)))
         record { pin = pin_known; whole = whole_reworded h v.headers.held (r.passes seat v here_is).whole k x }

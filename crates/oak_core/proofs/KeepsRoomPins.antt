@@ -1,5 +1,5 @@
 -- A step on a word of a room that leaves all but the rooms keeps the rule, and so do a pin of a room, and its end.
-use Rattle.std.proofs.Common.{◌≡◌, ℕ, ◌+◌, ◌-◌, ◌%◌, ◌^◌, ◌<◌, false, List, map, set, get_or, sym, refl, ap, ◌∙◌, subst, arith, Option, Some, None}
+use Rattle.std.proofs.Common.{◌≡◌, ℕ, ◌+◌, ◌-◌, ◌%◌, ◌^◌, ◌<◌, false, List, map, set, get_or, sym, refl, ap, ◌∙◌, subst, arith, Option, Some, None, IsSome, true≢false}
 use mathlib.Core.Option.{some}
 use lib.ListN.{get_elem?}
 use Rattle.pin_word.specs.PinWord.{state_of, count_of}
@@ -17,7 +17,7 @@ use Rattle.arena_core.specs.Place.{names_block, content}
 use Rattle.chunk_core.specs.declared.states.TheConstants.{OPEN, FROZEN}
 use Rattle.chunk_core.specs.declared.holds.PinnedRoom.{PinnedRoom}
 use Rattle.chunk_core.specs.declared.holds.RoomHolds.{RoomHolds}
-use Rattle.chunk_core.specs.CoverSums.{weight}
+use Rattle.chunk_core.specs.CoverSums.{weight, all_of}
 use Rattle.chunk_core.specs.KeptRooms.{kept_of_rooms}
 use Rattle.chunk_core.specs.RoomReads.{pinned_at}
 use Rattle.chunk_core.specs.RoomRule.{room_pins, RoomsStand}
@@ -41,9 +41,15 @@ use Rattle.oak_core.specs.TableState.{TableState}
 use Rattle.oak_core.proofs.FewPins.{few_room_pins}
 use Rattle.oak_core.proofs.HeaderStanding.{number_small}
 use Rattle.oak_core.proofs.Keeps.{elsewhere_rule}
-use Rattle.oak_core.proofs.KeptWords.{times_in_rooms, unkept_by_all}
+use Rattle.oak_core.proofs.KeptWords.{times_in_rooms, unkept_by_all, kept_with}
 use Rattle.oak_core.proofs.RoomBundles.{RoomBundles}
 use Rattle.oak_core.proofs.Words.{memory_read, read-write}
+use Rattle.oak_core.proofs.KeyBundles.{keys_now, keys_framed}
+use Rattle.oak_core.proofs.UnwrittenHeaders.{unnamed_here}
+use Rattle.oak_core.proofs.PinsKnown.{KnowsMissed}
+use Rattle.oak_core.specs.Lessons.{PinsKnow}
+use Rattle.chunk_core.specs.Covers.{Cover}
+use Rattle.oak_core.specs.declared.states.Knowledge.{Knowledge}
 
 module _ (z : Sizes) (s : TableState) (seat : ℕ) (v : PassState) (r : Rule z s) (here : get_elem? s.states seat ≡ some v) where
   abbrev m : Memory
@@ -72,10 +78,13 @@ module _ (z : Sizes) (s : TableState) (seat : ℕ) (v : PassState) (r : Rule z s
     none_keeps : total (keeps same_room_spot (at_room_pin k)) (map kept_of_rooms hs) ≡ 0
     none_keeps = total_map kept_of_rooms (keeps same_room_spot (at_room_pin k)) hs ∙ total_zero (λ (a : RoomHolds). keeps same_room_spot (at_room_pin k) (kept_of_rooms a)) hs (λ j a _. pin_unkept k a)
 
+    pub pin_covers : (F : Cover → ℕ) → all_of z m'.rooms (content m.arena.bytes) hs' F ≡ all_of z m.rooms (content m.arena.bytes) hs F
+    pin_covers = weight_covers z m.rooms (content m.arena.bytes) hs seat v.rooms (record v.rooms { pin = o }) at_rooms refl k x same_weight
+
     pub pin_bundles : RoomBundles z m'.rooms m'.arena.bytes hs'
     pin_bundles = record {
       rooms = stands;
-      covers = partition_same z m.rooms m'.rooms (content m.arena.bytes) (content m.arena.bytes) is_key_word hs hs' (weight_covers z m.rooms (content m.arena.bytes) hs seat v.rooms (record v.rooms { pin = o }) at_rooms refl k x same_weight) r.covers;
+      covers = partition_same z m.rooms m'.rooms (content m.arena.bytes) (content m.arena.bytes) is_key_word hs hs' pin_covers r.covers;
       kept = subst (λ (ks : List (List (KeptWord RoomSpot))). KeptNumbersStand same_room_spot (read_room m'.rooms) ks) (sym (map_set_same kept_of_rooms hs seat v.rooms (record v.rooms { pin = o }) at_rooms refl))
           (kept_unkept same_room_spot (read_room m.rooms) (read_room m'.rooms) (at_room_pin k) x (read_room-of _) (map kept_of_rooms hs) none_keeps r.kept_in_rooms);
     }
@@ -91,31 +100,41 @@ module _ (z : Sizes) (s : TableState) (seat : ℕ) (v : PassState) (r : Rule z s
         owners c b = let e = weight_owners z m.rooms (content m.arena.bytes) hs seat v.rooms (record v.rooms { pin = o }) at_rooms refl k x same_weight (names_block c b) in omega arith
 
   module _ (call : ℕ) (going : v.numbers.spent ≡ false) where
-    -- a step that leaves all but the rooms
+    -- a step that leaves all but the rooms, and whatever is added up over covers
     pub step_rule : (x : RoomStep) → IsInRooms z (room_spot x) → let n = get_or s.words (index z (in_rooms (room_spot x))) 0 in let w = state_after z call (on_rooms x) s v in let m' = write m (in_rooms (room_spot x)) (room_effect x n) in
-        room_effect x n < 2 ^ 64 → RoomBundles z m'.rooms m.arena.bytes (set hs seat w.rooms) → BlocksAreOwned z m.arena.bits (all_others z m' (set hs seat w.rooms)) (map blocks_of s.states) → Rule z (table_after z call (on_rooms x) seat v s)
-    step_rule x inside small bundles blocks = let n : ℕ = get_or s.words (index z (in_rooms (room_spot x))) 0 in let w : PassState = state_after z call (on_rooms x) s v in let y : ℕ = room_effect x n in let m' : Memory = write m (in_rooms (room_spot x)) y in
+        w.blocks ≡ v.blocks → room_effect x n < 2 ^ 64 → RoomBundles z m'.rooms m.arena.bytes (set hs seat w.rooms) → BlocksAreOwned z m.arena.bits (all_others z m' (set hs seat w.rooms)) (map blocks_of s.states)
+        → ((F : Cover → ℕ) → all_of z m'.rooms (content m.arena.bytes) (set hs seat w.rooms) F ≡ all_of z m.rooms (content m.arena.bytes) hs F) → PinsKnow w → Rule z (table_after z call (on_rooms x) seat v s)
+    step_rule x inside same small bundles blocks stay pins = let n : ℕ = get_or s.words (index z (in_rooms (room_spot x))) 0 in let w : PassState = state_after z call (on_rooms x) s v in let y : ℕ = room_effect x n in let m' : Memory = write m (in_rooms (room_spot x)) y in
         elsewhere_rule z s call seat v r here going (on_rooms x) (finding z call (in_rooms (room_spot x)) (room_found x n) y s.words v) inside small refl refl refl refl refl
-        (subst (λ (bs : List HeldBlocks). BlocksAreOwned z m.arena.bits (all_others z m' (map rooms_held (set s.states seat w))) bs) (sym (map_set_same blocks_of s.states seat v w here refl))
+        (subst (λ (bs : List HeldBlocks). BlocksAreOwned z m.arena.bits (all_others z m' (map rooms_held (set s.states seat w))) bs) (sym (map_set_same blocks_of s.states seat v w here same))
         (subst (λ (rs : List RoomHolds). BlocksAreOwned z m.arena.bits (all_others z m' rs) (map blocks_of s.states)) (sym (map_set rooms_held s.states seat w)) blocks))
         (subst (λ (hh : List HeaderHolds). HeadersAreHeld m.headers m.arena.bytes (known (map knowledge_of s.states)) hh) (sym (map_set_same headers_held s.states seat v w here refl)) r.headers)
         (subst (RoomBundles z m'.rooms m.arena.bytes) (sym (map_set rooms_held s.states seat w)) bundles)
-        (subst (KeptNumbersStand same_spot (read m')) (sym (map_set_same kept_of s.states seat v w here refl))
+        (keys_framed z m m' s.states seat v w here (keys_now z s r) (λ F. ap (λ (rs : List RoomHolds). all_of z m'.rooms (content m.arena.bytes) rs F) (map_set rooms_held s.states seat w) ∙ stay F) refl (unnamed_here z s r seat v here) pins)
+        (subst (KeptNumbersStand same_spot (read m')) (sym (map_set_same kept_of s.states seat v w here (ap (λ (a : HeldBlocks). kept_with a v.headers) same)))
         (kept_unkept same_spot (read m) (read m') (in_rooms (room_spot x)) y (λ q. read-write m (in_rooms (room_spot x)) q y) (map kept_of s.states) (unkept_by_all (in_rooms (room_spot x)) (times_in_rooms (room_spot x)) s.states) r.kept))
         (r.passes seat v here)
+
+    -- a pin that has found no entries misses no key
+    none_missed : (q : Knowledge) (p : PinnedRoom) → p.count ≡ None → KnowsMissed q p
+    none_missed q p none k missed = absurd (true≢false (sym (subst IsSome none missed.counted)))
 
     pub pin_keeps : (k : ℕ) → MayOnRoom z (pin_room k) v → Rule z (table_after z call (on_rooms (pin_room k)) seat v s)
     pin_keeps k may = let p = small_pin k in let f : count_of (m.rooms.pin k) + 1 < 2 ^ 28 = let t = few_room_pins z s r k in let c = r.rooms.counted k in omega arith in let u = pin_up (m.rooms.pin k) f p in
         let read_is : m.rooms.pin k ≡ get_or s.words (index z (in_rooms (at_room_pin k))) 0 = memory_read z s.words (in_rooms (at_room_pin k)) may.inside in
         let o : Option PinnedRoom = Some (pinned_at m.rooms k) in let stands = pin_stands z m.rooms (content m.arena.bytes) hs r.rooms seat v.rooms at_rooms k may.inside.0 may.rooms f p in
-        step_rule (pin_room k) may.inside (omega arith)
+        step_rule (pin_room k) may.inside refl (omega arith)
         (subst (λ (i : ℕ). RoomBundles z (write m (in_rooms (at_room_pin k)) ((i + 1) % 2 ^ 64)).rooms m.arena.bytes (set hs seat (record v.rooms { pin = o }))) read_is (pin_bundles k ((m.rooms.pin k + 1) % 2 ^ 64) o u.1 stands))
         (subst (λ (i : ℕ). BlocksAreOwned z m.arena.bits (all_others z (write m (in_rooms (at_room_pin k)) ((i + 1) % 2 ^ 64)) (set hs seat (record v.rooms { pin = o }))) (map blocks_of s.states)) read_is (pin_blocks k ((m.rooms.pin k + 1) % 2 ^ 64) o u.1 stands))
+        (λ F. subst (λ (i : ℕ). all_of z (write m (in_rooms (at_room_pin k)) ((i + 1) % 2 ^ 64)).rooms (content m.arena.bytes) (set hs seat (record v.rooms { pin = o })) F ≡ all_of z m.rooms (content m.arena.bytes) hs F) read_is (pin_covers k ((m.rooms.pin k + 1) % 2 ^ 64) o u.1 stands F))
+        (record { counted = none_missed v.knowledge (pinned_at m.rooms k) refl; removed = (r.heard.pins seat v here).removed })
 
     pub unpin_keeps : (k : ℕ) → MayOnRoom z (unpin_room k) v → Rule z (table_after z call (on_rooms (unpin_room k)) seat v s)
     unpin_keeps k may = let p = small_pin k in let some : 0 < count_of (m.rooms.pin k) = let t = total_at (room_pins k) hs seat v.rooms at_rooms in let c = r.rooms.counted k in let one = may.rooms.0 in omega arith in let d = pin_down (m.rooms.pin k) some p in
         let read_is : m.rooms.pin k ≡ get_or s.words (index z (in_rooms (at_room_pin k))) 0 = memory_read z s.words (in_rooms (at_room_pin k)) may.inside in
         let stands = unpin_stands z m.rooms (content m.arena.bytes) hs r.rooms seat v.rooms at_rooms k may.rooms.0 may.rooms.1 p in
-        step_rule (unpin_room k) may.inside (omega arith)
+        step_rule (unpin_room k) may.inside refl (omega arith)
         (subst (λ (i : ℕ). RoomBundles z (write m (in_rooms (at_room_pin k)) ((i + (2 ^ 64 - 1)) % 2 ^ 64)).rooms m.arena.bytes (set hs seat (record v.rooms { pin = None }))) read_is (pin_bundles k ((m.rooms.pin k + (2 ^ 64 - 1)) % 2 ^ 64) None d.1 stands))
         (subst (λ (i : ℕ). BlocksAreOwned z m.arena.bits (all_others z (write m (in_rooms (at_room_pin k)) ((i + (2 ^ 64 - 1)) % 2 ^ 64)) (set hs seat (record v.rooms { pin = None }))) (map blocks_of s.states)) read_is (pin_blocks k ((m.rooms.pin k + (2 ^ 64 - 1)) % 2 ^ 64) None d.1 stands))
+        (λ F. subst (λ (i : ℕ). all_of z (write m (in_rooms (at_room_pin k)) ((i + (2 ^ 64 - 1)) % 2 ^ 64)).rooms (content m.arena.bytes) (set hs seat (record v.rooms { pin = None })) F ≡ all_of z m.rooms (content m.arena.bytes) hs F) read_is (pin_covers k ((m.rooms.pin k + (2 ^ 64 - 1)) % 2 ^ 64) None d.1 stands F))
+        (record { counted = tt; removed = (r.heard.pins seat v here).removed })

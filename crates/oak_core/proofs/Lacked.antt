@@ -66,6 +66,10 @@ each_longer z fs fs' m s ns h = each_map (λ (n : Full). Lacked z n.call n.lack 
 pub fulls_met : (z : Sizes) (fs fs' : Findings) (f : Finding) → fs' ≡ record fs { met = fs.met ++ f ∷ [] } → FullsStand z fs → FullsStand z fs'
 fulls_met z fs fs' f e h = subst (FullsStand z) (sym e) (each_longer z fs (record fs { met = fs.met ++ f ∷ [] }) (f ∷ [], refl) (begins_self fs.swept) fs.fulls h)
 
+-- one more finding, in findings that may have other sights
+pub fulls_more : (z : Sizes) (fs fs' : Findings) (f : Finding) → fs'.met ≡ fs.met ++ f ∷ [] → fs'.swept ≡ fs.swept → fs'.fulls ≡ fs.fulls → FullsStand z fs → FullsStand z fs'
+fulls_more z fs fs' f met swept fulls h = subst (Each (λ (n : Full). Lacked z n.call n.lack fs')) (sym fulls) (each_longer z fs fs' (f ∷ [], met) (subst (Begins fs.swept) (sym swept) (begins_self fs.swept)) fs.fulls h)
+
 -- one more finding, and a call noted that lacks what was found before
 pub fulls_noted : (z : Sizes) (call : ℕ) (lack : Lack) (began : ℕ) (f : Finding) (v : PassState) → Lacks z call lack began (length v.findings.met) v.findings → FullsStand z v.findings → FullsStand z (full_state call lack f v).findings
 fulls_noted z call lack began f v l h = let fs : Findings = (full_state call lack f v).findings in

@@ -66,3 +66,24 @@ pub mod Frames
 pub mod SamePass
 pub mod AloneLast
 pub mod AloneRuns
+mod UnwrittenHeaders
+mod KeyBundles
+mod HeardKeeps
+mod LessonLaws
+mod LessonRanges
+mod LessonReach
+mod LessonSeats
+mod Levels
+mod PinsKnown
+mod Teaching
+mod WritesBelow
+mod PlainLoads
+mod KeepsLoads
+mod KeepsCounts
+mod KeepsPublish
+mod UnwrittenKeys
+mod PublishFacts
+pub mod TaughtStates
+pub mod MissedKeys
+pub mod CountLessons
+mod PublishLessons

@@ -1,5 +1,5 @@
 -- Where an element stands in a list that is two lists, one behind the other.
-use Rattle.std.proofs.Common.{◌≡◌, ℕ, zero, suc, ◌+◌, ◌-◌, ◌<◌, ◌≤◌, List, [], ◌∷◌, ◌++◌, length, sym, ap, ◌∙◌, subst, arith}
+use Rattle.std.proofs.Common.{◌≡◌, ℕ, zero, suc, ◌+◌, ◌-◌, ◌<◌, ◌≤◌, List, [], ◌∷◌, ◌++◌, length, sym, refl, ap, ◌∙◌, subst, arith}
 use mathlib.Core.Option.{some, some-injective, some-ne-none}
 use lib.ListN.{get_elem?}
 use Rattle.oak_model.specs.Counts.{Each}
@@ -22,6 +22,11 @@ module _ {A : Type 0} where
   from_behind (x ∷ xs) m (suc i) a le e = ap (get_elem? m) (let q : suc i - suc (length xs) ≡ i - length xs = omega arith in q) ∙ from_behind xs m i a (omega arith) e
 
   -- in the first
+
+  pub at_some : (l : List A) (i : ℕ) → i < length l → (a : A) × (get_elem? l i ≡ some a)
+  at_some [] i lt = absurd (omega arith)
+  at_some (x ∷ xs) zero lt = (x, refl)
+  at_some (x ∷ xs) (suc i) lt = at_some xs i (omega arith)
 
   pub at_shorter : (l m : List A) (i : ℕ) (a : A) → i < length l → get_elem? (l ++ m) i ≡ some a → get_elem? l i ≡ some a
   at_shorter [] m i a lt e = absurd (omega arith)

@@ -36,8 +36,10 @@ use Rattle.oak_core.proofs.AloneLast.{alone_last}
 use Rattle.oak_core.proofs.AloneRuns.{is_alone-true}
 use Rattle.oak_core.proofs.HeaderPlaces.{pin_place}
 use Rattle.oak_core.proofs.OpeningBlocks.{arena_zero, opening_blocks, opening_headers}
-use Rattle.oak_core.proofs.OpeningRooms.{opening_rooms, opening_covers, no_owners}
+use Rattle.oak_core.proofs.OpeningRooms.{opening_rooms, opening_covers, no_owners, no_values}
 use Rattle.oak_core.proofs.RoomBundles.{RoomBundles, keeps_none, none_true}
+use Rattle.oak_core.specs.Unwritten.{KnowsNoWrite, HoldsUnnamed}
+use Rattle.oak_core.proofs.LessonSeats.{heard_first}
 
 either_small : (b : Bool) (x y : ℕ) → x < 2 ^ 64 → y < 2 ^ 64 → cond b x y < 2 ^ 64
 either_small true x y h k = h
@@ -180,6 +182,12 @@ module _ (z : Sizes) (g : ℕ) (is : IsInLimits z) (lt : g < LAST_GENERATION) wh
     alone = every_one (AloneStands (opening z g).words) first (alone_last (opening z g).words bare_state first record { finding = making z g; met = refl; says = λ _. (refl, is_alone-true first (first_alone z g)) });
     rooms = rooms_open.rooms;
     covers = rooms_open.covers;
+    written = record {
+      knowledge = every_one KnowsNoWrite first.knowledge record { seen = tt; loaded = refl; mine = refl };
+      headers = every_one HoldsUnnamed first.headers tt;
+      values = no_values z rs (content (memory z (opening z g).words).arena.bytes) is.chunks_least open_words.room open_words.others;
+    };
+    heard = heard_first z (memory z (opening z g).words) first refl refl refl;
     kept = opening_kept z g is lt;
     kept_in_rooms = rooms_open.kept;
   }

@@ -15,7 +15,7 @@ use Rattle.chunk_core.specs.declared.holds.RoomHolds.{RoomHolds}
 use Rattle.chunk_core.specs.declared.layout.TheConstants.{BOUND_WORDS}
 use Rattle.chunk_core.specs.declared.states.TheConstants.{OPEN, FROZEN, HELD}
 use Rattle.chunk_core.specs.CoverRule.{CoversPartition}
-use Rattle.chunk_core.specs.CoverSums.{covers, weight, each, is_in, owning, owners_in_rooms}
+use Rattle.chunk_core.specs.CoverSums.{covers, weight, each, is_in, owning, owners_in_rooms, all_of}
 use Rattle.chunk_core.specs.Covers.{Entry, Cover, cover_at, used_at, span_in, entry_at, moving_of}
 use Rattle.chunk_core.specs.KeyWords.{low_number, high_number}
 use Rattle.chunk_core.specs.LinkedEntries.{entries_in, prefix_in, first_numbers}
@@ -113,6 +113,10 @@ module _ (z : Sizes) (m : RoomMemory) (content : ℕ → List ℕ) (some_room : 
     begun = one_cover (cover_at m content) (λ c. 1 - within c.span c.span.low) ∙ (let e = all_keys (span_in m 0).low in omega arith);
     bases = one_cover (cover_at m content) (λ c. names_header c.span.base) ∙ (ap names_header (behind (at_base 0) (omega arith)) ∙ no_header);
   }
+
+  -- no entry has a value
+  pub no_values : all_of z m content hs (each (λ s x. names_header x.value)) ≡ 0
+  no_values = one_cover (cover_at m content) (each (λ s x. names_header x.value)) ∙ empty (λ (x : Entry). names_header x.value)
 
   -- no entry owns a block
   pub no_owners : (names_it : ℕ → ℕ) → owners_in_rooms z m content hs names_it ≡ 0

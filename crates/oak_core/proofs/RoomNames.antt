@@ -3,11 +3,11 @@ use Rattle.std.proofs.Common.{◌≡◌, ℕ, ◌+◌, ◌-◌, ◌%◌, ◌^◌
 use prog.Atomic.{either}
 use Rattle.atomic_table.specs.Table.{Me, Allows}
 use Rattle.oak_model.specs.Limits.{Sizes}
-use Rattle.chunk_core.specs.RoomStep.{EntryField, of_key, of_value, of_next, entry_spot, pin_room, unpin_room, latch_room, store_entry, unlatch_room}
-use Rattle.chunk_core.specs.Rooms.{RoomSpot, at_room_pin, at_latch, at_value, at_next, room_at, part_at, IsInRooms}
+use Rattle.chunk_core.specs.RoomStep.{EntryField, of_key, of_value, of_next, entry_spot, pin_room, unpin_room, latch_room, store_entry, publish_entry, unlatch_room}
+use Rattle.chunk_core.specs.Rooms.{RoomSpot, at_room_pin, at_latch, at_value, at_next, room_at, part_at, IsInRooms, at_count}
 use Rattle.oak_core.specs.declared.states.PassState.{PassState}
 use Rattle.oak_core.specs.Memory.{Spot, in_rooms, word_count}
-use Rattle.oak_core.specs.RoomCalls.{NamesRoomPin, NamesLatch, NamesEntryWord, PinsRoomWord, UnpinsRoomWord, TakesLatch, StoresEntry, GivesLatch}
+use Rattle.oak_core.specs.RoomCalls.{NamesRoomPin, NamesLatch, NamesEntryWord, PinsRoomWord, UnpinsRoomWord, TakesLatch, StoresEntry, GivesLatch, NamesCount, PublishesEntry}
 use Rattle.oak_core.specs.Running.{Holds, KeepsSeat}
 use Rattle.oak_core.specs.Step.{on_rooms, MayOnRooms}
 use Rattle.oak_core.proofs.Allowed.{allows_at}
@@ -36,6 +36,13 @@ one_latch z r k word n m = let s = index_apart z (in_rooms (at_latch r)) (in_roo
 
 pub latch_below : (z : Sizes) (r word : ℕ) → NamesLatch z r word → word < word_count z
 latch_below z r word n = let e = n.word_is in let b = index_below z (in_rooms (at_latch r)) (n.inside, (omega arith)) in omega arith
+
+pub one_count : (z : Sizes) (r k word : ℕ) → NamesCount z r word → NamesCount z k word → r ≡ k
+one_count z r k word n m = let s = index_apart z (in_rooms (at_count r)) (in_rooms (at_count k)) (n.inside, (omega arith)) (m.inside, (omega arith)) (sym n.word_is ∙ m.word_is) in
+    sym (room_of_spot-is (at_count r)) ∙ (ap room_of_spot s ∙ room_of_spot-is (at_count k))
+
+pub count_below : (z : Sizes) (r word : ℕ) → NamesCount z r word → word < word_count z
+count_below z r word n = let e = n.word_is in let b = index_below z (in_rooms (at_count r)) (n.inside, (omega arith)) in omega arith
 
 -- the number of the entry in a spot, and which of its words it is
 
@@ -92,6 +99,12 @@ module _ (z : Sizes) (call : ℕ) (slots id : ℕ) (me : Me (Unit {0}) PassState
   allows_latch word old new r names o e may = allows_at z call slots id me going (on_rooms (latch_room r)) (λ n w. (k : ℕ) → NamesLatch z k word → TakesLatch z call k me.0 n w) word (λ n. either (n == old) new n)
       (sym names.word_is) (λ i n. either (n == sym o i) (sym e i) n) may
       (λ n w told k named. subst (λ (j : ℕ). TakesLatch z call j me.0 n w) (one_latch z r k word names named) told)
+
+  pub allows_publish : (word value r : ℕ) → NamesCount z r word → MayOnRooms z (publish_entry r value) me.0
+      → Allows (Holds z) slots id me word (λ _. value) (λ n m. ((k : ℕ) → NamesCount z k word → PublishesEntry z call k value me.0 m.0) × KeepsSeat me m)
+  allows_publish word value r names may = allows_at z call slots id me going (on_rooms (publish_entry r value)) (λ _ w. (k : ℕ) → NamesCount z k word → PublishesEntry z call k value me.0 w) word (λ _. value)
+      (sym names.word_is) refl may
+      (λ n w told k named. subst (λ (j : ℕ). PublishesEntry z call j value me.0 w) (one_count z r k word names named) (n, told))
 
   pub allows_unlatch : (word value r : ℕ) → NamesLatch z r word → value ≡ 0 → MayOnRooms z (unlatch_room r) me.0
       → Allows (Holds z) slots id me word (λ _. value) (λ _ m. ((k : ℕ) → NamesLatch z k word → GivesLatch z call k me.0 m.0) × KeepsSeat me m)

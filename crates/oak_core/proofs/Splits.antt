@@ -21,6 +21,7 @@ use Rattle.oak_core.proofs.MetLists.{at_behind}
 use Rattle.oak_core.proofs.MetMore.{grown_twice, grown_none}
 use Rattle.oak_core.proofs.Histories.{seen_later, seen_first}
 use Rattle.oak_core.proofs.Words.{first_word, index_apart, memory_read}
+use Rattle.oak_core.specs.Loading.{IsPlain}
 
 pub sees_longer : (v w x : PassState) (k : ℕ) → x ≡ both_state v w → SeesLonger v w x k
 sees_longer v w x k e = subst (λ (y : PassState). SeesLonger v w y k) (sym e) record {
@@ -49,9 +50,13 @@ may_give z call i v w few hand t = record { few = few; hand = (λ k. (t.after k)
 
 -- word 0 is loaded
 module _ (z : Sizes) (call i : ℕ) (v w x : PassState) (n : ℕ) (t : Tried call i v w) (l : Loads z call 0 w n x) where
+  -- it is word 0
+  at_word : l.spot ≡ at_given
+  at_word = index_apart z l.spot at_given l.inside tt (l.at ∙ sym (first_word z))
+
   -- what was found given is given still
   pub given_still : (j : ℕ) → j < i → bit_at n j ≡ 1
-  given_still j lt = let told = l.told in let same : l.spot ≡ at_given = index_apart z l.spot at_given l.inside tt (l.at ∙ sym (first_word z)) in
+  given_still j lt = let told = l.told in let same = at_word in
       let given = (told.rule.findings told.seat w.findings (at_map findings_of told.table.states told.seat w told.here)).found j (tried_shows call i v w t j lt) in
       ap (λ (g : ℕ). bit_at g j) (sym told.finds ∙ (ap (λ (p : Spot). get_or told.table.words (index z p) 0) same ∙ sym (memory_read z told.table.words at_given tt))) ∙ given
 
@@ -59,7 +64,7 @@ module _ (z : Sizes) (call i : ℕ) (v w x : PassState) (n : ℕ) (t : Tried cal
   tried_load k lower = let f : Finding = finding z call l.spot (Some n) n l.told.table.words w in record {
     more = t.more ++ f ∷ [];
     at = each_append (IsAtGiven call) t.more (f ∷ []) t.at ((refl, l.at), tt);
-    after = l.met ∙ (ap (grown (f ∷ [])) t.after ∙ grown_twice v t.more (f ∷ []));
+    after = l.met (subst IsPlain (sym at_word) tt) ∙ (ap (grown (f ∷ [])) t.after ∙ grown_twice v t.more (f ∷ []));
     given = λ _. shows_last t.more f 0 n (λ m. (j : ℕ) → j < k → bit_at m j ≡ 1) l.at refl lower;
   }
 

@@ -1,8 +1,8 @@
 -- What a word names among the rooms, and what the steps on them tell.
 use Rattle.std.specs.Prelude.{◌≡◌, ℕ, ◌<◌}
 use Rattle.oak_model.specs.Limits.{Sizes}
-use Rattle.chunk_core.specs.Rooms.{at_room_pin, at_latch}
-use Rattle.chunk_core.specs.RoomStep.{EntryField, entry_spot, pin_room, unpin_room, latch_room, store_entry, unlatch_room}
+use Rattle.chunk_core.specs.Rooms.{at_room_pin, at_count, at_latch}
+use Rattle.chunk_core.specs.RoomStep.{EntryField, entry_spot, pin_room, unpin_room, latch_room, store_entry, publish_entry, unlatch_room}
 use Rattle.oak_core.specs.declared.states.PassState.{PassState}
 use Rattle.oak_core.specs.Memory.{in_rooms, index}
 use Rattle.oak_core.specs.Step.{on_rooms, Told}
@@ -38,6 +38,15 @@ TakesLatch z call r v n w = Told z call (on_rooms (latch_room r)) v n w
 -- the word became x
 abbrev pub StoresEntry : Sizes → ℕ → EntryField → (r i x : ℕ) → PassState → PassState → Type 0
 StoresEntry z call f r i x v w = (n : ℕ) × Told z call (on_rooms (store_entry f r i x)) v n w
+
+-- the count word of the room
+pub record NamesCount (z : Sizes) (r word : ℕ) : Type 0 where
+  pub inside : r < z.chunks
+  pub word_is : word ≡ index z (in_rooms (at_count r))
+
+-- the count became x, and the entry past it is in use
+abbrev pub PublishesEntry : Sizes → ℕ → (r x : ℕ) → PassState → PassState → Type 0
+PublishesEntry z call r x v w = (n : ℕ) × Told z call (on_rooms (publish_entry r x)) v n w
 
 -- the latch was given up
 abbrev pub GivesLatch : Sizes → ℕ → ℕ → PassState → PassState → Type 0

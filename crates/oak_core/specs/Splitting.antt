@@ -13,14 +13,15 @@ use Rattle.oak_core.specs.PassState.{has_number, knowledge_of, seen_of, history,
 use Rattle.oak_core.specs.TableState.{TableState}
 use Rattle.oak_core.specs.Rule.{Rule}
 use Rattle.oak_core.specs.Step.{load, Told}
+use Rattle.oak_core.specs.Loading.{IsPlain}
 
--- the word was loaded, in one step, and what was found is met
+-- the word was loaded, in one step, and what was found is met; a word that teaches nothing changes nothing else
 pub record Loads (z : Sizes) (call word : ℕ) (v : PassState) (n : ℕ) (w : PassState) : Type 0 where
   pub spot : Spot
   pub inside : IsInside z spot
   pub at : index z spot ≡ word
   pub told : Told z call (load spot) v n w
-  pub met : w ≡ grown (finding z call spot (Some n) n told.table.words v ∷ []) v
+  pub met : IsPlain spot → w ≡ grown (finding z call spot (Some n) n told.table.words v ∷ []) v
 
 -- the finding is of the call, at word 0
 abbrev pub IsAtGiven : ℕ → Finding → Type 0

@@ -1,5 +1,5 @@
 -- The kinds of atomic step of one pass. A step names its word, what becomes of that word, what the step asks of the pass, and the pass's state after it, which may be read off the whole state of the table.
-use Rattle.std.specs.Prelude.{◌≡◌, ℕ, ◌^◌, ◌<◌, ◌⊎◌, ◌==◌, ◌&&◌, cond, Bool, true, false, [], ◌∷◌, ◌++◌, length, slice_index, slice_set, Some, None, bit_or}
+use Rattle.std.specs.Prelude.{◌≡◌, ℕ, ◌^◌, ◌<◌, ◌⊎◌, ◌==◌, ◌&&◌, cond, Bool, true, false, List, [], ◌∷◌, map, ◌++◌, length, slice_index, slice_set, Some, None, bit_or}
 use Rattle.std.specs.Int.{bit_at}
 use mathlib.Core.Option.{some}
 use lib.ListN.{get_elem?}
@@ -13,7 +13,7 @@ use Rattle.oak_core.specs.declared.states.PassState.{PassState}
 use Rattle.arena_core.specs.Arena.{at_bytes, block_words}
 use Rattle.arena_core.specs.ArenaStep.{ArenaStep, arena_spot, arena_effect, arena_found, MayArena, blocks_after}
 use Rattle.arena_core.specs.declared.blocks.HeldBlocks.{HeldBlocks}
-use Rattle.arena_core.specs.Blocks.{HoldsBlock, block_from, without}
+use Rattle.arena_core.specs.Blocks.{HoldsBlock, block_from, without, words_held}
 use Rattle.arena_core.specs.Place.{IsPlace, class_in, block_in, class_from, content}
 use Rattle.header_core.specs.declared.holds.HeldAs.{HeldAs}
 use Rattle.header_core.specs.declared.holds.HeldAs.TheVariants.{Owned, Fresh, Locked, Buried}
@@ -22,9 +22,9 @@ use Rattle.header_core.specs.declared.states.TheConstants.{LOCKED}
 use Rattle.header_core.specs.declared.holds.HeaderHolds.{HeaderHolds}
 use Rattle.header_core.specs.HeaderHolds.{in_state, place_held}
 use Rattle.header_core.specs.HeaderStep.{HeaderStep, change_place, open_header, pin_header, release_header, lock_header, take_back, header_spot, header_effect, header_found, MayHeader, headers_after, reworded}
-use Rattle.chunk_core.specs.MayOnRooms.{MayRoom}
-use Rattle.chunk_core.specs.RoomStep.{RoomStep, pin_room, unpin_room, latch_room, store_entry, unlatch_room, room_spot, room_effect, room_found}
-use Rattle.chunk_core.specs.Rooms.{IsInRooms}
+use Rattle.chunk_core.specs.MayOnRooms.{MayRoom, MayPublish}
+use Rattle.chunk_core.specs.RoomStep.{RoomStep, pin_room, unpin_room, latch_room, store_entry, unlatch_room, room_spot, room_effect, room_found, publish_entry}
+use Rattle.chunk_core.specs.Rooms.{IsInRooms, at_count}
 use Rattle.chunk_core.specs.RoomsAfter.{rooms_after}
 use Rattle.oak_core.specs.Memory.{Memory, Spot, at_given, in_arena, in_headers, in_rooms, index, IsInside, memory}
 use Rattle.oak_core.specs.Finding.{finding, leaving, noted, Shows}
@@ -32,6 +32,10 @@ use Rattle.oak_core.specs.Known.{knows_life, KnowsHeader}
 use Rattle.oak_core.specs.Lack.{Lacks, full_state}
 use Rattle.oak_core.specs.TableState.{TableState}
 use Rattle.oak_core.specs.Rule.{Rule}
+use Rattle.chunk_core.specs.LinkedEntries.{entries_in}
+use Rattle.oak_core.specs.EntryOwners.{is_key_word}
+use Rattle.oak_core.specs.Loading.{knows_by_load, sights_by_load, rooms_by_load}
+use Rattle.oak_core.specs.PassState.{knowledge_of}
 
 pub data Step : Type 0 where
   -- any word is loaded
@@ -110,12 +114,25 @@ pub record MayOnRoom (z : Sizes) (x : RoomStep) (v : PassState) : Type 0 where
   pub inside : IsInRooms z (room_spot x)
   pub rooms : MayRoom z x v.rooms
 
--- a pass pins a room, takes its latch, stores to the entry past the count, gives the latch up, and undoes its pin; the other kinds none makes yet
+-- the pass holds the block that the key word of the entry past the count names, and these are its words
+pub record HoldsKey (z : Sizes) (word : ℕ) (words : List ℕ) (a : HeldBlocks) : Type 0 where
+  pub block : HoldsBlock z (class_in word) (block_in word) a
+  pub words_are : words_held (class_in word) (block_in word) a.held ≡ words
+
+-- the entry past the count may be published, with the words of the block of its key
+pub record MayPublishEntry (z : Sizes) (r x : ℕ) (v : PassState) : Type 0 where
+  pub inside : IsInRooms z (at_count r)
+  pub words : List ℕ
+  pub rooms : MayPublish z is_key_word r x words v.rooms
+  pub block : HoldsKey z rooms.latch.entry.word words v.blocks
+
+-- a pass pins a room, takes its latch, stores to the entry past the count, publishes that, gives the latch up, and undoes its pin; the other kinds none makes yet
 abbrev pub MayOnRooms : Sizes → RoomStep → PassState → Type 0
 MayOnRooms z (pin_room r) v = MayOnRoom z (pin_room r) v
 MayOnRooms z (unpin_room r) v = MayOnRoom z (unpin_room r) v
 MayOnRooms z (latch_room r) v = MayOnRoom z (latch_room r) v
 MayOnRooms z (store_entry f r i x) v = MayOnRoom z (store_entry f r i x) v
+MayOnRooms z (publish_entry r x) v = MayPublishEntry z r x v
 MayOnRooms z (unlatch_room r) v = MayOnRoom z (unlatch_room r) v
 MayOnRooms z _ v = ⊥
 
@@ -171,9 +188,20 @@ blocks_with (release_header h s) m a = block_regained s m.arena.bytes (m.headers
 blocks_with (take_back h x) m a = block_back m.arena.bytes (m.headers.place h) a
 blocks_with _ m a = a
 
+-- the block of a key passes to the entry that is published
+abbrev pub blocks_by_room : RoomStep → Memory → HeldBlocks → HeldBlocks
+blocks_by_room (publish_entry r x) m a = let word = m.rooms.key r (entries_in (m.rooms.count r)) in record a { held = without (class_in word) (block_in word) a.held }
+blocks_by_room _ m a = a
+
 -- the state of the pass after the step
 abbrev pub state_after : Sizes → ℕ → Step → TableState → PassState → PassState
-state_after z call (load p) s v = let n = found z (load p) s in noted (finding z call p (Some n) n s.words v) v
+state_after z call (load p) s v =
+    let n = found z (load p) s in let m = memory z s.words in
+    record v {
+      findings = record v.findings { met = v.findings.met ++ finding z call p (Some n) n s.words v ∷ []; sights = sights_by_load p call m v };
+      knowledge = knows_by_load p m (map knowledge_of s.states) v;
+      rooms = rooms_by_load p m v;
+    }
 state_after z call (give_number k) s v = let n = found z (give_number k) s in record (noted (leaving (finding z call at_given (Some n) (bit_or n (2 ^ k)) s.words v)) v) { numbers = numbered n k v.numbers }
 state_after z call (on_arena a) s v =
     let n = found z (on_arena a) s in
@@ -183,7 +211,7 @@ state_after z call (on_headers x) s v =
     record (noted (finding z call (in_headers (header_spot x)) (header_found x n) (header_effect x n) s.words v) v) { blocks = blocks_with x m v.blocks; headers = headers_after m.headers (content m.arena.bytes) x v.headers }
 state_after z call (on_rooms x) s v =
     let n = found z (on_rooms x) s in let m = memory z s.words in
-    record (noted (finding z call (in_rooms (room_spot x)) (room_found x n) (room_effect x n) s.words v) v) { rooms = rooms_after z m.rooms (content m.arena.bytes) x v.rooms }
+    record (noted (finding z call (in_rooms (room_spot x)) (room_found x n) (room_effect x n) s.words v) v) { blocks = blocks_by_room x m v.blocks; rooms = rooms_after z m.rooms (content m.arena.bytes) x v.rooms }
 state_after z call (store_locked h c b k x) s v = record (noted (finding z call (in_arena (at_bytes (class_number c) b k)) None x s.words v) v) { headers = record v.headers { held = reworded h k x v.headers.held } }
 state_after z call (note_full lack began) s v = let n = found z (note_full lack began) s in full_state call lack (finding z call at_given (Some n) n s.words v) v
 

@@ -1,7 +1,7 @@
 //! The steps on the words of the rooms, which callers find in [`crate::steps`].
 ghost use Rattle.std.specs.Prelude.{◌≡◌, ℕ};
-ghost use Rattle.chunk_core.specs.RoomStep.{EntryField, pin_room, unpin_room, latch_room, store_entry, unlatch_room};
-ghost use Rattle.oak_core.specs.RoomCalls.{NamesRoomPin, NamesLatch, NamesEntryWord, PinsRoomWord, UnpinsRoomWord, TakesLatch, StoresEntry, GivesLatch};
+ghost use Rattle.chunk_core.specs.RoomStep.{EntryField, pin_room, unpin_room, latch_room, store_entry, publish_entry, unlatch_room};
+ghost use Rattle.oak_core.specs.RoomCalls.{NamesRoomPin, NamesLatch, NamesEntryWord, NamesCount, PinsRoomWord, UnpinsRoomWord, TakesLatch, StoresEntry, PublishesEntry, GivesLatch};
 ghost use Rattle.oak_core.specs.Step.{MayOnRooms};
 ghost use Rattle.oak_core.specs.Passes.{IsPassOf, Stays, state, key, call_of};
 
@@ -33,7 +33,7 @@ pub fn unpin_room(table: &OakTable, pass: &mut Pass, word: u32, operand: u64) ->
 
 /// Takes the latch of a room on which the pass has a good pin, where it is free: `word` is its latch
 /// word, `old` 0 and `new` 1. The pass has the latch where 0 was found. A pass has one latch at most.
-pub fn latch_room(table: &OakTable, pass: &mut Pass, word: u32, old: u64, new: u64) -> u64
+pub fn latch(table: &OakTable, pass: &mut Pass, word: u32, old: u64, new: u64) -> u64
     requires own { IsPassOf table.now pass.old }
     requires names { (r : ℕ) × NamesLatch (key table.now) r word × (old ≡ 0) × (new ≡ 1) × MayOnRooms (key table.now) (latch_room r) (state pass.old) }
     ensures own { Stays pass.old pass.new }
@@ -52,9 +52,22 @@ pub fn store_entry(table: &OakTable, pass: &mut Pass, word: u32, value: u64)
     store_said::<Brand>(table, pass, word as usize, value);
 }
 
+/// Publishes the entry past the count of a room whose latch the pass has: `word` is the room's count
+/// word, and `value` its number with one entry more. The key word of the entry names a block that the
+/// pass holds, with a key of the room's range that no entry below the count has, and its value word is
+/// the room's base, its floor. The block is the entry's from then on.
+pub fn publish_entry(table: &OakTable, pass: &mut Pass, word: u32, value: u64)
+    requires own { IsPassOf table.now pass.old }
+    requires names { (r : ℕ) × NamesCount (key table.now) r word × MayOnRooms (key table.now) (publish_entry r value) (state pass.old) }
+    ensures own { Stays pass.old pass.new }
+    ensures told { (r : ℕ) → NamesCount (key table.now) r word → PublishesEntry (key table.now) (call_of pass.old) r value (state pass.old) (state pass.new) }
+{
+    store_said::<Brand>(table, pass, word as usize, value);
+}
+
 /// Gives up the pass's latch: `word` is the room's latch word, and `value` 0. What the pass stored to
 /// the entry past the count is lost to it, unless the entry was published.
-pub fn unlatch_room(table: &OakTable, pass: &mut Pass, word: u32, value: u64)
+pub fn unlatch(table: &OakTable, pass: &mut Pass, word: u32, value: u64)
     requires own { IsPassOf table.now pass.old }
     requires names { (r : ℕ) × NamesLatch (key table.now) r word × (value ≡ 0) × MayOnRooms (key table.now) (unlatch_room r) (state pass.old) }
     ensures own { Stays pass.old pass.new }

@@ -9,7 +9,7 @@ use Rattle.oak_model.proofs.Lists.{at_map}
 use Rattle.arena_core.specs.declared.blocks.HeldBlock.{HeldBlock}
 use Rattle.arena_core.specs.declared.blocks.HeldBlocks.{HeldBlocks}
 use Rattle.arena_core.specs.Arena.{block_words, blocks}
-use Rattle.arena_core.specs.Blocks.{HoldsBlock, holds, is_block, without}
+use Rattle.arena_core.specs.Blocks.{HoldsBlock, holds, is_block, without, words_held}
 use Rattle.arena_core.specs.Place.{place_word, class_in, block_in, class_from, content}
 use Rattle.arena_core.proofs.HeldLists.{is_block-true}
 use Rattle.arena_core.proofs.PlaceLaws.{class_in-word, block_in-word, place_word_fits, class_number-from, class_below}
@@ -29,13 +29,13 @@ use Rattle.oak_core.specs.Step.{MayOnHeaders, same_block}
 use Rattle.oak_core.proofs.HeaderStanding.{parts}
 use Rattle.oak_core.proofs.OneOwner.{unowned_held}
 use Rattle.oak_core.proofs.Words.{header_before}
-use Rattle.value_ops.specs.Filling.{words_held}
 use Rattle.value_ops.specs.HeldValue.{words_in}
 use Rattle.value_ops.specs.UnderLock.{HasLock, ComesTo, LoadsPlace, Exchanges}
 use Rattle.value_ops.proofs.ComesFurther.{comes_as, blocks_met, headers_met, comes_since, lock_met, headers_come}
-use Rattle.value_ops.proofs.FillFacts.{fits_class, is_place, held_words}
+use Rattle.value_ops.proofs.FillFacts.{fits_class, is_place}
 use Rattle.value_ops.proofs.HeldParts.{changed_generation}
 use Rattle.value_ops.proofs.HeldValues.{place_at, block_at, has_it, block_inside, class_low}
+use Rattle.arena_core.proofs.HeldWords.{held_words}
 
 -- who has a block in front holds it
 pub holds_front : (z : Sizes) (c b : ℕ) (o : HeldBlock) (os : List HeldBlock) (a : HeldBlocks) → a.held ≡ o ∷ os → class_number o.class ≡ c → o.number ≡ b → b < blocks z c → HoldsBlock z c b a

@@ -7,7 +7,7 @@ use Rattle.oak_model.specs.Counts.{rows}
 use Rattle.oak_model.specs.Limits.{Sizes}
 use Rattle.oak_model.proofs.Lists.{at_map}
 use Rattle.arena_core.specs.Arena.{block_words}
-use Rattle.arena_core.specs.Blocks.{HoldsBlock, without}
+use Rattle.arena_core.specs.Blocks.{HoldsBlock, without, words_held}
 use Rattle.arena_core.specs.Place.{IsPlace, place_word, class_in, block_in, content}
 use Rattle.arena_core.proofs.PlaceLaws.{class_in-word, block_in-word}
 use Rattle.header_core.specs.declared.states.TheConstants.{OWNED}
@@ -28,9 +28,10 @@ use Rattle.oak_core.proofs.Words.{memory_read, header_before}
 use Rattle.value_ops.proofs.FillRuns.{fill_runs}
 use Rattle.value_ops.proofs.StepLeft.{pin_found}
 use Rattle.value_ops.specs.Claiming.{pin_spot}
-use Rattle.value_ops.specs.Filling.{words_held, filled_state, Fills}
-use Rattle.value_ops.proofs.FillFacts.{fits_class, is_place, placed_here, stamped_place, freshened_known, held_words}
+use Rattle.value_ops.specs.Filling.{filled_state, Fills}
+use Rattle.value_ops.proofs.FillFacts.{fits_class, is_place, placed_here, stamped_place, freshened_known}
 use Rattle.oak_core.proofs.MetMore.{grown_twice}
+use Rattle.arena_core.proofs.HeldWords.{held_words}
 
 module _ (z : Sizes) (call h : ℕ) (c : Class) (b len stamp : ℕ) (v : PassState) (inside : h < z.headers) (own : 0 < in_state h OWNED v.headers) (held : HoldsBlock z (class_number c) b v.blocks) (small : b < 2 ^ 32) (fits : class_of len ≡ Some c) where
   abbrev place : ℕ

@@ -36,7 +36,7 @@ use Rattle.oak_core.proofs.HeaderBlocks.{IsTrueBlock, blocks_true}
 use Rattle.oak_core.proofs.HeaderStanding.{knows, stand, at_headers, parts, place_of}
 use Rattle.oak_core.proofs.OwnerLaws.{live_inside, owner_counts, place_below, names_itself}
 use Rattle.value_ops.specs.HeldValue.{stamp_held, words_in}
-use Rattle.value_ops.proofs.FillFacts.{words_are}
+use Rattle.arena_core.proofs.HeldWords.{words_are}
 
 -- the words of a header's block are those of the table
 

@@ -7,7 +7,7 @@ use Rattle.oak_model.specs.Limits.{Sizes}
 use Rattle.arena_core.specs.declared.blocks.HeldBlocks.{HeldBlocks}
 use Rattle.arena_core.specs.Arena.{blocks}
 use Rattle.arena_core.specs.HeldBlocks.{no_blocks}
-use Rattle.arena_core.specs.Blocks.{is_block, holds, HoldsBlock, block_from, without}
+use Rattle.arena_core.specs.Blocks.{is_block, holds, HoldsBlock, block_from, without, words_held}
 use Rattle.arena_core.specs.Place.{place_word}
 use Rattle.arena_core.proofs.HeldLists.{is_block-true, rewritten_same}
 use Rattle.header_core.specs.declared.holds.HeldAs.TheVariants.{Fresh}
@@ -21,7 +21,7 @@ use Rattle.oak_core.specs.PassState.{IsAlone, bare_state}
 use Rattle.oak_core.proofs.Alone.{numbers_alone}
 use Rattle.arena_ops.specs.Taking.{Takes, Gives, Stores}
 use Rattle.value_ops.specs.Claiming.{ClaimsHeader}
-use Rattle.value_ops.specs.Filling.{ReleasesOwned, words_held, Fills, Withdraws}
+use Rattle.value_ops.specs.Filling.{ReleasesOwned, Fills, Withdraws}
 use Rattle.value_ops.specs.HeldValue.{words_in}
 use Rattle.value_ops.specs.OneHeader.{IsOneHeader, IsOneBlock, KeepsElse}
 

@@ -8,7 +8,7 @@ use Rattle.oak_model.specs.Class.{class_number}
 use Rattle.oak_model.specs.Counts.{Each}
 use Rattle.oak_model.specs.Limits.{Sizes}
 use Rattle.arena_core.specs.declared.blocks.HeldBlock.{HeldBlock}
-use Rattle.arena_core.specs.Blocks.{is_block, without}
+use Rattle.arena_core.specs.Blocks.{without, words_held}
 use Rattle.arena_core.specs.Place.{place_word, class_in, block_in}
 use Rattle.header_core.specs.declared.states.TheConstants.{FREE, OWNED, LIVE}
 use Rattle.header_core.specs.declared.holds.HeldAs.{HeldAs}
@@ -63,11 +63,6 @@ pub record ReleasesOwned (z : Sizes) (call h : ℕ) (v w : PassState) : Type 0 w
   pub more : List Finding
   pub calls : Each (IsOf z call) more
   pub after : w ≡ record (grown more v) { headers = record v.headers { held = without_header h v.headers.held } }
-
--- the numbers of the words of a held block
-abbrev pub words_held : ℕ → ℕ → List HeldBlock → List ℕ
-words_held c b [] = []
-words_held c b (o ∷ os) = cond (is_block c b o) o.words (words_held c b os)
 
 -- the state of a pass that filled the owned header: it holds the block no more, and has the header fresh, with the place word of the block and the length, the stamp, and the words of the block
 abbrev pub filled_state : ℕ → Class → ℕ → ℕ → ℕ → PassState → PassState

@@ -8,7 +8,7 @@ use Rattle.oak_model.specs.Counts.{one_at, total, Each}
 use Rattle.oak_model.specs.Limits.{Sizes}
 use Rattle.arena_core.specs.declared.blocks.HeldBlock.{HeldBlock}
 use Rattle.arena_core.specs.Arena.{block_words, blocks}
-use Rattle.arena_core.specs.Blocks.{without}
+use Rattle.arena_core.specs.Blocks.{without, words_held}
 use Rattle.arena_core.specs.Place.{IsPlace, place_word, class_in, block_in, content}
 use Rattle.header_core.specs.declared.states.TheConstants.{FREE, LIVE, LOCKED, DEAD, RETIRED, LAST_GENERATION}
 use Rattle.header_core.specs.declared.holds.HeldAs.{HeldAs}
@@ -23,7 +23,7 @@ use Rattle.oak_core.specs.Memory.{Memory, in_headers, index, memory}
 use Rattle.oak_core.specs.Finding.{grown, IsOf}
 use Rattle.oak_core.specs.HeaderCalls.{StoresStamp, ChangesPlace, Unlocks, MarksDead, TakesBack}
 use Rattle.oak_core.specs.Splitting.{Loads}
-use Rattle.value_ops.specs.Filling.{words_held, table_behind, IsLeft}
+use Rattle.value_ops.specs.Filling.{table_behind, IsLeft}
 use Rattle.value_ops.specs.HeldValue.{stamp_held, words_in, value_held}
 use Rattle.value_ops.specs.Words.{words_of}
 

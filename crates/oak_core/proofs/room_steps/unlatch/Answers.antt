@@ -1,7 +1,7 @@
 use Rattle.std.proofs.Common.{arith}
 use Rattle.oak_core.specs.Passes.{key, call_of}
 use Rattle.oak_core.proofs.RoomNames.{latch_below, allows_unlatch}
-use Rattle.oak_core.proofs.room_steps.unlatch_room.Goals as goal
+use Rattle.oak_core.proofs.room_steps.unlatch.Goals as goal
 
 pub store_said-requires-clause-rule : goal.store_said-requires-clause-rule
 store_said-requires-clause-rule c = let n = c.requires.names in allows_unlatch (key c.args.table.now) (call_of c.args.pass.now) _ c.args.pass.now.seat.id c.args.pass.now.seat.me c.args.pass.now.going c.args.word c.args.value n.0 n.1 n.2 n.3

@@ -1,7 +1,7 @@
 use Rattle.std.proofs.Common.{arith}
 use Rattle.oak_core.specs.Passes.{key, call_of}
 use Rattle.oak_core.proofs.RoomNames.{latch_below, allows_latch}
-use Rattle.oak_core.proofs.room_steps.latch_room.Goals as goal
+use Rattle.oak_core.proofs.room_steps.latch.Goals as goal
 
 pub exchange_said-requires-clause-rule : goal.exchange_said-requires-clause-rule
 exchange_said-requires-clause-rule c = let n = c.requires.names in allows_latch (key c.args.table.now) (call_of c.args.pass.now) _ c.args.pass.now.seat.id c.args.pass.now.seat.me c.args.pass.now.going c.args.word c.args.old c.args.new n.0 n.1 n.2 n.3 n.4
