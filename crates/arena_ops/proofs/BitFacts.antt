@@ -32,6 +32,7 @@ use Rattle.oak_core.proofs.MetMore.{grown_none, told_of}
 use Rattle.oak_core.proofs.Words.{index_apart, memory_read, arena_before}
 use Rattle.arena_ops.specs.Looking.{bit_spot, FoundSet, IsSetIn, AllSet, Looked}
 use Rattle.arena_ops.specs.Taking.{SetsBit, Takes}
+use Rattle.oak_core.specs.Loading.{IsPlain}
 
 -- the bit k is set
 or_set : (k n : ℕ) → bit_at n k ≡ 1 → bit_or n (2 ^ k) ≡ n
@@ -60,7 +61,7 @@ module _ (z : Sizes) (call : ℕ) (c : Class) (v : PassState) where
   loaded i word n w li is l = let same : l.spot ≡ in_arena (at_bits (class_number c) i) = index_apart z l.spot (in_arena (at_bits (class_number c) i)) l.inside (class_below c, li) (l.at ∙ is) in
       let t = l.told in record {
         more = finding z call l.spot (Some n) n t.table.words v ∷ [];
-        after = l.met;
+        after = l.met (subst IsPlain (sym same) tt);
         looks = ((refl, subst (λ (q : Spot). index z q < rooms_at z) (sym same) (arena_before z (at_bits (class_number c) i) (class_below c, li)), refl), tt);
         set = λ b lb p. found_here t.table.words i n l.spot n same b p.0 p.1;
         still = runs_as (λ a b. (n ≡ get_or a (index z l.spot) 0) × (b ≡ a)) (AllSet z c (λ b. (b / 64 ≡ i) × (bit_at n (b % 64) ≡ 1))) v w

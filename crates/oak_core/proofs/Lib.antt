@@ -77,7 +77,7 @@ mod Levels
 mod PinsKnown
 mod Teaching
 mod WritesBelow
-mod PlainLoads
+pub mod PlainLoads
 mod KeepsLoads
 mod KeepsCounts
 mod KeepsPublish

@@ -1,5 +1,5 @@
 -- The load of a word other than a room's count teaches nothing.
-use Rattle.std.proofs.Common.{◌≡◌, ℕ, ◌++◌, ◌∷◌, [], List, map, sym, refl, subst, Some, Option, None}
+use Rattle.std.proofs.Common.{◌≡◌, ℕ, ◌++◌, ◌∷◌, [], List, map, sym, refl, subst, Some, Option, None, ◌<◌, arith, ◌∙◌}
 use Rattle.oak_model.specs.Counts.{Begins}
 use Rattle.oak_model.specs.Limits.{Sizes}
 use Rattle.oak_model.proofs.Lists.{begins_self}
@@ -10,12 +10,14 @@ use Rattle.oak_core.specs.declared.states.Knowledge.{Knowledge}
 use Rattle.oak_core.specs.declared.states.PassState.{PassState}
 use Rattle.oak_core.specs.Finding.{finding, grown}
 use Rattle.oak_core.specs.Loading.{IsPlain, is_pinned, knows_by_load, sights_by_load, rooms_by_load, count_taught, sights_count}
-use Rattle.oak_core.specs.Memory.{Memory, Spot, at_given, in_arena, in_headers, in_rooms, memory}
+use Rattle.oak_core.specs.Memory.{Memory, Spot, at_given, in_arena, in_headers, in_rooms, memory, rooms_at, index, IsInside}
 use Rattle.oak_core.specs.PassState.{knowledge_of}
 use Rattle.oak_core.specs.Step.{load, state_after, found}
 use Rattle.oak_core.specs.TableState.{TableState}
 use Rattle.oak_model.proofs.Counting.{test-cases}
 use Rattle.oak_core.specs.Sights.{sights_with}
+use Rattle.oak_core.specs.Splitting.{Loads}
+use Rattle.oak_core.proofs.Words.{rooms_from, index_apart}
 
 -- a word is the count of a room, or its load is plain
 pub plain_or_count : (P : Spot → Type 0) → ((p : Spot) → IsPlain p → P p) → ((k : ℕ) → P (in_rooms (at_count k))) → (p : Spot) → P p
@@ -73,3 +75,15 @@ sights_grow p call m v = plain_or_count (λ q. Begins v.findings.sights (sights_
     counted k None = begins_self v.findings.sights
     counted k (Some o) = test-cases (is_pinned k o) (λ b. Begins v.findings.sights (sights_with b call (count_taught m.rooms (content m.arena.bytes) k o) v.findings)) (λ _. (_, refl)) (λ _. begins_self v.findings.sights)
 
+-- what a load behind which the pass only met more is of
+
+-- a word in front of those of the rooms
+front_plain : (z : Sizes) (p : Spot) → index z p < rooms_at z → IsPlain p
+front_plain z p = plain_or_count (λ q. index z q < rooms_at z → IsPlain q) (λ q is _. is) (λ k lt. let from = rooms_from z (at_count k) in absurd (omega arith)) p
+
+pub met_in_front : (z : Sizes) (call word n : ℕ) (v w : PassState) → word < rooms_at z → (l : Loads z call word v n w) → w ≡ grown (finding z call l.spot (Some n) n l.told.table.words v ∷ []) v
+met_in_front z call word n v w lt l = l.met (front_plain z l.spot (subst (λ (i : ℕ). i < rooms_at z) (sym l.at) lt))
+
+-- this word
+pub met_at : (z : Sizes) (call word n : ℕ) (v w : PassState) (q : Spot) → IsInside z q → IsPlain q → word ≡ index z q → (l : Loads z call word v n w) → w ≡ grown (finding z call l.spot (Some n) n l.told.table.words v ∷ []) v
+met_at z call word n v w q inside is e l = l.met (subst IsPlain (sym (index_apart z l.spot q l.inside inside (l.at ∙ e))) is)

@@ -28,6 +28,7 @@ use Rattle.oak_core.proofs.MetMore.{grown_twice, grown_none, told_of}
 use Rattle.oak_core.proofs.Words.{index_apart, memory_read, header_before}
 use Rattle.value_ops.specs.Claiming.{NoneFree, OwnsPin, pin_spot, FoundPin, FoundUnfree, FoundTwice, Looked, ClaimsHeader}
 use Rattle.value_ops.proofs.ExchangeFacts.{met_word, word_is, hit, missed}
+use Rattle.oak_core.proofs.PlainLoads.{met_in_front, met_at}
 
 pub free_word : (n : ℕ) → is_free n ≡ true → IsFreeWord n
 free_word n e = let b = both_true (state_of n == FREE) (count_of n == 0) e in record { state = eqb-true (state_of n) FREE b.0; count = eqb-true (count_of n) 0 b.1 }
@@ -41,7 +42,7 @@ generations_apart n k f g ne e = ne (sym (parts_equal n k e (f.state ∙ sym g.s
 
 -- a load alone finds nothing
 pub loaded : (z : Sizes) (call word n : ℕ) (v w : PassState) → word < rooms_at z → Loads z call word v n w → Looked z call v w (λ k. ⊥)
-loaded z call word n v w front l = record { more = finding z call l.spot (Some n) n l.told.table.words v ∷ []; after = l.met; looks = ((refl, subst (λ (i : ℕ). i < rooms_at z) (sym l.at) front, refl), tt); found = λ k lk p. absurd p; still = runs_as (λ a b. (n ≡ get_or a (index z l.spot) 0) × (b ≡ a)) (NoneFree z (λ k. ⊥)) v w (λ a b d. (d.1, λ h lh p. absurd p)) (load_runs z call l.spot v n w l.told) }
+loaded z call word n v w front l = record { more = finding z call l.spot (Some n) n l.told.table.words v ∷ []; after = met_in_front z call word n v w front l; looks = ((refl, subst (λ (i : ℕ). i < rooms_at z) (sym l.at) front, refl), tt); found = λ k lk p. absurd p; still = runs_as (λ a b. (n ≡ get_or a (index z l.spot) 0) × (b ≡ a)) (NoneFree z (λ k. ⊥)) v w (λ a b d. (d.1, λ h lh p. absurd p)) (load_runs z call l.spot v n w l.told) }
 
 module _ (z : Sizes) (call h : ℕ) (inside : h < z.headers) where
   abbrev Unfree : PassState → List Finding → Type 0
@@ -65,7 +66,7 @@ module _ (z : Sizes) (call h : ℕ) (inside : h < z.headers) where
   pub loaded_unfree : (word n : ℕ) (v w : PassState) → word ≡ index z (pin_spot h) → Loads z call word v n w → is_free n ≡ false → Looked z call v w (λ k. k ≡ h)
   loaded_unfree word n v w is l unfree = record {
     more = finding z call l.spot (Some n) n l.told.table.words v ∷ [];
-    after = l.met;
+    after = met_at z call word n v w (pin_spot h) inside tt is l;
     looks = ((refl, subst (λ (i : ℕ). i < rooms_at z) (sym (l.at ∙ is)) in_front, refl), tt);
     found = this_one v (finding z call l.spot (Some n) n l.told.table.words v ∷ []) (inl (met_here z call (pin_spot h) n n l.told.table.words l.spot v [] (λ k. is_free k ≡ false) (spot_is word n v w is l) unfree));
     still = runs_as (λ a b. (n ≡ get_or a (index z l.spot) 0) × (b ≡ a)) (NoneFree z (λ k. k ≡ h)) v w
@@ -124,7 +125,7 @@ module _ (z : Sizes) (call h : ℕ) (inside : h < z.headers) where
     same = spot_is word n v u is l
 
     had_same : had (pin_spot h) u ≡ had (pin_spot h) v
-    had_same = ap (had (pin_spot h)) l.met
+    had_same = ap (had (pin_spot h)) (met_at z call word n v u (pin_spot h) inside tt is l)
 
     -- an exchange that found another number left it
     kept_word : (i j : ℕ) → i ≢ j → either (i == j) (j + STATE) i ≡ i
@@ -146,7 +147,7 @@ module _ (z : Sizes) (call h : ℕ) (inside : h < z.headers) where
     pub lost : Looked z call v w (λ i. i ≡ h)
     lost = record {
       more = f ∷ g ∷ [];
-      after = missed_claim n k u w t ne ∙ (ap (grown (g ∷ [])) l.met ∙ grown_twice v (f ∷ []) (g ∷ []));
+      after = missed_claim n k u w t ne ∙ (ap (grown (g ∷ [])) (met_at z call word n v u (pin_spot h) inside tt is l) ∙ grown_twice v (f ∷ []) (g ∷ []));
       looks = ((refl, subst (λ (i : ℕ). i < rooms_at z) (sym (l.at ∙ is)) in_front, refl), ((refl, in_front, ap Some (sym (kept_word k n ne))), tt));
       found = this_one v (f ∷ g ∷ []) two;
       -- a pass that is alone loses no exchange

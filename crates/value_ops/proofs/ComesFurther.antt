@@ -17,6 +17,7 @@ use Rattle.oak_core.specs.Splitting.{Loads}
 use Rattle.value_ops.specs.UnderLock.{HasLock, HasBuried, ComesTo}
 use Rattle.oak_core.proofs.Words.{header_before}
 use Rattle.oak_core.proofs.MetMore.{grown_twice, grown_none}
+use Rattle.oak_core.proofs.PlainLoads.{met_in_front}
 
 -- what a state comes to
 
@@ -27,7 +28,7 @@ pub loads_none : (z : Sizes) (call : ℕ) (v : PassState) → LoadsMore z call v
 loads_none z call v = record { more = []; loads = tt; after = grown_none v }
 
 pub loads_one : (z : Sizes) (call word n : ℕ) (v w : PassState) → word < rooms_at z → Loads z call word v n w → LoadsMore z call v w
-loads_one z call word n v w before l = record { more = _ ∷ []; loads = ((refl, subst (λ (i : ℕ). i < rooms_at z) (sym l.at) before, refl), tt); after = l.met }
+loads_one z call word n v w before l = record { more = _ ∷ []; loads = ((refl, subst (λ (i : ℕ). i < rooms_at z) (sym l.at) before, refl), tt); after = met_in_front z call word n v w before l }
 
 -- a word of a header was loaded
 pub header_loaded : (z : Sizes) (call word n : ℕ) (v w : PassState) (p : HeaderSpot) → IsInHeaders z p → word ≡ index z (in_headers p) → Loads z call word v n w → LoadsMore z call v w

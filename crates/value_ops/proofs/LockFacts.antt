@@ -27,6 +27,7 @@ use Rattle.value_ops.proofs.KnownStates.{IsInUse, known_state, known_free}
 use Rattle.value_ops.proofs.LoadFacts.{found_is}
 use Rattle.oak_core.proofs.Words.{header_before}
 use Rattle.oak_core.proofs.MetMore.{grown_twice, told_of}
+use Rattle.oak_core.proofs.PlainLoads.{met_at}
 
 -- what may be locked
 
@@ -62,6 +63,9 @@ module _ (z : Sizes) (call h g : ℕ) (inside : h < z.headers) (word n : ℕ) (v
   abbrev f : Finding
   f = finding z call l.spot (Some n) n l.told.table.words v
 
+  now_met : u ≡ grown (f ∷ []) v
+  now_met = met_at z call word n v u (pin_spot h) inside tt at l
+
   is_loaded : n ≡ (memory z l.told.table.words).headers.pin h
   is_loaded = found_is z call word n v u l (pin_spot h) inside at
 
@@ -84,11 +88,11 @@ module _ (z : Sizes) (call h g : ℕ) (inside : h < z.headers) (word n : ℕ) (v
     cause = is_cause n g (busy_word n g not_so in_use);
     more = f ∷ [];
     calls = (loaded_of, tt);
-    after = l.met;
+    after = now_met;
   }
 
   still_known : 0 < knows_life h g u.knowledge
-  still_known = subst (λ (y : PassState). 0 < knows_life h g y.knowledge) (sym l.met) known
+  still_known = subst (λ (y : PassState). 0 < knows_life h g y.knowledge) (sym now_met) known
 
   module _ (is_so : may_lock n g ≡ true) where
     pub may_be_locked : MayOnHeaders z (lock_header h n) u
@@ -125,7 +129,7 @@ module _ (z : Sizes) (call h g : ℕ) (inside : h < z.headers) (word n : ℕ) (v
         cause = is_cause k g (busy_word k g (not_lockable ne) in_use_now);
         more = f ∷ met_now ∷ [];
         calls = (loaded_of, ((refl, header_before z (at_pin h) inside), tt));
-        after = missed z call h inside n front t.table k u w t.finds t.after ne ∙ (ap (grown (met_now ∷ [])) l.met ∙ grown_twice v (f ∷ []) (met_now ∷ []));
+        after = missed z call h inside n front t.table k u w t.finds t.after ne ∙ (ap (grown (met_now ∷ [])) now_met ∙ grown_twice v (f ∷ []) (met_now ∷ []));
       }
 
       -- it found the same one, and the pass has the header locked
@@ -146,11 +150,11 @@ module _ (z : Sizes) (call h g : ℕ) (inside : h < z.headers) (word n : ℕ) (v
           number = n;
           live = live.0;
           generation = live.1;
-          told = told_of z call (on_headers (lock_header h n)) u (grown (f ∷ []) v) l.met n w told_hit;
+          told = told_of z call (on_headers (lock_header h n)) u (grown (f ∷ []) v) now_met n w told_hit;
           unheld = known_free z t.table t.rule t.seat u t.here h g (ap generation_of is_seen ∙ live.1) still_known (ap state_of is_seen ∙ live.0.state);
           unpinned = t.rule.headers.counted h ∙ (ap count_of is_seen ∙ live.0.count);
           more = f ∷ met_now ∷ [];
           calls = (loaded_of, ((refl, header_before z (at_pin h) inside), tt));
           after = hit z call h inside n front t.table k u w t.finds t.after same
-              ∙ (ap with_lock l.met ∙ ap (λ (y : PassState). record y { headers = record v.headers { held = front m ∷ v.headers.held } }) (grown_twice v (f ∷ []) (met_now ∷ [])));
+              ∙ (ap with_lock now_met ∙ ap (λ (y : PassState). record y { headers = record v.headers { held = front m ∷ v.headers.held } }) (grown_twice v (f ∷ []) (met_now ∷ [])));
         }

@@ -33,6 +33,7 @@ use Rattle.value_ops.specs.Reading.{OnlyLoads}
 use Rattle.value_ops.proofs.KnownStates.{IsInUse, known_state}
 use Rattle.value_ops.proofs.AlonePins.{load_finds, load_stays, none_stays, both_stay, pin_changes, undone}
 use Rattle.value_ops.proofs.StepLeft.{pin_found, small}
+use Rattle.oak_core.proofs.PlainLoads.{met_in_front}
 
 -- a pass may undo its pin
 pub may_unpin : (z : Sizes) (h : ℕ) (v : PassState) → PinsHeader z h v → MayOnHeaders z (unpin_header h) v
@@ -42,7 +43,7 @@ may_unpin z h v p = record { inside = p.inside; headers = ap (pins_of h) p.is �
 
 pub loads_one : (z : Sizes) (call word n : ℕ) (v w : PassState) → word < rooms_at z → Loads z call word v n w → OnlyLoads z call v w
 loads_one z call word n v w front l = record {
-  loads = record { more = _ ∷ []; loads = ((refl, subst (λ (i : ℕ). i < rooms_at z) (sym l.at) front, refl), tt); after = l.met };
+  loads = record { more = _ ∷ []; loads = ((refl, subst (λ (i : ℕ). i < rooms_at z) (sym l.at) front, refl), tt); after = met_in_front z call word n v w front l };
   still = load_stays z call word n v w l;
 }
 
@@ -198,8 +199,8 @@ module _ (z : Sizes) (call h g n : ℕ) (v w : PassState) (t : Pins z call h g v
   pins_now = record { inside = t.may.inside; pin = pin; is = pin_now; header_is = refl }
 
   -- the pin that stands after a load
-  pub pins_later : (later word k : ℕ) (x : PassState) → Loads z later word w k x → PinsHeader z h x
-  pins_later later word k x l = record { inside = t.may.inside; pin = pin; is = pin_stays w x _ l.met ∙ pin_now; header_is = refl }
+  pub pins_later : (later word k : ℕ) (x : PassState) → word < rooms_at z → Loads z later word w k x → PinsHeader z h x
+  pins_later later word k x front l = record { inside = t.may.inside; pin = pin; is = pin_stays w x _ (met_in_front z later word k w x front l) ∙ pin_now; header_is = refl }
 
   pub dead_left : generation_of n ≡ g → state_of n ≢ LIVE → state_of n ≢ LOCKED → state_of n ≡ DEAD
   dead_left e one two = ⊎_elim (λ (l : state_of n ≡ LIVE). absurd (one l)) (λ (t : (state_of n ≡ LOCKED) ⊎ (state_of n ≡ DEAD)). ⊎_elim (λ (l : state_of n ≡ LOCKED). absurd (two l)) (λ (d : state_of n ≡ DEAD). d) t) (in_use e)

@@ -31,6 +31,7 @@ use Rattle.value_ops.proofs.FreedFacts.{freed, frees}
 use Rattle.value_ops.proofs.AlonePins.{load_stays, stays_then}
 use Rattle.value_ops.proofs.HeldValues.{block_at, block_inside, class_low}
 use Rattle.value_ops.proofs.StampStores.{held_place}
+use Rattle.oak_core.proofs.PlainLoads.{met_at}
 
 module _ (z : Sizes) (call h g : ℕ) (v : PassState) (inside : h < z.headers) (fresh_at : IsFreshAt h g v.headers) (idle : v.headers.pin ≡ None) where
   fresh : 0 < in_state h LIVE v.headers
@@ -39,6 +40,9 @@ module _ (z : Sizes) (call h g : ℕ) (v : PassState) (inside : h < z.headers) (
   module _ (word n : ℕ) (u : PassState) (is : word ≡ index z (in_headers (at_place h))) (l : Loads z call word v n u) where
     abbrev first : Finding
     first = finding z call l.spot (Some n) n l.told.table.words v
+
+    now_met : u ≡ grown (first ∷ []) v
+    now_met = met_at z call word n v u (in_headers (at_place h)) inside tt is l
 
     first_of : IsLoadOf z call first
     first_of = (refl, subst (λ (i : ℕ). i < rooms_at z) (sym (l.at ∙ is)) (header_before z (at_place h) inside), refl)
@@ -49,7 +53,7 @@ module _ (z : Sizes) (call h g : ℕ) (v : PassState) (inside : h < z.headers) (
     pub may_release : MayOnHeaders z (release_header h Fresh) u
     may_release = record {
       inside = inside;
-      headers = (subst (λ (y : PassState). 0 < in_state h LIVE y.headers) (sym l.met) fresh, ap (λ (y : PassState). y.headers.pin) l.met ∙ idle);
+      headers = (subst (λ (y : PassState). 0 < in_state h LIVE y.headers) (sym now_met) fresh, ap (λ (y : PassState). y.headers.pin) now_met ∙ idle);
       block = tt;
       known = tt;
     }
@@ -63,7 +67,7 @@ module _ (z : Sizes) (call h g : ℕ) (v : PassState) (inside : h < z.headers) (
 
       -- the place word that was loaded names the header's block
       named_still : place_held h u.headers.held ≡ n
-      named_still = ap (λ (y : PassState). place_held h y.headers.held) l.met ∙ sym named
+      named_still = ap (λ (y : PassState). place_held h y.headers.held) now_met ∙ sym named
 
       abbrev c : Class
       c = class_from (class_in n)
@@ -79,7 +83,7 @@ module _ (z : Sizes) (call h g : ℕ) (v : PassState) (inside : h < z.headers) (
 
       given_is : block_from m.arena.bytes (class_from (class_in (m.headers.place h))) (block_in (m.headers.place h)) ≡ given
       given_is = block_at z t.table t.rule t.seat u t.here h LIVE (omega arith) (omega arith) still
-          ∙ (λ i. record { class = class_from (class_in (named_still i)); number = block_in (named_still i); words = words_in h (l.met i).headers.held })
+          ∙ (λ i. record { class = class_from (class_in (named_still i)); number = block_in (named_still i); words = words_in h (now_met i).headers.held })
 
       abbrev second : Finding
       second = finding z call (pin_spot h) (Some (found z (on_headers (release_header h Fresh)) t.table)) (header_effect (release_header h Fresh) (found z (on_headers (release_header h Fresh)) t.table)) t.table.words u
@@ -98,11 +102,11 @@ module _ (z : Sizes) (call h g : ℕ) (v : PassState) (inside : h < z.headers) (
         looks = (first_of, tt);
         still = stays_then (FreesPin z h LIVE) v u w (load_stays z call word n v u l) (frees z call h Fresh u k w t);
         number = k;
-        told = told_of z call (on_headers (release_header h Fresh)) u (grown (first ∷ []) v) l.met k w t;
-        freed = freed z call h Fresh (grown (first ∷ []) v) k w (told_of z call (on_headers (release_header h Fresh)) u (grown (first ∷ []) v) l.met k w t);
+        told = told_of z call (on_headers (release_header h Fresh)) u (grown (first ∷ []) v) now_met k w t;
+        freed = freed z call h Fresh (grown (first ∷ []) v) k w (told_of z call (on_headers (release_header h Fresh)) u (grown (first ∷ []) v) now_met k w t);
         more = first ∷ second ∷ [];
         calls = ((first_of.0, first_of.1), ((refl, header_before z (at_pin h) inside), tt));
-        after = after_is ∙ (ap (with_block given) l.met
+        after = after_is ∙ (ap (with_block given) now_met
             ∙ ap (λ (y : PassState). record y { blocks = record v.blocks { held = given ∷ v.blocks.held }; headers = record v.headers { held = without_header h v.headers.held } }) (grown_twice v (first ∷ []) (second ∷ [])));
       }
 

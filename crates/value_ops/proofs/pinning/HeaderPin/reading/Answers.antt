@@ -15,6 +15,7 @@ use Rattle.value_ops.specs.Reading.{stamp_pinned}
 use Rattle.value_ops.proofs.PinFacts.{pin_stays, loads_one, loads_both, loads_in}
 use Rattle.value_ops.proofs.LoadFacts.{loaded_placed, loaded_long, place_loaded, stamp_loaded}
 use Rattle.value_ops.proofs.pinning.HeaderPin.reading.Goals as goal
+use Rattle.oak_core.proofs.PlainLoads.{met_at}
 
 pub load-place-requires-clause-inside : goal.load-place-requires-clause-inside
 load-place-requires-clause-inside c = let e = c.place_at.ensures in let l = index_below (key c.args.table.now) (in_headers (at_place c.args.self.header)) c.requires.pinned.1.inside in omega arith
@@ -34,11 +35,11 @@ bytes_at-block-requires-clause-block c = let z : Sizes = key c.args.table.now in
 pub returns-clause-reading : goal.returns-clause-reading
 returns-clause-reading c = let z : Sizes = key c.args.table.now in let v = state c.args.pass.now in let w = state c.load-place.new.pass in let l = c.load-place.ensures.loaded in let p = c.requires.pinned.0 in let h = c.requires.pinned.1 in
     let e = place_loaded z (call_of c.args.pass.now) c.place_at.result c.load-place.result v w l p h.is h.good c.args.self.header h.inside h.header_is c.place_at.ensures in let placed = loaded_placed z (call_of c.args.pass.now) c.place_at.result c.load-place.result v w l p h.is h.good in
-    let k = c.load-stamp.ensures.loaded in let is = pin_stays v w _ l.met ∙ h.is in record {
+    let k = c.load-stamp.ensures.loaded in let is = pin_stays v w _ (met_at z (call_of c.args.pass.now) c.place_at.result c.load-place.result v w (in_headers (at_place c.args.self.header)) h.inside tt c.place_at.ensures l) ∙ h.is in record {
       own = c.load-stamp.ensures.own.table ∙ (c.load-place.ensures.own.table ∙ c.requires.own);
       limits = l.told.rule.sizes;
       pin = p;
-      has = record { inside = h.inside; is = pin_stays w (state c.load-stamp.new.pass) _ k.met ∙ is; header_is = h.header_is; wanted_is = refl; good = h.good };
+      has = record { inside = h.inside; is = pin_stays w (state c.load-stamp.new.pass) _ (met_at z (call_of c.load-place.new.pass) c.stamp_at.result c.load-stamp.result w (state c.load-stamp.new.pass) (in_headers (at_stamp c.args.self.header)) h.inside tt c.stamp_at.ensures k) ∙ is; header_is = h.header_is; wanted_is = refl; good = h.good };
       placed = placed;
       block_is = c.bytes_at-block.ensures ∙ (λ i. index z (in_arena (at_bytes (class_is c.class_in.result c.load-place.result p.place c.class_in.ensures e placed.class i) (c.block_in.ensures i) 0))) ∙ ap (λ (j : ℕ). index z (in_arena (at_bytes (class_in p.place) (block_in j) 0))) e;
       length_is = c.length_in.ensures.is ∙ ap length_in e;
@@ -58,7 +59,7 @@ returns-clause-only c = let z : Sizes = key c.args.table.now in let call = call_
 
 pub returns-clause-found : goal.returns-clause-found
 returns-clause-found c = let z : Sizes = key c.args.table.now in let call = call_of c.args.pass.now in let v = state c.args.pass.now in let w = state c.load-place.new.pass in let x = state c.load-stamp.new.pass in let h = c.requires.pinned.1 in let l = c.load-place.ensures.loaded in let k = c.load-stamp.ensures.loaded in
-    let p = c.requires.pinned.0 in let is = pin_stays v w _ l.met ∙ h.is in
+    let p = c.requires.pinned.0 in let is = pin_stays v w _ (met_at z (call_of c.args.pass.now) c.place_at.result c.load-place.result v w (in_headers (at_place c.args.self.header)) h.inside tt c.place_at.ensures l) ∙ h.is in
     let stamp_is = stamp_loaded z (call_of c.load-place.new.pass) c.stamp_at.result c.load-stamp.result w x k p is h.good c.args.self.header h.inside h.header_is c.stamp_at.ensures in
     record {
       place = c.load-place.result;
