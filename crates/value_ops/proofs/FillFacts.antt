@@ -1,21 +1,13 @@
 -- Headers that are filled: what stands in them, and that the pass has them fresh.
-use Rattle.std.proofs.Common.{◌≡◌, ℕ, zero, suc, ◌+◌, ◌*◌, ◌^◌, ◌<◌, ◌≤◌, ◌==◌, cond, List, [], ◌∷◌, get_or, sym, refl, ap, ◌∙◌, subst, arith, inl, inr, Some, None, eq-eqb, leb}
+use Rattle.std.proofs.Common.{◌≡◌, ℕ, ◌+◌, ◌*◌, ◌^◌, ◌<◌, ◌≤◌, ◌==◌, cond, List, [], ◌∷◌, sym, refl, ap, ◌∙◌, arith, inl, inr, Some, None, eq-eqb, leb}
 use Rattle.std.proofs.lemmas.Bool.{leb-true}
 use Rattle.std.proofs.lemmas.Option.{none-some}
 use Rattle.oak_model.specs.declared.classes.Class.{Class}
 use Rattle.oak_model.specs.declared.classes.Class.TheVariants.{B16, B64, B256, B1024}
 use Rattle.oak_model.specs.Class.{class_number, class_of}
-use Rattle.oak_model.specs.Counts.{one_if, one_at, total, rows, Each, Has}
-use Rattle.oak_model.specs.Kept.{KeptWord, AreTrueTo}
+use Rattle.oak_model.specs.Counts.{one_if, one_at, total, Has}
 use Rattle.oak_model.proofs.Counting.{one_at-same, test-cases}
-use Rattle.oak_model.proofs.Lists.{rows_length, rows_at, same_elements}
-use Rattle.oak_model.proofs.RowLaws.{each_first, each_rest}
-use Rattle.arena_core.specs.declared.blocks.HeldBlock.{HeldBlock}
-use Rattle.arena_core.specs.Arena.{ArenaMemory, ArenaSpot, at_bytes, read_arena, block_words}
-use Rattle.arena_core.specs.HeldBlocks.{kept_of_block, kept_of_blocks}
-use Rattle.arena_core.specs.Blocks.{is_block, IsWhole, words_held}
 use Rattle.arena_core.specs.Place.{IsPlace, place_word}
-use Rattle.arena_core.proofs.HeldLists.{here, is_block-is}
 use Rattle.arena_core.proofs.PlaceLaws.{class_in-word, length_in-word}
 use Rattle.header_core.specs.declared.states.TheConstants.{LIVE}
 use Rattle.header_core.specs.declared.holds.HeldAs.TheVariants.{Fresh}

@@ -26,7 +26,7 @@ abbrev of_load : (z : Sizes) (call word : ℕ) (v : PassState) (n : ℕ) (w : Pa
 of_load z call word v n w l = finding z call l.spot (Some n) n l.told.table.words v
 
 load_met : (z : Sizes) (call word : ℕ) (v : PassState) (n : ℕ) (w : PassState) (l : Loads z call word v n w) → w.findings.met ≡ v.findings.met ++ of_load z call word v n w l ∷ []
-load_met z call word v n w l = ap (λ (y : PassState). y.findings.met) l.met
+load_met z call word v n w l = ap (λ (y : PassState). y.findings.met) l.told.after ∙ ap (λ (k : ℕ). v.findings.met ++ finding z call l.spot (Some k) k l.told.table.words v ∷ []) l.told.finds
 
 -- the stamp word was loaded, and the stamp stored there
 pub record StampMet (z : Sizes) (h stamp : ℕ) (met more : List Finding) : Type 0 where

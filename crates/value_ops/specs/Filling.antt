@@ -1,5 +1,5 @@
 -- What the calls on a claimed header and on a fresh one do.
-use Rattle.std.specs.Prelude.{◌≡◌, ℕ, ◌+◌, ◌-◌, ◌*◌, cond, List, [], ◌∷◌, slice_set}
+use Rattle.std.specs.Prelude.{◌≡◌, ℕ, ◌+◌, ◌-◌, ◌*◌, List, ◌∷◌, slice_set}
 use mathlib.Core.Option.{some}
 use lib.ListN.{get_elem?}
 use Rattle.pin_word.specs.PinWord.{generation_of, state_of, count_of, STATE}
@@ -7,7 +7,6 @@ use Rattle.oak_model.specs.declared.classes.Class.{Class}
 use Rattle.oak_model.specs.Class.{class_number}
 use Rattle.oak_model.specs.Counts.{Each}
 use Rattle.oak_model.specs.Limits.{Sizes}
-use Rattle.arena_core.specs.declared.blocks.HeldBlock.{HeldBlock}
 use Rattle.arena_core.specs.Blocks.{without, words_held}
 use Rattle.arena_core.specs.Place.{place_word, class_in, block_in}
 use Rattle.header_core.specs.declared.states.TheConstants.{FREE, OWNED, LIVE}

@@ -65,5 +65,5 @@ returns-clause-found c = let z : Sizes = key c.args.table.now in let call = call
       place = c.load-place.result;
       between = w;
       places = subst (λ (i : ℕ). Loads z call i v c.load-place.result w) c.place_at.ensures l;
-      stamps = subst (λ (i : ℕ × ℕ × ℕ). Loads z i.0 i.1 w i.2 x) (λ i. (c.load-place.ensures.own.call i, c.stamp_at.ensures i, (stamp_is ∙ sym (ap stamp_pinned (pin_stays w x _ k.met ∙ is))) i)) k;
+      stamps = subst (λ (i : ℕ × ℕ × ℕ). Loads z i.0 i.1 w i.2 x) (λ i. (c.load-place.ensures.own.call i, c.stamp_at.ensures i, (stamp_is ∙ sym (ap stamp_pinned (pin_stays w x _ (met_at z (call_of c.load-place.new.pass) c.stamp_at.result c.load-stamp.result w x (in_headers (at_stamp c.args.self.header)) h.inside tt c.stamp_at.ensures k) ∙ is))) i)) k;
     }
