@@ -2,6 +2,15 @@ pub mod Words
 pub mod KnownLaws
 pub mod GivenNumbers
 pub mod Histories
+pub mod WritesBelow
+pub mod Levels
+pub mod LessonReach
+pub mod Teaching
+pub mod LessonLaws
+pub mod PinsKnown
+pub mod HeardKeeps
+pub mod LessonSeats
+pub mod LessonRanges
 pub mod Found
 pub mod Growing
 pub mod KeptWords
