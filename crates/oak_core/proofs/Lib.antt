@@ -11,6 +11,9 @@ pub mod PinsKnown
 pub mod HeardKeeps
 pub mod LessonSeats
 pub mod LessonRanges
+pub mod MissedKeys
+pub mod TaughtStates
+pub mod CountLessons
 pub mod Found
 pub mod Growing
 pub mod KeptWords
