@@ -14,6 +14,7 @@ pub mod LessonRanges
 pub mod MissedKeys
 pub mod TaughtStates
 pub mod CountLessons
+pub mod PublishLessons
 pub mod Found
 pub mod Growing
 pub mod KeptWords
