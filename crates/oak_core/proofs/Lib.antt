@@ -13,6 +13,11 @@ pub mod LessonSeats
 pub mod LessonRanges
 pub mod MissedKeys
 pub mod TaughtStates
+pub mod KnownPlaces
+pub mod Remembering
+pub mod KnownReads
+pub mod ClosedReads
+pub mod TaughtReads
 pub mod CountLessons
 pub mod PublishLessons
 pub mod Found
