@@ -17,6 +17,7 @@ pub mod KnownPlaces
 pub mod Remembering
 pub mod KnownReads
 pub mod ClosedReads
+pub mod KnownHere
 pub mod TaughtReads
 pub mod CountLessons
 pub mod PublishLessons
