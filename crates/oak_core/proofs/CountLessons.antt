@@ -1,11 +1,12 @@
--- The load of the count of a room under a good pin teaches its pass, of each key of the range without an entry, all up to the base, and keeps the points on lessons.
-use Rattle.std.proofs.Common.{◌≡◌, ℕ, List, [], ◌∷◌, map, set, sym, refl, ap, ◌∙◌, subst, inl, arith, Some}
+-- The load of the count of a room under a good pin teaches its pass, of each key of the range without an entry, all up to the base, and keeps the points on lessons. So it reads each such key: it is absent at the place of the base, which is the end of what the pass has seen of it then.
+use Rattle.std.proofs.Common.{◌≡◌, ℕ, suc, ◌≤◌, List, [], ◌∷◌, map, length, set, sym, refl, ap, ◌∙◌, subst, inl, arith, Some, None}
 use mathlib.Core.Option.{some}
 use lib.ListN.{get_elem?}
 use Rattle.oak_model.specs.Counts.{Has}
 use Rattle.oak_model.specs.History.{StampsRise}
 use Rattle.oak_model.specs.Limits.{Sizes}
-use Rattle.oak_model.proofs.Lists.{at_map, map_set}
+use Rattle.oak_model.specs.State.{State}
+use Rattle.oak_model.proofs.Lists.{at_map, begins_length, map_set}
 use Rattle.arena_core.specs.Place.{content}
 use Rattle.header_core.specs.HeaderRule.{OnPin}
 use Rattle.chunk_core.specs.declared.holds.PinnedRoom.{PinnedRoom}
@@ -22,19 +23,23 @@ use Rattle.oak_core.specs.declared.states.Knowledge.{Knowledge}
 use Rattle.oak_core.specs.declared.states.Lesson.{Lesson}
 use Rattle.oak_core.specs.declared.states.PassState.{PassState}
 use Rattle.oak_core.specs.declared.states.Taught.TheVariants.{OfRoom}
-use Rattle.oak_core.specs.KeyHistories.{writes_of, state_behind}
-use Rattle.oak_core.specs.KeyReads.{rooms_held, sum_now, history_now}
+use Rattle.oak_core.specs.KeyHistories.{writes_of, state_behind, before}
+use Rattle.oak_core.specs.KeyReads.{sum_now, history_now, level_now}
 use Rattle.oak_core.specs.KeyRule.{StatesAgree, HistoriesAreLegal}
+use Rattle.oak_core.specs.KnownPlaces.{KnowsPlace, Remembers, ReadAt}
 use Rattle.oak_core.specs.Learning.{reach_of, lesson_by, taught_by}
-use Rattle.oak_core.specs.Lessons.{KnowsAbsent, HeardStands}
+use Rattle.oak_core.specs.Lessons.{IsAbsentBehind, KnowsAbsent, HeardStands}
 use Rattle.oak_core.specs.Memory.{Memory}
-use Rattle.oak_core.specs.PassState.{knowledge_of}
+use Rattle.oak_core.specs.PassState.{Extends, seen_of, rooms_held, knowledge_of}
 use Rattle.oak_core.specs.Rule.{HistoriesStand}
+use Rattle.oak_core.proofs.Histories.{seen_stands}
 use Rattle.oak_core.proofs.HeardKeeps.{heard_load}
 use Rattle.oak_core.proofs.LessonLaws.{heard_taught}
 use Rattle.oak_core.proofs.LessonReach.{reach_missed}
-use Rattle.oak_core.proofs.MissedKeys.{missed_absent, missed_upto, reach_misses}
+use Rattle.oak_core.proofs.MissedKeys.{missed_state, missed_absent, missed_upto, reach_misses}
 use Rattle.oak_core.proofs.PinsKnown.{KnowsMissed, KnowsDead, has_first, has_later, removed_on}
+use Rattle.oak_core.proofs.Remembering.{remembers_more}
+use Rattle.oak_core.proofs.TaughtReads.{taught_extends, taught_whole, read_taught}
 use Rattle.oak_core.proofs.TaughtStates.{history_taught, histories_taught}
 
 module _ (z : Sizes) (m : Memory) (is_key_word : ℕ → ℕ) (vs : List PassState) (rooms : RoomsStand z m.rooms (content m.arena.bytes) (map rooms_held vs)) (parts : CoversPartition z m.rooms (content m.arena.bytes) is_key_word (map rooms_held vs))
@@ -60,6 +65,16 @@ module _ (z : Sizes) (m : Memory) (is_key_word : ℕ → ℕ) (vs : List PassSta
   rise : (k : ℕ) → StampsRise 0 (writes_of (history_now vs k))
   rise k = (legal k).legal.stamps
 
+  q_here : get_elem? (map knowledge_of vs) seat ≡ some v.knowledge
+  q_here = at_map knowledge_of vs seat v here
+
+  -- the lesson goes to each key's level at most, behind which a key of it is absent
+  upto : (k : ℕ) → reach_of (OfRoom (pin_with m.rooms (content m.arena.bytes) (m.rooms.count p.room) p)) k ≤ suc (level_now z m vs k)
+  upto = missed_upto z m is_key_word vs parts states legal p counted_holds good
+
+  absent : (k : ℕ) → IsAbsentBehind (OfRoom (pin_with m.rooms (content m.arena.bytes) (m.rooms.count p.room) p)) k (before (reach_of (OfRoom (pin_with m.rooms (content m.arena.bytes) (m.rooms.count p.room) p)) k) (history_now vs k))
+  absent k there = missed_absent z m is_key_word vs parts states legal p counted_holds good k (reach_misses z m is_key_word vs parts states legal p counted_holds good k there)
+
   -- the pass after the load
   module _ (u : PassState) (pin : u.rooms ≡ record v.rooms { pin = Some (pin_with m.rooms (content m.arena.bytes) (m.rooms.count p.room) p) }) (header : u.headers.pin ≡ v.headers.pin)
       (seen : u.knowledge.seen ≡ (taught_by (OfRoom (pin_with m.rooms (content m.arena.bytes) (m.rooms.count p.room) p)) (map knowledge_of vs) v.knowledge).seen)
@@ -84,12 +99,43 @@ module _ (z : Sizes) (m : Memory) (is_key_word : ℕ → ℕ) (vs : List PassSta
       lesson = lesson;
       there = lesson_there;
       covers = reach_missed p' k x;
-      absent = ap state_behind (heard_taught (OfRoom p') qs histories rise seat v.knowledge (at_map knowledge_of vs seat v here) k) ∙ missed_absent z m is_key_word vs parts states legal p counted_holds good k x;
+      absent = ap state_behind (heard_taught (OfRoom p') qs histories rise seat v.knowledge q_here k) ∙ missed_absent z m is_key_word vs parts states legal p counted_holds good k x;
     }
 
     pub count_heard : HeardStands z m vs → HeardStands z m (set vs seat u)
-    count_heard heard = heard_load z m m vs seat v u here heard (OfRoom p') histories rise (λ k. sums_counted (each (word_for k))) (λ k. let e = sums_counted (base_for k) in omega arith) history_counted seen taught
-        (missed_upto z m is_key_word vs parts states legal p counted_holds good) (λ k there. missed_absent z m is_key_word vs parts states legal p counted_holds good k (reach_misses z m is_key_word vs parts states legal p counted_holds good k there)) (record {
-          counted = subst (OnRoomPin (KnowsMissed u.knowledge)) (sym (ap (λ (a : RoomHolds). a.pin) pin)) counted_absent;
-          removed = subst (OnPin (KnowsDead u.knowledge)) (sym header) (removed_on v.knowledge u.knowledge v.headers.pin (λ l h. subst (Has l) (sym taught) (has_first v.knowledge.heard (lesson ∷ []) l h)) (heard.pins seat v here).removed);
-        })
+    count_heard heard = heard_load z m m vs seat v u here heard (OfRoom p') histories rise (λ k. sums_counted (each (word_for k))) (λ k. let e = sums_counted (base_for k) in omega arith) history_counted seen taught upto absent (record {
+      counted = subst (OnRoomPin (KnowsMissed u.knowledge)) (sym (ap (λ (a : RoomHolds). a.pin) pin)) counted_absent;
+      removed = subst (OnPin (KnowsDead u.knowledge)) (sym header) (removed_on v.knowledge u.knowledge v.headers.pin (λ l h. subst (Has l) (sym taught) (has_first v.knowledge.heard (lesson ∷ []) l h)) (heard.pins seat v here).removed);
+    })
+
+    -- the pass has seen all that it had, and forgets no place
+    pub count_extends : Extends v u
+    count_extends = taught_extends (OfRoom p') qs histories rise seat v.knowledge q_here u seen
+
+    pub count_remembers : Remembers v.knowledge u.knowledge
+    count_remembers = remembers_more v.knowledge u.knowledge (lesson ∷ []) taught
+
+    -- a key that its pin misses
+    module _ (k : ℕ) (misses : Misses (pin_with m.rooms (content m.arena.bytes) (m.rooms.count p.room) p) k) where
+      -- the pass has seen all that was written of it, behind which it is absent
+      pub count_whole : seen_of k u.knowledge ≡ history_now vs k
+      count_whole = taught_whole (OfRoom p') qs histories rise seat v.knowledge q_here u seen k (let r = reach_missed p' k misses in let l = (missed_state z m is_key_word vs parts states legal p counted_holds good k misses).1 in omega arith)
+
+      pub count_absent : state_behind (seen_of k u.knowledge) ≡ None
+      count_absent = ap state_behind count_whole ∙ (missed_state z m is_key_word vs parts states legal p counted_holds good k misses).0
+
+      read_there : (r : ReadAt k p.base None v u) × (r.place ≡ length (seen_of k u.knowledge))
+      read_there = let s = missed_state z m is_key_word vs parts states legal p counted_holds good k misses in subst (λ (t : State). (r : ReadAt k p.base t v u) × (r.place ≡ length (seen_of k u.knowledge))) s.0
+          (read_taught (OfRoom p') qs histories rise seat v.knowledge q_here u seen (level_now z m vs) upto absent lesson_there k p.base (reach_missed p' k misses) s.1 v (begins_length (seen_of k v.knowledge) (history_now vs k) (seen_stands qs histories k seat v.knowledge q_here)))
+
+      -- it was read absent at the place of the base
+      pub count_read : ReadAt k p.base None v u
+      count_read = read_there.0
+
+      pub count_place : count_read.place ≡ length (seen_of k u.knowledge)
+      unfolding count_read
+      count_place = read_there.1
+
+      -- which is the end of what is seen of it
+      pub count_known : KnowsPlace k p.base (length (seen_of k u.knowledge)) u.knowledge
+      count_known = subst (λ (n : ℕ). KnowsPlace k p.base n u.knowledge) read_there.1 read_there.0.known

@@ -2,6 +2,25 @@ pub mod Words
 pub mod KnownLaws
 pub mod GivenNumbers
 pub mod Histories
+pub mod WritesBelow
+pub mod Levels
+pub mod LessonReach
+pub mod Teaching
+pub mod LessonLaws
+pub mod PinsKnown
+pub mod HeardKeeps
+pub mod LessonSeats
+pub mod LessonRanges
+pub mod MissedKeys
+pub mod TaughtStates
+pub mod KnownPlaces
+pub mod Remembering
+pub mod KnownReads
+pub mod ClosedReads
+pub mod KnownHere
+pub mod TaughtReads
+pub mod CountLessons
+pub mod PublishLessons
 pub mod Found
 pub mod Growing
 pub mod KeptWords
@@ -68,22 +87,9 @@ pub mod AloneLast
 pub mod AloneRuns
 mod UnwrittenHeaders
 mod KeyBundles
-mod HeardKeeps
-mod LessonLaws
-mod LessonRanges
-mod LessonReach
-mod LessonSeats
-mod Levels
-mod PinsKnown
-mod Teaching
-mod WritesBelow
 pub mod PlainLoads
 mod KeepsLoads
 mod KeepsCounts
 mod KeepsPublish
 mod UnwrittenKeys
 mod PublishFacts
-pub mod TaughtStates
-pub mod MissedKeys
-pub mod CountLessons
-mod PublishLessons

@@ -25,10 +25,11 @@ use Rattle.chunk_core.proofs.RangeLaws.{base_of_room, count_of_room, none_there}
 use Rattle.oak_core.specs.declared.states.PassState.{PassState}
 use Rattle.oak_core.specs.declared.states.Taught.TheVariants.{OfRoom}
 use Rattle.oak_core.specs.KeyHistories.{state_behind, stamp_behind, before}
-use Rattle.oak_core.specs.KeyReads.{rooms_held, word_now, base_now, history_now, level_now}
+use Rattle.oak_core.specs.KeyReads.{word_now, base_now, history_now, level_now}
 use Rattle.oak_core.specs.KeyRule.{StatesAgree, HistoriesAreLegal}
 use Rattle.oak_core.specs.Learning.{reach_of}
 use Rattle.oak_core.specs.Memory.{Memory}
+use Rattle.oak_core.specs.PassState.{rooms_held}
 use Rattle.oak_core.proofs.LessonReach.{reach_missed, reached}
 use Rattle.oak_core.proofs.Levels.{level-none}
 use Rattle.oak_core.proofs.WritesBelow.{before_whole}

@@ -31,9 +31,10 @@ use Rattle.chunk_core.proofs.Publish as adds
 use Rattle.chunk_core.proofs.RangeLaws.{base_of_room}
 use Rattle.oak_core.specs.declared.states.Knowledge.{Knowledge}
 use Rattle.oak_core.specs.declared.states.PassState.{PassState}
-use Rattle.oak_core.specs.KeyReads.{rooms_held, sum_now, word_now, base_now, history_now}
+use Rattle.oak_core.specs.KeyReads.{sum_now, word_now, base_now, history_now}
 use Rattle.oak_core.specs.Lessons.{KnowsAbsent, PinsKnow, HeardStands}
 use Rattle.oak_core.specs.Memory.{Memory}
+use Rattle.oak_core.specs.PassState.{rooms_held}
 use Rattle.oak_core.proofs.HeardKeeps.{heard_idle}
 use Rattle.oak_core.proofs.LessonRanges.{history_left}
 use Rattle.oak_core.proofs.Levels.{goes_added, level_at}

@@ -12,12 +12,8 @@ use Rattle.chunk_core.specs.ValueWord.{names_header}
 use Rattle.oak_core.specs.declared.states.KeyedWrite.{KeyedWrite}
 use Rattle.oak_core.specs.declared.states.PassState.{PassState}
 use Rattle.oak_core.specs.Memory.{Memory}
-use Rattle.oak_core.specs.PassState.{history, knowledge_of}
+use Rattle.oak_core.specs.PassState.{rooms_held, history, knowledge_of}
 use Rattle.oak_core.specs.KeyHistories.{stamp_behind}
-
--- what the pass has of rooms
-abbrev pub rooms_held : PassState → RoomHolds
-rooms_held v = v.rooms
 
 -- F added up over all covers
 abbrev pub sum_now : Sizes → Memory → List PassState → (Cover → ℕ) → ℕ
