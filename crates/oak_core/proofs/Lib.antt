@@ -66,3 +66,4 @@ pub mod Frames
 pub mod SamePass
 pub mod AloneLast
 pub mod AloneRuns
+pub mod CallSteps
