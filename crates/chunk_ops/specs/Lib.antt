@@ -1,0 +1,5 @@
+pub mod Words
+pub mod PinRecords
+pub mod AskedRanges
+pub mod RoomPins
+pub mod RoomWords
