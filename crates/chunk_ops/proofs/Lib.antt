@@ -6,3 +6,4 @@ pub mod WordLoads
 pub mod BoundOrder
 pub mod BoundWords
 pub mod FoundRooms
+pub mod FoundEntries

@@ -3,3 +3,4 @@ pub mod PinRecords
 pub mod AskedRanges
 pub mod RoomPins
 pub mod RoomWords
+pub mod TestStates
