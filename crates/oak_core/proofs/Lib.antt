@@ -93,3 +93,4 @@ mod KeepsCounts
 mod KeepsPublish
 mod UnwrittenKeys
 mod PublishFacts
+pub mod CallSteps

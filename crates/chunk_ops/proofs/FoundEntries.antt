@@ -1,0 +1,212 @@
+-- What stands of an entry that a pin found: its key word names a block of the table, in which its key stands.
+use Rattle.std.proofs.Common.{◌≡◌, ℕ, ◌+◌, ◌-◌, ◌*◌, ◌/◌, ◌%◌, ◌^◌, ◌<◌, ◌≤◌, ◌==◌, ◌&&◌, nat_lt, nat_le, true, false, Bool, cond, List, [], ◌∷◌, map, length, get_or, take, sym, refl, ap, ◌∙◌, subst, arith, Option, Some, None, leb-true, ltb-true, eqb-true}
+use Rattle.std.proofs.lemmas.Bool.{lt-ltb}
+use Rattle.std.specs.List.{find}
+use mathlib.Core.Logic.{dite}
+use mathlib.Core.Option.{some}
+use lib.ListN.{get_elem?}
+use native.Mathlib.Decide.{dec_lt}
+use Rattle.oak_model.specs.declared.classes.Class.{Class}
+use Rattle.oak_model.specs.declared.limits.TheConstants.{CLASSES, GREATEST_KEY}
+use Rattle.oak_model.specs.Class.{class_number, class_bytes, classes, class_of}
+use Rattle.oak_model.specs.Counts.{one_if, one_at, total}
+use Rattle.oak_model.specs.Key.{IsKey}
+use Rattle.oak_model.specs.Limits.{Sizes}
+use Rattle.oak_model.specs.WordBytes.{word_bytes, bytes_of}
+use Rattle.oak_model.proofs.Counting.{test-cases, both_true, total_map}
+use Rattle.oak_model.proofs.Lists.{rows_length, rows_at}
+use Rattle.oak_model.proofs.SumLaws.{total_in}
+use Rattle.arena_core.specs.Arena.{at_bytes, block_words, blocks, IsInArena}
+use Rattle.arena_core.specs.Place.{IsPlace, class_in, block_in, length_in, names_block, content}
+use Rattle.arena_core.proofs.PlaceLaws.{class_below}
+use Rattle.chunk_core.specs.declared.holds.FoundEntry.{FoundEntry}
+use Rattle.chunk_core.specs.declared.holds.PinnedRoom.{PinnedRoom}
+use Rattle.chunk_core.specs.declared.holds.RoomHolds.{RoomHolds}
+use Rattle.chunk_core.specs.Covers.{span_in, entry_at, used_at, moving_of}
+use Rattle.chunk_core.specs.CoverSums.{weight, each, owning}
+use Rattle.chunk_core.specs.KeyWords.{key_length, key_bytes}
+use Rattle.chunk_core.specs.LinkedEntries.{entries_in, in_use, first_numbers}
+use Rattle.chunk_core.specs.MayOnRooms.{FindsEntry}
+use Rattle.chunk_core.specs.PinnedRooms.{AreCounted, EntryStands, RoomPinHolds}
+use Rattle.chunk_core.specs.Rooms.{at_key}
+use Rattle.chunk_core.proofs.CoverFacts.{entry_adds}
+use Rattle.chunk_core.proofs.CoverLaws.{room_le}
+use Rattle.chunk_core.proofs.EntryNumbers.{numbers_once}
+use Rattle.oak_core.specs.declared.states.PassState.{PassState}
+use Rattle.oak_core.specs.EntryOwners.{is_class, is_key_word, entry_owners}
+use Rattle.oak_core.specs.Memory.{Memory, Spot, in_arena, in_rooms, index, IsInside, memory}
+use Rattle.oak_core.specs.PassState.{rooms_held}
+use Rattle.oak_core.specs.Splitting.{Loads}
+use Rattle.oak_core.specs.Step.{Step, load, Told}
+use Rattle.oak_core.proofs.HeadersInArena.{names_named}
+use Rattle.oak_core.proofs.MetLists.{at_inside, each_at}
+use Rattle.chunk_ops.specs.PinRecords.{HasEntry, HasRoomPin, RoomPinned, OnlyMeets, pin_or, room_pin}
+use Rattle.chunk_ops.specs.RoomWords.{FindsKeyWord}
+use Rattle.chunk_ops.proofs.WordLoads.{pin_holds, load_at, load_reads}
+use Rattle.chunk_ops.proofs.WordParts.{length-bytes_of, byte_in, part_long}
+
+-- a class that is found for a length has room for it
+
+found_fits : (n : ℕ) (c : Class) (cs : List Class) → find (λ d. nat_le n (class_bytes d)) cs ≡ Some c → n ≤ class_bytes c
+found_fits n c [] e = absurd cc
+found_fits n c (d ∷ ds) e = test-cases (nat_le n (class_bytes d)) (λ t. cond t (Some d) (find (λ d. nat_le n (class_bytes d)) ds) ≡ Some c → n ≤ class_bytes c)
+    (λ t f. let g : d ≡ c = cc in subst (λ (k : Class). n ≤ class_bytes k) g (leb-true n (class_bytes d) t)) (λ _ f. found_fits n c ds f) e
+
+place_room : (p : ℕ) → IsPlace p → length_in p ≤ 8 * block_words (class_in p)
+place_room p is = subst (λ (c : ℕ). length_in p ≤ 8 * (2 * 4 ^ c)) (sym is.is_in) (let f = found_fits (length_in p) is.class classes is.fits in let k : ℕ = 4 ^ class_number is.class in let f' : length_in p ≤ 16 * k = f in let g : length_in p ≤ 8 * (2 * k) = omega arith in g)
+
+-- a key word names a block of the class that its length has, which is a key's
+pub record IsKeyPlace (word : ℕ) : Type 0 where
+  pub some_byte : 0 < length_in word
+  pub few : length_in word ≤ GREATEST_KEY
+  pub place : IsPlace word
+
+pub key_place : (word : ℕ) → is_key_word word ≡ 1 → IsKeyPlace word
+key_place word e = let b = both_true (nat_lt 0 (length_in word)) (nat_le (length_in word) GREATEST_KEY && is_class (class_in word) (class_of (length_in word))) (tested _ e) in
+    let d = both_true (nat_le (length_in word) GREATEST_KEY) (is_class (class_in word) (class_of (length_in word))) b.1 in record {
+      some_byte = ltb-true 0 (length_in word) b.0;
+      few = leb-true (length_in word) GREATEST_KEY d.0;
+      place = by (class_of (length_in word)) refl d.1;
+    }
+  where
+    tested : (t : Bool) → one_if t ≡ 1 → t ≡ true
+    tested true h = refl
+    tested false h = absurd (omega arith)
+
+    by : (o : Option Class) → class_of (length_in word) ≡ o → is_class (class_in word) o ≡ true → IsPlace word
+    by None f t = absurd cc
+    by (Some d) f t = record { class = d; is_in = eqb-true (class_in word) (class_number d) t; fits = f }
+
+key_word_few : (word : ℕ) → is_key_word word ≤ 1
+key_word_few word = test-cases (nat_lt 0 (length_in word) && (nat_le (length_in word) GREATEST_KEY && is_class (class_in word) (class_of (length_in word)))) (λ t. one_if t ≤ 1) (λ _. omega arith) (λ _. omega arith)
+
+-- no word is 0 that names a key's block
+above_none : (word : ℕ) → 0 < length_in word → 0 < word
+unfolding length_in
+above_none word lt = omega arith
+
+counted_numbers : (o : Option ℕ) (es : List FoundEntry) (i : ℕ) (e : FoundEntry) → AreCounted o es → get_elem? es i ≡ some e → e.number ≡ i
+counted_numbers None es i e c at = let l = at_inside es i e at in let q : length es ≡ 0 = ap length c in absurd (omega arith)
+counted_numbers (Some n) es i e c at = c.1 i e at
+
+module _ (z : Sizes) (call r : ℕ) (x : Step) (v : PassState) (n : ℕ) (w : PassState) (p : HasRoomPin z r v) (t : Told z call x v n w) (i : ℕ) (k : List ℕ) (h : HasEntry r i k v) where
+  abbrev m : Memory
+  m = memory z t.table.words
+
+  abbrev hs : List RoomHolds
+  hs = map rooms_held t.table.states
+
+  abbrev word : ℕ
+  word = h.entry.word
+
+  held : RoomPinHolds z m.rooms (content m.arena.bytes) (room_pin v)
+  held = pin_holds z call r x v n w p t
+
+  at_room : EntryStands (m.rooms.count r) (m.rooms.key r) (content m.arena.bytes) h.entry
+  at_room = subst (λ (j : ℕ). EntryStands (m.rooms.count j) (m.rooms.key j) (content m.arena.bytes) h.entry) p.pin.room
+      (each_at (EntryStands (m.rooms.count (room_pin v).room) (m.rooms.key (room_pin v).room) (content m.arena.bytes)) (room_pin v).entries held.entries i h.entry h.finds.there)
+
+  number_is : h.entry.number ≡ i
+  number_is = counted_numbers (room_pin v).count (room_pin v).entries i h.entry held.counted h.finds.there
+
+  pub entry_below : i < entries_in (m.rooms.count r)
+  entry_below = let b = at_room.below in let e = number_is in omega arith
+
+  pub word_there : m.rooms.key r i ≡ word
+  word_there = ap (m.rooms.key r) (sym number_is) ∙ at_room.word
+
+  weighs : weight (m.rooms.pin r) ≡ 1
+  weighs = subst (λ (j : ℕ). weight (m.rooms.pin j) ≡ 1) p.pin.room held.cover
+
+  pub is_key_there : is_key_word word ≡ 1
+  is_key_there = let a = entry_adds z m.rooms (content m.arena.bytes) hs (λ s y. 1 - is_key_word y.word) r i p.inside weighs (numbers_once (entries_in (m.rooms.count r)) i entry_below) in
+      let none = t.rule.covers.placed in let few = key_word_few word in let same : is_key_word (m.rooms.key r i) ≡ is_key_word word = ap is_key_word word_there in omega arith
+
+  pub key_there : IsKeyPlace word
+  key_there = key_place word is_key_there
+
+  owns : 1 ≤ entry_owners z m.rooms (content m.arena.bytes) hs (class_in word) (block_in word)
+  owns = let names : ℕ → ℕ = names_block (class_in word) (block_in word) in let ms = map moving_of hs in
+      let a = room_le z.chunks m.rooms.pin (used_at m.rooms (content m.arena.bytes)) ms (each (owning names)) r p.inside weighs in
+      let b = total_map (entry_at m.rooms (content m.arena.bytes) r) (owning names (span_in m.rooms r)) (in_use m.rooms r) in
+      let c = total_in (λ j. owning names (span_in m.rooms r) (entry_at m.rooms (content m.arena.bytes) r j)) i (in_use m.rooms r) (let o = numbers_once (entries_in (m.rooms.count r)) i entry_below in omega arith) in
+      let d : owning names (span_in m.rooms r) (entry_at m.rooms (content m.arena.bytes) r i) ≡ 1 = owning_one (m.rooms.key r i) word_there in omega arith
+    where
+      owning_one : (y : ℕ) → y ≡ word → one_if (nat_lt 0 y) * names_block (class_in word) (block_in word) y ≡ 1
+      owning_one y e = (λ j. one_if (nat_lt 0 (e j)) * names_block (class_in word) (block_in word) (e j))
+          ∙ (λ j. one_if (lt-ltb 0 word (above_none word key_there.some_byte) j) * names_named (class_in word) (block_in word) word refl refl j)
+
+  pub block_there : block_in word < blocks z (class_in word)
+  block_there = dite (dec_lt (block_in word) (blocks z (class_in word))) (λ l. l) (λ g. let none = t.rule.blocks.inside (class_in word) (block_in word) (omega arith) in let o = owns in absurd (omega arith))
+
+  pub class_there : class_in word < CLASSES
+  class_there = let c = class_below key_there.place.class in let e = key_there.place.is_in in omega arith
+
+  abbrev words : List ℕ
+  words = h.entry.words
+
+  words_long : length words ≡ block_words (class_in word)
+  words_long = ap length (sym at_room.words) ∙ rows_length 0 (block_words (class_in word)) (m.arena.bytes (class_in word) (block_in word))
+
+  pub room_there : length_in word ≤ 8 * length words
+  room_there = let a = place_room word key_there.place in let l = words_long in let b : ℕ = block_words (class_in word) in omega arith
+
+  pub key_is_there : take (length_in word) (bytes_of words) ≡ k
+  unfolding length_in key_length
+  key_is_there = h.key_is
+
+  pub key_long : length_in word ≡ length k
+  key_long = sym (part_long (length_in word) words room_there) ∙ ap length key_is_there
+
+  pub key_whole : IsKey k
+  key_whole = let l = key_long in let q = key_there in let a = q.some_byte in let b = q.few in ((omega arith), (omega arith))
+
+  -- a word of the block
+  pub block_word_there : (j : ℕ) → j < block_words (class_in word) → m.arena.bytes (class_in word) (block_in word) j ≡ get_or words j 0
+  block_word_there j lt = sym (ap (λ (ws : List ℕ). get_or ws j 0) (sym at_room.words) ∙ (rows_at 0 (block_words (class_in word)) j (m.arena.bytes (class_in word) (block_in word)) 0 lt
+      ∙ ap (m.arena.bytes (class_in word) (block_in word)) (let e : 0 + j ≡ j = omega arith in e)))
+
+  -- a byte of the key, in the word that has it
+  pub key_byte_there : (j y : ℕ) → j < length k → y ≡ get_or words (j / 8) 0 → get_or (word_bytes y) (j % 8) 0 ≡ get_or k j 0
+  key_byte_there j y lt e = ap (λ (q : ℕ). get_or (word_bytes q) (j % 8) 0) e ∙ (byte_in words (length_in word) j (let l = key_long in omega arith) room_there ∙ ap (λ (bs : List ℕ). get_or bs j 0) key_is_there)
+
+  pub in_block : (j : ℕ) → j < length k → j / 8 < block_words (class_in word)
+  in_block j lt = let l = key_long in let a = room_there in let q = words_long in let b : ℕ = block_words (class_in word) in omega arith
+
+-- the word that has a byte of the key is one of the table's
+pub block_inside : (z : Sizes) (k : List ℕ) (e : FoundEntry) (word : ℕ) → FindsKeyWord z k e word → (j : ℕ) → j < length k → IsInArena z (at_bytes (class_in word) (block_in word) (j / 8))
+block_inside z k e word f j lt = let a = f.room in let b : ℕ = block_words (class_in word) in (f.class, f.block, (let q : j / 8 < b = omega arith in q))
+
+-- ---- the loads
+
+module _ (z : Sizes) (call r n : ℕ) (v w : PassState) (p : HasRoomPin z r v) (i : ℕ) (k : List ℕ) (h : HasEntry r i k v) where
+  pub key_word_is : Told z call (load (in_rooms (at_key r i))) v n w → n ≡ h.entry.word
+  key_word_is t = sym (load_reads z call n v w (in_rooms (at_key r i)) t) ∙ word_there z call r (load (in_rooms (at_key r i))) v n w p t i k h
+
+  pub block_word_is : (j : ℕ) → j < block_words (class_in h.entry.word) → Told z call (load (in_arena (at_bytes (class_in h.entry.word) (block_in h.entry.word) j))) v n w → n ≡ get_or h.entry.words j 0
+  block_word_is j lt t = sym (load_reads z call n v w (in_arena (at_bytes (class_in h.entry.word) (block_in h.entry.word) j)) t) ∙ block_word_there z call r (load (in_arena (at_bytes (class_in h.entry.word) (block_in h.entry.word) j))) v n w p t i k h j lt
+
+  pub key_word_found : Told z call (load (in_rooms (at_key r i))) v n w → FindsKeyWord z k h.entry n
+  key_word_found t = let x : Step = load (in_rooms (at_key r i)) in let e = key_word_is t in subst (FindsKeyWord z k h.entry) (sym e) (record {
+    is = refl;
+    class = class_there z call r x v n w p t i k h;
+    block = block_there z call r x v n w p t i k h;
+    long = key_long z call r x v n w p t i k h;
+    key = key_whole z call r x v n w p t i k h;
+    room = let l = key_long z call r x v n w p t i k h in let a = place_room h.entry.word (key_there z call r x v n w p t i k h).place in let b : ℕ = block_words (class_in h.entry.word) in omega arith;
+  })
+
+  -- a byte of the key, by a load of the word of its block
+  pub byte_found : (j at word : ℕ) → FindsKeyWord z k h.entry word → j < length k → at ≡ index z (in_arena (at_bytes (class_in word) (block_in word) (j / 8))) → Loads z call at v n w → get_or (word_bytes n) (j % 8) 0 ≡ get_or k j 0
+  byte_found j at word f lt is l = let q : Spot = in_arena (at_bytes (class_in h.entry.word) (block_in h.entry.word) (j / 8)) in
+      let inside : IsInside z q = subst (λ (e : ℕ). IsInside z (in_arena (at_bytes (class_in e) (block_in e) (j / 8)))) f.is (block_inside z k h.entry word f j lt) in
+      let t : Told z call (load q) v n w = load_at z call at n v w q inside (is ∙ ap (λ (e : ℕ). index z (in_arena (at_bytes (class_in e) (block_in e) (j / 8)))) f.is) l in
+      key_byte_there z call r (load q) v n w p t i k h j n lt (block_word_is (j / 8) (in_block z call r (load q) v n w p t i k h j lt) t)
+
+-- loads leave it as it was found
+
+pub pin_still : (z : Sizes) (call r : ℕ) (v w : PassState) → OnlyMeets call v w → HasRoomPin z r v → HasRoomPin z r w
+pin_still z call r v w o p = subst (RoomPinned z r) (sym o.rooms) p
+
+abbrev pub entry_still : (call r i : ℕ) (k : List ℕ) (v w : PassState) → OnlyMeets call v w → HasEntry r i k v → HasEntry r i k w
+entry_still call r i k v w o h = record { entry = h.entry; finds = subst (λ (a : RoomHolds). FindsEntry r i a (pin_or a.pin) h.entry) (sym o.rooms) h.finds; key_is = h.key_is }

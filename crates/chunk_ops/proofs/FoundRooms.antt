@@ -1,0 +1,92 @@
+-- Rooms that were tried one behind another.
+use Rattle.std.proofs.Common.{◌≡◌, ℕ, ◌+◌, ◌<◌, inl, inr, sym, ap, ◌∙◌, subst, arith, Some, None}
+use mathlib.Core.Logic.{dite}
+use native.Mathlib.Decide.{dec_lt}
+use Rattle.pin_word.specs.PinWord.{state_of}
+use Rattle.oak_model.specs.Limits.{Sizes}
+use Rattle.chunk_core.specs.declared.states.TheConstants.{OPEN}
+use Rattle.chunk_core.specs.declared.holds.PinnedRoom.{PinnedRoom}
+use Rattle.chunk_core.specs.declared.holds.RoomHolds.{RoomHolds}
+use Rattle.chunk_core.specs.PinnedRooms.{span_of}
+use Rattle.chunk_core.specs.RoomStep.{pin_room}
+use Rattle.chunk_core.specs.Spans.{Span}
+use Rattle.oak_core.specs.declared.states.PassState.{PassState}
+use Rattle.oak_core.specs.Step.{on_rooms}
+use Rattle.oak_core.proofs.CallSteps.{step_alone, step_since, step_until, stands_both}
+use Rattle.chunk_ops.specs.PinRecords.{HasRoomPin, RoomPinned, OnlyMeets, pin_or, room_pin, with_room_pin}
+use Rattle.chunk_ops.specs.RoomPins.{AddsRoomPin, PinsNow, FoundShut, PinsOpen, FoundOff, Unpins}
+use Rattle.chunk_ops.proofs.BoundWords.{same_pin}
+use Rattle.chunk_ops.proofs.PinSteps.{pin_stands, pin_blocks, pin_headers, pin_rooms, made, pin_on, pin_good, pin_runs, stays_then, then_stays, round}
+
+module _ (z : Sizes) (call r : ℕ) (v w : PassState) (n : PinsNow z call r v w) where
+  pub has_pin : HasRoomPin z r w
+  has_pin = pin_good z call r n.number v w n.told n.opened
+
+  -- which the pass may undo
+  pub no_latch_then : (w.rooms.latch ≡ None) × (w.rooms.claim ≡ None)
+  no_latch_then = let p = pin_on z call r n.number v w n.told in (p.latch, p.claim)
+
+  -- loads show that the range is what is asked
+  pub pins_asked : (x : PassState) (P : Span → Type 0) → OnlyMeets call w x → P (span_of (room_pin w)) → PinsOpen z call r P v x
+  pins_asked x P only p = record {
+    step = step_until z call (on_rooms (pin_room r)) v w x only.stands.met (step_alone z call (on_rooms (pin_room r)) v n.number w n.told);
+    opened = n.opened;
+    stands = stands_both call v w x (pin_stands z call r n.number v w n.told) only.stands;
+    blocks = only.blocks ∙ pin_blocks z call r n.number v w n.told;
+    headers = only.headers ∙ pin_headers z call r n.number v w n.told;
+    has = subst (RoomPinned z r) (sym only.rooms) has_pin;
+    rooms = only.rooms ∙ (pin_rooms z call r n.number v w n.told ∙ ap (λ (q : PinnedRoom). with_room_pin (Some q) v.rooms) (sym made_is));
+    made = same_pin call w x only;
+    range = subst (λ (q : PinnedRoom). P (span_of q)) (sym (same_pin call w x only)) p;
+    still = then_stays (AddsRoomPin z r) v w x (pin_runs z call r n.number v w n.told (λ (k : ℕ). state_of k ≡ OPEN) n.opened) only.still;
+  }
+    where
+      made_is : room_pin x ≡ made z call r n.number v w n.told
+      made_is = ap (λ (a : RoomHolds). pin_or a.pin) (only.rooms ∙ pin_rooms z call r n.number v w n.told)
+
+  -- or that it is not, and the pin is undone
+  pub off_then : (x u : PassState) (P : Span → Type 0) → OnlyMeets call w x → (P (span_of (room_pin w)) → ⊥) → Unpins z call r x u → FoundOff z call r P v u
+  off_then x u P only other e = record {
+    step = step_until z call (on_rooms (pin_room r)) v x u e.stands.met (step_until z call (on_rooms (pin_room r)) v w x only.stands.met (step_alone z call (on_rooms (pin_room r)) v n.number w n.told));
+    off = inr other;
+  }
+
+  pub only_then : (x u : PassState) → OnlyMeets call w x → Unpins z call r x u → OnlyMeets call v u
+  only_then x u only e = round z call r v w x u n.number n.told only e
+
+pub off_shut : (z : Sizes) (call r : ℕ) (P : Span → Type 0) (v w : PassState) → FoundShut z call r v w → FoundOff z call r P v w
+off_shut z call r P v w f = record { step = f.step; off = inl f.shut }
+
+-- a call that began earlier
+
+pub off_since : (z : Sizes) (call r : ℕ) (P : Span → Type 0) (u v w : PassState) → OnlyMeets call u v → FoundOff z call r P v w → FoundOff z call r P u w
+off_since z call r P u v w a f = record { step = step_since z call (on_rooms (pin_room r)) u v w a.stands.met f.step; off = f.off }
+
+pub off_until : (z : Sizes) (call r : ℕ) (P : Span → Type 0) (v w x : PassState) → OnlyMeets call w x → FoundOff z call r P v w → FoundOff z call r P v x
+off_until z call r P v w x a f = record { step = step_until z call (on_rooms (pin_room r)) v w x a.stands.met f.step; off = f.off }
+
+pub opens_since : (z : Sizes) (call r : ℕ) (P : Span → Type 0) (u v w : PassState) → OnlyMeets call u v → PinsOpen z call r P v w → PinsOpen z call r P u w
+opens_since z call r P u v w a f = record {
+  step = step_since z call (on_rooms (pin_room r)) u v w a.stands.met f.step;
+  opened = f.opened;
+  stands = stands_both call u v w a.stands f.stands;
+  blocks = f.blocks ∙ a.blocks;
+  headers = f.headers ∙ a.headers;
+  has = f.has;
+  rooms = f.rooms ∙ ap (with_room_pin (Some (room_pin w))) a.rooms;
+  made = f.made;
+  range = f.range;
+  still = stays_then (AddsRoomPin z r) u v w a.still f.still;
+}
+
+-- in the call's own number
+
+pub opens_in : (z : Sizes) (first now r : ℕ) (P : Span → Type 0) (v w : PassState) → now ≡ first → PinsOpen z now r P v w → PinsOpen z first r P v w
+opens_in z first now r P v w e f = subst (λ (k : ℕ). PinsOpen z k r P v w) e f
+
+pub off_in : (z : Sizes) (first now r : ℕ) (P : Span → Type 0) (v w : PassState) → now ≡ first → FoundOff z now r P v w → FoundOff z first r P v w
+off_in z first now r P v w e f = subst (λ (k : ℕ). FoundOff z k r P v w) e f
+
+-- one room more was tried
+pub off_more : (z : Sizes) (call k : ℕ) (P : Span → Type 0) (v w x : PassState) → OnlyMeets call w x → ((r : ℕ) → r < k → FoundOff z call r P v w) → FoundOff z call k P v x → (r : ℕ) → r < k + 1 → FoundOff z call r P v x
+off_more z call k P v w x a before now r lt = dite (dec_lt r k) (λ l. off_until z call r P v w x a (before r l)) (λ n. subst (λ (j : ℕ). FoundOff z call j P v x) (let e : k ≡ r = omega arith in e) now)

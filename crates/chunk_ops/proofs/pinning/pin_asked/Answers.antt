@@ -1,0 +1,19 @@
+use Rattle.oak_model.specs.Limits.{Sizes}
+use Rattle.oak_core.specs.Passes.{state, key, call_of}
+use Rattle.oak_core.proofs.SamePass.{stays_both}
+use Rattle.chunk_ops.specs.AskedRanges.{IsAsked}
+use Rattle.chunk_ops.proofs.FoundRooms.{opens_since, opens_in, off_since, off_in, off_more}
+use Rattle.chunk_ops.proofs.PinSteps.{only_both, only_in}
+use Rattle.chunk_ops.proofs.pinning.pin_asked.Goals as goal
+
+pub returns-in-Some-try_room-clause-pinned : goal.returns-in-Some-try_room-clause-pinned
+returns-in-Some-try_room-clause-pinned c = let z : Sizes = key c.args.table.now in let call = call_of c.args.pass.now in let v = state c.args.pass.now in let i = c.loop-room.invariant in let w = state c.loop-room.pass in let x = state c.try_room.new.pass in let r = c.in-Some-try_room.pin.room in
+    opens_since z call r (IsAsked c.args.asked c.args.key.now) v w x i.only (opens_in z call (call_of c.loop-room.pass) r (IsAsked c.args.asked c.args.key.now) w x i.stays.call c.in-Some-try_room.ensures.pinned)
+
+pub loop-room-preserved : goal.loop-room-preserved
+loop-room-preserved c = let z : Sizes = key c.args.table.now in let call = call_of c.args.pass.now in let v = state c.args.pass.now in let i = c.loop-room.invariant in let w = state c.loop-room.pass in let x = state c.try_room.new.pass in let k = c.loop-room.room in
+    let e = c.in_default-try_room.ensures in let only = only_in call (call_of c.loop-room.pass) w x i.stays.call e.only in record {
+      stays = stays_both i.stays e.own;
+      only = only_both call v w x i.only only;
+      off = off_more z call k (IsAsked c.args.asked c.args.key.now) v w x only i.off (off_since z call k (IsAsked c.args.asked c.args.key.now) v w x i.only (off_in z call (call_of c.loop-room.pass) k (IsAsked c.args.asked c.args.key.now) w x i.stays.call e.off));
+    }

@@ -1,0 +1,48 @@
+use Rattle.std.proofs.Common.{◌≡◌, ℕ, sym, subst, ◌∙◌, ap}
+use Rattle.chunk_core.specs.declared.holds.RoomHolds.{RoomHolds}
+use Rattle.oak_model.specs.Limits.{Sizes}
+use Rattle.oak_core.specs.declared.states.PassState.{PassState}
+use Rattle.oak_core.specs.Passes.{state, key, call_of}
+use Rattle.chunk_ops.specs.AskedRanges.{IsAsked}
+use Rattle.chunk_ops.specs.PinRecords.{HasRoomPin, RoomPinned}
+use Rattle.chunk_ops.specs.RoomPins.{PinsOpen, Unpins}
+use Rattle.chunk_ops.proofs.FoundRooms.{has_pin, no_latch_then, pins_asked, off_then, only_then, off_shut}
+use Rattle.chunk_ops.proofs.PinSteps.{only_in, unpins_in}
+use Rattle.chunk_ops.proofs.pinning.try_room.Goals as goal
+
+pub returns-in_default-clause-off : goal.returns-in_default-clause-off
+returns-in_default-clause-off c = off_shut (key c.args.table.now) (call_of c.args.pass.now) c.args.room (IsAsked c.args.asked c.args.key.now) (state c.args.pass.now) (state c.pin_open.new.pass) c.in_default.ensures.shut
+
+pub is_asked-requires-clause-pinned : goal.is_asked-requires-clause-pinned
+is_asked-requires-clause-pinned c = let z : Sizes = key c.args.table.now in let o = c.in-Some.ensures.opened in
+    subst (λ (r : ℕ). HasRoomPin z r (state c.pin_open.new.pass)) (sym o.0) (has_pin z (call_of c.args.pass.now) c.args.room (state c.args.pass.now) (state c.pin_open.new.pass) o.1)
+
+pub returns-then-is_asked-clause-pinned : goal.returns-then-is_asked-clause-pinned
+returns-then-is_asked-clause-pinned c = let z : Sizes = key c.args.table.now in let call = call_of c.args.pass.now in let o = c.in-Some.ensures.opened in let v = state c.args.pass.now in let w = state c.pin_open.new.pass in let x = state c.is_asked.new.pass in
+    subst (λ (r : ℕ). PinsOpen z call r (IsAsked c.args.asked c.args.key.now) v x) (sym o.0)
+    (pins_asked z call c.args.room v w o.1 x (IsAsked c.args.asked c.args.key.now) (only_in call (call_of c.pin_open.new.pass) w x c.in-Some.ensures.own.call c.if-is_asked.ensures.only) c.if-is_asked.ensures.asked)
+
+pub unpin-requires-clause-pinned : goal.unpin-requires-clause-pinned
+unpin-requires-clause-pinned c = let z : Sizes = key c.args.table.now in let o = c.in-Some.ensures.opened in
+    subst (λ (a : RoomHolds). RoomPinned z c.in-Some.pin.room a) (sym c.if-is_asked.ensures.only.rooms)
+    (subst (λ (r : ℕ). HasRoomPin z r (state c.pin_open.new.pass)) (sym o.0) (has_pin z (call_of c.args.pass.now) c.args.room (state c.args.pass.now) (state c.pin_open.new.pass) o.1))
+
+pub unpin-requires-clause-latch : goal.unpin-requires-clause-latch
+unpin-requires-clause-latch c = let o = c.in-Some.ensures.opened in ap (λ (a : RoomHolds). a.latch) c.if-is_asked.ensures.only.rooms ∙ (no_latch_then (key c.args.table.now) (call_of c.args.pass.now) c.args.room (state c.args.pass.now) (state c.pin_open.new.pass) o.1).0
+
+pub unpin-requires-clause-claim : goal.unpin-requires-clause-claim
+unpin-requires-clause-claim c = let o = c.in-Some.ensures.opened in ap (λ (a : RoomHolds). a.claim) c.if-is_asked.ensures.only.rooms ∙ (no_latch_then (key c.args.table.now) (call_of c.args.pass.now) c.args.room (state c.args.pass.now) (state c.pin_open.new.pass) o.1).1
+
+-- the end of the pin, in the call
+ends : (z : Sizes) (call now r k : ℕ) (x u : PassState) → now ≡ call → k ≡ r → Unpins z now k x u → Unpins z call r x u
+ends z call now r k x u e f n = subst (λ (j : ℕ). Unpins z call j x u) f (unpins_in z call now k x u e n)
+
+pub returns-clause-off : goal.returns-clause-off
+returns-clause-off c = let z : Sizes = key c.args.table.now in let call = call_of c.args.pass.now in let o = c.in-Some.ensures.opened in let v = state c.args.pass.now in let w = state c.pin_open.new.pass in let x = state c.is_asked.new.pass in let u = state c.unpin.new.pass in
+    off_then z call c.args.room v w o.1 x u (IsAsked c.args.asked c.args.key.now) (only_in call (call_of c.pin_open.new.pass) w x c.in-Some.ensures.own.call c.if-is_asked.ensures.only) c.if-is_asked.ensures.asked
+    (ends z call (call_of c.is_asked.new.pass) c.args.room c.in-Some.pin.room x u (c.if-is_asked.ensures.own.call ∙ c.in-Some.ensures.own.call) o.0 c.unpin.ensures.unpinned)
+
+pub returns-clause-only : goal.returns-clause-only
+returns-clause-only c = let z : Sizes = key c.args.table.now in let call = call_of c.args.pass.now in let o = c.in-Some.ensures.opened in let v = state c.args.pass.now in let w = state c.pin_open.new.pass in let x = state c.is_asked.new.pass in let u = state c.unpin.new.pass in
+    only_then z call c.args.room v w o.1 x u (only_in call (call_of c.pin_open.new.pass) w x c.in-Some.ensures.own.call c.if-is_asked.ensures.only)
+    (ends z call (call_of c.is_asked.new.pass) c.args.room c.in-Some.pin.room x u (c.if-is_asked.ensures.own.call ∙ c.in-Some.ensures.own.call) o.0 c.unpin.ensures.unpinned)

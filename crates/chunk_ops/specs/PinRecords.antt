@@ -1,0 +1,93 @@
+-- The pin of a room, read off the state of the pass that has it, and what stays while it stands.
+use Rattle.std.specs.Prelude.{◌≡◌, ℕ, ◌<◌, ◌≤◌, List, [], length, slice_index, Option, Some, None}
+use mathlib.Core.Option.{some}
+use lib.ListN.{get_elem?}
+use Rattle.oak_model.specs.Limits.{Sizes}
+use Rattle.chunk_core.specs.declared.layout.TheConstants.{BOUND_WORDS}
+use Rattle.chunk_core.specs.declared.holds.FoundEntry.{FoundEntry}
+use Rattle.chunk_core.specs.declared.holds.PinnedRoom.{PinnedRoom}
+use Rattle.chunk_core.specs.declared.holds.RoomHolds.{RoomHolds}
+use Rattle.chunk_core.specs.KeyWords.{key_bytes}
+use Rattle.chunk_core.specs.MayOnRooms.{PinsRoom, FindsEntry}
+use Rattle.chunk_core.specs.RoomRule.{AreBounds}
+use Rattle.oak_core.specs.declared.states.PassState.{PassState}
+use Rattle.oak_core.specs.AloneWords.{Runs}
+use Rattle.oak_core.specs.CallSteps.{Learns, Stands}
+
+-- the pin of a pass, which says nothing where it has none
+abbrev pub pin_or : Option PinnedRoom → PinnedRoom
+pin_or None = record { room = 0; found = 0; base = 0; low = []; high = []; count = None; entries = [] }
+pin_or (Some p) = p
+
+abbrev pub room_pin : PassState → PinnedRoom
+room_pin v = pin_or v.rooms.pin
+
+abbrev pub with_room_pin : Option PinnedRoom → RoomHolds → RoomHolds
+with_room_pin o a = record a { pin = o }
+
+-- the pass has a pin of the room, a good one or a dud
+pub record PinIsOn (z : Sizes) (r : ℕ) (a : RoomHolds) : Type 0 where
+  pub inside : r < z.chunks
+  pub is : a.pin ≡ Some (pin_or a.pin)
+  pub room : (pin_or a.pin).room ≡ r
+  pub latch : a.latch ≡ None
+  pub claim : a.claim ≡ None
+
+-- all words of a pin's bounds were recorded, and neither bound is longer than a key
+pub record HasBounds (p : PinnedRoom) : Type 0 where
+  pub fit : AreBounds (slice_index p.low 0) (slice_index p.high 0)
+  pub low : length p.low ≡ BOUND_WORDS
+  pub high : length p.high ≡ BOUND_WORDS
+
+-- the pass has a good pin of the room
+pub record RoomPinned (z : Sizes) (r : ℕ) (a : RoomHolds) : Type 0 where
+  pub inside : r < z.chunks
+  pub pin : PinsRoom r a (pin_or a.pin)
+  pub bounds : HasBounds (pin_or a.pin)
+  -- no more entries were found under it than a room has
+  pub few : length (pin_or a.pin).entries ≤ z.entries
+
+abbrev pub HasRoomPin : Sizes → ℕ → PassState → Type 0
+HasRoomPin z r v = RoomPinned z r v.rooms
+
+-- the pins are of one room, the later with no less found
+pub record PinStays (p q : PinnedRoom) : Type 0 where
+  pub room : q.room ≡ p.room
+  pub found : q.found ≡ p.found
+  pub base : q.base ≡ p.base
+  pub low : q.low ≡ p.low
+  pub high : q.high ≡ p.high
+  pub entries : (i : ℕ) (e : FoundEntry) → get_elem? p.entries i ≡ some e → get_elem? q.entries i ≡ some e
+
+-- of rooms the pass has what it had, with the pin, which has no less found
+pub record PinKept (z : Sizes) (r : ℕ) (a b : RoomHolds) : Type 0 where
+  pub has : RoomPinned z r b
+  pub stays : PinStays (pin_or a.pin) (pin_or b.pin)
+  pub rooms : b ≡ with_room_pin (Some (pin_or b.pin)) a
+
+abbrev pub KeepsPin : Sizes → ℕ → PassState → PassState → Type 0
+KeepsPin z r v w = PinKept z r v.rooms w.rooms
+
+-- under its pin the call may have learned, and holds what it held
+pub record UnderPin (z : Sizes) (call r : ℕ) (v w : PassState) : Type 0 where
+  pub learns : Learns call v w
+  pub blocks : w.blocks ≡ v.blocks
+  pub headers : w.headers ≡ v.headers
+  pub pin : KeepsPin z r v w
+
+-- the entry is one that the pin found, and has the key
+pub record HasEntry (r i : ℕ) (key : List ℕ) (v : PassState) : Type 0 where
+  pub entry : FoundEntry
+  pub finds : FindsEntry r i v.rooms (room_pin v) entry
+  pub key_is : key_bytes entry.word entry.words ≡ key
+
+abbrev pub WordsStay : List ℕ → List ℕ → Type 0
+WordsStay before after = after ≡ before
+
+-- The pass only met more, all in the call: it learned nothing, and holds what it held. To a pass that is alone the words of the table stay.
+pub record OnlyMeets (call : ℕ) (v w : PassState) : Type 0 where
+  pub stands : Stands call v w
+  pub blocks : w.blocks ≡ v.blocks
+  pub headers : w.headers ≡ v.headers
+  pub rooms : w.rooms ≡ v.rooms
+  pub still : Runs WordsStay v w

@@ -1,0 +1,18 @@
+//! Rooms under a pin: pinned by a key or a bound, their bounds, and what stands of their entries.
+#![tactic(auto)]
+
+mod bounds;
+mod entries;
+mod loading;
+mod pinning;
+mod pins;
+mod ranges;
+#[cfg(test)]
+mod tests;
+mod words;
+
+pub use bounds::{high_byte, high_len, low_byte, low_len};
+pub use entries::{AddHalt, Content, EntryNo, Found, NotAdded};
+pub use loading::{base_of, content, key_byte, key_len};
+pub use pinning::{Moved, pin_for, pin_last};
+pub use pins::{RoomPin, unpin};
