@@ -6,14 +6,15 @@ use Rattle.oak_model.proofs.Lists.{each_append, begins_trans}
 use Rattle.oak_core.specs.declared.states.Finding.{Finding}
 use Rattle.oak_core.specs.declared.states.Knowledge.{Knowledge}
 use Rattle.oak_core.specs.declared.states.PassState.{PassState}
-use Rattle.oak_core.specs.CallSteps.{MetMore, StepOfCall, KeepsAll, Learns, Stands}
+use Rattle.oak_core.specs.CallSteps.{MetMore, StepOfCall, KeepsAll, Learns, Stands, SightsMore}
 use Rattle.oak_core.specs.KnownPlaces.{KnowsPlace}
 use Rattle.oak_core.specs.PassState.{seen_of}
 use Rattle.oak_core.specs.Step.{Step, load, give_number, on_arena, on_headers, on_rooms, store_locked, note_full, state_after, Told}
 use Rattle.oak_core.specs.TableState.{TableState}
+use Rattle.oak_core.specs.declared.states.Sight.{Sight}
 
-begins_self : {A : Type 0} (l m : List A) → m ≡ l → Begins l m
-begins_self l m e = ([], e ∙ sym (append-nil l))
+pub begins_same : {A : Type 0} (l m : List A) → m ≡ l → Begins l m
+begins_same l m e = ([], e ∙ sym (append-nil l))
 
 pub met_both : (call : ℕ) (u v w : PassState) → MetMore call u v → MetMore call v w → MetMore call u w
 met_both call u v w a b = record {
@@ -25,32 +26,41 @@ met_both call u v w a b = record {
 pub met_none : (call : ℕ) (v : PassState) → MetMore call v v
 met_none call v = record { more = []; met = sym (append-nil v.findings.met); calls = tt }
 
+pub sights_both : (call : ℕ) (u v w : PassState) → SightsMore call u v → SightsMore call v w → SightsMore call u w
+sights_both call u v w a b = record {
+  more = a.more ++ b.more;
+  sights = b.sights ∙ (ap (λ (l : List Sight). l ++ b.more) a.sights ∙ append_assoc u.findings.sights a.more b.more);
+  calls = each_append (λ (s : Sight). s.call ≡ call) a.more b.more a.calls b.calls;
+}
+
+pub sights_same : (call : ℕ) (v w : PassState) → w.findings.sights ≡ v.findings.sights → SightsMore call v w
+sights_same call v w e = record { more = []; sights = e ∙ sym (append-nil v.findings.sights); calls = tt }
+
 pub keeps_both : (u v w : PassState) → KeepsAll u v → KeepsAll v w → KeepsAll u w
 keeps_both u v w a b = record {
   numbers = b.numbers ∙ a.numbers;
   mine = b.mine ∙ a.mine;
   fulls = b.fulls ∙ a.fulls;
   swept = b.swept ∙ a.swept;
-  sights = begins_trans u.findings.sights v.findings.sights w.findings.sights a.sights b.sights;
   gones = begins_trans u.findings.gones v.findings.gones w.findings.gones a.gones b.gones;
   seen = λ k. begins_trans (seen_of k u.knowledge) (seen_of k v.knowledge) (seen_of k w.knowledge) (a.seen k) (b.seen k);
   remembers = λ k at r x. b.remembers k at r (a.remembers k at r x);
 }
 
 pub learns_both : (call : ℕ) (u v w : PassState) → Learns call u v → Learns call v w → Learns call u w
-learns_both call u v w a b = record { met = met_both call u v w a.met b.met; all = keeps_both u v w a.all b.all }
+learns_both call u v w a b = record { met = met_both call u v w a.met b.met; sights = sights_both call u v w a.sights b.sights; all = keeps_both u v w a.all b.all }
 
 pub stands_learns : (call : ℕ) (v w : PassState) → Stands call v w → Learns call v w
 stands_learns call v w s = record {
   met = s.met;
+  sights = sights_same call v w s.sights;
   all = record {
     numbers = s.numbers;
     mine = ap (λ (q : Knowledge). q.mine) s.knowledge;
     fulls = s.fulls;
     swept = s.swept;
-    sights = begins_self v.findings.sights w.findings.sights s.sights;
-    gones = begins_self v.findings.gones w.findings.gones s.gones;
-    seen = λ k. begins_self (seen_of k v.knowledge) (seen_of k w.knowledge) (ap (seen_of k) s.knowledge);
+    gones = begins_same v.findings.gones w.findings.gones s.gones;
+    seen = λ k. begins_same (seen_of k v.knowledge) (seen_of k w.knowledge) (ap (seen_of k) s.knowledge);
     remembers = λ k at r x. subst (KnowsPlace k at r) (sym s.knowledge) x;
   };
 }

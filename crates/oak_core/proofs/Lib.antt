@@ -94,3 +94,4 @@ mod KeepsPublish
 mod UnwrittenKeys
 mod PublishFacts
 pub mod CallSteps
+pub mod CountTold

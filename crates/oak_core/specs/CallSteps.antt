@@ -7,6 +7,7 @@ use Rattle.oak_core.specs.declared.states.PassState.{PassState}
 use Rattle.oak_core.specs.KnownPlaces.{Remembers}
 use Rattle.oak_core.specs.PassState.{Extends}
 use Rattle.oak_core.specs.Step.{Step, Told}
+use Rattle.oak_core.specs.declared.states.Sight.{Sight}
 
 -- the pass met more, all of it in the call
 pub record MetMore (call : ℕ) (v w : PassState) : Type 0 where
@@ -29,14 +30,20 @@ pub record KeepsAll (v w : PassState) : Type 0 where
   pub mine : w.knowledge.mine ≡ v.knowledge.mine
   pub fulls : w.findings.fulls ≡ v.findings.fulls
   pub swept : w.findings.swept ≡ v.findings.swept
-  pub sights : Begins v.findings.sights w.findings.sights
   pub gones : Begins v.findings.gones w.findings.gones
   pub seen : Extends v w
   pub remembers : Remembers v.knowledge w.knowledge
 
+-- what it was taught was taught in the call
+pub record SightsMore (call : ℕ) (v w : PassState) : Type 0 where
+  pub more : List Sight
+  pub sights : w.findings.sights ≡ v.findings.sights ++ more
+  pub calls : Each (λ (s : Sight). s.call ≡ call) more
+
 -- the call met more and may have learned, and wrote nothing
 pub record Learns (call : ℕ) (v w : PassState) : Type 0 where
   pub met : MetMore call v w
+  pub sights : SightsMore call v w
   pub all : KeepsAll v w
 
 -- the call met more, and learned and wrote nothing
