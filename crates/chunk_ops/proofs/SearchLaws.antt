@@ -1,5 +1,5 @@
--- What an order tells of the keys of a room, and the loads of searches.
-use Rattle.std.proofs.Common.{◌≡◌, ◌≢◌, ◌==◌, not, true, false, ℕ, ◌+◌, ◌<◌, ◌≤◌, List, [], ◌∷◌, ◌++◌, Option, Some, None, MatchOption, sym, ◌∙◌, ap, refl, subst, arith, append_assoc, append-nil}
+-- What an order tells of the keys of a room.
+use Rattle.std.proofs.Common.{◌≡◌, ◌≢◌, ◌==◌, not, true, false, ℕ, ◌+◌, ◌<◌, ◌≤◌, List, Option, Some, None, MatchOption, sym, ◌∙◌, ap, refl, subst, arith}
 use Rattle.std.specs.Ordering.{ordering_reverse, ordering_index, is_eq}
 use Rattle.std.specs.declared.cmp.Ordering.{Ordering}
 use Rattle.std.specs.declared.cmp.Ordering.TheVariants.{Less, Equal, Greater}
@@ -9,9 +9,7 @@ use mathlib.Core.Logic.{dite}
 use native.Mathlib.Decide.{dec_lt}
 use Rattle.oak_model.specs.Key.{key_cmp, IsKeyBefore}
 use Rattle.oak_model.proofs.KeyLaws.{same_is}
-use Rattle.chunk_ops.specs.Found.{HasNot, IsBetween, IsEntryOf, IsFound, CountsFirst}
-use Rattle.chunk_ops.specs.Reads.{Met, found_count, key_loads, Reads}
-use Rattle.chunk_core.specs.LinkedEntries.{entries_in, prefix_in}
+use Rattle.chunk_ops.specs.Found.{HasNot, IsBetween, IsEntryOf, IsFound}
 use Rattle.chunk_ops.specs.Room.{Room, IsRoom, key_at, entries}
 
 -- one order, told of two keys
@@ -54,24 +52,6 @@ none_more r k a i h n j le lt = dite (dec_lt j i) (λ l. h j le l) (λ m. subst 
 
 pub other_key : (a b : List ℕ) → is_eq (key_cmp a b) ≡ false → b ≢ a
 other_key a b e f = let g : is_eq (key_cmp a b) ≡ true = ap is_eq (ap (key_cmp a) f ∙ tied_itself nat_list_cmp_total a) in cc
-
-module _ {S : Type 0} {pinned : S → Type 0} {room : S → Room} {met : S → List Met} {stays : S → S → Type 0} where
-  pub reads_here : (s : S) → pinned s → stays s s → Reads pinned room met stays 0 s s
-  unfolding key_loads
-  reads_here s p o = record { pin = p; same = refl; on = o; more = []; is = sym (append-nil (met s)); few = omega arith }
-
-  pub reads_few : (m n : ℕ) (s t : S) → Reads pinned room met stays m s t → m ≤ n → Reads pinned room met stays n s t
-  reads_few m n s t r le = let f = r.few in record { pin = r.pin; same = r.same; on = r.on; more = r.more; is = r.is; few = omega arith }
-
-  pub counts : (n m w : ℕ) (s q t : S) → met q ≡ met s ++ found_count w ∷ [] → entries_in w ≡ entries (room q) → prefix_in w ≡ (room q).prefix → Reads pinned room met stays n q t → n ≤ m → CountsFirst (room t) m (met s) (met t)
-  counts n m w s q t e many prefix r le = let f = r.few in record {
-    word = w;
-    more = r.more;
-    is = r.is ∙ (ap (λ (xs : List Met). xs ++ r.more) e ∙ append_assoc (met s) (found_count w ∷ []) r.more);
-    many = many ∙ ap entries (sym r.same);
-    prefix = prefix ∙ ap (λ (x : Room). x.prefix) (sym r.same);
-    few = omega arith;
-  }
 
 pub is_tied : (o : Ordering) → is_eq o ≡ true → o ≡ Equal
 is_tied Less e = absurd cc

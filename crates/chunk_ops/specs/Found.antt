@@ -3,7 +3,7 @@ use Rattle.std.specs.Prelude.{◌≡◌, ◌≢◌, ℕ, ◌+◌, ◌-◌, ◌<�
 use Rattle.oak_model.specs.Key.{IsKeyBefore}
 use Rattle.chunk_core.specs.LinkedEntries.{entries_in, prefix_in}
 use Rattle.chunk_ops.specs.Bits.{bits}
-use Rattle.chunk_ops.specs.Reads.{Met, found_count, key_loads}
+use Rattle.chunk_ops.specs.Reads.{Met, met_count, key_loads, AreReadings}
 use Rattle.chunk_ops.specs.Room.{Room, key_at, entries}
 
 -- entry i of the prefix has the key
@@ -28,13 +28,14 @@ abbrev pub IsFound : Room → List ℕ → Option ℕ → Type 0
 IsFound r k (Some i) = IsEntryOf r k i
 IsFound r k None = HasNot r k 0 (entries r)
 
--- The count was loaded, and then at most n key words; the room is that below this count.
-pub record CountsFirst (r : Room) (n : ℕ) (before after : List Met) : Type 0 where
+-- The count was loaded, and then keys as P says, with at most n key words; the room is that below this count.
+pub record CountsFirst (r : Room) (P : Room → List Met → Type 0) (n : ℕ) (before after : List Met) : Type 0 where
   pub word : ℕ
   pub more : List Met
-  pub is : after ≡ before ++ found_count word ∷ more
+  pub is : after ≡ before ++ met_count word ∷ more
   pub many : entries_in word ≡ entries r
   pub prefix : prefix_in word ≡ r.prefix
+  pub each : AreReadings (P r) more
   pub few : key_loads more ≤ n
 
 -- as many key words as a search by halves and a walk need

@@ -27,9 +27,9 @@ IsNearest r way bound a b None = (j : ℕ) → a ≤ j → j < b → IsBeyond wa
 IsNearest r way bound a b (Some i) = ((a ≤ i) × (i < b)) × IsBeyond way bound (key_at r i) × ((j : ℕ) → a ≤ j → j < b → IsBeyond way bound (key_at r j) → key_cmp (key_at r j) (key_at r i) ≢ way_order way)
 
 -- the bytes that an optional slice has
-abbrev pub bytes_of : Option (Bor (List ℕ)) → Option (List ℕ)
-bytes_of None = None
-bytes_of (Some b) = Some b.now
+abbrev pub bound_bytes : Option (Bor (List ℕ)) → Option (List ℕ)
+bound_bytes None = None
+bound_bytes (Some b) = Some b.now
 
 -- a stored bound is of these bytes
 abbrev pub IsBound : Option StoredKey → Option (List ℕ) → Type 0

@@ -3,7 +3,7 @@ ghost use Rattle.std.specs.Prelude.{◌≡◌, ℕ, ◌-◌, ◌<◌, ◌≤◌,
 ghost use Rattle.chunk_core.specs.LinkedEntries.{entries_in, prefix_in};
 ghost use Rattle.chunk_ops.specs.Bits.{bits};
 ghost use Rattle.chunk_ops.specs.Found.{IsAt, IsBetween, IsEntryOf, HasNot, IsFound, CountsFirst, search_loads};
-ghost use Rattle.chunk_ops.specs.Reads.{Reads};
+ghost use Rattle.chunk_ops.specs.Reads.{Reads, Compares};
 ghost use Rattle.chunk_ops.specs.Room.{entries};
 
 use crate::comparing::compare;
@@ -35,7 +35,7 @@ pub(crate) fn search_sorted<R: SearchedRoom>(
 ) -> Result<u32, u32>
     requires pinned { R.pinned room.old }
     requires prefix { prefix ≡ (R.room room.old).prefix }
-    ensures reads { Reads R.pinned R.room R.met R.stays (bits prefix) room.old room.new }
+    ensures reads { Reads R.pinned R.room R.met R.stays (Compares key.now) (bits prefix) room.old room.new }
     ensures place { MatchResult result (λ i. IsAt (R.room room.old) key.now i) (λ i. IsBetween (R.room room.old) key.now i) }
 {
     let mut low = 0;
@@ -61,7 +61,7 @@ pub(crate) fn find_between<R: SearchedRoom>(
     requires pinned { R.pinned room.old }
     requires ordered { from ≤ to }
     requires within { to ≤ entries (R.room room.old) }
-    ensures reads { Reads R.pinned R.room R.met R.stays (to - from) room.old room.new }
+    ensures reads { Reads R.pinned R.room R.met R.stays (Compares key.now) (to - from) room.old room.new }
     ensures found { MatchOption result (HasNot (R.room room.old) key.now from to) (λ i. IsEntryOf (R.room room.old) key.now i) }
 {
     for entry in from..to {
@@ -79,7 +79,7 @@ pub(crate) fn find<R: SearchedRoom>(room: &mut R, key: &[u8]) -> Option<u32>
     ensures pinned { R.pinned room.new }
     ensures stays { R.stays room.old room.new }
     ensures found { IsFound (R.room room.new) key.now result }
-    ensures loads { CountsFirst (R.room room.new) (search_loads (R.room room.new)) (R.met room.old) (R.met room.new) }
+    ensures loads { CountsFirst (R.room room.new) (Compares key.now) (search_loads (R.room room.new)) (R.met room.old) (R.met room.new) }
 {
     let count = room.count();
     let prefix = prefix_in(count);

@@ -2,8 +2,8 @@
 ghost use Rattle.std.specs.Prelude.{◌≡◌, ℕ, ◌+◌, ◌-◌, ◌<◌, ◌≤◌, Option, List, MatchOption};
 ghost use Rattle.chunk_ops.specs.Bits.{bits};
 ghost use Rattle.chunk_ops.specs.Found.{CountsFirst, search_loads};
-ghost use Rattle.chunk_ops.specs.Nearest.{IsNearest, IsBound, IsKeyBound, IsCandidate, bytes_of, entry_of};
-ghost use Rattle.chunk_ops.specs.Reads.{Reads};
+ghost use Rattle.chunk_ops.specs.Nearest.{IsNearest, IsBound, IsKeyBound, IsCandidate, bound_bytes, entry_of};
+ghost use Rattle.chunk_ops.specs.Reads.{Reads, Looks};
 ghost use Rattle.chunk_ops.specs.Room.{entries};
 
 use crate::finding::{entries_in, prefix_in, search_sorted};
@@ -27,8 +27,8 @@ fn nearest_sorted<R: SearchedRoom>(
 ) -> Option<u32>
     requires pinned { R.pinned room.old }
     requires prefix { prefix ≡ (R.room room.old).prefix }
-    ensures reads { Reads R.pinned R.room R.met R.stays (bits prefix) room.old room.new }
-    ensures nearest { IsNearest (R.room room.old) way (bytes_of bound.entry) 0 prefix result }
+    ensures reads { Reads R.pinned R.room R.met R.stays Looks (bits prefix) room.old room.new }
+    ensures nearest { IsNearest (R.room room.old) way (bound_bytes bound.entry) 0 prefix result }
 {
     match bound {
         None => way.outermost(prefix),
@@ -50,7 +50,7 @@ fn nearer<R: SearchedRoom>(
     requires pinned { R.pinned room.old }
     requires within { entry < entries (R.room room.old) }
     requires candidate { IsCandidate (R.room room.old) best }
-    ensures reads { Reads R.pinned R.room R.met R.stays 1 room.old room.new }
+    ensures reads { Reads R.pinned R.room R.met R.stays Looks 1 room.old room.new }
     ensures candidate { IsCandidate (R.room room.old) result }
     ensures nearest { (b : Option (List ℕ)) → IsBound bound.now b → IsNearest (R.room room.old) way b 0 entry (entry_of best) → IsNearest (R.room room.old) way b 0 (entry + 1) (entry_of result) }
 {
@@ -79,7 +79,7 @@ fn walk<R: SearchedRoom>(
     requires ordered { from ≤ to }
     requires within { to ≤ entries (R.room room.old) }
     requires candidate { IsCandidate (R.room room.old) first }
-    ensures reads { Reads R.pinned R.room R.met R.stays (to - from) room.old room.new }
+    ensures reads { Reads R.pinned R.room R.met R.stays Looks (to - from) room.old room.new }
     ensures nearest { (b : Option (List ℕ)) → IsBound bound.now b → IsNearest (R.room room.old) way b 0 from (entry_of first) → IsNearest (R.room room.old) way b 0 to result }
 {
     let mut best = first;
@@ -96,7 +96,7 @@ fn walk<R: SearchedRoom>(
 fn load_candidate<R: SearchedRoom>(room: &mut R, entry: Option<u32>) -> Option<Candidate>
     requires pinned { R.pinned room.old }
     requires within { MatchOption entry Unit (λ i. i < entries (R.room room.old)) }
-    ensures reads { Reads R.pinned R.room R.met R.stays 1 room.old room.new }
+    ensures reads { Reads R.pinned R.room R.met R.stays Looks 1 room.old room.new }
     ensures entry { entry_of result ≡ entry }
     ensures candidate { IsCandidate (R.room room.old) result }
 {
@@ -111,8 +111,8 @@ fn load_candidate<R: SearchedRoom>(room: &mut R, entry: Option<u32>) -> Option<C
 
 /// The bound, to be compared by its words.
 fn stored_bound(bound: Option<&[u8]>) -> Option<StoredKey>
-    requires { IsKeyBound (bytes_of bound) }
-    ensures { IsBound result (bytes_of bound.entry) }
+    requires { IsKeyBound (bound_bytes bound) }
+    ensures { IsBound result (bound_bytes bound.entry) }
 {
     match bound {
         Some(key) => Some(StoredKey::of(key)),
@@ -124,11 +124,11 @@ fn stored_bound(bound: Option<&[u8]>) -> Option<StoredKey>
 /// where there is no bound.
 fn nearest<R: SearchedRoom>(room: &mut R, way: Way, bound: Option<&[u8]>) -> Option<u32>
     requires pinned { R.pinned room.old }
-    requires key { IsKeyBound (bytes_of bound) }
+    requires key { IsKeyBound (bound_bytes bound) }
     ensures pinned { R.pinned room.new }
     ensures stays { R.stays room.old room.new }
-    ensures nearest { IsNearest (R.room room.new) way (bytes_of bound.entry) 0 (entries (R.room room.new)) result }
-    ensures loads { CountsFirst (R.room room.new) (search_loads (R.room room.new)) (R.met room.old) (R.met room.new) }
+    ensures nearest { IsNearest (R.room room.new) way (bound_bytes bound.entry) 0 (entries (R.room room.new)) result }
+    ensures loads { CountsFirst (R.room room.new) Looks (search_loads (R.room room.new)) (R.met room.old) (R.met room.new) }
 {
     let count = room.count();
     let prefix = prefix_in(count);
@@ -148,11 +148,11 @@ fn nearest<R: SearchedRoom>(room: &mut R, way: Way, bound: Option<&[u8]>) -> Opt
 /// found; none where there is no such entry.
 pub(crate) fn above<R: SearchedRoom>(room: &mut R, bound: Option<&[u8]>) -> Option<u32>
     requires pinned { R.pinned room.old }
-    requires key { IsKeyBound (bytes_of bound) }
+    requires key { IsKeyBound (bound_bytes bound) }
     ensures pinned { R.pinned room.new }
     ensures stays { R.stays room.old room.new }
-    ensures nearest { IsNearest (R.room room.new) Way.Up (bytes_of bound.entry) 0 (entries (R.room room.new)) result }
-    ensures loads { CountsFirst (R.room room.new) (search_loads (R.room room.new)) (R.met room.old) (R.met room.new) }
+    ensures nearest { IsNearest (R.room room.new) Way.Up (bound_bytes bound.entry) 0 (entries (R.room room.new)) result }
+    ensures loads { CountsFirst (R.room room.new) Looks (search_loads (R.room room.new)) (R.met room.old) (R.met room.new) }
 {
     nearest(room, Way::Up, bound)
 }
@@ -160,11 +160,11 @@ pub(crate) fn above<R: SearchedRoom>(room: &mut R, bound: Option<&[u8]>) -> Opti
 /// The entry of the greatest key below the bound, or of the greatest of all, likewise.
 pub(crate) fn below<R: SearchedRoom>(room: &mut R, bound: Option<&[u8]>) -> Option<u32>
     requires pinned { R.pinned room.old }
-    requires key { IsKeyBound (bytes_of bound) }
+    requires key { IsKeyBound (bound_bytes bound) }
     ensures pinned { R.pinned room.new }
     ensures stays { R.stays room.old room.new }
-    ensures nearest { IsNearest (R.room room.new) Way.Down (bytes_of bound.entry) 0 (entries (R.room room.new)) result }
-    ensures loads { CountsFirst (R.room room.new) (search_loads (R.room room.new)) (R.met room.old) (R.met room.new) }
+    ensures nearest { IsNearest (R.room room.new) Way.Down (bound_bytes bound.entry) 0 (entries (R.room room.new)) result }
+    ensures loads { CountsFirst (R.room room.new) Looks (search_loads (R.room room.new)) (R.met room.old) (R.met room.new) }
 {
     nearest(room, Way::Down, bound)
 }

@@ -2,7 +2,7 @@
 ghost use Rattle.std.specs.Prelude.{◌≡◌, ℕ, ◌*◌, ◌-◌, ◌<◌, List, [], ◌∷◌, ◌++◌, length, take};
 ghost use Rattle.oak_model.specs.WordBytes.{word_bytes};
 ghost use Rattle.chunk_core.specs.LinkedEntries.{entries_in, prefix_in};
-ghost use Rattle.chunk_ops.specs.Reads.{Met, found_count, found_key, found_block};
+ghost use Rattle.chunk_ops.specs.Reads.{Met, met_count, met_key, met_block};
 ghost use Rattle.chunk_ops.specs.Room.{Room, IsRoom, place_at, key_at, entries};
 ghost use Rattle.chunk_ops.specs.Words.{bytes_in};
 
@@ -27,7 +27,7 @@ pub(crate) trait SearchedRoom {
         ensures stays { stays self.old self.new }
         ensures many { entries_in result ≡ entries (room self.new) }
         ensures prefix { prefix_in result ≡ (room self.new).prefix }
-        ensures met { met self.new ≡ met self.old ++ found_count result ∷ [] };
+        ensures met { met self.new ≡ met self.old ++ met_count result ∷ [] };
 
     /// The key word of an entry.
     fn key_word(&mut self, entry: u32) -> u64
@@ -37,7 +37,7 @@ pub(crate) trait SearchedRoom {
         ensures same { room self.new ≡ room self.old }
         ensures stays { stays self.old self.new }
         ensures word { result ≡ place_at (room self.old) entry }
-        ensures met { met self.new ≡ met self.old ++ found_key entry result ∷ [] };
+        ensures met { met self.new ≡ met self.old ++ met_key entry result ∷ [] };
 
     /// Word `i` of the block that a key word names. Behind the key's last byte it has any bytes.
     fn block_word(&mut self, place: u64, i: usize) -> u64
@@ -47,7 +47,7 @@ pub(crate) trait SearchedRoom {
         ensures same { room self.new ≡ room self.old }
         ensures stays { stays self.old self.new }
         ensures bytes { (e : ℕ) → e < entries (room self.old) → place ≡ place_at (room self.old) e → take (length (key_at (room self.old) e) - 8 * i) (word_bytes result) ≡ bytes_in i (key_at (room self.old) e) }
-        ensures met { met self.new ≡ met self.old ++ found_block place i result ∷ [] };
+        ensures met { met self.new ≡ met self.old ++ met_block place i result ∷ [] };
 
     ghost is_room: { (s : Self) → pinned s → IsRoom (room s) };
 

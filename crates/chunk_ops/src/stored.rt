@@ -1,7 +1,7 @@
 //! A key that was loaded whole.
 ghost use Rattle.std.specs.Prelude.{◌≡◌, ℕ, ◌<◌, List, length};
 ghost use Rattle.oak_model.specs.Key.{IsKey, key_cmp};
-ghost use Rattle.chunk_ops.specs.Reads.{Reads};
+ghost use Rattle.chunk_ops.specs.Reads.{Reads, Looks};
 ghost use Rattle.chunk_ops.specs.Room.{key_at, entries};
 ghost use Rattle.chunk_ops.specs.Stored.{IsStored};
 
@@ -63,7 +63,7 @@ impl StoredKey {
 pub(crate) fn load_key<R: SearchedRoom>(room: &mut R, entry: u32) -> StoredKey
     requires pinned { R.pinned room.old }
     requires within { entry < entries (R.room room.old) }
-    ensures reads { Reads R.pinned R.room R.met R.stays 1 room.old room.new }
+    ensures reads { Reads R.pinned R.room R.met R.stays Looks 1 room.old room.new }
     ensures key { IsStored result (key_at (R.room room.old) entry) }
 {
     let place = room.key_word(entry);

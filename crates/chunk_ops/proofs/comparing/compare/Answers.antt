@@ -3,7 +3,7 @@ use Rattle.std.specs.declared.cmp.Ordering.{Ordering}
 use Rattle.chunk_ops.specs.Room.{Room, key_at}
 use Rattle.chunk_ops.proofs.CompareFacts.{slice_bytes, stored_long, words_order, agree_more, order_step, lengths_last}
 use Rattle.chunk_ops.proofs.OrderLaws.{padded_cmp, padded_decides, is_unequal, is_equal}
-use Rattle.chunk_ops.proofs.ReadLaws.{loaded_more, loaded_key, loaded_reads}
+use Rattle.chunk_ops.proofs.ReadLaws.{loaded_more, loaded_key, key_reads}
 use Rattle.chunk_ops.proofs.comparing.compare.Goals as goal
 
 pub loop-i-preserved : goal.loop-i-preserved
@@ -20,11 +20,6 @@ loop-i-preserved g c = let w = c.compare_word-order in let i = c.loop-i.invarian
           ∙ is_equal o (sym c.is_ne.ensures ∙ c.if-is_ne.false));
     }
 
-pub returns-then-is_ne-clause-reads : goal.returns-then-is_ne-clause-reads
-returns-then-is_ne-clause-reads g c = let w = c.compare_word-order in let i = c.loop-i.invariant in
-    loaded_reads c.args.entry c.key_word-place.result (c.loop-i.i + 1) c.args.room.now w.new.room (loaded_more c.args.entry c.key_word-place.result c.loop-i.i (g.R.SearchedRoom.met c.args.room.now) (g.R.SearchedRoom.met c.loop-i.room) (g.R.SearchedRoom.met w.new.room) i.words w.ensures.met)
-    w.ensures.pinned (w.ensures.same ∙ i.same) (g.met.R.SearchedRoom.stays_on c.args.room.now c.loop-i.room w.new.room i.on w.ensures.stays)
-
 pub returns-then-is_ne-clause-order : goal.returns-then-is_ne-clause-order
 returns-then-is_ne-clause-order g c = let w = c.compare_word-order in let i = c.loop-i.invariant in let r : Room = g.R.SearchedRoom.room c.args.room.now in let k = c.loop-i.i in let o : Ordering = w.result in
     let o_is : o ≡ padded_cmp (8 * k + 8) c.args.key.now (key_at r c.args.entry) = order_step r c.args.entry c.key_word-place.result (g.met.R.SearchedRoom.is_room c.args.room.now c.requires.pinned) c.requires.within c.key_word-place.ensures.word
@@ -38,8 +33,9 @@ returns-then-is_ne-clause-met g c = let w = c.compare_word-order in let i = c.lo
     loaded_key c.args.entry c.key_word-place.result (k + 1) k c.args.key.now (key_at r c.args.entry) (g.R.SearchedRoom.met c.args.room.now) (g.R.SearchedRoom.met w.new.room)
     (loaded_more c.args.entry c.key_word-place.result k (g.R.SearchedRoom.met c.args.room.now) (g.R.SearchedRoom.met c.loop-i.room) (g.R.SearchedRoom.met w.new.room) i.words w.ensures.met) (omega arith) (omega arith) i.agree (omega arith)
 
-pub returns-clause-reads : goal.returns-clause-reads
-returns-clause-reads g c = let i = c.loop-i.invariant in loaded_reads c.args.entry c.key_word-place.result c.loop-i.i c.args.room.now c.loop-i.room i.words i.pin i.same i.on
+pub returns-then-is_ne-clause-reads : goal.returns-then-is_ne-clause-reads
+returns-then-is_ne-clause-reads g c = let w = c.compare_word-order in let i = c.loop-i.invariant in
+    key_reads c.args.key.now c.args.entry c.args.room.now w.new.room c.requires.within (returns-then-is_ne-clause-met g c) w.ensures.pinned (w.ensures.same ∙ i.same) (g.met.R.SearchedRoom.stays_on c.args.room.now c.loop-i.room w.new.room i.on w.ensures.stays)
 
 pub returns-clause-order : goal.returns-clause-order
 returns-clause-order g c = let i = c.loop-i.invariant in let r : Room = g.R.SearchedRoom.room c.args.room.now in
@@ -51,3 +47,6 @@ returns-clause-met g c = let i = c.loop-i.invariant in let r : Room = g.R.Search
     let s : c.length_in-length.result ≡ length (key_at r c.args.entry) = c.length_in-length.ensures.is ∙ stored_long r c.args.entry c.key_word-place.result (g.met.R.SearchedRoom.is_room c.args.room.now c.requires.pinned) c.requires.within c.key_word-place.ensures.word in
     let m = c.min.ensures in let d = c.div_ceil-i-end.ensures in let t = c.loop-i.auto.i-end in
     loaded_key c.args.entry c.key_word-place.result k k c.args.key.now (key_at r c.args.entry) (g.R.SearchedRoom.met c.args.room.now) (g.R.SearchedRoom.met c.loop-i.room) i.words (omega arith) (omega arith) i.agree (omega arith)
+
+pub returns-clause-reads : goal.returns-clause-reads
+returns-clause-reads g c = let i = c.loop-i.invariant in key_reads c.args.key.now c.args.entry c.args.room.now c.loop-i.room c.requires.within (returns-clause-met g c) i.pin i.same i.on

@@ -2,8 +2,8 @@ use Rattle.std.proofs.Common.{◌≡◌, ◌+◌, ◌-◌, MatchOption, sym, ap,
 use Rattle.chunk_ops.specs.Bits.{bits}
 use Rattle.chunk_ops.specs.Found.{HasNot, IsEntryOf, IsFound, search_loads}
 use Rattle.chunk_ops.specs.Room.{Room, IsRoom, entries}
-use Rattle.chunk_ops.proofs.ReadLaws.{reads_both}
-use Rattle.chunk_ops.proofs.SearchLaws.{found_behind, counts}
+use Rattle.chunk_ops.proofs.ReadLaws.{reads_both, counts}
+use Rattle.chunk_ops.proofs.SearchLaws.{found_behind}
 use Rattle.chunk_ops.proofs.finding.find.Goals as goal
 
 pub returns-clause-found : goal.returns-clause-found

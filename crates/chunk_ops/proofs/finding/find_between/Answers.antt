@@ -1,8 +1,8 @@
 use Rattle.std.proofs.Common.{◌+◌, ◌-◌, refl, sym, ap, ◌∙◌, arith}
 use Rattle.std.specs.Ordering.{is_eq}
 use Rattle.chunk_ops.specs.Room.{Room, key_at}
-use Rattle.chunk_ops.proofs.ReadLaws.{reads_both}
-use Rattle.chunk_ops.proofs.SearchLaws.{one_key, order_at, other_key, none_more, reads_here, reads_few, is_tied}
+use Rattle.chunk_ops.proofs.ReadLaws.{reads_both, reads_here, reads_few}
+use Rattle.chunk_ops.proofs.SearchLaws.{one_key, order_at, other_key, none_more, is_tied}
 use Rattle.chunk_ops.proofs.finding.find_between.Goals as goal
 
 pub loop-entry-init : goal.loop-entry-init

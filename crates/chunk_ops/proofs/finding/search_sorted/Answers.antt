@@ -2,8 +2,8 @@ use Rattle.std.proofs.Common.{◌≡◌, ℕ, ◌+◌, ◌-◌, ◌/◌, refl, s
 use Rattle.chunk_ops.specs.Bits.{bits}
 use Rattle.chunk_ops.specs.Room.{Room, IsRoom, key_at}
 use Rattle.chunk_ops.proofs.BitLaws.{bits_more, bits_half}
-use Rattle.chunk_ops.proofs.ReadLaws.{reads_both}
-use Rattle.chunk_ops.proofs.SearchLaws.{turned, one_key, order_at, all_above, all_below, reads_here, reads_few}
+use Rattle.chunk_ops.proofs.ReadLaws.{reads_both, reads_here, reads_few}
+use Rattle.chunk_ops.proofs.SearchLaws.{turned, one_key, order_at, all_above, all_below}
 use Rattle.chunk_ops.proofs.finding.search_sorted.Goals as goal
 
 pub loop-low-init : goal.loop-low-init

@@ -1,5 +1,5 @@
 use Rattle.std.proofs.Common.{arith}
-use Rattle.chunk_ops.proofs.SearchLaws.{reads_here, reads_few}
+use Rattle.chunk_ops.proofs.ReadLaws.{reads_here, reads_few}
 use Rattle.chunk_ops.proofs.nearest.load_candidate.Goals as goal
 
 pub returns-in-None-clause-reads : goal.returns-in-None-clause-reads

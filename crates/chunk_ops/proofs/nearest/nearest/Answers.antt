@@ -2,8 +2,7 @@ use Rattle.std.proofs.Common.{◌≡◌, ◌+◌, ◌-◌, sym, ap, ◌∙◌, a
 use Rattle.chunk_ops.specs.Bits.{bits}
 use Rattle.chunk_ops.specs.Found.{search_loads}
 use Rattle.chunk_ops.specs.Room.{Room, entries}
-use Rattle.chunk_ops.proofs.ReadLaws.{reads_both}
-use Rattle.chunk_ops.proofs.SearchLaws.{counts}
+use Rattle.chunk_ops.proofs.ReadLaws.{reads_both, counts}
 use Rattle.chunk_ops.proofs.nearest.nearest.Goals as goal
 
 pub returns-clause-loads : goal.returns-clause-loads

@@ -1,8 +1,7 @@
 use Rattle.std.proofs.Common.{◌≡◌, ℕ, ◌+◌, ◌-◌, ◌<◌, Some, None, sym, subst, arith}
 use Rattle.chunk_ops.specs.Nearest.{IsCandidate, IsNearest, entry_of}
 use Rattle.chunk_ops.specs.Room.{Room, entries}
-use Rattle.chunk_ops.proofs.ReadLaws.{reads_both}
-use Rattle.chunk_ops.proofs.SearchLaws.{reads_here, reads_few}
+use Rattle.chunk_ops.proofs.ReadLaws.{reads_both, reads_here, reads_few}
 use Rattle.chunk_ops.proofs.nearest.walk.Goals as goal
 
 pub loop-entry-init : goal.loop-entry-init

@@ -1,8 +1,9 @@
-use Rattle.std.proofs.Common.{◌≡◌, length, ◌∙◌, ap, arith}
+use Rattle.std.proofs.Common.{◌≡◌, length, refl, ◌∙◌, ap, arith}
+use Rattle.chunk_ops.specs.Reads.{Looks}
 use Rattle.chunk_ops.specs.Room.{Room, IsRoom, key_at}
 use Rattle.chunk_ops.specs.Words.{word_of}
 use Rattle.chunk_ops.proofs.CompareFacts.{stored_long, word_loaded}
-use Rattle.chunk_ops.proofs.ReadLaws.{loaded_more, loaded_reads}
+use Rattle.chunk_ops.proofs.ReadLaws.{loaded_more, loaded_key, key_reads, reads_as}
 use Rattle.chunk_ops.proofs.StoredLaws.{filled_more, filled_all}
 use Rattle.chunk_ops.proofs.stored.load_key.Goals as goal
 
@@ -19,7 +20,11 @@ loop-i-preserved g c = let w = c.block_word in let i = c.loop-i.invariant in let
     }
 
 pub returns-clause-reads : goal.returns-clause-reads
-returns-clause-reads g c = let i = c.loop-i.invariant in loaded_reads c.args.entry c.key_word-place.result c.loop-i.i c.args.room.now c.loop-i.room i.met i.pin i.same i.on
+returns-clause-reads g c = let i = c.loop-i.invariant in let s = c.args.room.now in let t = c.loop-i.room in let r : Room = g.R.SearchedRoom.room s in let e = c.args.entry in let k = key_at r e in let is : IsRoom r = g.met.R.SearchedRoom.is_room s c.requires.pinned in
+    let long : c.length_in-length.result ≡ length k = c.length_in-length.ensures.is ∙ stored_long r e c.key_word-place.result is c.requires.within c.key_word-place.ensures.word in
+    let d = c.div_ceil-i-end.ensures in let f = c.loop-i.auto.i-end in
+    reads_as Looks (λ r ms q. (k, q)) 1 s t
+    (key_reads k e s t c.requires.within (loaded_key e c.key_word-place.result c.loop-i.i c.loop-i.i k k (g.R.SearchedRoom.met s) (g.R.SearchedRoom.met t) i.met (omega arith) (omega arith) (λ j _. refl) (omega arith)) i.pin i.same i.on)
 
 pub returns-clause-key : goal.returns-clause-key
 returns-clause-key g c = let i = c.loop-i.invariant in let r : Room = g.R.SearchedRoom.room c.args.room.now in let e = c.args.entry in let is : IsRoom r = g.met.R.SearchedRoom.is_room c.args.room.now c.requires.pinned in let key = is.key e c.requires.within in
