@@ -29,14 +29,16 @@ use Rattle.chunk_ops.specs.AskedRanges.{bound_spot, bound_words}
 use Rattle.chunk_ops.specs.declared.entries.Content.TheVariants.{Value, Floor}
 use Rattle.chunk_ops.specs.PinRecords.{HasEntry, HasRoomPin, OnlyMeets, WordsStay, room_pin}
 use Rattle.chunk_ops.specs.RoomWords.{FindsBase, Says}
+use Rattle.oak_core.specs.Loading.{IsPlain}
+use Rattle.oak_core.proofs.PlainLoads.{met_at}
 
--- a load only adds its finding
-pub only_loaded : (z : Sizes) (call word n : ℕ) (v w : PassState) → Loads z call word v n w → OnlyMeets call v w
-only_loaded z call word n v w l = record {
-  stands = subst (Stands call v) (sym l.met) (record { met = record { more = _ ∷ []; met = refl; calls = (refl, tt) }; numbers = refl; knowledge = refl; fulls = refl; swept = refl; sights = refl; gones = refl });
-  blocks = ap (λ (y : PassState). y.blocks) l.met;
-  headers = ap (λ (y : PassState). y.headers) l.met;
-  rooms = ap (λ (y : PassState). y.rooms) l.met;
+-- the load of a word other than a count only adds its finding
+pub only_loaded : (z : Sizes) (call word n : ℕ) (v w : PassState) (q : Spot) → IsInside z q → IsPlain q → word ≡ index z q → Loads z call word v n w → OnlyMeets call v w
+only_loaded z call word n v w q inside plain at l = let met = met_at z call word n v w q inside plain at l in record {
+  stands = subst (Stands call v) (sym met) (record { met = record { more = _ ∷ []; met = refl; calls = (refl, tt) }; numbers = refl; knowledge = refl; fulls = refl; swept = refl; sights = refl; gones = refl });
+  blocks = ap (λ (y : PassState). y.blocks) met;
+  headers = ap (λ (y : PassState). y.headers) met;
+  rooms = ap (λ (y : PassState). y.rooms) met;
   still = runs_as (λ a b. (n ≡ get_or a (index z l.spot) 0) × (b ≡ a)) WordsStay v w (λ a b d. d.1) (load_runs z call l.spot v n w l.told);
 }
 
@@ -59,6 +61,10 @@ module _ (z : Sizes) (call r : ℕ) (x : Step) (v : PassState) (n : ℕ) (w : Pa
 pub bound_inside : (z : Sizes) (b : Bound) (r j : ℕ) → r < z.chunks → j < BOUND_WORDS → IsInRooms z (bound_spot b r j)
 bound_inside z Low r j inside lt = (inside, lt)
 bound_inside z High r j inside lt = (inside, lt)
+
+pub bound_plain : (b : Bound) (r j : ℕ) → IsPlain (in_rooms (bound_spot b r j))
+bound_plain Low r j = tt
+bound_plain High r j = tt
 
 module _ (z : Sizes) (call r n : ℕ) (v w : PassState) (p : HasRoomPin z r v) where
   -- a word of a bound

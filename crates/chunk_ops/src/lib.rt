@@ -1,14 +1,22 @@
-//! Rooms under a pin: pinned by a key or a bound, their bounds, and what stands of their entries.
+//! Rooms under a pin: pinned by a key or a bound, their bounds, and the searches of their entries.
 #![tactic(auto)]
 
 mod bounds;
+mod comparing;
 mod entries;
+mod finding;
 mod loading;
+mod nearest;
+#[cfg(test)]
+mod order_tests;
 mod pinning;
 mod pins;
 mod ranges;
+mod room;
+mod stored;
 #[cfg(test)]
 mod tests;
+mod way;
 mod words;
 
 pub use bounds::{high_byte, high_len, low_byte, low_len};

@@ -4,7 +4,7 @@ use Rattle.oak_core.specs.Memory.{in_rooms}
 use Rattle.oak_core.specs.Passes.{state, key, call_of}
 use Rattle.oak_core.proofs.Words.{index_below}
 use Rattle.chunk_ops.specs.AskedRanges.{bound_spot}
-use Rattle.chunk_ops.proofs.WordLoads.{bound_inside, bound_loaded, load_at, only_loaded}
+use Rattle.chunk_ops.proofs.WordLoads.{bound_inside, bound_loaded, load_at, only_loaded, bound_plain}
 use Rattle.chunk_ops.proofs.bounds.bound_word.Goals as goal
 
 pub load-requires-clause-inside : goal.load-requires-clause-inside
@@ -16,4 +16,5 @@ returns-clause-word c = let z : Sizes = key c.args.table.now in let r = c.args.p
     (load_at z (call_of c.args.pass.now) c.bound_at-word.result c.load.result (state c.args.pass.now) (state c.load.new.pass) (in_rooms (bound_spot c.args.bound r c.args.j)) inside c.bound_at-word.ensures c.load.ensures.loaded)
 
 pub returns-clause-only : goal.returns-clause-only
-returns-clause-only c = only_loaded (key c.args.table.now) (call_of c.args.pass.now) c.bound_at-word.result c.load.result (state c.args.pass.now) (state c.load.new.pass) c.load.ensures.loaded
+returns-clause-only c = let z : Sizes = key c.args.table.now in let r = c.args.pin.now.room in
+    only_loaded z (call_of c.args.pass.now) c.bound_at-word.result c.load.result (state c.args.pass.now) (state c.load.new.pass) (in_rooms (bound_spot c.args.bound r c.args.j)) (bound_inside z c.args.bound r c.args.j c.requires.pinned.inside c.requires.word) (bound_plain c.args.bound r c.args.j) c.bound_at-word.ensures c.load.ensures.loaded

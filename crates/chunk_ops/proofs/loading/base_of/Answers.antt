@@ -15,4 +15,4 @@ returns-clause-base c = let z : Sizes = key c.args.table.now in let call = call_
     base_loaded z call r c.load.result v w c.requires.pinned (load_at z call c.base_at-word.result c.load.result v w (in_rooms (at_base r)) (c.requires.pinned.inside, omega arith) c.base_at-word.ensures c.load.ensures.loaded)
 
 pub returns-clause-only : goal.returns-clause-only
-returns-clause-only c = only_loaded (key c.args.table.now) (call_of c.args.pass.now) c.base_at-word.result c.load.result (state c.args.pass.now) (state c.load.new.pass) c.load.ensures.loaded
+returns-clause-only c = only_loaded (key c.args.table.now) (call_of c.args.pass.now) c.base_at-word.result c.load.result (state c.args.pass.now) (state c.load.new.pass) (in_rooms (at_base c.args.pin.now.room)) (c.requires.pinned.inside, omega arith) tt c.base_at-word.ensures c.load.ensures.loaded

@@ -25,4 +25,4 @@ returns-clause-content c = let z : Sizes = key c.args.table.now in let call = ca
     }
 
 pub returns-clause-only : goal.returns-clause-only
-returns-clause-only c = only_loaded (key c.args.table.now) (call_of c.args.pass.now) c.value_at-word.result c.load.result (state c.args.pass.now) (state c.load.new.pass) c.load.ensures.loaded
+returns-clause-only c = let z : Sizes = key c.args.table.now in let r = c.args.pin.now.room in only_loaded z (call_of c.args.pass.now) c.value_at-word.result c.load.result (state c.args.pass.now) (state c.load.new.pass) (in_rooms (at_value r c.args.entry.0)) (c.requires.pinned.inside, found_inside z r c.args.entry.0 c.requires.entry.0 (state c.args.pass.now) c.requires.pinned c.requires.entry.1) tt c.value_at-word.ensures c.load.ensures.loaded

@@ -48,4 +48,6 @@ returns-clause-byte c = λ k h. let z : Sizes = key c.args.table.now in let v = 
 
 pub returns-clause-only : goal.returns-clause-only
 returns-clause-only c = let z : Sizes = key c.args.table.now in let call = call_of c.args.pass.now in let v = state c.args.pass.now in let w = state c.key_word-place.new.pass in let x = state c.load-word.new.pass in
-    only_both call v w x c.key_word-place.ensures.only (only_in call (call_of c.key_word-place.new.pass) w x c.key_word-place.ensures.own.call (only_loaded z (call_of c.key_word-place.new.pass) c.bytes_at-at.result c.load-word.result w x c.load-word.ensures.loaded))
+    let e = c.requires.entry in let word = c.key_word-place.result in let f = c.key_word-place.ensures.word e.0 e.1 in
+    only_both call v w x c.key_word-place.ensures.only (only_in call (call_of c.key_word-place.new.pass) w x c.key_word-place.ensures.own.call (only_loaded z (call_of c.key_word-place.new.pass) c.bytes_at-at.result c.load-word.result w x (in_arena (at_bytes (class_in word) (block_in word) (c.args.i / 8))) (block_inside z e.0 e.1.entry word f c.args.i e.2) tt
+    (word_at z c.bytes_at-at.result c.block_in.result word (c.args.i / 8) c.class_in.result c.bytes_at-at.ensures (class_is c.class_in.result word c.class_in.ensures f.class) c.block_in.ensures) c.load-word.ensures.loaded))

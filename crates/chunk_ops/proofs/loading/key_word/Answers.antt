@@ -21,4 +21,4 @@ returns-clause-word c = λ k h. let z : Sizes = key c.args.table.now in let call
     (load_at z call c.key_at-word.result c.load.result v w (in_rooms (at_key r i)) (c.requires.pinned.inside, found_inside z r i k v c.requires.pinned h) c.key_at-word.ensures c.load.ensures.loaded)
 
 pub returns-clause-only : goal.returns-clause-only
-returns-clause-only c = only_loaded (key c.args.table.now) (call_of c.args.pass.now) c.key_at-word.result c.load.result (state c.args.pass.now) (state c.load.new.pass) c.load.ensures.loaded
+returns-clause-only c = let z : Sizes = key c.args.table.now in let r = c.args.pin.now.room in only_loaded z (call_of c.args.pass.now) c.key_at-word.result c.load.result (state c.args.pass.now) (state c.load.new.pass) (in_rooms (at_key r c.args.entry.0)) (c.requires.pinned.inside, found_inside z r c.args.entry.0 c.requires.entry.0 (state c.args.pass.now) c.requires.pinned c.requires.entry.1) tt c.key_at-word.ensures c.load.ensures.loaded

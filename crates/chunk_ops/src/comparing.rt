@@ -1,0 +1,48 @@
+//! How a key compares with that of an entry.
+ghost use Rattle.std.specs.Prelude.{◌≡◌, ℕ, ◌*◌, ◌<◌, List, [], ◌∷◌, ◌++◌, length};
+ghost use Rattle.std.specs.Ordering.{nat_cmp};
+ghost use Rattle.oak_model.specs.Key.{key_cmp};
+ghost use Rattle.chunk_ops.specs.Reads.{Reads, LoadsKey, Compares, met_block};
+ghost use Rattle.chunk_ops.specs.Room.{place_at, key_at, entries};
+ghost use Rattle.chunk_ops.specs.Words.{word_at};
+
+use crate::room::SearchedRoom;
+use crate::words::{WORD, first_bytes, word_from};
+use arena_core::place::length_in;
+use std::cmp::Ordering;
+
+/// Compares the bytes in word `i`, as numbers, with zeros behind the last bytes.
+fn compare_word<R: SearchedRoom>(room: &mut R, key: &[u8], place: u64, i: usize) -> Ordering
+    requires pinned { R.pinned room.old }
+    requires ours { WORD * i < length key.now }
+    requires theirs { (e : ℕ) × (e < entries (R.room room.old)) × (place ≡ place_at (R.room room.old) e) × (WORD * i < length (key_at (R.room room.old) e)) }
+    ensures pinned { R.pinned room.new }
+    ensures same { R.room room.new ≡ R.room room.old }
+    ensures stays { R.stays room.old room.new }
+    ensures order { (e : ℕ) → e < entries (R.room room.old) → place ≡ place_at (R.room room.old) e → result ≡ nat_cmp (word_at key.now i) (word_at (key_at (R.room room.old) e) i) }
+    ensures met { (n : ℕ) × (R.met room.new ≡ R.met room.old ++ met_block place i n ∷ []) }
+{
+    let left = length_in(place) - WORD * i;
+    let word = first_bytes(room.block_word(place, i), left);
+    word_from(key, i).cmp(&word)
+}
+
+/// How the key compares with that of an entry. Each word of the entry's key is loaded at most once, and
+/// none behind the first that differs.
+pub(crate) fn compare<R: SearchedRoom>(room: &mut R, key: &[u8], entry: u32) -> Ordering
+    requires pinned { R.pinned room.old }
+    requires within { entry < entries (R.room room.old) }
+    ensures reads { Reads R.pinned R.room R.met R.stays (Compares key.now) 1 room.old room.new }
+    ensures order { result ≡ key_cmp key.now (key_at (R.room room.old) entry) }
+    ensures met { LoadsKey entry key.now (key_at (R.room room.old) entry) (R.met room.old) (R.met room.new) }
+{
+    let place = room.key_word(entry);
+    let length = length_in(place);
+    for i in 0..key.len().min(length).div_ceil(WORD) {
+        let order = compare_word(room, key, place, i);
+        if order.is_ne() {
+            return order;
+        }
+    }
+    key.len().cmp(&length)
+}
