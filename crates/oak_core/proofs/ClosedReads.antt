@@ -2,22 +2,18 @@
 use Rattle.std.proofs.Common.{◌≡◌, ℕ, cond, Bool, true, false, List, [], sym, ap, ◌∙◌, subst}
 use Rattle.oak_model.specs.declared.cells.CellCall.{CellCall}
 use Rattle.oak_model.specs.declared.cells.CellReply.{CellReply}
-use Rattle.oak_model.specs.Counts.{Begins}
 use Rattle.oak_model.specs.Fits.{ReplyFits}
-use Rattle.oak_model.specs.History.{History, StampsRise, place_of, state_at}
+use Rattle.oak_model.specs.History.{History, place_of, state_at}
 use Rattle.oak_model.specs.Key.{is_key}
 use Rattle.oak_model.specs.KeyNumber.{key_number}
 use Rattle.oak_model.specs.State.{State}
 use Rattle.oak_model.proofs.HistoryLaws.{reply_fits-extends}
 use Rattle.oak_core.specs.declared.closing.Closed.{Closed}
-use Rattle.oak_core.specs.declared.states.KeyedWrite.{KeyedWrite}
 use Rattle.oak_core.specs.declared.states.PassState.{PassState}
 use Rattle.oak_core.specs.Closing.{closed_history, closed_state}
 use Rattle.oak_core.specs.KeyHistories.{writes_of}
 use Rattle.oak_core.specs.KnownPlaces.{KnowsPlace, Remembers, ReadAt, PlacesStand}
-use Rattle.oak_core.specs.Lessons.{LessonsStand}
 use Rattle.oak_core.specs.PassState.{Extends, seen_of}
-use Rattle.oak_core.proofs.KnownPlaces.{known_place}
 use Rattle.oak_core.proofs.KnownReads.{same_state, writes_extend}
 
 -- a key's history is what the last pass has seen of it, and what is no key has none
@@ -27,10 +23,6 @@ closed_is c key e = ap (λ (t : Bool). cond t (writes_of (seen_of (key_number ke
 
 pub closed_none : (c : Closed) (key : List ℕ) → is_key key ≡ false → closed_history c key ≡ []
 closed_none c key e = ap (λ (t : Bool). cond t (writes_of (seen_of (key_number key) (closed_state c).knowledge)) []) e
-
--- what a close gives: its own pass's lessons, at the moment of the close
-pub places_stand : (c : Closed) (level : ℕ → ℕ) (hist : ℕ → List KeyedWrite) → LessonsStand level hist (closed_state c).knowledge → ((k : ℕ) → StampsRise 0 (writes_of (hist k))) → ((k : ℕ) → Begins (seen_of k (closed_state c).knowledge) (hist k)) → PlacesStand c
-places_stand c level hist all rise begins key at r is x = ap (λ (h : History). place_of h at) (closed_is c key is) ∙ (known_place level hist (closed_state c).knowledge (key_number key) (rise (key_number key)) (begins (key_number key)) all at r x).0
 
 -- a reply that fits what its pass has seen, at the place of its number, fits the closed history at the place of that number there
 pub reply_at_close : (c : Closed) → PlacesStand c → (key : List ℕ) → is_key key ≡ true → (w : PassState) → Extends w (closed_state c) → Remembers w.knowledge (closed_state c).knowledge → (caller call : ℕ) (ask : CellCall) (reply : CellReply) (at r : ℕ)

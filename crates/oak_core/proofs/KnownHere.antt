@@ -1,5 +1,5 @@
 -- What a pass knows at one moment, by the points that stand then: the places that it knows, what it has read, and what its pin misses are so in the histories of that moment.
-use Rattle.std.proofs.Common.{◌≡◌, ℕ, suc, ◌≤◌, List, map, length, sym, subst, Some, None}
+use Rattle.std.proofs.Common.{◌≡◌, ℕ, suc, ◌≤◌, List, map, length, subst, Some, None, cond, Bool, true, [], ap, ◌∙◌}
 use mathlib.Core.Option.{some}
 use lib.ListN.{get_elem?}
 use Rattle.oak_model.specs.Counts.{Begins}
@@ -9,22 +9,23 @@ use Rattle.oak_model.specs.State.{State}
 use Rattle.oak_model.proofs.Lists.{at_map}
 use Rattle.chunk_core.specs.declared.holds.PinnedRoom.{PinnedRoom}
 use Rattle.chunk_core.specs.PinnedRooms.{OnRoomPin, Misses}
-use Rattle.oak_core.specs.declared.closing.Closed.{Closed}
 use Rattle.oak_core.specs.declared.states.PassState.{PassState}
-use Rattle.oak_core.specs.Closing.{closed_state}
 use Rattle.oak_core.specs.KeyHistories.{writes_of, state_behind, before}
 use Rattle.oak_core.specs.KeyReads.{history_now, level_now}
 use Rattle.oak_core.specs.KeyRule.{HistoriesAreLegal}
-use Rattle.oak_core.specs.KnownPlaces.{KnowsPlace, ReadAt, PlacesStand}
+use Rattle.oak_core.specs.KnownPlaces.{KnowsPlace, ReadAt}
 use Rattle.oak_core.specs.Lessons.{LessonsStand, HeardStands}
-use Rattle.oak_core.specs.Memory.{Memory}
+use Rattle.oak_core.specs.Memory.{Memory, memory}
 use Rattle.oak_core.specs.PassState.{seen_of, knowledge_of}
 use Rattle.oak_core.specs.Rule.{HistoriesStand}
-use Rattle.oak_core.proofs.ClosedReads.{places_stand}
 use Rattle.oak_core.proofs.Histories.{seen_stands}
 use Rattle.oak_core.proofs.KnownPlaces.{known_place}
 use Rattle.oak_core.proofs.KnownReads.{read_now, missed_now}
 use Rattle.oak_core.proofs.PinsKnown.{KnowsMissed}
+use Rattle.oak_core.specs.Splitting.{Ends}
+use Rattle.oak_core.proofs.UnwrittenKeys.{keys_stand}
+use Rattle.oak_model.specs.Key.{is_key}
+use Rattle.oak_model.specs.KeyNumber.{key_number}
 
 module _ (z : Sizes) (m : Memory) (vs : List PassState) (legal : HistoriesAreLegal vs) (histories : HistoriesStand (map knowledge_of vs)) (heard : HeardStands z m vs) (seat : ℕ) (v : PassState) (here : get_elem? vs seat ≡ some v) where
   rise : (k : ℕ) → StampsRise 0 (writes_of (history_now vs k))
@@ -46,6 +47,10 @@ module _ (z : Sizes) (m : Memory) (vs : List PassState) (legal : HistoriesAreLeg
   pub missed_here : (p : PinnedRoom) → v.rooms.pin ≡ Some p → (k : ℕ) → Misses p k → (state_behind (before (suc p.base) (history_now vs k)) ≡ None) × (length (before (suc p.base) (history_now vs k)) ≤ length (seen_of k v.knowledge)) × (p.base ≤ level_now z m vs k)
   missed_here p is k misses = missed_now (level_now z m vs) (history_now vs) k p.base v.knowledge lessons (subst (OnRoomPin (KnowsMissed v.knowledge)) is (heard.pins seat v here).counted k misses)
 
-  -- where it closes the table
-  pub places_here : (c : Closed) → closed_state c ≡ v → PlacesStand c
-  places_here c is = places_stand c (level_now z m vs) (history_now vs) (subst (λ (w : PassState). LessonsStand (level_now z m vs) (history_now vs) w.knowledge) (sym is) lessons) rise (λ k. subst (λ (w : PassState). Begins (seen_of k w.knowledge) (history_now vs k)) (sym is) (begins k))
+-- each place that the pass knows is that in the history of a table that it closes
+abbrev pub PlacesKnown : PassState → Type 0
+PlacesKnown v = (key : List ℕ) (at r : ℕ) → is_key key ≡ true → KnowsPlace (key_number key) at r v.knowledge → place_of (cond (is_key key) (writes_of (seen_of (key_number key) v.knowledge)) []) at ≡ r
+
+pub places_at_end : (z : Sizes) (words : List ℕ) (v : PassState) → Ends z words v → PlacesKnown v
+places_at_end z words v e key at r is knows = ap (λ (b : Bool). place_of (cond b (writes_of (seen_of (key_number key) v.knowledge)) []) at) is
+    ∙ (known_here z (memory z e.table.words) e.table.states (keys_stand z e.table e.rule).legal e.rule.histories e.rule.heard e.seat v e.here (key_number key) at r knows).0

@@ -33,9 +33,12 @@ impl OakTable {
     ghost use Rattle.oak_core.specs.PassState.{HoldsNothing, IsAlone};
     ghost use Rattle.oak_core.specs.Passes.{IsPassOf, state, key};
     ghost use Rattle.oak_core.specs.Closing.{closed_key, closed_state, closed_words, FullsLacked};
+    ghost use Rattle.oak_core.specs.KnownPlaces.{PlacesStand};
     ghost use Rattle.oak_core.specs.Splitting.{Ends};
 
-    /// Closes the table with its last pass: every other was joined into it, or into one that was.
+    /// Closes the table with its last pass: every other was joined into it, or into one that was. What
+    /// the pass knows to be the place of a number among a key's writes is its place in the closed
+    /// history.
     pub fn close(self, pass: Pass) -> Closed
         requires own { IsPassOf self pass }
         requires alone { IsAlone (state pass) }
@@ -44,6 +47,7 @@ impl OakTable {
         ensures state { closed_state result ≡ state pass }
         ensures ends { Ends (key self) (closed_words result) (state pass) }
         ensures noted { FullsLacked result }
+        ensures places { PlacesStand result }
     {
         let OakTable {
             table,
