@@ -178,4 +178,3 @@ module _ (z : Sizes) (m : RoomMemory) (content : ℕ → List ℕ) (hs : List Ro
             let p = keeps_parts q (Some next) a in let e = parts_are q in dite (ℕ_discrete (room_at q) l.room)
             (λ at. let o = others_unkept q at in let n = rest_unkept q at in let k = latch_most q next in omega arith)
             (λ ne. let n = latch_none q (Some next) (one_at-other l.room (room_at q) (λ d. ne (sym d))) in let o = kept.once q in omega arith)
-
