@@ -7,3 +7,5 @@ pub mod ArenaSteps
 pub mod KeptBlocks
 pub mod BlockSums
 pub mod HeldWords
+pub mod ByteFacts
+pub mod WordLaws

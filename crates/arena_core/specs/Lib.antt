@@ -3,3 +3,4 @@ pub mod HeldBlocks
 pub mod Place
 pub mod Blocks
 pub mod ArenaStep
+pub mod Words

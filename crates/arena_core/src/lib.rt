@@ -6,5 +6,6 @@ pub mod layout;
 pub mod place;
 #[cfg(test)]
 mod tests;
+pub mod words;
 
 pub use blocks::{HeldBlock, HeldBlocks};

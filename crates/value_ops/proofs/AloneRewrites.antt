@@ -27,12 +27,12 @@ use Rattle.value_ops.specs.HeldValue.{words_in, value_held}
 use Rattle.oak_model.specs.WordBytes.{bytes_of}
 use Rattle.value_ops.specs.Rewriting.{HasWords}
 use Rattle.value_ops.specs.UnderLock.{HasLock, LoadsPlace}
-use Rattle.value_ops.specs.Words.{words_of}
+use Rattle.arena_core.specs.Words.{words_of}
 use Rattle.value_ops.proofs.AloneSteps.{DoesAt, LoadsAt, load_does, header_does, step_does}
 use Rattle.value_ops.proofs.AloneWords.{put_next, put_elsewhere, put_again}
 use Rattle.value_ops.proofs.HeldValues.{place_at, words_at}
 use Rattle.value_ops.proofs.RewriteSteps.{class_low, word_inside, word_spot}
-use Rattle.value_ops.proofs.WordLaws.{words_long}
+use Rattle.arena_core.proofs.WordLaws.{words_long}
 
 -- a store to a word of the locked header's block
 pub word_put_alone : (z : Sizes) (call h : ℕ) (d : Class) (b k word x : ℕ) (v w : PassState) → NamesWord z d b k word → Writes z call (of_locked h) d b k x v w → Runs (PutsWord word x) v w

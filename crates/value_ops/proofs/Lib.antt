@@ -12,8 +12,6 @@ pub mod OneHeaderLaws
 pub mod KnownStates
 pub mod AlonePins
 pub mod PinFacts
-pub mod ByteFacts
-pub mod WordLaws
 pub mod LoadFacts
 pub mod ValueFacts
 pub mod RewordedHeaders

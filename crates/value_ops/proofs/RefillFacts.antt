@@ -26,7 +26,7 @@ use Rattle.oak_model.specs.WordBytes.{bytes_of}
 use Rattle.value_ops.specs.Rewriting.{HasWords}
 use Rattle.value_ops.specs.HeldValue.{words_in}
 use Rattle.value_ops.specs.UnderLock.{HasLock, ComesTo, Refills, words_over, with_words}
-use Rattle.value_ops.specs.Words.{words_of}
+use Rattle.arena_core.specs.Words.{words_of}
 use Rattle.value_ops.proofs.ComesFurther.{comes_both, comes_as, blocks_come, headers_come, lock_comes}
 use Rattle.value_ops.proofs.FillFacts.{fits_class, is_place}
 use Rattle.value_ops.proofs.HeldParts.{changed_generation}
@@ -34,7 +34,7 @@ use Rattle.value_ops.proofs.LoadFacts.{place_room}
 use Rattle.value_ops.proofs.HeldValues.{place_at, words_at}
 use Rattle.value_ops.proofs.RewordedHeaders.{put_changed, changed_place, changed_words, changed_same}
 use Rattle.value_ops.proofs.RewriteFacts.{some_held, held_now, place_now, words_now, lock_now}
-use Rattle.value_ops.proofs.WordLaws.{value_back}
+use Rattle.arena_core.proofs.WordLaws.{value_back}
 
 module _ (z : Sizes) (call h g first : ℕ) (v : PassState) (is : HasWords z h g first v) (bytes : List ℕ) (c : Class) (b : ℕ) (small : b < 2 ^ 32) (fits : class_of (length bytes) ≡ Some c)
     (class : class_in (place_held h v.headers.held) ≡ class_number c) (block : block_in (place_held h v.headers.held) ≡ b) (u : PassState)

@@ -25,12 +25,12 @@ use Rattle.oak_model.specs.WordBytes.{bytes_of}
 use Rattle.value_ops.specs.Rewriting.{HasWords}
 use Rattle.value_ops.specs.HeldValue.{words_in, value_held}
 use Rattle.value_ops.specs.UnderLock.{HasBlock, HasLock, ComesTo, Rewrites, words_over, with_words}
-use Rattle.value_ops.specs.Words.{words_of}
-use Rattle.value_ops.proofs.ByteFacts.{length-bytes_of}
+use Rattle.arena_core.specs.Words.{words_of}
+use Rattle.arena_core.proofs.ByteFacts.{length-bytes_of}
 use Rattle.value_ops.proofs.ComesFurther.{comes_none, comes_both, comes_as, blocks_come, headers_come, blocks_met, headers_met, comes_since, lock_comes}
 use Rattle.value_ops.proofs.LoadFacts.{place_room}
 use Rattle.value_ops.proofs.RewordedHeaders.{place_put, generation_put, rows_put, held_put, words_put, put_more, put_same}
-use Rattle.value_ops.proofs.WordLaws.{words_long, words_step, words_end, value_back}
+use Rattle.arena_core.proofs.WordLaws.{words_long, words_step, words_end, value_back}
 
 -- the words, where the first i of the bytes' were stored
 abbrev pub so_far : List ℕ → List ℕ → ℕ → List ℕ

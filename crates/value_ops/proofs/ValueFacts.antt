@@ -17,10 +17,11 @@ use Rattle.oak_core.proofs.Words.{index_below, arena_before}
 use Rattle.oak_core.proofs.SamePass.{stays_both}
 use Rattle.value_ops.specs.declared.reading.Reading.{Reading}
 use Rattle.oak_model.specs.WordBytes.{word_bytes, bytes_of}
-use Rattle.value_ops.specs.Reading.{bytes_in, value, value_pinned, words_pinned, IsReading, OnlyLoads, ReadsOn}
+use Rattle.value_ops.specs.Reading.{value, value_pinned, words_pinned, IsReading, OnlyLoads, ReadsOn}
+use Rattle.arena_core.specs.Words.{bytes_in}
 use Rattle.value_ops.proofs.PinFacts.{loads_both, loads_none}
-use Rattle.value_ops.proofs.ByteFacts.{length-bytes_of}
-use Rattle.value_ops.proofs.WordLaws.{word_put}
+use Rattle.arena_core.proofs.ByteFacts.{length-bytes_of}
+use Rattle.arena_core.proofs.WordLaws.{word_put}
 
 below_few : (f : ℕ → ℕ) (n : ℕ) → ((k : ℕ) → k < n → f k ≤ 8388608) → below f n ≤ n * 8388608
 unfolding below

@@ -17,7 +17,7 @@ use Rattle.value_ops.specs.Claiming.{ChangesPin}
 use Rattle.value_ops.specs.Locking.{may_lock, refusal}
 use Rattle.oak_model.specs.WordBytes.{bytes_of}
 use Rattle.value_ops.specs.UnderLock.{next_stamp}
-use Rattle.value_ops.specs.Words.{words_of}
+use Rattle.arena_core.specs.Words.{words_of}
 
 -- the three words of a header
 

@@ -7,7 +7,6 @@ pub mod Pinning
 pub mod Reading
 pub mod Readers
 pub mod Recipes
-pub mod Words
 pub mod UnderLock
 pub mod Rewriting
 pub mod AloneLocks

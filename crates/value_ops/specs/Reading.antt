@@ -1,5 +1,5 @@
 -- The value under a pin, and what a reading of it has.
-use Rattle.std.specs.Prelude.{◌≡◌, ℕ, ◌*◌, ◌<◌, ◌≤◌, List, [], length, take, drop, Option, Some, None}
+use Rattle.std.specs.Prelude.{◌≡◌, ℕ, ◌*◌, ◌<◌, ◌≤◌, List, [], length, take, Option, Some, None}
 use Rattle.arena_core.specs.Arena.{at_bytes, block_words, blocks}
 use Rattle.arena_core.specs.Place.{class_in, block_in, length_in}
 use Rattle.oak_model.specs.declared.limits.TheConstants.{CLASSES}
@@ -15,10 +15,6 @@ use Rattle.oak_core.specs.Splitting.{Loads}
 use Rattle.oak_core.specs.declared.states.PassState.{PassState}
 use Rattle.value_ops.specs.declared.reading.Reading.{Reading}
 use Rattle.value_ops.specs.Pinning.{HasPin, WordsStay}
-
--- the bytes of xs from 8 * i on, at most 8
-abbrev pub bytes_in : ℕ → List ℕ → List ℕ
-bytes_in i xs = take 8 (drop (8 * i) xs)
 
 -- the value that the pin found: of the bytes of the block as many as its place says
 abbrev pub value_of : PinnedHeader → List ℕ

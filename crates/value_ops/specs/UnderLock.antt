@@ -25,7 +25,7 @@ use Rattle.oak_core.specs.HeaderCalls.{StoresStamp, ChangesPlace, Unlocks, Marks
 use Rattle.oak_core.specs.Splitting.{Loads}
 use Rattle.value_ops.specs.Filling.{table_behind, IsLeft}
 use Rattle.value_ops.specs.HeldValue.{stamp_held, words_in, value_held}
-use Rattle.value_ops.specs.Words.{words_of}
+use Rattle.arena_core.specs.Words.{words_of}
 
 -- the place word of the header names a block of the table, of which the pass keeps each word, in one record
 pub record HasBlock (z : Sizes) (h place : ℕ) (rs : List HeldHeader) : Type 0 where

@@ -15,7 +15,6 @@ mod reading;
 mod reading_tests;
 mod recipes;
 mod rewriting;
-mod words;
 
 pub use burying::Buried;
 pub use claiming::{NoHeader, Owned, claim};

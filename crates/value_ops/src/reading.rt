@@ -4,10 +4,11 @@ ghost use Rattle.std.specs.Int.{w64, from_be_bytes};
 ghost use Rattle.header_core.specs.declared.holds.PinnedHeader.{PinnedHeader};
 ghost use Rattle.oak_core.specs.Passes.{IsPassOf, Stays, state, key, call_of};
 ghost use Rattle.value_ops.specs.Pinning.{HasPin, EndsPin};
-ghost use Rattle.value_ops.specs.Reading.{IsReading, OnlyLoads, FindsStamp, ReadsOn, value, stamp, header, words_pinned, bytes_in};
+ghost use Rattle.value_ops.specs.Reading.{IsReading, OnlyLoads, FindsStamp, ReadsOn, value, stamp, header, words_pinned};
+ghost use Rattle.arena_core.specs.Words.{bytes_in};
 
 use crate::pinning::{HeaderPin, unpin};
-use crate::words::{WORD, is_word, put_word};
+use arena_core::words::{WORD, is_word, put_word};
 use arena_core::place::{block_in, class_in, length_in};
 use oak_core::{OakTable, Pass, load};
 

@@ -10,7 +10,7 @@ use Rattle.value_ops.specs.HeldValue.{words_in}
 use Rattle.value_ops.proofs.ComesFurther.{loads_in, loads_both, headers_met}
 use Rattle.value_ops.proofs.RewriteFacts.{room}
 use Rattle.value_ops.proofs.ValueFacts.{word_of_loop}
-use Rattle.value_ops.proofs.WordLaws.{put_more, refill_whole}
+use Rattle.arena_core.proofs.WordLaws.{put_more, refill_whole}
 use Rattle.value_ops.proofs.locking.Locked.load_value.Goals as goal
 
 pub loop-i-preserved : goal.loop-i-preserved

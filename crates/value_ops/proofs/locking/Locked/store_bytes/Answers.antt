@@ -1,4 +1,4 @@
-use Rattle.std.proofs.Common.{◌*◌, ◌<◌, length, refl}
+use Rattle.std.proofs.Common.{◌*◌, ◌<◌, length, refl, sym, ◌∙◌}
 use Rattle.oak_model.specs.Limits.{Sizes}
 use Rattle.header_core.specs.HeaderStep.{reworded}
 use Rattle.value_ops.proofs.AloneRewrites.{puts_none, puts_more, puts_all}
@@ -8,6 +8,7 @@ use Rattle.value_ops.proofs.ComesFurther.{comes_in}
 use Rattle.value_ops.proofs.RewriteFacts.{begins, has_words, word_inside, stored_more, all_stored}
 use Rattle.value_ops.proofs.ValueFacts.{word_of_loop}
 use Rattle.value_ops.proofs.locking.Locked.store_bytes.Goals as goal
+use Rattle.arena_core.proofs.WordLaws.{words_at}
 
 pub loop-i-init : goal.loop-i-init
 loop-i-init c = let v = state c.args.pass.now in record {
@@ -28,9 +29,9 @@ pub loop-i-preserved : goal.loop-i-preserved
 loop-i-preserved c = let z : Sizes = key c.args.table.now in let h = c.args.self.now.header in let v = state c.args.pass.now in let u = state c.loop-i.pass in let w = state c.store_word.new.pass in let bytes = c.args.bytes.now in let s = c.loop-i.invariant in let o = c.store_word.ensures in
     let i = c.loop-i.i in let lt : 8 * i < length bytes = word_of_loop (length bytes) i c.div_ceil-i-end.result c.loop-i-test.true c.div_ceil-i-end.ensures in record {
       stays = stays_both s.stays o.own;
-      stored = stored_more z h c.args.self.now.generation c.args.first v c.requires.words bytes c.requires.room (call_of c.args.pass.now) i lt u s.stored c.word_from.result w c.word_from.ensures
+      stored = stored_more z h c.args.self.now.generation c.args.first v c.requires.words bytes c.requires.room (call_of c.args.pass.now) i lt u s.stored c.word_from.result w (c.word_from.ensures ∙ sym (words_at bytes i lt))
           (comes_in z (call_of c.args.pass.now) (call_of c.loop-i.pass) u.blocks.held (reworded h i c.word_from.result u.headers.held) u w s.stays.call o.stored);
-      alone = puts_more c.args.first bytes i c.word_from.result v u w lt c.word_from.ensures s.alone o.alone;
+      alone = puts_more c.args.first bytes i c.word_from.result v u w lt (c.word_from.ensures ∙ sym (words_at bytes i lt)) s.alone o.alone;
     }
 
 pub returns-clause-stored : goal.returns-clause-stored

@@ -1,14 +1,15 @@
-use Rattle.std.proofs.Common.{◌≡◌, ◌+◌, ◌*◌, ◌/◌, ◌%◌, ◌<◌, min, ℕ, List, length, get_or, refl, ap, ◌∙◌, subst}
+use Rattle.std.proofs.Common.{◌≡◌, ◌+◌, ◌*◌, ◌/◌, ◌%◌, ◌<◌, min, ℕ, List, length, get_or, refl, ap, ◌∙◌, subst, sym}
 use Rattle.oak_model.specs.Limits.{Sizes}
 use Rattle.header_core.specs.HeaderStep.{reworded}
 use Rattle.value_ops.proofs.AloneRewrites.{puts_none, puts_more, puts_all}
 use Rattle.oak_core.specs.Passes.{state, key, call_of, scratch_of}
 use Rattle.oak_core.proofs.SamePass.{stays_both}
-use Rattle.value_ops.specs.Words.{words_of}
+use Rattle.arena_core.specs.Words.{word_at}
 use Rattle.value_ops.proofs.ComesFurther.{comes_in}
 use Rattle.value_ops.proofs.RewriteFacts.{as_long_fits, begins, has_words, word_inside, stored_more, all_stored, rewrites}
 use Rattle.value_ops.proofs.ValueFacts.{word_of_loop}
 use Rattle.value_ops.proofs.locking.Locked.store_scratch.Goals as goal
+use Rattle.arena_core.proofs.WordLaws.{words_at}
 
 pub loop-i-init : goal.loop-i-init
 loop-i-init c = let z : Sizes = key c.args.table.now in let h = c.args.self.now.header in let g = c.args.self.now.generation in let v = state c.args.pass.now in let bytes = scratch_of c.args.pass.now in let is = c.requires.words in record {
@@ -37,9 +38,9 @@ loop-i-preserved c = let z : Sizes = key c.args.table.now in let h = c.args.self
     let i = c.loop-i.i in let n = c.div_ceil-i-end.result in let lt : 8 * i < length bytes = word_of_loop (length bytes) i n c.loop-i-test.true (of_scratch bytes c.bytes.result.now n c.div_ceil-i-end.ensures (c.bytes.ensures.bytes ∙ c.scratch.ensures)) in
     let same : c.bytes-in-loop-i.result.now ≡ bytes = c.bytes-in-loop-i.ensures.bytes ∙ (c.scratch-in-loop-i.ensures ∙ s.stays.scratch) in record {
       stays = stays_both s.stays o.own;
-      stored = stored_more z h g c.args.first v is bytes (as_long_fits z h g c.args.first v is bytes c.requires.long) (call_of c.args.pass.now) i lt u s.stored x w (c.word_from-word.ensures ∙ ap (λ (xs : List ℕ). get_or (words_of xs) i 0) same)
+      stored = stored_more z h g c.args.first v is bytes (as_long_fits z h g c.args.first v is bytes c.requires.long) (call_of c.args.pass.now) i lt u s.stored x w (c.word_from-word.ensures ∙ (ap (λ (xs : List ℕ). word_at xs i) same ∙ sym (words_at bytes i lt)))
           (comes_in z (call_of c.args.pass.now) (call_of c.loop-i.pass) u.blocks.held (reworded h i x u.headers.held) u w s.stays.call o.stored);
-      alone = puts_more c.args.first bytes i x v u w lt (c.word_from-word.ensures ∙ ap (λ (xs : List ℕ). get_or (words_of xs) i 0) same) s.alone o.alone;
+      alone = puts_more c.args.first bytes i x v u w lt (c.word_from-word.ensures ∙ (ap (λ (xs : List ℕ). word_at xs i) same ∙ sym (words_at bytes i lt))) s.alone o.alone;
     }
 
 pub returns-clause-stored : goal.returns-clause-stored

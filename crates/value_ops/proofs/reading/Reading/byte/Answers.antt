@@ -1,6 +1,6 @@
 use Rattle.std.proofs.Common.{ℕ, ◌/◌, ◌%◌, ◌<◌, List, get_or, sym, ap, ◌∙◌, subst}
 use Rattle.oak_model.specs.WordBytes.{word_bytes}
-use Rattle.value_ops.proofs.ByteFacts.{byte_in}
+use Rattle.arena_core.proofs.ByteFacts.{byte_in}
 use Rattle.value_ops.proofs.ValueFacts.{words_are, value_is, room, long}
 use Rattle.value_ops.proofs.reading.Reading.byte.Goals as goal
 

@@ -1,6 +1,7 @@
 use Rattle.std.proofs.Common.{ℕ, ◌*◌, ◌++◌, List, take, ap, ◌∙◌}
-use Rattle.value_ops.specs.Reading.{value, bytes_in}
-use Rattle.value_ops.proofs.ByteFacts.{copied_more}
+use Rattle.value_ops.specs.Reading.{value}
+use Rattle.arena_core.specs.Words.{bytes_in}
+use Rattle.arena_core.proofs.ByteFacts.{copied_more}
 use Rattle.value_ops.proofs.ValueFacts.{value_same, reads_both}
 use Rattle.value_ops.proofs.reading.Reading.copy_into.Goals as goal
 

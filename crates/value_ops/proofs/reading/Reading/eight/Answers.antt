@@ -1,7 +1,7 @@
 use Rattle.std.proofs.Common.{ℕ, ◌+◌, ◌*◌, ◌≤◌, List, get_or, sym, ap, ◌∙◌, subst, w64}
 use Rattle.std.specs.Int.{from_be_bytes}
 use Rattle.std.specs.List.{slice_range}
-use Rattle.value_ops.proofs.ByteFacts.{eight_in}
+use Rattle.arena_core.proofs.ByteFacts.{eight_in}
 use Rattle.value_ops.proofs.ValueFacts.{words_are, value_is, room, long}
 use Rattle.value_ops.proofs.reading.Reading.eight.Goals as goal
 

@@ -1,6 +1,7 @@
 use Rattle.std.proofs.Common.{ℕ, ◌*◌, ◌<◌, ◌++◌, List, length, take, sym, ap, ◌∙◌, subst}
-use Rattle.value_ops.specs.Reading.{value, bytes_in}
-use Rattle.value_ops.proofs.ByteFacts.{more_bytes}
+use Rattle.value_ops.specs.Reading.{value}
+use Rattle.arena_core.specs.Words.{bytes_in}
+use Rattle.arena_core.proofs.ByteFacts.{more_bytes}
 use Rattle.value_ops.proofs.ValueFacts.{long, value_same, reads_both, word_of_loop}
 use Rattle.value_ops.proofs.reading.Reading.same.Goals as goal
 

@@ -1,6 +1,7 @@
 use Rattle.std.proofs.Common.{◌≡◌, ◌≢◌, ℕ, ◌-◌, ◌*◌, List, length, take, ap, ◌∙◌, subst, MatchBool}
 use Rattle.oak_model.specs.WordBytes.{word_bytes}
-use Rattle.value_ops.specs.Reading.{value, bytes_in}
+use Rattle.value_ops.specs.Reading.{value}
+use Rattle.arena_core.specs.Words.{bytes_in}
 use Rattle.value_ops.proofs.ValueFacts.{bytes_loaded}
 use Rattle.value_ops.proofs.reading.Reading.same_in_word.Goals as goal
 

@@ -13,9 +13,8 @@ use mathlib.Core.Logic.{dite}
 use native.Mathlib.Decide.{dec_lt}
 use Rattle.oak_model.proofs.Lists.{rows_length, rows_at}
 use Rattle.oak_model.specs.WordBytes.{word_bytes, bytes_of}
-use Rattle.value_ops.specs.Reading.{bytes_in}
-use Rattle.value_ops.specs.Words.{filled_up, word_at, words_of}
-use Rattle.value_ops.proofs.ByteFacts.{Stand, stand, part_of, part_long, part_in, length-bytes_of, more_bytes, all_bytes, copied_more}
+use Rattle.arena_core.specs.Words.{bytes_in, filled_up, word_at, words_of, word_of}
+use Rattle.arena_core.proofs.ByteFacts.{Stand, stand, part_of, part_long, part_in, length-bytes_of, more_bytes, all_bytes, copied_more}
 
 -- how many words there are, and which
 
@@ -91,6 +90,7 @@ module _ (bs : List ℕ) (small : (k : ℕ) → get_or bs k 0 < 256) (i : ℕ) w
       (λ n. subst (λ (n : ℕ). n < 256) (sym (get_or-append_right xs zs (length xs) j 0 refl (omega arith) ∙ zeros_at (8 - length xs) (j - length xs))) (omega arith))
 
   pub word_at-bytes : word_bytes (word_at bs i) ≡ filled_up (bytes_in i bs)
+  unfolding word_of
   word_at-bytes = be_bytes_8 (filled_up (bytes_in i bs)) (word_at bs i) full filled_small refl
 
   -- of the bytes of the word those that are not zeros behind the last byte
@@ -100,6 +100,7 @@ module _ (bs : List ℕ) (small : (k : ℕ) → get_or bs k 0 < 256) (i : ℕ) w
       ap (take (len - 8 * i)) word_at-bytes ∙ (sym (as_many len i k s (filled_up xs) full) ∙ take_at xs (replicate (8 - length xs) 0) k long)
 
   pub words_small : get_or (words_of bs) i 0 < 2 ^ 64
+  unfolding word_of
   words_small = dite (dec_lt (8 * i) (length bs))
       (λ l. subst (λ (n : ℕ). n < 2 ^ 64) (sym (words_at bs i l)) (be_small (filled_up (bytes_in i bs)) filled_small))
       (λ n. subst (λ (n : ℕ). n < 2 ^ 64) (sym (get_or_past (words_of bs) i 0 (let e = words_long bs in omega arith))) (omega arith))
@@ -141,3 +142,12 @@ value_back bs rest small = let len : ℕ = length bs in let ws : List ℕ = word
     by_words (take len (bytes_of ws)) bs long (λ i l. let lt : 8 * i < len = subst (λ (j : ℕ). 8 * i < j) long l in
     sym (word_put ws len i lt room)
     ∙ (ap (λ (w : ℕ). take (len - 8 * i) (word_bytes w)) (get_or_append_left (words_of bs) rest 0 i (let h : i < n = omega arith in h) ∙ words_at bs i lt) ∙ word_at-part bs small i lt))
+
+-- all bytes of a word make that word
+pub whole_is : (word n : ℕ) → word < 2 ^ 64 → 8 ≤ n → word ≡ word_of (take n (word_bytes word))
+unfolding word_of
+whole_is word n lt le = sym (ap (from_be_bytes w64) (ap filled_up (take_all n (word_bytes word) le) ∙ filled_whole (word_bytes word) refl) ∙ from_be_bytes-to_be_bytes_8 word lt)
+
+-- the first bytes of a word, fewer than eight
+pub first_part : (word n : ℕ) (bytes : List ℕ) → bytes ≡ word_bytes word → n < 8 → word_at (take n bytes) 0 ≡ word_of (take n (word_bytes word))
+first_part word n bytes is few = ap (λ (xs : List ℕ). word_at (take n xs) 0) is ∙ ap word_of (let l = length-take-le n (word_bytes word) (omega arith) in take_all 8 (take n (word_bytes word)) (omega arith))

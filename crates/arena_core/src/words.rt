@@ -1,12 +1,11 @@
 //! Bytes as they stand in words: eight in each, the first of them highest.
-ghost use Rattle.std.specs.Prelude.{◌≡◌, ◌≢◌, ◌≤◌, MatchBool, ◌+◌, ◌-◌, ◌*◌, ◌<◌, ◌++◌, length, take, drop, slice_index};
+ghost use Rattle.std.specs.Prelude.{◌≡◌, ◌≢◌, ◌≤◌, MatchBool, ◌+◌, ◌-◌, ◌*◌, ◌<◌, ◌++◌, length, take, drop};
 ghost use Rattle.std.specs.Int.{w64, from_be_bytes};
 ghost use Rattle.oak_model.specs.WordBytes.{word_bytes};
-ghost use Rattle.value_ops.specs.Reading.{bytes_in};
-ghost use Rattle.value_ops.specs.Words.{words_of};
+ghost use Rattle.arena_core.specs.Words.{bytes_in, word_at, word_of};
 
 /// The bytes of a word.
-pub(crate) const WORD: usize = 8;
+pub const WORD: usize = 8;
 
 /// The word that eight bytes make, those from `8 * i` on.
 fn whole_word(bytes: &[u8], i: usize) -> u64
@@ -21,9 +20,9 @@ fn whole_word(bytes: &[u8], i: usize) -> u64
 
 /// The word in which the bytes from `8 * i` on stand, with zeros behind the last byte. Where there are
 /// eight of them they are loaded at once.
-pub(crate) fn word_from(bytes: &[u8], i: usize) -> u64
+pub fn word_from(bytes: &[u8], i: usize) -> u64
     requires { WORD * i < length bytes.now }
-    ensures { result ≡ slice_index (words_of bytes.now) i }
+    ensures { result ≡ word_at bytes.now i }
 {
     let from = WORD * i;
     if from + WORD <= bytes.len() {
@@ -35,9 +34,21 @@ pub(crate) fn word_from(bytes: &[u8], i: usize) -> u64
     u64::from_be_bytes(word)
 }
 
+/// Of a word the first `n` bytes, with zeros behind them; the word itself where these are all eight.
+pub fn first_bytes(word: u64, n: usize) -> u64
+    requires { 0 < n }
+    ensures { result ≡ word_of (take n (word_bytes word)) }
+{
+    if n >= WORD {
+        return word;
+    }
+    let bytes = word.to_be_bytes();
+    word_from(&bytes[..n], 0)
+}
+
 /// Whether the bytes from `8 * i` on, at most eight, are those with which the word begins. Where there
 /// are eight of them, two numbers are compared.
-pub(crate) fn is_word(bytes: &[u8], i: usize, word: u64) -> bool
+pub fn is_word(bytes: &[u8], i: usize, word: u64) -> bool
     requires { WORD * i < length bytes.now }
     ensures { MatchBool result (bytes_in i bytes.now ≡ take (length bytes.now - WORD * i) (word_bytes word)) (bytes_in i bytes.now ≢ take (length bytes.now - WORD * i) (word_bytes word)) }
 {
@@ -51,7 +62,7 @@ pub(crate) fn is_word(bytes: &[u8], i: usize, word: u64) -> bool
 
 /// Copies the bytes of a word to their place, from `8 * i` on, as many as there are places. Where there
 /// are eight they are stored at once.
-pub(crate) fn put_word(out: &mut [u8], i: usize, word: u64)
+pub fn put_word(out: &mut [u8], i: usize, word: u64)
     requires { WORD * i < length out.old }
     ensures put { take (WORD * i + WORD) out.new ≡ take (WORD * i) out.old ++ take (length out.old - WORD * i) (word_bytes word) }
     ensures behind { drop (WORD * i + WORD) out.new ≡ drop (WORD * i + WORD) out.old }

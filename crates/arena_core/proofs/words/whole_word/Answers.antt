@@ -1,6 +1,6 @@
 use Rattle.std.proofs.Common.{◌≡◌, ℕ, ◌+◌, ◌-◌, ◌*◌, take, drop, ap, ◌∙◌, arith, w64}
 use Rattle.std.specs.Int.{from_be_bytes}
-use Rattle.value_ops.proofs.words.whole_word.Goals as goal
+use Rattle.arena_core.proofs.words.whole_word.Goals as goal
 
 pub returns : goal.returns
 returns c = let i = c.args.i in let bytes = c.args.bytes.now in
