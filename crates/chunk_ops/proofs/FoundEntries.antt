@@ -1,5 +1,5 @@
 -- What stands of an entry that a pin found: its key word names a block of the table, in which its key stands.
-use Rattle.std.proofs.Common.{◌≡◌, ℕ, ◌+◌, ◌-◌, ◌*◌, ◌/◌, ◌%◌, ◌^◌, ◌<◌, ◌≤◌, ◌==◌, ◌&&◌, nat_lt, nat_le, true, false, Bool, cond, List, [], ◌∷◌, map, length, get_or, take, sym, refl, ap, ◌∙◌, subst, arith, Option, Some, None, leb-true, ltb-true, eqb-true}
+use Rattle.std.proofs.Common.{◌≡◌, ℕ, ◌+◌, ◌-◌, ◌*◌, ◌/◌, ◌%◌, ◌^◌, ◌<◌, ◌≤◌, ◌&&◌, nat_lt, nat_le, true, false, Bool, cond, List, [], ◌∷◌, map, length, get_or, take, sym, refl, ap, ◌∙◌, subst, arith, Option, Some, None, leb-true, ltb-true, eqb-true}
 use Rattle.std.proofs.lemmas.Bool.{lt-ltb}
 use Rattle.std.specs.List.{find}
 use mathlib.Core.Logic.{dite}
@@ -9,7 +9,7 @@ use native.Mathlib.Decide.{dec_lt}
 use Rattle.oak_model.specs.declared.classes.Class.{Class}
 use Rattle.oak_model.specs.declared.limits.TheConstants.{CLASSES, GREATEST_KEY}
 use Rattle.oak_model.specs.Class.{class_number, class_bytes, classes, class_of}
-use Rattle.oak_model.specs.Counts.{one_if, one_at, total}
+use Rattle.oak_model.specs.Counts.{one_if}
 use Rattle.oak_model.specs.Key.{IsKey}
 use Rattle.oak_model.specs.Limits.{Sizes}
 use Rattle.oak_model.specs.WordBytes.{word_bytes, bytes_of}
@@ -20,12 +20,11 @@ use Rattle.arena_core.specs.Arena.{at_bytes, block_words, blocks, IsInArena}
 use Rattle.arena_core.specs.Place.{IsPlace, class_in, block_in, length_in, names_block, content}
 use Rattle.arena_core.proofs.PlaceLaws.{class_below}
 use Rattle.chunk_core.specs.declared.holds.FoundEntry.{FoundEntry}
-use Rattle.chunk_core.specs.declared.holds.PinnedRoom.{PinnedRoom}
 use Rattle.chunk_core.specs.declared.holds.RoomHolds.{RoomHolds}
 use Rattle.chunk_core.specs.Covers.{span_in, entry_at, used_at, moving_of}
 use Rattle.chunk_core.specs.CoverSums.{weight, each, owning}
-use Rattle.chunk_core.specs.KeyWords.{key_length, key_bytes}
-use Rattle.chunk_core.specs.LinkedEntries.{entries_in, in_use, first_numbers}
+use Rattle.chunk_core.specs.KeyWords.{key_length}
+use Rattle.chunk_core.specs.LinkedEntries.{entries_in, in_use}
 use Rattle.chunk_core.specs.MayOnRooms.{FindsEntry}
 use Rattle.chunk_core.specs.PinnedRooms.{AreCounted, EntryStands, RoomPinHolds}
 use Rattle.chunk_core.specs.Rooms.{at_key}
@@ -43,7 +42,7 @@ use Rattle.oak_core.proofs.MetLists.{at_inside, each_at}
 use Rattle.chunk_ops.specs.PinRecords.{HasEntry, HasRoomPin, RoomPinned, OnlyMeets, pin_or, room_pin}
 use Rattle.chunk_ops.specs.RoomWords.{FindsKeyWord}
 use Rattle.chunk_ops.proofs.WordLoads.{pin_holds, load_at, load_reads}
-use Rattle.chunk_ops.proofs.WordParts.{length-bytes_of, byte_in, part_long}
+use Rattle.chunk_ops.proofs.WordParts.{byte_in, part_long}
 
 -- a class that is found for a length has room for it
 

@@ -39,6 +39,12 @@ IsAsked Covering key s = CoversKey key s
 IsAsked Under key s = EndsUnder key s
 IsAsked Last key s = IsLast s
 
+-- a key or a bound is a key
+abbrev pub IsAskable : Asked → List ℕ → Type 0
+IsAskable Covering key = IsKey key
+IsAskable Under key = IsKey key
+IsAskable Last key = Unit {0}
+
 -- the bytes that an optional slice has
 abbrev pub bytes_in_option : Option (Bor (List ℕ)) → Option (List ℕ)
 bytes_in_option None = None
