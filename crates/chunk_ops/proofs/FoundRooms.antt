@@ -21,7 +21,8 @@ use Rattle.chunk_ops.specs.PinRecords.{HasRoomPin, RoomPinned, OnlyMeets, pin_or
 use Rattle.chunk_ops.specs.RoomPins.{AddsRoomPin, PinsNow, FoundShut, PinsOpen, FoundOff, Unpins}
 use Rattle.chunk_ops.proofs.BoundWords.{same_pin}
 use Rattle.chunk_ops.proofs.LoneRoomLaws.{tried_alone}
-use Rattle.chunk_ops.proofs.PinSteps.{pin_stands, pin_blocks, pin_headers, pin_rooms, made, pin_on, pin_good, pin_runs, pin_found, only_none, stays_then, then_stays, round}
+use Rattle.chunk_ops.proofs.MeetingCalls.{only_none, stays_then, then_stays, round}
+use Rattle.chunk_ops.proofs.PinSteps.{pin_stands, pin_blocks, pin_headers, pin_rooms, made, pin_on, pin_good, pin_runs, pin_found}
 
 module _ (z : Sizes) (call r : ℕ) (v w : PassState) (n : PinsNow z call r v w) where
   pub has_pin : HasRoomPin z r w

@@ -38,7 +38,8 @@ use Rattle.chunk_ops.specs.AskedRanges.{EndsUnder, IsLast, IsAsked, IsAskable}
 use Rattle.chunk_ops.specs.LoneRooms.{IsOff, LoneMoment, LoneTry, LoneTries, NeverAlone}
 use Rattle.chunk_ops.specs.PinRecords.{OnlyMeets, WordsStay}
 use Rattle.chunk_ops.specs.RoomPins.{DropsRoomPin, Unpins}
-use Rattle.chunk_ops.proofs.PinSteps.{changes_at, more_fits, small, low_state, stays_then, undone}
+use Rattle.chunk_ops.proofs.MeetingCalls.{stays_then}
+use Rattle.chunk_ops.proofs.PinSteps.{changes_at, more_fits, small, low_state, undone}
 
 -- ---- the steps
 

@@ -7,7 +7,8 @@ ghost use Rattle.oak_model.specs.Key.{key_cmp};
 ghost use Rattle.oak_model.specs.KeyNumber.{key_number};
 ghost use Rattle.chunk_core.specs.PinnedRooms.{span_of};
 ghost use Rattle.oak_core.specs.Passes.{IsPassOf, Stays, state, key as sizes, call_of};
-ghost use Rattle.chunk_ops.specs.AskedRanges.{CoversKey, EndsUnder, IsAsked, bound_bytes, bound_length, high_cmp};
+ghost use Rattle.chunk_ops.specs.AskedRanges.{CoversKey, EndsUnder, IsAsked, high_cmp};
+ghost use Rattle.chunk_ops.specs.PinnedBounds.{bound_bytes, bound_length};
 ghost use Rattle.chunk_ops.specs.PinRecords.{HasRoomPin, OnlyMeets, room_pin};
 ghost use Rattle.chunk_ops.specs.Words.{word_at};
 

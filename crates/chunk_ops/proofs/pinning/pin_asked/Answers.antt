@@ -7,7 +7,7 @@ use Rattle.chunk_ops.specs.AskedRanges.{IsAsked}
 use Rattle.chunk_ops.specs.LoneRooms.{LoneTries}
 use Rattle.chunk_ops.proofs.FoundRooms.{opens_since, opens_in, off_since, off_in, off_more}
 use Rattle.chunk_ops.proofs.LoneRoomLaws.{tries_none, tries_more, never_off}
-use Rattle.chunk_ops.proofs.PinSteps.{only_both, only_in}
+use Rattle.chunk_ops.proofs.MeetingCalls.{only_both, only_in}
 use Rattle.chunk_ops.proofs.pinning.pin_asked.Goals as goal
 
 pub returns-in-Some-try_room-clause-pinned : goal.returns-in-Some-try_room-clause-pinned

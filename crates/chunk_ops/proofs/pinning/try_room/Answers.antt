@@ -7,7 +7,8 @@ use Rattle.chunk_ops.specs.AskedRanges.{IsAsked}
 use Rattle.chunk_ops.specs.PinRecords.{HasRoomPin, RoomPinned}
 use Rattle.chunk_ops.specs.RoomPins.{PinsOpen, Unpins}
 use Rattle.chunk_ops.proofs.FoundRooms.{has_pin, no_latch_then, pins_asked, off_then, only_then, off_shut, shut_alone, off_alone}
-use Rattle.chunk_ops.proofs.PinSteps.{only_in, unpins_in}
+use Rattle.chunk_ops.proofs.MeetingCalls.{only_in}
+use Rattle.chunk_ops.proofs.PinSteps.{unpins_in}
 use Rattle.chunk_ops.proofs.pinning.try_room.Goals as goal
 
 pub returns-in_default-clause-off : goal.returns-in_default-clause-off
