@@ -19,9 +19,10 @@ use Rattle.chunk_core.specs.PinnedRooms.{span_of}
 use Rattle.oak_core.specs.declared.states.PassState.{PassState}
 use Rattle.chunk_ops.specs.declared.bounds.Bound.{Bound}
 use Rattle.chunk_ops.specs.declared.bounds.Bound.TheVariants.{Low, High}
-use Rattle.chunk_ops.specs.AskedRanges.{IsLast, bound_words, bound_length, bound_bytes, high_length, high_cmp}
+use Rattle.chunk_ops.specs.AskedRanges.{IsLast, high_cmp}
+use Rattle.chunk_ops.specs.PinnedBounds.{bound_words, bound_length, bound_bytes, high_length}
 use Rattle.chunk_ops.specs.PinRecords.{HasBounds, OnlyMeets, pin_or, room_pin}
-use Rattle.chunk_ops.specs.Words.{bytes_in, word_at}
+use Rattle.arena_core.specs.Words.{bytes_in, word_at}
 use Rattle.chunk_ops.proofs.BoundOrder.{by_numbers, high_cmp-some}
 use Rattle.chunk_ops.proofs.WordParts.{word_part, byte_in, part_small, part_long}
 use Rattle.chunk_ops.proofs.OrderLaws.{padded_cmp, word_order, lengths_decide}

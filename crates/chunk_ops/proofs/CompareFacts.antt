@@ -9,7 +9,7 @@ use Rattle.oak_model.specs.Key.{key_cmp, AreBytes}
 use Rattle.arena_core.specs.Place.{length_in}
 use Rattle.chunk_ops.specs.Room.{Room, IsRoom, place_at, key_at, entries}
 use Rattle.oak_model.specs.WordBytes.{word_bytes}
-use Rattle.chunk_ops.specs.Words.{word_at, bytes_in}
+use Rattle.arena_core.specs.Words.{word_at, bytes_in}
 use Rattle.chunk_ops.proofs.OrderLaws.{padded_cmp, word_order, lengths_decide, same_number}
 
 -- what a slice's type says of its elements

@@ -1,31 +1,27 @@
 -- What stands of an entry that a pin found: its key word names a block of the table, in which its key stands.
-use Rattle.std.proofs.Common.{◌≡◌, ℕ, ◌+◌, ◌-◌, ◌*◌, ◌/◌, ◌%◌, ◌^◌, ◌<◌, ◌≤◌, ◌==◌, ◌&&◌, nat_lt, nat_le, true, false, Bool, cond, List, [], ◌∷◌, map, length, get_or, take, sym, refl, ap, ◌∙◌, subst, arith, Option, Some, None, leb-true, ltb-true, eqb-true}
+use Rattle.std.proofs.Common.{◌≡◌, ℕ, ◌+◌, ◌-◌, ◌*◌, ◌/◌, ◌%◌, ◌<◌, ◌≤◌, nat_lt, List, map, length, get_or, take, sym, refl, ap, ◌∙◌, subst, arith, Option, Some, None}
 use Rattle.std.proofs.lemmas.Bool.{lt-ltb}
-use Rattle.std.specs.List.{find}
 use mathlib.Core.Logic.{dite}
 use mathlib.Core.Option.{some}
 use lib.ListN.{get_elem?}
 use native.Mathlib.Decide.{dec_lt}
-use Rattle.oak_model.specs.declared.classes.Class.{Class}
-use Rattle.oak_model.specs.declared.limits.TheConstants.{CLASSES, GREATEST_KEY}
-use Rattle.oak_model.specs.Class.{class_number, class_bytes, classes, class_of}
-use Rattle.oak_model.specs.Counts.{one_if, one_at, total}
+use Rattle.oak_model.specs.declared.limits.TheConstants.{CLASSES}
+use Rattle.oak_model.specs.Counts.{one_if}
 use Rattle.oak_model.specs.Key.{IsKey}
 use Rattle.oak_model.specs.Limits.{Sizes}
 use Rattle.oak_model.specs.WordBytes.{word_bytes, bytes_of}
-use Rattle.oak_model.proofs.Counting.{test-cases, both_true, total_map}
+use Rattle.oak_model.proofs.Counting.{total_map}
 use Rattle.oak_model.proofs.Lists.{rows_length, rows_at}
 use Rattle.oak_model.proofs.SumLaws.{total_in}
 use Rattle.arena_core.specs.Arena.{at_bytes, block_words, blocks, IsInArena}
-use Rattle.arena_core.specs.Place.{IsPlace, class_in, block_in, length_in, names_block, content}
+use Rattle.arena_core.specs.Place.{class_in, block_in, length_in, names_block, content}
 use Rattle.arena_core.proofs.PlaceLaws.{class_below}
 use Rattle.chunk_core.specs.declared.holds.FoundEntry.{FoundEntry}
-use Rattle.chunk_core.specs.declared.holds.PinnedRoom.{PinnedRoom}
 use Rattle.chunk_core.specs.declared.holds.RoomHolds.{RoomHolds}
 use Rattle.chunk_core.specs.Covers.{span_in, entry_at, used_at, moving_of}
 use Rattle.chunk_core.specs.CoverSums.{weight, each, owning}
-use Rattle.chunk_core.specs.KeyWords.{key_length, key_bytes}
-use Rattle.chunk_core.specs.LinkedEntries.{entries_in, in_use, first_numbers}
+use Rattle.chunk_core.specs.KeyWords.{key_length}
+use Rattle.chunk_core.specs.LinkedEntries.{entries_in, in_use}
 use Rattle.chunk_core.specs.MayOnRooms.{FindsEntry}
 use Rattle.chunk_core.specs.PinnedRooms.{AreCounted, EntryStands, RoomPinHolds}
 use Rattle.chunk_core.specs.Rooms.{at_key}
@@ -33,7 +29,7 @@ use Rattle.chunk_core.proofs.CoverFacts.{entry_adds}
 use Rattle.chunk_core.proofs.CoverLaws.{room_le}
 use Rattle.chunk_core.proofs.EntryNumbers.{numbers_once}
 use Rattle.oak_core.specs.declared.states.PassState.{PassState}
-use Rattle.oak_core.specs.EntryOwners.{is_class, is_key_word, entry_owners}
+use Rattle.oak_core.specs.EntryOwners.{is_key_word, entry_owners}
 use Rattle.oak_core.specs.Memory.{Memory, Spot, in_arena, in_rooms, index, IsInside, memory}
 use Rattle.oak_core.specs.PassState.{rooms_held}
 use Rattle.oak_core.specs.Splitting.{Loads}
@@ -43,47 +39,8 @@ use Rattle.oak_core.proofs.MetLists.{at_inside, each_at}
 use Rattle.chunk_ops.specs.PinRecords.{HasEntry, HasRoomPin, RoomPinned, OnlyMeets, pin_or, room_pin}
 use Rattle.chunk_ops.specs.RoomWords.{FindsKeyWord}
 use Rattle.chunk_ops.proofs.WordLoads.{pin_holds, load_at, load_reads}
-use Rattle.chunk_ops.proofs.WordParts.{length-bytes_of, byte_in, part_long}
-
--- a class that is found for a length has room for it
-
-found_fits : (n : ℕ) (c : Class) (cs : List Class) → find (λ d. nat_le n (class_bytes d)) cs ≡ Some c → n ≤ class_bytes c
-found_fits n c [] e = absurd cc
-found_fits n c (d ∷ ds) e = test-cases (nat_le n (class_bytes d)) (λ t. cond t (Some d) (find (λ d. nat_le n (class_bytes d)) ds) ≡ Some c → n ≤ class_bytes c)
-    (λ t f. let g : d ≡ c = cc in subst (λ (k : Class). n ≤ class_bytes k) g (leb-true n (class_bytes d) t)) (λ _ f. found_fits n c ds f) e
-
-place_room : (p : ℕ) → IsPlace p → length_in p ≤ 8 * block_words (class_in p)
-place_room p is = subst (λ (c : ℕ). length_in p ≤ 8 * (2 * 4 ^ c)) (sym is.is_in) (let f = found_fits (length_in p) is.class classes is.fits in let k : ℕ = 4 ^ class_number is.class in let f' : length_in p ≤ 16 * k = f in let g : length_in p ≤ 8 * (2 * k) = omega arith in g)
-
--- a key word names a block of the class that its length has, which is a key's
-pub record IsKeyPlace (word : ℕ) : Type 0 where
-  pub some_byte : 0 < length_in word
-  pub few : length_in word ≤ GREATEST_KEY
-  pub place : IsPlace word
-
-pub key_place : (word : ℕ) → is_key_word word ≡ 1 → IsKeyPlace word
-key_place word e = let b = both_true (nat_lt 0 (length_in word)) (nat_le (length_in word) GREATEST_KEY && is_class (class_in word) (class_of (length_in word))) (tested _ e) in
-    let d = both_true (nat_le (length_in word) GREATEST_KEY) (is_class (class_in word) (class_of (length_in word))) b.1 in record {
-      some_byte = ltb-true 0 (length_in word) b.0;
-      few = leb-true (length_in word) GREATEST_KEY d.0;
-      place = by (class_of (length_in word)) refl d.1;
-    }
-  where
-    tested : (t : Bool) → one_if t ≡ 1 → t ≡ true
-    tested true h = refl
-    tested false h = absurd (omega arith)
-
-    by : (o : Option Class) → class_of (length_in word) ≡ o → is_class (class_in word) o ≡ true → IsPlace word
-    by None f t = absurd cc
-    by (Some d) f t = record { class = d; is_in = eqb-true (class_in word) (class_number d) t; fits = f }
-
-key_word_few : (word : ℕ) → is_key_word word ≤ 1
-key_word_few word = test-cases (nat_lt 0 (length_in word) && (nat_le (length_in word) GREATEST_KEY && is_class (class_in word) (class_of (length_in word)))) (λ t. one_if t ≤ 1) (λ _. omega arith) (λ _. omega arith)
-
--- no word is 0 that names a key's block
-above_none : (word : ℕ) → 0 < length_in word → 0 < word
-unfolding length_in
-above_none word lt = omega arith
+use Rattle.chunk_ops.proofs.WordParts.{byte_in, part_long}
+use Rattle.chunk_ops.proofs.KeyPlaces.{IsKeyPlace, key_place, place_room, key_word_few, above_none}
 
 counted_numbers : (o : Option ℕ) (es : List FoundEntry) (i : ℕ) (e : FoundEntry) → AreCounted o es → get_elem? es i ≡ some e → e.number ≡ i
 counted_numbers None es i e c at = let l = at_inside es i e at in let q : length es ≡ 0 = ap length c in absurd (omega arith)

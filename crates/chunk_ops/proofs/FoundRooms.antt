@@ -1,5 +1,5 @@
 -- Rooms that were tried one behind another.
-use Rattle.std.proofs.Common.{◌≡◌, ℕ, ◌+◌, ◌<◌, inl, inr, sym, ap, ◌∙◌, subst, arith, Some, None}
+use Rattle.std.proofs.Common.{◌≡◌, ◌≢◌, ℕ, ◌+◌, ◌<◌, inl, inr, sym, refl, ap, ◌∙◌, subst, arith, Some, None}
 use mathlib.Core.Logic.{dite}
 use native.Mathlib.Decide.{dec_lt}
 use Rattle.pin_word.specs.PinWord.{state_of}
@@ -11,12 +11,18 @@ use Rattle.chunk_core.specs.PinnedRooms.{span_of}
 use Rattle.chunk_core.specs.RoomStep.{pin_room}
 use Rattle.chunk_core.specs.Spans.{Span}
 use Rattle.oak_core.specs.declared.states.PassState.{PassState}
+use Rattle.oak_core.specs.AloneWords.{Runs}
+use Rattle.oak_core.specs.RoomCalls.{PinsRoomWord}
 use Rattle.oak_core.specs.Step.{on_rooms}
+use Rattle.oak_core.proofs.AloneRuns.{runs_as}
 use Rattle.oak_core.proofs.CallSteps.{step_alone, step_since, step_until, stands_both}
+use Rattle.chunk_ops.specs.LoneRooms.{IsOff, IsShut, LoneTry}
 use Rattle.chunk_ops.specs.PinRecords.{HasRoomPin, RoomPinned, OnlyMeets, pin_or, room_pin, with_room_pin}
 use Rattle.chunk_ops.specs.RoomPins.{AddsRoomPin, PinsNow, FoundShut, PinsOpen, FoundOff, Unpins}
 use Rattle.chunk_ops.proofs.BoundWords.{same_pin}
-use Rattle.chunk_ops.proofs.PinSteps.{pin_stands, pin_blocks, pin_headers, pin_rooms, made, pin_on, pin_good, pin_runs, stays_then, then_stays, round}
+use Rattle.chunk_ops.proofs.LoneRoomLaws.{tried_alone}
+use Rattle.chunk_ops.proofs.MeetingCalls.{only_none, stays_then, then_stays, round}
+use Rattle.chunk_ops.proofs.PinSteps.{pin_stands, pin_blocks, pin_headers, pin_rooms, made, pin_on, pin_good, pin_runs, pin_found}
 
 module _ (z : Sizes) (call r : ℕ) (v w : PassState) (n : PinsNow z call r v w) where
   pub has_pin : HasRoomPin z r w
@@ -54,8 +60,26 @@ module _ (z : Sizes) (call r : ℕ) (v w : PassState) (n : PinsNow z call r v w)
   pub only_then : (x u : PassState) → OnlyMeets call w x → Unpins z call r x u → OnlyMeets call v u
   only_then x u only e = round z call r v w x u n.number n.told only e
 
+pub found_shut : (z : Sizes) (call r n : ℕ) (v w u : PassState) → PinsRoomWord z call r v n w → state_of n ≢ OPEN → Unpins z call r w u → FoundShut z call r v u
+found_shut z call r n v w u t shut b = record {
+  step = step_until z call (on_rooms (pin_room r)) v w u b.stands.met (step_alone z call (on_rooms (pin_room r)) v n w t);
+  shut = shut;
+  only = round z call r v w w u n t (only_none call w) b;
+  still = tried_alone z call r n v w w u t (IsShut z r) (only_none call w) b (λ e. shut (ap state_of (sym (pin_found z call r (pin_room r) refl v n w t t.may.inside.0)) ∙ e));
+}
+
 pub off_shut : (z : Sizes) (call r : ℕ) (P : Span → Type 0) (v w : PassState) → FoundShut z call r v w → FoundOff z call r P v w
 off_shut z call r P v w f = record { step = f.step; off = inl f.shut }
+
+-- to a pass that is alone it is off
+
+pub shut_alone : (z : Sizes) (call r : ℕ) (P : Span → Type 0) (v w : PassState) → FoundShut z call r v w → Runs (LoneTry z (IsOff z r P) v.rooms) v w
+shut_alone z call r P v w f = runs_as (LoneTry z (IsShut z r) v.rooms) (LoneTry z (IsOff z r P) v.rooms) v w
+    (λ a b t. record { stay = t.stay; at = record { says = inl t.at.says; state = t.at.state; rooms = t.at.rooms; alone = t.at.alone; moment = t.at.moment } }) f.still
+
+pub off_alone : (z : Sizes) (call r : ℕ) (v w x u : PassState) (n : PinsNow z call r v w) (P : Span → Type 0) → OnlyMeets call w x → (P (span_of (room_pin w)) → ⊥) → Unpins z call r x u → Runs (LoneTry z (IsOff z r P) v.rooms) v u
+off_alone z call r v w x u n P only other e = tried_alone z call r n.number v w x u n.told (IsOff z r P) only e
+    (inr (λ p. other (subst (λ (q : PinnedRoom). P (span_of q)) (sym (ap (λ (a : RoomHolds). pin_or a.pin) (pin_rooms z call r n.number v w n.told))) p)))
 
 -- a call that began earlier
 

@@ -8,7 +8,7 @@ use Rattle.std.specs.declared.cmp.Ordering.TheVariants.{Less, Equal, Greater}
 use mathlib.Core.Logic.{dite}
 use native.Mathlib.Decide.{ℕ_discrete, dec_lt}
 use Rattle.oak_model.specs.Key.{key_cmp, AreBytes}
-use Rattle.chunk_ops.specs.Words.{word_of, word_at}
+use Rattle.arena_core.specs.Words.{word_of, word_at}
 
 pub cmp-cases : (x y : ℕ) (P : Ordering → Type 0) → (x < y → P Less) → (x ≡ y → P Equal) → (y < x → P Greater) → P (nat_cmp x y)
 cmp-cases x y P less equal greater = dite (dec_lt x y)

@@ -1,5 +1,5 @@
 -- What the steps that pin a room and undo a pin leave.
-use Rattle.std.proofs.Common.{◌≡◌, ◌≢◌, ℕ, ◌+◌, ◌-◌, ◌%◌, ◌^◌, ◌<◌, ◌≤◌, List, [], ◌∷◌, length, map, set, get_or, sym, refl, ap, ◌∙◌, subst, arith, Option, Some, None, get_or-set_same}
+use Rattle.std.proofs.Common.{◌≡◌, ℕ, ◌+◌, ◌-◌, ◌%◌, ◌^◌, ◌<◌, ◌≤◌, List, [], ◌∷◌, length, map, set, get_or, sym, refl, ap, ◌∙◌, subst, arith, Option, Some, None, get_or-set_same}
 use Rattle.std.proofs.lemmas.List.{set-set, set_past}
 use lib.Seq.{set-get_or}
 use mathlib.Core.Logic.{dite}
@@ -27,11 +27,10 @@ use Rattle.oak_core.specs.Memory.{Memory, in_rooms, index, memory}
 use Rattle.oak_core.specs.PassState.{rooms_held}
 use Rattle.oak_core.specs.RoomCalls.{PinsRoomWord, UnpinsRoomWord}
 use Rattle.oak_core.specs.Step.{on_rooms, MayOnRooms, Told}
-use Rattle.oak_core.proofs.AloneRuns.{DoesStep, Then, step_runs, runs_then, runs_as, runs_none}
-use Rattle.oak_core.proofs.CallSteps.{step_alone, step_until, stands_none, stands_both}
+use Rattle.oak_core.proofs.AloneRuns.{DoesStep, step_runs, runs_as}
 use Rattle.oak_core.proofs.Words.{memory_read}
-use Rattle.chunk_ops.specs.PinRecords.{PinIsOn, RoomPinned, OnlyMeets, WordsStay, with_room_pin}
-use Rattle.chunk_ops.specs.RoomPins.{ChangesRoomPin, DropsRoomPin, FoundShut, Unpins}
+use Rattle.chunk_ops.specs.PinRecords.{PinIsOn, RoomPinned, with_room_pin}
+use Rattle.chunk_ops.specs.RoomPins.{ChangesRoomPin, Unpins}
 
 no_latch : (o : Option Latch) → LatchIsPinned None o → o ≡ None
 no_latch None h = refl
@@ -44,7 +43,7 @@ open_weight w e = ap (λ (s : ℕ). one_at s OPEN + one_at s FROZEN) e
 
 -- one pin more, and one less, as the steps reckon them
 
-more_fits : (n : ℕ) → n < 2 ^ 64 → state_of n ≤ 3 → (n + 1) % 2 ^ 64 ≡ n + 1
+pub more_fits : (n : ℕ) → n < 2 ^ 64 → state_of n ≤ 3 → (n + 1) % 2 ^ 64 ≡ n + 1
 unfolding state_of
 more_fits n lt low = omega arith
 
@@ -72,14 +71,16 @@ module _ (z : Sizes) (call r : ℕ) (x : RoomStep) (is : room_spot x ≡ at_room
   pub low_state : state_of n ≤ 3
   low_state = subst (λ (k : ℕ). state_of k ≤ HELD) pin_found (t.rule.rooms.states r)
 
-  -- to a pass that is alone the number found has P, and becomes f of it
-  pub word_changes : (P : ℕ → Type 0) (f : ℕ → ℕ) → P n → room_effect x n ≡ f n → Runs (ChangesRoomPin z r P f) v w
-  word_changes P f p becomes = runs_as (DoesStep z (on_rooms x) n) (ChangesRoomPin z r P f) v w
-      (λ a b d. let e = found_in a d.0 in (subst P (sym e) p, d.1 ∙ ((λ j. set a (index z (in_rooms (is j))) (room_effect x (sym d.0 j))) ∙ ap (set a (index z (in_rooms (at_room_pin r)))) (becomes ∙ ap f (sym e)))))
-      (step_runs z call (on_rooms x) v n w tt t)
+  -- the number found has P, and becomes f of it
+  pub changes_at : (P : ℕ → Type 0) (f : ℕ → ℕ) → P n → room_effect x n ≡ f n → (a b : List ℕ) → DoesStep z (on_rooms x) n a b → ChangesRoomPin z r P f a b
+  changes_at P f p becomes a b d = let e = found_in d.0 in (subst P (sym e) p, d.1 ∙ ((λ j. set a (index z (in_rooms (is j))) (room_effect x (sym d.0 j))) ∙ ap (set a (index z (in_rooms (at_room_pin r)))) (becomes ∙ ap f (sym e))))
     where
-      found_in : (a : List ℕ) → n ≡ get_or a (index z (in_rooms (room_spot x))) 0 → (memory z a).rooms.pin r ≡ n
-      found_in a e = memory_read z a (in_rooms (at_room_pin r)) (inside, omega arith) ∙ sym (subst (λ q. n ≡ get_or a (index z (in_rooms q)) 0) is e)
+      found_in : n ≡ get_or a (index z (in_rooms (room_spot x))) 0 → (memory z a).rooms.pin r ≡ n
+      found_in e = memory_read z a (in_rooms (at_room_pin r)) (inside, omega arith) ∙ sym (subst (λ q. n ≡ get_or a (index z (in_rooms q)) 0) is e)
+
+  -- to a pass that is alone
+  pub word_changes : (P : ℕ → Type 0) (f : ℕ → ℕ) → P n → room_effect x n ≡ f n → Runs (ChangesRoomPin z r P f) v w
+  word_changes P f p becomes = runs_as (DoesStep z (on_rooms x) n) (ChangesRoomPin z r P f) v w (λ a b d. changes_at P f p becomes a b d) (step_runs z call (on_rooms x) v n w tt t)
 
 -- a pin that is undone leaves the words as they were
 back : (a : List ℕ) (i n m : ℕ) → n ≡ get_or a i 0 → m ≡ get_or (set a i (n + 1)) i 0 → set (set a i (n + 1)) i (m - 1) ≡ a
@@ -166,51 +167,3 @@ module _ (z : Sizes) (call r n : ℕ) (v w : PassState) (t : UnpinsRoomWord z ca
 
 pub unpins_in : (z : Sizes) (first now r : ℕ) (v w : PassState) → now ≡ first → Unpins z now r v w → Unpins z first r v w
 unpins_in z first now r v w e u = subst (λ (k : ℕ). Unpins z k r v w) e u
-
--- ---- what only met more
-
-pub only_none : (call : ℕ) (v : PassState) → OnlyMeets call v v
-only_none call v = record { stands = stands_none call v; blocks = refl; headers = refl; rooms = refl; still = runs_none WordsStay v (λ a. refl) }
-
-pub both_stay : (u v w : PassState) → Runs WordsStay u v → Runs WordsStay v w → Runs WordsStay u w
-both_stay u v w a b = runs_as (Then WordsStay WordsStay) WordsStay u w (λ x y d. d.2 ∙ d.1) (runs_then WordsStay WordsStay u v w a b)
-
--- what is done behind loads is done to the words before them
-pub stays_then : (P : List ℕ → List ℕ → Type 0) (u v w : PassState) → Runs WordsStay u v → Runs P v w → Runs P u w
-stays_then P u v w a b = runs_as (Then WordsStay P) P u w (λ x y d. subst (λ (m : List ℕ). P m y) d.1 d.2) (runs_then WordsStay P u v w a b)
-
-pub then_stays : (P : List ℕ → List ℕ → Type 0) (u v w : PassState) → Runs P u v → Runs WordsStay v w → Runs P u w
-then_stays P u v w a b = runs_as (Then P WordsStay) P u w (λ x y d. subst (λ (m : List ℕ). P x m) (sym d.2) d.1) (runs_then P WordsStay u v w a b)
-
-pub only_both : (call : ℕ) (u v w : PassState) → OnlyMeets call u v → OnlyMeets call v w → OnlyMeets call u w
-only_both call u v w a b = record {
-  stands = stands_both call u v w a.stands b.stands;
-  blocks = b.blocks ∙ a.blocks;
-  headers = b.headers ∙ a.headers;
-  rooms = b.rooms ∙ a.rooms;
-  still = both_stay u v w a.still b.still;
-}
-
-pub only_in : (first now : ℕ) (v w : PassState) → now ≡ first → OnlyMeets now v w → OnlyMeets first v w
-only_in first now v w e o = subst (λ (k : ℕ). OnlyMeets k v w) e o
-
--- a pin that is undone at once, or after loads, only met more
-pub round : (z : Sizes) (call r : ℕ) (v w x u : PassState) (n : ℕ) (t : PinsRoomWord z call r v n w) → OnlyMeets call w x → Unpins z call r x u → OnlyMeets call v u
-round z call r v w x u n t a b = record {
-  stands = stands_both call v w u (pin_stands z call r n v w t) (stands_both call w x u a.stands b.stands);
-  blocks = b.blocks ∙ (a.blocks ∙ pin_blocks z call r n v w t);
-  headers = b.headers ∙ (a.headers ∙ pin_headers z call r n v w t);
-  rooms = b.rooms ∙ (ap (with_room_pin None) (a.rooms ∙ pin_rooms z call r n v w t) ∙ ap (λ (o : Option PinnedRoom). with_room_pin o v.rooms) (sym t.may.rooms));
-  still = runs_as (Then (ChangesRoomPin z r Any (λ k. k + 1)) (DropsRoomPin z r)) WordsStay v u (λ p q d. undone z r t.may.inside.0 p d.0 q Any (λ k. 0 < count_of k) d.1 d.2)
-      (runs_then (ChangesRoomPin z r Any (λ k. k + 1)) (DropsRoomPin z r) v w u (pin_runs z call r n v w t Any tt) (stays_then (DropsRoomPin z r) w x u a.still b.still));
-}
-  where
-    Any : ℕ → Type 0
-    Any k = Unit {0}
-
-pub found_shut : (z : Sizes) (call r n : ℕ) (v w u : PassState) → PinsRoomWord z call r v n w → state_of n ≢ OPEN → Unpins z call r w u → FoundShut z call r v u
-found_shut z call r n v w u t shut b = record {
-  step = step_until z call (on_rooms (pin_room r)) v w u b.stands.met (step_alone z call (on_rooms (pin_room r)) v n w t);
-  shut = shut;
-  only = round z call r v w w u n t (only_none call w) b;
-}

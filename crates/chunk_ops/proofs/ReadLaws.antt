@@ -4,7 +4,7 @@ use Rattle.oak_model.proofs.Lists.{each_append, each_map}
 use Rattle.chunk_core.specs.LinkedEntries.{entries_in, prefix_in}
 use Rattle.chunk_ops.specs.Found.{CountsFirst}
 use Rattle.chunk_ops.specs.Room.{Room, key_at, entries}
-use Rattle.chunk_ops.specs.Words.{word_at}
+use Rattle.arena_core.specs.Words.{word_at}
 use Rattle.chunk_ops.specs.Reads.{Met, met_count, met_key, met_block, is_key_load, key_loads, AreWords, LoadsKey, Compares, joined, AreReadings, Reads}
 
 pub loads_append : (a b : List Met) → key_loads (a ++ b) ≡ key_loads a + key_loads b

@@ -12,7 +12,7 @@ use Rattle.oak_model.specs.Key.{key_cmp, AreBytes}
 use Rattle.oak_model.specs.declared.limits.TheConstants.{GREATEST_KEY}
 use Rattle.chunk_ops.specs.declared.stored.TheConstants.{KEY_WORDS}
 use Rattle.chunk_ops.specs.Stored.{key_words}
-use Rattle.chunk_ops.specs.Words.{word_of, word_at}
+use Rattle.arena_core.specs.Words.{word_of, word_at}
 use Rattle.chunk_ops.proofs.OrderLaws.{padded_cmp, padded_append, padded_decides, lengths_decide, words_cmp, dropped_bytes}
 
 -- so many words have those of the bytes, and the others are zero

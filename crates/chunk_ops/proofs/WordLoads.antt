@@ -25,7 +25,7 @@ use Rattle.oak_core.proofs.MetLists.{at_inside}
 use Rattle.oak_core.proofs.Words.{index_apart, memory_read}
 use Rattle.chunk_ops.specs.declared.bounds.Bound.{Bound}
 use Rattle.chunk_ops.specs.declared.bounds.Bound.TheVariants.{Low, High}
-use Rattle.chunk_ops.specs.AskedRanges.{bound_spot, bound_words}
+use Rattle.chunk_ops.specs.PinnedBounds.{bound_spot, bound_words}
 use Rattle.chunk_ops.specs.declared.entries.Content.TheVariants.{Value, Floor}
 use Rattle.chunk_ops.specs.PinRecords.{HasEntry, HasRoomPin, OnlyMeets, WordsStay, room_pin}
 use Rattle.chunk_ops.specs.RoomWords.{FindsBase, Says}

@@ -5,7 +5,7 @@ use mathlib.Core.Logic.{dite}
 use native.Mathlib.Decide.{dec_lt}
 use Rattle.oak_model.specs.Key.{AreBytes}
 use Rattle.oak_model.specs.WordBytes.{word_bytes, bytes_of}
-use Rattle.chunk_ops.specs.Words.{bytes_in}
+use Rattle.arena_core.specs.Words.{bytes_in}
 
 pub length-bytes_of : (ns : List ℕ) → length (bytes_of ns) ≡ 8 * length ns
 unfolding bytes_of

@@ -1,7 +1,7 @@
 -- What calls that read a room load of it.
 use Rattle.std.specs.Prelude.{◌≡◌, ℕ, suc, ◌+◌, ◌*◌, ◌<◌, ◌≤◌, List, [], ◌∷◌, ◌++◌, length}
 use Rattle.oak_model.specs.Counts.{Each}
-use Rattle.chunk_ops.specs.Words.{word_at}
+use Rattle.arena_core.specs.Words.{word_at}
 use Rattle.chunk_ops.specs.Room.{Room, key_at, entries}
 
 -- a word that was loaded, with the number found

@@ -13,6 +13,7 @@ use Rattle.oak_core.specs.CallSteps.{StepOfCall, Stands}
 use Rattle.oak_core.specs.Memory.{in_rooms, index, memory}
 use Rattle.oak_core.specs.RoomCalls.{PinsRoomWord}
 use Rattle.oak_core.specs.Step.{on_rooms}
+use Rattle.chunk_ops.specs.LoneRooms.{IsShut, LoneTry}
 use Rattle.chunk_ops.specs.PinRecords.{room_pin, with_room_pin, HasRoomPin, OnlyMeets}
 
 -- P held of the number of the room's pin word, which became f of it; no other word changed
@@ -38,6 +39,8 @@ pub record FoundShut (z : Sizes) (call r : ℕ) (v w : PassState) : Type 0 where
   pub step : StepOfCall z call (on_rooms (pin_room r)) v w
   pub shut : state_of step.number ≢ OPEN
   pub only : OnlyMeets call v w
+  -- to a pass that is alone
+  pub still : Runs (LoneTry z (IsShut z r) v.rooms) v w
 
 -- The room was found open by a step of the call, with a range that has P, and the pass has the pin that this step made. It only met more else.
 pub record PinsOpen (z : Sizes) (call r : ℕ) (P : Span → Type 0) (v w : PassState) : Type 0 where

@@ -5,7 +5,7 @@ use Rattle.oak_model.specs.Key.{AreBytes}
 use Rattle.oak_model.specs.declared.limits.TheConstants.{GREATEST_KEY}
 use Rattle.chunk_ops.specs.declared.stored.TheConstants.{KEY_WORDS}
 use Rattle.chunk_ops.specs.declared.stored.StoredKey.{StoredKey}
-use Rattle.chunk_ops.specs.Words.{word_at}
+use Rattle.arena_core.specs.Words.{word_at}
 
 -- the words that a key's bytes fill, zeros behind them
 abbrev pub key_words : List ℕ → List ℕ

@@ -4,10 +4,10 @@ ghost use Rattle.chunk_core.specs.declared.layout.TheConstants.{BOUND_WORDS};
 ghost use Rattle.oak_core.specs.Memory.{in_rooms, index};
 ghost use Rattle.oak_core.specs.Passes.{IsPassOf, Stays, state, key, call_of};
 ghost use Rattle.chunk_ops.specs.PinRecords.{HasRoomPin, OnlyMeets, room_pin};
-ghost use Rattle.chunk_ops.specs.AskedRanges.{IsBelow, bound_spot, bound_words, bound_bytes, bound_length, low_length, high_length, low_bound, high_bound};
+ghost use Rattle.chunk_ops.specs.PinnedBounds.{IsBelow, bound_spot, bound_words, bound_bytes, bound_length, low_length, high_length, low_bound, high_bound};
 
 use crate::pins::RoomPin;
-use crate::words::WORD;
+use arena_core::words::WORD;
 use oak_core::{OakTable, Pass, load};
 
 /// One of the two bounds of a room.

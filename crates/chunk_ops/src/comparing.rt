@@ -4,10 +4,10 @@ ghost use Rattle.std.specs.Ordering.{nat_cmp};
 ghost use Rattle.oak_model.specs.Key.{key_cmp};
 ghost use Rattle.chunk_ops.specs.Reads.{Reads, LoadsKey, Compares, met_block};
 ghost use Rattle.chunk_ops.specs.Room.{place_at, key_at, entries};
-ghost use Rattle.chunk_ops.specs.Words.{word_at};
+ghost use Rattle.arena_core.specs.Words.{word_at};
 
 use crate::room::SearchedRoom;
-use crate::words::{WORD, first_bytes, word_from};
+use arena_core::words::{WORD, first_bytes, word_from};
 use arena_core::place::length_in;
 use std::cmp::Ordering;
 

@@ -17,7 +17,6 @@ mod stored;
 #[cfg(test)]
 mod tests;
 mod way;
-mod words;
 
 pub use bounds::{high_byte, high_len, low_byte, low_len};
 pub use entries::{AddHalt, Content, EntryNo, Found, NotAdded};

@@ -7,7 +7,7 @@ ghost use Rattle.chunk_ops.specs.RoomWords.{FindsBase, FindsContent, FindsKeyWor
 
 use crate::entries::{Content, EntryNo};
 use crate::pins::RoomPin;
-use crate::words::WORD;
+use arena_core::words::WORD;
 use arena_core::place::{block_in, class_in, length_in};
 use oak_core::{OakTable, Pass, load};
 

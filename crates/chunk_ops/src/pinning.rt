@@ -2,8 +2,10 @@
 ghost use Rattle.std.specs.Prelude.{◌≡◌, ◌≤◌, ◌<◌, None, IfOk, IfErr, IfSome, IfNone, length};
 ghost use Rattle.oak_model.specs.declared.limits.TheConstants.{GREATEST_KEY};
 ghost use Rattle.oak_model.specs.Key.{IsKey};
+ghost use Rattle.oak_core.specs.AloneWords.{Runs};
 ghost use Rattle.oak_core.specs.Passes.{IsPassOf, Stays, state, key as sizes, call_of};
-ghost use Rattle.chunk_ops.specs.AskedRanges.{CoversKey, IsAsked, IsLastFor, IsKeyOrNone, bytes_in_option};
+ghost use Rattle.chunk_ops.specs.AskedRanges.{CoversKey, IsAskable, IsAsked, IsLastFor, IsKeyOrNone, bytes_in_option};
+ghost use Rattle.chunk_ops.specs.LoneRooms.{IsOff, LoneTry, NeverAlone};
 ghost use Rattle.chunk_ops.specs.PinRecords.{OnlyMeets};
 ghost use Rattle.chunk_ops.specs.RoomPins.{PinsOpen, FoundOff, FoundMoved};
 
@@ -34,6 +36,7 @@ fn try_room(
     ensures pinned { IfSome result (λ p. PinsOpen (sizes table.now) (call_of pass.old) p.room (IsAsked asked key.now) (state pass.old) (state pass.new)) }
     ensures off { IfNone result (FoundOff (sizes table.now) (call_of pass.old) room (IsAsked asked key.now) (state pass.old) (state pass.new)) }
     ensures only { IfNone result (OnlyMeets (call_of pass.old) (state pass.old) (state pass.new)) }
+    ensures alone { IfNone result (Runs (LoneTry (sizes table.now) (IsOff (sizes table.now) room (IsAsked asked key.now)) (state pass.old).rooms) (state pass.old) (state pass.new)) }
 {
     let Some(pin) = pin_open(table, pass, room) else {
         return None;
@@ -79,11 +82,13 @@ fn pin_asked(
 ) -> Result<RoomPin, Moved>
     requires own { IsPassOf table.now pass.old }
     requires free { (state pass.old).rooms.pin ≡ None }
+    requires askable { IsAskable asked key.now }
     requires few { length key.now ≤ GREATEST_KEY }
     ensures own { Stays pass.old pass.new }
     ensures pinned { IfOk result (λ p. PinsOpen (sizes table.now) (call_of pass.old) p.room (IsAsked asked key.now) (state pass.old) (state pass.new)) }
     ensures moved { IfErr result (λ _. FoundMoved (sizes table.now) (call_of pass.old) (IsAsked asked key.now) (state pass.old) (state pass.new)) }
     ensures only { IfErr result (λ _. OnlyMeets (call_of pass.old) (state pass.old) (state pass.new)) }
+    ensures alone { IfErr result (λ _. Runs (NeverAlone (state pass.old)) (state pass.old) (state pass.new)) }
 {
     if let Some(pin) = try_hint(table, pass, hint, asked, key) {
         return Ok(pin);
@@ -97,8 +102,9 @@ fn pin_asked(
 }
 
 /// Pins the room whose range has the key. `Moved` comes only where each room was found in this call not
-/// open, or open with a range without the key. The hinted room is tried first; the hint promises
-/// nothing. The pass has no pin of a room.
+/// open, or open with a range without the key, so it never comes to a pass that is alone and has no room
+/// frozen or held. The hinted room is tried first; the hint promises nothing. The pass has no pin of a
+/// room.
 pub fn pin_for(table: &OakTable, pass: &mut Pass, key: &[u8], hint: Hint) -> Result<RoomPin, Moved>
     requires own { IsPassOf table.now pass.old }
     requires key { IsKey key.now }
@@ -107,6 +113,7 @@ pub fn pin_for(table: &OakTable, pass: &mut Pass, key: &[u8], hint: Hint) -> Res
     ensures pinned { IfOk result (λ p. PinsOpen (sizes table.now) (call_of pass.old) p.room (CoversKey key.now) (state pass.old) (state pass.new)) }
     ensures moved { IfErr result (λ _. FoundMoved (sizes table.now) (call_of pass.old) (CoversKey key.now) (state pass.old) (state pass.new)) }
     ensures only { IfErr result (λ _. OnlyMeets (call_of pass.old) (state pass.old) (state pass.new)) }
+    ensures alone { IfErr result (λ _. Runs (NeverAlone (state pass.old)) (state pass.old) (state pass.new)) }
 {
     pin_asked(table, pass, hint, Asked::Covering, key)
 }
@@ -128,6 +135,7 @@ pub fn pin_last(
     ensures pinned { IfOk result (λ p. PinsOpen (sizes table.now) (call_of pass.old) p.room (IsLastFor (bytes_in_option bound.entry)) (state pass.old) (state pass.new)) }
     ensures moved { IfErr result (λ _. FoundMoved (sizes table.now) (call_of pass.old) (IsLastFor (bytes_in_option bound.entry)) (state pass.old) (state pass.new)) }
     ensures only { IfErr result (λ _. OnlyMeets (call_of pass.old) (state pass.old) (state pass.new)) }
+    ensures alone { IfErr result (λ _. Runs (NeverAlone (state pass.old)) (state pass.old) (state pass.new)) }
 {
     match bound {
         Some(bound) => pin_asked(table, pass, hint, Asked::Under, bound),

@@ -7,13 +7,14 @@ ghost use Rattle.oak_model.specs.Key.{key_cmp};
 ghost use Rattle.oak_model.specs.KeyNumber.{key_number};
 ghost use Rattle.chunk_core.specs.PinnedRooms.{span_of};
 ghost use Rattle.oak_core.specs.Passes.{IsPassOf, Stays, state, key as sizes, call_of};
-ghost use Rattle.chunk_ops.specs.AskedRanges.{CoversKey, EndsUnder, IsAsked, bound_bytes, bound_length, high_cmp};
+ghost use Rattle.chunk_ops.specs.AskedRanges.{CoversKey, EndsUnder, IsAsked, high_cmp};
+ghost use Rattle.chunk_ops.specs.PinnedBounds.{bound_bytes, bound_length};
 ghost use Rattle.chunk_ops.specs.PinRecords.{HasRoomPin, OnlyMeets, room_pin};
-ghost use Rattle.chunk_ops.specs.Words.{word_at};
+ghost use Rattle.arena_core.specs.Words.{word_at};
 
 use crate::bounds::{Bound, bound_word, high_len, low_len};
 use crate::pins::RoomPin;
-use crate::words::{WORD, first_bytes, word_from};
+use arena_core::words::{WORD, first_bytes, word_from};
 use oak_core::{OakTable, Pass};
 use std::cmp::Ordering;
 

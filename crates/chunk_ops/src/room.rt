@@ -4,7 +4,7 @@ ghost use Rattle.oak_model.specs.WordBytes.{word_bytes};
 ghost use Rattle.chunk_core.specs.LinkedEntries.{entries_in, prefix_in};
 ghost use Rattle.chunk_ops.specs.Reads.{Met, met_count, met_key, met_block};
 ghost use Rattle.chunk_ops.specs.Room.{Room, IsRoom, place_at, key_at, entries};
-ghost use Rattle.chunk_ops.specs.Words.{bytes_in};
+ghost use Rattle.arena_core.specs.Words.{bytes_in};
 
 /// A pinned room, with the table that it stands in and the pass that has the pin. Each call loads one
 /// word, which the pass has met then.

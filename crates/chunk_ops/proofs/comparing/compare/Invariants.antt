@@ -1,7 +1,7 @@
 use Rattle.std.proofs.Common.{◌≡◌, ℕ, ◌*◌, ◌<◌}
 use Rattle.std.specs.declared.cmp.Ordering.TheVariants.{Equal}
 use Rattle.chunk_ops.specs.Room.{key_at}
-use Rattle.chunk_ops.specs.Words.{word_at}
+use Rattle.arena_core.specs.Words.{word_at}
 use Rattle.chunk_ops.proofs.OrderLaws.{padded_cmp}
 use Rattle.chunk_ops.proofs.ReadLaws.{Loaded}
 use Rattle.chunk_ops.proofs.comparing.compare.Given as goal

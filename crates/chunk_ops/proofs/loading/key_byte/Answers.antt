@@ -10,7 +10,7 @@ use Rattle.oak_core.specs.Memory.{in_arena, index}
 use Rattle.oak_core.specs.Passes.{state, key, call_of}
 use Rattle.oak_core.proofs.Words.{index_below}
 use Rattle.chunk_ops.proofs.FoundEntries.{block_inside, byte_found, pin_still, entry_still}
-use Rattle.chunk_ops.proofs.PinSteps.{only_both, only_in}
+use Rattle.chunk_ops.proofs.MeetingCalls.{only_both, only_in}
 use Rattle.chunk_ops.proofs.WordLoads.{only_loaded}
 use Rattle.chunk_ops.proofs.loading.key_byte.Goals as goal
 

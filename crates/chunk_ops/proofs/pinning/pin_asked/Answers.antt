@@ -1,9 +1,13 @@
+use Rattle.std.proofs.Common.{◌≡◌, ℕ, subst, arith}
 use Rattle.oak_model.specs.Limits.{Sizes}
+use Rattle.oak_core.specs.AloneWords.{Runs}
 use Rattle.oak_core.specs.Passes.{state, key, call_of}
 use Rattle.oak_core.proofs.SamePass.{stays_both}
 use Rattle.chunk_ops.specs.AskedRanges.{IsAsked}
+use Rattle.chunk_ops.specs.LoneRooms.{LoneTries}
 use Rattle.chunk_ops.proofs.FoundRooms.{opens_since, opens_in, off_since, off_in, off_more}
-use Rattle.chunk_ops.proofs.PinSteps.{only_both, only_in}
+use Rattle.chunk_ops.proofs.LoneRoomLaws.{tries_none, tries_more, never_off}
+use Rattle.chunk_ops.proofs.MeetingCalls.{only_both, only_in}
 use Rattle.chunk_ops.proofs.pinning.pin_asked.Goals as goal
 
 pub returns-in-Some-try_room-clause-pinned : goal.returns-in-Some-try_room-clause-pinned
@@ -16,4 +20,17 @@ loop-room-preserved c = let z : Sizes = key c.args.table.now in let call = call_
       stays = stays_both i.stays e.own;
       only = only_both call v w x i.only only;
       off = off_more z call k (IsAsked c.args.asked c.args.key.now) v w x only i.off (off_since z call k (IsAsked c.args.asked c.args.key.now) v w x i.only (off_in z call (call_of c.loop-room.pass) k (IsAsked c.args.asked c.args.key.now) w x i.stays.call e.off));
+      alone = tries_more z k (IsAsked c.args.asked c.args.key.now) v.rooms w.rooms v w x i.only.rooms i.alone e.alone;
     }
+
+pub loop-room-init : goal.loop-room-init
+loop-room-init c = let z : Sizes = key c.args.table.now in let v = state c.args.pass.now in let w = state c.try_hint.new.pass in let e = c.in_default.ensures in record {
+  stays = e.own;
+  only = e.only;
+  off = λ r lt. absurd (omega arith);
+  alone = tries_none z (IsAsked c.args.asked c.args.key.now) v.rooms v w e.only.still;
+}
+
+pub returns-clause-alone : goal.returns-clause-alone
+returns-clause-alone c = let z : Sizes = key c.args.table.now in let v = state c.args.pass.now in let w = state c.loop-room.pass in let i = c.loop-room.invariant in let is = c.rooms-room-end.ensures.is in let some_room = c.rooms-room-end.ensures.some in let over = c.loop-room-test.false in let most = c.loop-room.auto.room-end in
+    never_off z c.args.asked c.args.key.now v w (omega arith) c.requires.askable (subst (λ (k : ℕ). Runs (LoneTries z k (IsAsked c.args.asked c.args.key.now) v.rooms) v w) (let e : c.loop-room.room ≡ z.chunks = omega arith in e) i.alone)

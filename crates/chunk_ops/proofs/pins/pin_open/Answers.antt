@@ -1,7 +1,8 @@
 use Rattle.std.proofs.Common.{◌∙◌}
 use Rattle.oak_model.specs.Limits.{Sizes}
 use Rattle.oak_core.specs.Passes.{state, key, call_of}
-use Rattle.chunk_ops.proofs.PinSteps.{pin_on, found_shut, unpins_in}
+use Rattle.chunk_ops.proofs.FoundRooms.{found_shut}
+use Rattle.chunk_ops.proofs.PinSteps.{pin_on, unpins_in}
 use Rattle.chunk_ops.proofs.pins.pin_open.Goals as goal
 
 pub undo-requires-clause-pinned : goal.undo-requires-clause-pinned

@@ -2,11 +2,11 @@ use Rattle.std.proofs.Common.{◌≡◌, ℕ, ◌+◌, ◌*◌, sym, ◌∙◌, 
 use Rattle.std.specs.declared.cmp.Ordering.{Ordering}
 use Rattle.oak_core.specs.Passes.{state, call_of}
 use Rattle.oak_core.proofs.SamePass.{stays_both}
-use Rattle.chunk_ops.specs.AskedRanges.{bound_bytes}
+use Rattle.chunk_ops.specs.PinnedBounds.{bound_bytes}
 use Rattle.chunk_ops.specs.PinRecords.{room_pin}
 use Rattle.chunk_ops.proofs.BoundWords.{later_step, lengths_end}
 use Rattle.chunk_ops.proofs.OrderLaws.{padded_cmp, padded_decides, is_unequal, is_equal}
-use Rattle.chunk_ops.proofs.PinSteps.{only_both, only_in}
+use Rattle.chunk_ops.proofs.MeetingCalls.{only_both, only_in}
 use Rattle.chunk_ops.proofs.WordParts.{slice_bytes}
 use Rattle.chunk_ops.proofs.ranges.compare_bound.Goals as goal
 

@@ -1,7 +1,7 @@
 use Rattle.std.proofs.Common.{◌≡◌, ◌*◌}
 use Rattle.std.specs.declared.cmp.Ordering.TheVariants.{Equal}
 use Rattle.oak_core.specs.Passes.{Stays, state, call_of}
-use Rattle.chunk_ops.specs.AskedRanges.{bound_bytes}
+use Rattle.chunk_ops.specs.PinnedBounds.{bound_bytes}
 use Rattle.chunk_ops.specs.PinRecords.{OnlyMeets, room_pin}
 use Rattle.chunk_ops.proofs.OrderLaws.{padded_cmp}
 use Rattle.chunk_ops.proofs.ranges.compare_bound.Given as goal

@@ -2,7 +2,7 @@ use Rattle.std.proofs.Common.{◌∙◌, ap}
 use Rattle.std.specs.Ordering.{nat_cmp}
 use Rattle.oak_core.specs.Passes.{state}
 use Rattle.chunk_ops.specs.PinRecords.{room_pin}
-use Rattle.chunk_ops.specs.Words.{word_of}
+use Rattle.arena_core.specs.Words.{word_of}
 use Rattle.chunk_ops.proofs.BoundWords.{bound_part}
 use Rattle.chunk_ops.proofs.ranges.compare_word.Goals as goal
 

@@ -7,7 +7,7 @@ use Rattle.chunk_ops.specs.AskedRanges.{CoversKey, high_cmp}
 use Rattle.chunk_ops.specs.PinRecords.{room_pin}
 use Rattle.chunk_ops.proofs.BoundOrder.{before_low, in_range}
 use Rattle.chunk_ops.proofs.BoundWords.{same_pin}
-use Rattle.chunk_ops.proofs.PinSteps.{only_both, only_in}
+use Rattle.chunk_ops.proofs.MeetingCalls.{only_both, only_in}
 use Rattle.chunk_ops.proofs.ranges.covers.Goals as goal
 
 pub returns-then-is_lt-clause-covers : goal.returns-then-is_lt-clause-covers

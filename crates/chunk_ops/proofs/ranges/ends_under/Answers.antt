@@ -7,7 +7,7 @@ use Rattle.chunk_ops.specs.AskedRanges.{EndsUnder, high_cmp}
 use Rattle.chunk_ops.specs.PinRecords.{room_pin}
 use Rattle.chunk_ops.proofs.BoundOrder.{not_under, ends_there}
 use Rattle.chunk_ops.proofs.BoundWords.{same_pin}
-use Rattle.chunk_ops.proofs.PinSteps.{only_both, only_in}
+use Rattle.chunk_ops.proofs.MeetingCalls.{only_both, only_in}
 use Rattle.chunk_ops.proofs.ranges.ends_under.Goals as goal
 
 pub returns-clause-only : goal.returns-clause-only

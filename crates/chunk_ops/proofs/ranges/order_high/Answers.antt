@@ -5,11 +5,11 @@ use Rattle.oak_model.specs.KeyNumber.{key_number}
 use Rattle.chunk_core.specs.KeyWords.{high_number}
 use Rattle.oak_core.specs.Passes.{state, call_of}
 use Rattle.chunk_ops.specs.declared.bounds.Bound.TheVariants.{High}
-use Rattle.chunk_ops.specs.AskedRanges.{bound_bytes}
+use Rattle.chunk_ops.specs.PinnedBounds.{bound_bytes}
 use Rattle.chunk_ops.specs.PinRecords.{room_pin}
 use Rattle.chunk_ops.proofs.BoundOrder.{high_cmp-none}
 use Rattle.chunk_ops.proofs.BoundWords.{same_pin, high_order, high_none, some_high, none_high}
-use Rattle.chunk_ops.proofs.PinSteps.{only_both, only_in}
+use Rattle.chunk_ops.proofs.MeetingCalls.{only_both, only_in}
 use Rattle.chunk_ops.proofs.WordParts.{slice_bytes}
 use Rattle.chunk_ops.proofs.ranges.order_high.Goals as goal
 

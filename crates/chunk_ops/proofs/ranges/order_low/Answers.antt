@@ -3,10 +3,10 @@ use Rattle.chunk_core.specs.declared.holds.PinnedRoom.{PinnedRoom}
 use Rattle.oak_model.specs.Key.{key_cmp}
 use Rattle.oak_core.specs.Passes.{state, call_of}
 use Rattle.chunk_ops.specs.declared.bounds.Bound.TheVariants.{Low}
-use Rattle.chunk_ops.specs.AskedRanges.{bound_bytes}
+use Rattle.chunk_ops.specs.PinnedBounds.{bound_bytes}
 use Rattle.chunk_ops.specs.PinRecords.{room_pin}
 use Rattle.chunk_ops.proofs.BoundWords.{same_pin, low_order}
-use Rattle.chunk_ops.proofs.PinSteps.{only_both, only_in}
+use Rattle.chunk_ops.proofs.MeetingCalls.{only_both, only_in}
 use Rattle.chunk_ops.proofs.WordParts.{slice_bytes}
 use Rattle.chunk_ops.proofs.ranges.order_low.Goals as goal
 

@@ -1,7 +1,7 @@
 use Rattle.std.proofs.Common.{◌≡◌, length, refl, ◌∙◌, ap, arith}
 use Rattle.chunk_ops.specs.Reads.{Looks}
 use Rattle.chunk_ops.specs.Room.{Room, IsRoom, key_at}
-use Rattle.chunk_ops.specs.Words.{word_of}
+use Rattle.arena_core.specs.Words.{word_of}
 use Rattle.chunk_ops.proofs.CompareFacts.{stored_long, word_loaded}
 use Rattle.chunk_ops.proofs.ReadLaws.{loaded_more, loaded_key, key_reads, reads_as}
 use Rattle.chunk_ops.proofs.StoredLaws.{filled_more, filled_all}
