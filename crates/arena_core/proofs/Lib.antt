@@ -9,3 +9,4 @@ pub mod BlockSums
 pub mod HeldWords
 pub mod ByteFacts
 pub mod WordLaws
+pub mod ClassRooms

@@ -1,5 +1,5 @@
 -- The words in which bytes stand, and the bytes that are copied out of words.
-use Rattle.std.proofs.Common.{◌≡◌, ◌≢◌, ◌==◌, MatchBool, eqb-true, append-nil, ℕ, zero, suc, ◌+◌, ◌-◌, ◌*◌, ◌/◌, ◌^◌, ◌<◌, ◌≤◌, min, ⊎_elim, List, [], ◌∷◌, ◌++◌, length, get_or, take, drop, replicate, sym, refl, ap, ◌∙◌, subst, arith, w64}
+use Rattle.std.proofs.Common.{◌≡◌, ◌≢◌, ◌==◌, MatchBool, eqb-true, append-nil, ℕ, zero, suc, ◌+◌, ◌-◌, ◌*◌, ◌/◌, ◌^◌, ◌<◌, ◌≤◌, min, ⊎_elim, List, [], ◌∷◌, ◌++◌, length, get_or, take, drop, replicate, sym, refl, ap, ◌∙◌, subst, arith, w64, ◌%◌}
 use Rattle.std.specs.Int.{from_be_bytes}
 use Rattle.std.specs.List.{refill}
 use Rattle.std.proofs.lemmas.List.{length-append, length-drop, length-take-le, length-take, length-replicate, take_all, take_at, drop_all, get_or-take, get_or-drop, get_or_append_left, get_or-append_right, get_or_past, drop-replicate}
@@ -15,6 +15,7 @@ use Rattle.oak_model.proofs.Lists.{rows_length, rows_at}
 use Rattle.oak_model.specs.WordBytes.{word_bytes, bytes_of}
 use Rattle.arena_core.specs.Words.{bytes_in, filled_up, word_at, words_of, word_of}
 use Rattle.arena_core.proofs.ByteFacts.{Stand, stand, part_of, part_long, part_in, length-bytes_of, more_bytes, all_bytes, copied_more}
+use Rattle.std.proofs.lemmas.Grind.{div_ceil_times}
 
 -- how many words there are, and which
 
@@ -25,6 +26,17 @@ words_long bs = rows_length 0 ((length bs + 7) / 8) (word_at bs)
 pub words_at : (bs : List ℕ) (i : ℕ) → 8 * i < length bs → get_or (words_of bs) i 0 ≡ word_at bs i
 unfolding words_of
 words_at bs i lt = rows_at 0 ((length bs + 7) / 8) i (word_at bs) 0 (omega arith) ∙ ap (word_at bs) (let e : 0 + i ≡ i = omega arith in e)
+
+-- a word that a loop over as many as there are comes to
+pub word_of_loop : (len i n : ℕ) → i < n → n ≡ len / 8 + min 1 (len % 8) → 8 * i < len
+word_of_loop len i n lt e = let d = div_ceil_times len 8 (omega arith) in let k : ℕ = len / 8 + min 1 (len % 8) in let d' : k * 8 < len + 8 = d.1 in let e' : n ≡ k = e in let r : 8 * i < len = omega arith in r
+
+pub words_all : (len n : ℕ) → n ≡ len / 8 + min 1 (len % 8) → len ≤ 8 * n
+words_all len n e = let d = div_ceil_times len 8 (omega arith) in let k : ℕ = len / 8 + min 1 (len % 8) in let d' : len ≤ k * 8 = d.0 in let e' : n ≡ k = e in let r : len ≤ 8 * n = omega arith in r
+
+-- and which it has come to at the end
+pub words_done : (bs : List ℕ) (i n : ℕ) → i ≤ n → n ≤ i → n ≡ length bs / 8 + min 1 (length bs % 8) → i ≡ length (words_of bs)
+words_done bs i n le ge e = let d = div_ceil_times (length bs) 8 (omega arith) in let k : ℕ = length bs / 8 + min 1 (length bs % 8) in let l : length bs ≤ k * 8 = d.0 in let m : k * 8 < length bs + 8 = d.1 in let e' : n ≡ k = e in let f = words_long bs in omega arith
 
 -- bytes written over eight zeros
 pub over_zeros : (k : ℕ) (ys : List ℕ) → length ys ≡ k → put_mid 0 k (replicate 8 0) ys ≡ filled_up ys

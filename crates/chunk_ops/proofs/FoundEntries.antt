@@ -40,7 +40,8 @@ use Rattle.chunk_ops.specs.PinRecords.{HasEntry, HasRoomPin, RoomPinned, OnlyMee
 use Rattle.chunk_ops.specs.RoomWords.{FindsKeyWord}
 use Rattle.chunk_ops.proofs.WordLoads.{pin_holds, load_at, load_reads}
 use Rattle.chunk_ops.proofs.WordParts.{byte_in, part_long}
-use Rattle.chunk_ops.proofs.KeyPlaces.{IsKeyPlace, key_place, place_room, key_word_few, above_none}
+use Rattle.chunk_ops.proofs.KeyPlaces.{IsKeyPlace, key_place, key_word_few, above_none}
+use Rattle.arena_core.proofs.ClassRooms.{place_room}
 
 counted_numbers : (o : Option ℕ) (es : List FoundEntry) (i : ℕ) (e : FoundEntry) → AreCounted o es → get_elem? es i ≡ some e → e.number ≡ i
 counted_numbers None es i e c at = let l = at_inside es i e at in let q : length es ≡ 0 = ap length c in absurd (omega arith)

@@ -10,16 +10,6 @@ use Rattle.arena_core.specs.Arena.{block_words}
 use Rattle.arena_core.specs.Place.{IsPlace, class_in, length_in}
 use Rattle.oak_core.specs.EntryOwners.{is_class, is_key_word}
 
--- a class that is found for a length has room for it
-
-found_fits : (n : ℕ) (c : Class) (cs : List Class) → find (λ d. nat_le n (class_bytes d)) cs ≡ Some c → n ≤ class_bytes c
-found_fits n c [] e = absurd cc
-found_fits n c (d ∷ ds) e = test-cases (nat_le n (class_bytes d)) (λ t. cond t (Some d) (find (λ d. nat_le n (class_bytes d)) ds) ≡ Some c → n ≤ class_bytes c)
-    (λ t f. let g : d ≡ c = cc in subst (λ (k : Class). n ≤ class_bytes k) g (leb-true n (class_bytes d) t)) (λ _ f. found_fits n c ds f) e
-
-pub place_room : (p : ℕ) → IsPlace p → length_in p ≤ 8 * block_words (class_in p)
-place_room p is = subst (λ (c : ℕ). length_in p ≤ 8 * (2 * 4 ^ c)) (sym is.is_in) (let f = found_fits (length_in p) is.class classes is.fits in let k : ℕ = 4 ^ class_number is.class in let f' : length_in p ≤ 16 * k = f in let g : length_in p ≤ 8 * (2 * k) = omega arith in g)
-
 -- a key word names a block of the class that its length has, which is a key's
 pub record IsKeyPlace (word : ℕ) : Type 0 where
   pub some_byte : 0 < length_in word

@@ -1,14 +1,10 @@
 -- What a call that adds an entry finds and leaves. v is the state of the pass at the call, w the one at its end.
-use Rattle.std.specs.Prelude.{◌≡◌, ◌≢◌, ℕ, ◌<◌, List, take, length, Some}
+use Rattle.std.specs.Prelude.{◌≡◌, ◌≢◌, ℕ, ◌<◌, List, length}
 use Rattle.oak_model.specs.declared.classes.Class.{Class}
-use Rattle.oak_model.specs.Class.{class_number, class_of}
 use Rattle.oak_model.specs.Counts.{Has}
 use Rattle.oak_model.specs.Key.{IsKey}
 use Rattle.oak_model.specs.KeyNumber.{key_number}
 use Rattle.oak_model.specs.Limits.{Sizes}
-use Rattle.oak_model.specs.WordBytes.{bytes_of}
-use Rattle.arena_core.specs.declared.blocks.HeldBlocks.{HeldBlocks}
-use Rattle.arena_core.specs.Blocks.{HoldsBlock, without, words_held}
 use Rattle.chunk_core.specs.declared.holds.FoundEntry.{FoundEntry}
 use Rattle.chunk_core.specs.LinkedEntries.{entries_in}
 use Rattle.chunk_core.specs.PinnedRooms.{span_of, found_key}
@@ -20,13 +16,8 @@ use Rattle.chunk_ops.specs.declared.entries.AddHalt.{AddHalt}
 use Rattle.chunk_ops.specs.declared.entries.AddHalt.TheVariants.{Crowded, Busy}
 use Rattle.chunk_ops.specs.AskedRanges.{CoversKey}
 use Rattle.chunk_ops.specs.Finds.{CountsRoom, FoundAbsent}
+use Rattle.chunk_ops.specs.KeyBlocks.{HasKeyBlock, given}
 use Rattle.chunk_ops.specs.PinRecords.{room_pin, HasEntry, KeepsPin}
-
--- the block is one that the pass holds, of the class that the key has, and its first bytes are the key
-pub record HasKeyBlock (z : Sizes) (c : Class) (b : ℕ) (key : List ℕ) (v : PassState) : Type 0 where
-  pub block : HoldsBlock z (class_number c) b v.blocks
-  pub key_is : take (length key) (bytes_of (words_held (class_number c) b v.blocks.held)) ≡ key
-  pub fits : class_of (length key) ≡ Some c
 
 -- the key may be added: it is one of the pinned room's range, in such a block
 pub record MayAdd (z : Sizes) (c : Class) (b len : ℕ) (key : List ℕ) (v : PassState) : Type 0 where
@@ -34,10 +25,6 @@ pub record MayAdd (z : Sizes) (c : Class) (b len : ℕ) (key : List ℕ) (v : Pa
   pub long : length key ≡ len
   pub block : HasKeyBlock z c b key v
   pub covers : CoversKey key (span_of (room_pin v))
-
--- what is held once the block is given up
-abbrev pub given : Class → ℕ → HeldBlocks → HeldBlocks
-given c b a = record a { held = without (class_number c) b a.held }
 
 -- the room has an entry of the key, which the pin has found, and the block is not the pass's any more
 pub record AddsEntry (z : Sizes) (call r i : ℕ) (c : Class) (b : ℕ) (key : List ℕ) (v w : PassState) : Type 0 where

@@ -5,6 +5,7 @@ mod bounds;
 mod comparing;
 mod entries;
 mod finding;
+mod key_blocks;
 mod loading;
 mod nearest;
 #[cfg(test)]
@@ -20,6 +21,7 @@ mod way;
 
 pub use bounds::{high_byte, high_len, low_byte, low_len};
 pub use entries::{AddHalt, Content, EntryNo, Found, NotAdded};
+pub use key_blocks::store_key;
 pub use loading::{base_of, content, key_byte, key_len};
 pub use pinning::{Moved, pin_for, pin_last};
 pub use pins::{RoomPin, unpin};

@@ -1,19 +1,14 @@
 -- What is loaded under a good pin is what the pin recorded, and its place names a block of the table.
-use Rattle.std.proofs.Common.{◌≡◌, ℕ, ◌+◌, ◌*◌, ◌^◌, ◌<◌, ◌≤◌, cond, List, [], ◌∷◌, length, get_or, sym, ap, ◌∙◌, subst, arith, Some, leb-true}
-use Rattle.std.specs.Prelude.{nat_le}
-use Rattle.std.specs.List.{find}
+use Rattle.std.proofs.Common.{◌≡◌, ℕ, ◌+◌, ◌*◌, ◌<◌, List, length, get_or, sym, ap, ◌∙◌, subst, arith, Some}
 use mathlib.Core.Logic.{dite}
 use mathlib.Core.Option.{some}
 use lib.ListN.{get_elem?}
 use native.Mathlib.Decide.{dec_lt}
 use Rattle.pin_word.specs.PinWord.{state_of}
-use Rattle.oak_model.specs.declared.classes.Class.{Class}
-use Rattle.oak_model.specs.Class.{class_number, class_bytes, classes, class_of}
 use Rattle.oak_model.specs.Limits.{Sizes}
-use Rattle.oak_model.proofs.Counting.{test-cases}
 use Rattle.oak_model.proofs.Lists.{at_map, rows_length, rows_at}
 use Rattle.arena_core.specs.Arena.{at_bytes, block_words, blocks}
-use Rattle.arena_core.specs.Place.{IsPlace, class_in, block_in, length_in, names_block, content}
+use Rattle.arena_core.specs.Place.{IsPlace, class_in, block_in, names_block, content}
 use Rattle.arena_core.proofs.PlaceLaws.{class_below}
 use Rattle.header_core.specs.declared.holds.PinnedHeader.{PinnedHeader}
 use Rattle.header_core.specs.Headers.{at_place, at_stamp}
@@ -29,19 +24,7 @@ use Rattle.oak_core.proofs.HeadersInArena.{pin_fact, live_stocked}
 use Rattle.oak_core.proofs.OwnerLaws.{live_inside, owner_counts, names_itself}
 use Rattle.oak_core.proofs.Words.{index_apart, memory_read}
 use Rattle.value_ops.specs.Reading.{IsPlaced}
-
--- a class that is found for a length has room for it
-found_fits : (n : ℕ) (c : Class) (cs : List Class) → find (λ d. nat_le n (class_bytes d)) cs ≡ Some c → n ≤ class_bytes c
-found_fits n c [] e = absurd cc
-found_fits n c (d ∷ ds) e = test-cases (nat_le n (class_bytes d)) (λ t. cond t (Some d) (find (λ d. nat_le n (class_bytes d)) ds) ≡ Some c → n ≤ class_bytes c)
-    (λ t f. let g : d ≡ c = cc in subst (λ (k : Class). n ≤ class_bytes k) g (leb-true n (class_bytes d) t)) (λ _ f. found_fits n c ds f) e
-
-class_fits : (n : ℕ) (c : Class) → class_of n ≡ Some c → n ≤ class_bytes c
-class_fits n c e = found_fits n c classes e
-
--- a block that a place word names has room for the length
-pub place_room : (p : ℕ) → IsPlace p → length_in p ≤ 8 * block_words (class_in p)
-place_room p is = subst (λ (c : ℕ). length_in p ≤ 8 * (2 * 4 ^ c)) (sym is.is_in) (let f = class_fits (length_in p) is.class is.fits in let k : ℕ = 4 ^ class_number is.class in let f' : length_in p ≤ 16 * k = f in let g : length_in p ≤ 8 * (2 * k) = omega arith in g)
+use Rattle.arena_core.proofs.ClassRooms.{place_room}
 
 -- a good pin of a pass, at a moment at which the rule holds
 module _ (z : Sizes) (s : TableState) (r : Rule z s) (seat : ℕ) (v : PassState) (here : get_elem? s.states seat ≡ some v) (p : PinnedHeader) (is : v.headers.pin ≡ Some p) (good : IsGood p) where

@@ -30,7 +30,7 @@ use Rattle.arena_core.specs.Words.{words_of}
 use Rattle.value_ops.proofs.ComesFurther.{comes_both, comes_as, blocks_come, headers_come, lock_comes}
 use Rattle.value_ops.proofs.FillFacts.{fits_class, is_place}
 use Rattle.value_ops.proofs.HeldParts.{changed_generation}
-use Rattle.value_ops.proofs.LoadFacts.{place_room}
+use Rattle.arena_core.proofs.ClassRooms.{place_room}
 use Rattle.value_ops.proofs.HeldValues.{place_at, words_at}
 use Rattle.value_ops.proofs.RewordedHeaders.{put_changed, changed_place, changed_words, changed_same}
 use Rattle.value_ops.proofs.RewriteFacts.{some_held, held_now, place_now, words_now, lock_now}

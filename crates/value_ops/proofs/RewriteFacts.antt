@@ -1,7 +1,6 @@
 -- The words of a locked header's block, while bytes are stored over them word by word.
 use Rattle.std.proofs.Common.{◌≡◌, ℕ, suc, ◌+◌, ◌*◌, ◌/◌, ◌%◌, ◌<◌, ◌≤◌, min, List, ◌++◌, length, get_or, take, drop, sym, ap, ◌∙◌, subst, arith}
 use Rattle.std.proofs.lemmas.List.{length-append, length-take, length-drop}
-use Rattle.std.proofs.lemmas.Grind.{div_ceil_times}
 use Rattle.std.proofs.Math.Nat.{min-eq_left}
 use lib.ListN.{set}
 use Rattle.oak_model.specs.declared.classes.Class.{Class}
@@ -28,9 +27,9 @@ use Rattle.value_ops.specs.UnderLock.{HasBlock, HasLock, ComesTo, Rewrites, word
 use Rattle.arena_core.specs.Words.{words_of}
 use Rattle.arena_core.proofs.ByteFacts.{length-bytes_of}
 use Rattle.value_ops.proofs.ComesFurther.{comes_none, comes_both, comes_as, blocks_come, headers_come, blocks_met, headers_met, comes_since, lock_comes}
-use Rattle.value_ops.proofs.LoadFacts.{place_room}
+use Rattle.arena_core.proofs.ClassRooms.{place_room}
 use Rattle.value_ops.proofs.RewordedHeaders.{place_put, generation_put, rows_put, held_put, words_put, put_more, put_same}
-use Rattle.arena_core.proofs.WordLaws.{words_long, words_step, words_end, value_back}
+use Rattle.arena_core.proofs.WordLaws.{words_long, words_step, words_end, value_back, words_done}
 
 -- the words, where the first i of the bytes' were stored
 abbrev pub so_far : List ℕ → List ℕ → ℕ → List ℕ
@@ -130,7 +129,7 @@ module _ (z : Sizes) (h g first : ℕ) (v : PassState) (is : HasWords z h g firs
 
     -- the loop ends after as many words as there are
     pub all_stored : (call i n : ℕ) (w : PassState) → i ≤ n → n ≤ i → n ≡ length bytes / 8 + min 1 (length bytes % 8) → StoredSoFar z call h bytes i v w → ComesTo z call v.blocks.held (with_words h (words_over bytes ws) rs) v w
-    all_stored call i n w le ge e s = let d = div_ceil_times (length bytes) 8 (omega arith) in let k : ℕ = length bytes / 8 + min 1 (length bytes % 8) in let l : length bytes ≤ k * 8 = d.0 in let m : k * 8 < length bytes + 8 = d.1 in let e' : n ≡ k = e in let f = words_long bytes in
+    all_stored call i n w le ge e s = let done = words_done bytes i n le ge e in
         subst (λ (us : List ℕ). ComesTo z call v.blocks.held (with_words h us rs) v w) (words_end (words_of bytes) ws i (omega arith) (omega arith)) s
 
     -- and where they are as many as before, the value is these bytes

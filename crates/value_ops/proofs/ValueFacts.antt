@@ -1,7 +1,6 @@
 -- Where the words of a value lie that is read.
-use Rattle.std.proofs.Common.{◌≡◌, ℕ, zero, suc, ◌+◌, ◌-◌, ◌*◌, ◌/◌, ◌%◌, ◌^◌, ◌<◌, ◌≤◌, min, List, length, get_or, take, sym, ap, ◌∙◌, subst, arith, refl}
+use Rattle.std.proofs.Common.{◌≡◌, ℕ, zero, suc, ◌+◌, ◌-◌, ◌*◌, ◌^◌, ◌<◌, ◌≤◌, List, length, get_or, take, sym, ap, ◌∙◌, subst, arith, refl}
 use Rattle.std.proofs.lemmas.List.{length-take}
-use Rattle.std.proofs.lemmas.Grind.{div_ceil_times}
 use Rattle.std.proofs.Math.Nat.{min-eq_left}
 use Rattle.oak_model.specs.declared.limits.TheConstants.{CLASSES}
 use Rattle.oak_model.specs.Limits.{Sizes, IsInLimits}
@@ -103,9 +102,3 @@ reads_both q r s a b = record {
 pub reads_none : (q : Reading) → IsReading q → ReadsOn q q
 reads_none q is = record { reading = is; table = refl; stays = record { table = refl; seat = refl; call = refl; scratch = refl }; only = loads_none (key q.table.now) (call_of q.pass.now) (state q.pass.now) }
 
--- a word that a loop over as many as there are comes to
-pub word_of_loop : (len i n : ℕ) → i < n → n ≡ len / 8 + min 1 (len % 8) → 8 * i < len
-word_of_loop len i n lt e = let d = div_ceil_times len 8 (omega arith) in let k : ℕ = len / 8 + min 1 (len % 8) in let d' : k * 8 < len + 8 = d.1 in let e' : n ≡ k = e in let r : 8 * i < len = omega arith in r
-
-pub words_all : (len n : ℕ) → n ≡ len / 8 + min 1 (len % 8) → len ≤ 8 * n
-words_all len n e = let d = div_ceil_times len 8 (omega arith) in let k : ℕ = len / 8 + min 1 (len % 8) in let d' : len ≤ k * 8 = d.0 in let e' : n ≡ k = e in let r : len ≤ 8 * n = omega arith in r

@@ -9,8 +9,7 @@ use Rattle.oak_core.specs.Passes.{state, key, call_of, scratch_of}
 use Rattle.value_ops.specs.HeldValue.{words_in}
 use Rattle.value_ops.proofs.ComesFurther.{loads_in, loads_both, headers_met}
 use Rattle.value_ops.proofs.RewriteFacts.{room}
-use Rattle.value_ops.proofs.ValueFacts.{word_of_loop}
-use Rattle.arena_core.proofs.WordLaws.{put_more, refill_whole}
+use Rattle.arena_core.proofs.WordLaws.{put_more, refill_whole, word_of_loop}
 use Rattle.value_ops.proofs.locking.Locked.load_value.Goals as goal
 
 pub loop-i-preserved : goal.loop-i-preserved

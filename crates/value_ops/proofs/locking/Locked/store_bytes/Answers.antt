@@ -6,9 +6,8 @@ use Rattle.oak_core.specs.Passes.{state, key, call_of}
 use Rattle.oak_core.proofs.SamePass.{stays_both}
 use Rattle.value_ops.proofs.ComesFurther.{comes_in}
 use Rattle.value_ops.proofs.RewriteFacts.{begins, has_words, word_inside, stored_more, all_stored}
-use Rattle.value_ops.proofs.ValueFacts.{word_of_loop}
 use Rattle.value_ops.proofs.locking.Locked.store_bytes.Goals as goal
-use Rattle.arena_core.proofs.WordLaws.{words_at}
+use Rattle.arena_core.proofs.WordLaws.{words_at, word_of_loop}
 
 pub loop-i-init : goal.loop-i-init
 loop-i-init c = let v = state c.args.pass.now in record {

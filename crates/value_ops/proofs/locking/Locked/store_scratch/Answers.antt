@@ -7,9 +7,8 @@ use Rattle.oak_core.proofs.SamePass.{stays_both}
 use Rattle.arena_core.specs.Words.{word_at}
 use Rattle.value_ops.proofs.ComesFurther.{comes_in}
 use Rattle.value_ops.proofs.RewriteFacts.{as_long_fits, begins, has_words, word_inside, stored_more, all_stored, rewrites}
-use Rattle.value_ops.proofs.ValueFacts.{word_of_loop}
 use Rattle.value_ops.proofs.locking.Locked.store_scratch.Goals as goal
-use Rattle.arena_core.proofs.WordLaws.{words_at}
+use Rattle.arena_core.proofs.WordLaws.{words_at, word_of_loop}
 
 pub loop-i-init : goal.loop-i-init
 loop-i-init c = let z : Sizes = key c.args.table.now in let h = c.args.self.now.header in let g = c.args.self.now.generation in let v = state c.args.pass.now in let bytes = scratch_of c.args.pass.now in let is = c.requires.words in record {

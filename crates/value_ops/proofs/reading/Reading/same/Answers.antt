@@ -2,8 +2,9 @@ use Rattle.std.proofs.Common.{ℕ, ◌*◌, ◌<◌, ◌++◌, List, length, tak
 use Rattle.value_ops.specs.Reading.{value}
 use Rattle.arena_core.specs.Words.{bytes_in}
 use Rattle.arena_core.proofs.ByteFacts.{more_bytes}
-use Rattle.value_ops.proofs.ValueFacts.{long, value_same, reads_both, word_of_loop}
+use Rattle.value_ops.proofs.ValueFacts.{long, value_same, reads_both}
 use Rattle.value_ops.proofs.reading.Reading.same.Goals as goal
+use Rattle.arena_core.proofs.WordLaws.{word_of_loop}
 
 pub returns-then-other-self-clause-same : goal.returns-then-other-self-clause-same
 returns-then-other-self-clause-same c = ((λ h. absurd cc), (λ e. absurd (c.if-other-self.true (ap length e ∙ long c.args.self.now c.requires))))
