@@ -9,6 +9,7 @@ mod loading;
 mod nearest;
 #[cfg(test)]
 mod order_tests;
+mod pinned;
 mod pinning;
 mod pins;
 mod ranges;
