@@ -20,7 +20,7 @@ use Rattle.chunk_core.specs.declared.holds.RoomHolds.{RoomHolds}
 use Rattle.chunk_core.specs.KeyWords.{key_length, key_in, key_bytes}
 use Rattle.chunk_core.specs.LinkedEntries.{entries_in, prefix_in}
 use Rattle.chunk_core.specs.PinnedRooms.{EntryStands, RoomPinHolds, span_of, found_key, Misses}
-use Rattle.chunk_core.specs.RoomReads.{found_at}
+use Rattle.chunk_core.specs.RoomReads.{found_at, found_below}
 use Rattle.chunk_core.specs.RoomRule.{IsInOrder}
 use Rattle.chunk_core.specs.Rooms.{at_count}
 use Rattle.chunk_core.specs.RoomsAfter.{pin_with}
@@ -46,7 +46,10 @@ use Rattle.chunk_ops.proofs.KeyPlaces.{IsKeyPlace, key_place, is_key_below, bloc
 use Rattle.chunk_ops.proofs.WordLoads.{pin_holds}
 use Rattle.chunk_ops.proofs.WordParts.{part_small, part_long}
 
-pub record CountsNow (z : Sizes) (call r n : ℕ) (v w : PassState) : Type 0 where
+-- the words of the table stood so at the load
+pub record CountsNow (z : Sizes) (call r n : ℕ) (words : List ℕ) (v w : PassState) : Type 0 where
+  pub count : (memory z words).rooms.count r ≡ n
+  pub entries : (room_pin w).entries ≡ found_below (memory z words).rooms (content (memory z words).arena.bytes) r n
   pub under : UnderPin z call r v w
   pub number : (room_pin w).count ≡ Some n
   pub many : length (room_pin w).entries ≡ entries_in n
@@ -186,8 +189,10 @@ module _ (z : Sizes) (call : ℕ) (v : PassState) (n : ℕ) (w : PassState) (p :
   misses : (k : ℕ) → within (span_of q) k ≡ 1 → ((e : FoundEntry) → Has e (room_pin w).entries → found_key e ≢ k) → Misses q' k
   misses k inside none = record { good = p.pin.good; counted = refl; inside = inside; none = λ j e at. none e (subst (λ (x : PinnedRoom). Has e x.entries) (sym pin_is) (has_at q'.entries j e at)) }
 
-  pub counted_here : CountsNow z call (room_pin v).room n v w
+  pub counted_here : CountsNow z call (room_pin v).room n t.table.words v w
   counted_here = record {
+    count = count_is;
+    entries = ap (λ (x : PinnedRoom). x.entries) pin_is;
     under = under;
     number = ap (λ (x : PinnedRoom). x.count) pin_is;
     many = ap (λ (x : PinnedRoom). length x.entries) pin_is ∙ rows_length 0 (entries_in n) (found_at m.rooms bytes q.room);
@@ -197,5 +202,5 @@ module _ (z : Sizes) (call : ℕ) (v : PassState) (n : ℕ) (w : PassState) (p :
   }
 
 -- of the room that is pinned
-pub counts_now : (z : Sizes) (call r : ℕ) (v : PassState) (n : ℕ) (w : PassState) → HasRoomPin z r v → Told z call (load (in_rooms (at_count r))) v n w → CountsNow z call r n v w
-counts_now z call r v n w p = subst (λ (k : ℕ). HasRoomPin z k v → Told z call (load (in_rooms (at_count k))) v n w → CountsNow z call k n v w) p.pin.room (counted_here z call v n w) p
+pub counts_now : (z : Sizes) (call r : ℕ) (v : PassState) (n : ℕ) (w : PassState) → HasRoomPin z r v → (t : Told z call (load (in_rooms (at_count r))) v n w) → CountsNow z call r n t.table.words v w
+counts_now z call r v n w p = subst (λ (k : ℕ). HasRoomPin z k v → (t : Told z call (load (in_rooms (at_count k))) v n w) → CountsNow z call k n t.table.words v w) p.pin.room (counted_here z call v n w) p

@@ -6,6 +6,7 @@ use arena_core::place::{block_in, class_in};
 use oak_core::{OakTable, Pass, load};
 
 /// A pinned room of the table, and the count that was loaded of it last, 0 before the first load.
+#[derive(Drop)]
 pub(crate) struct PinnedTable<'p> {
     pub(crate) table: &'p OakTable,
     pub(crate) pass: &'p mut Pass,
