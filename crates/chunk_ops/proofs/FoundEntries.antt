@@ -1,49 +1,38 @@
 -- What stands of an entry that a pin found: its key word names a block of the table, in which its key stands.
-use Rattle.std.proofs.Common.{◌≡◌, ℕ, ◌+◌, ◌-◌, ◌*◌, ◌/◌, ◌%◌, ◌<◌, ◌≤◌, nat_lt, List, map, length, get_or, take, sym, refl, ap, ◌∙◌, subst, arith, Option, Some, None}
-use Rattle.std.proofs.lemmas.Bool.{lt-ltb}
-use mathlib.Core.Logic.{dite}
+use Rattle.std.proofs.Common.{◌≡◌, ℕ, ◌+◌, ◌*◌, ◌/◌, ◌%◌, ◌<◌, ◌≤◌, List, map, length, get_or, take, sym, refl, ap, ◌∙◌, subst, arith, Option, Some, None}
 use mathlib.Core.Option.{some}
 use lib.ListN.{get_elem?}
-use native.Mathlib.Decide.{dec_lt}
 use Rattle.oak_model.specs.declared.limits.TheConstants.{CLASSES}
-use Rattle.oak_model.specs.Counts.{one_if}
 use Rattle.oak_model.specs.Key.{IsKey}
 use Rattle.oak_model.specs.Limits.{Sizes}
 use Rattle.oak_model.specs.WordBytes.{word_bytes, bytes_of}
-use Rattle.oak_model.proofs.Counting.{total_map}
 use Rattle.oak_model.proofs.Lists.{rows_length, rows_at}
-use Rattle.oak_model.proofs.SumLaws.{total_in}
 use Rattle.arena_core.specs.Arena.{at_bytes, block_words, blocks, IsInArena}
-use Rattle.arena_core.specs.Place.{class_in, block_in, length_in, names_block, content}
+use Rattle.arena_core.specs.Place.{class_in, block_in, length_in, content}
 use Rattle.arena_core.proofs.PlaceLaws.{class_below}
 use Rattle.chunk_core.specs.declared.holds.FoundEntry.{FoundEntry}
 use Rattle.chunk_core.specs.declared.holds.RoomHolds.{RoomHolds}
-use Rattle.chunk_core.specs.Covers.{span_in, entry_at, used_at, moving_of}
-use Rattle.chunk_core.specs.CoverSums.{weight, each, owning}
+use Rattle.chunk_core.specs.CoverSums.{weight}
 use Rattle.chunk_core.specs.KeyWords.{key_length}
-use Rattle.chunk_core.specs.LinkedEntries.{entries_in, in_use}
+use Rattle.chunk_core.specs.LinkedEntries.{entries_in}
 use Rattle.chunk_core.specs.MayOnRooms.{FindsEntry}
 use Rattle.chunk_core.specs.PinnedRooms.{AreCounted, EntryStands, RoomPinHolds}
 use Rattle.chunk_core.specs.Rooms.{at_key}
-use Rattle.chunk_core.proofs.CoverFacts.{entry_adds}
-use Rattle.chunk_core.proofs.CoverLaws.{room_le}
-use Rattle.chunk_core.proofs.EntryNumbers.{numbers_once}
 use Rattle.oak_core.specs.declared.states.PassState.{PassState}
-use Rattle.oak_core.specs.EntryOwners.{is_key_word, entry_owners}
+use Rattle.oak_core.specs.EntryOwners.{is_key_word}
 use Rattle.oak_core.specs.Memory.{Memory, Spot, in_arena, in_rooms, index, IsInside, memory}
 use Rattle.oak_core.specs.PassState.{rooms_held}
 use Rattle.oak_core.specs.Splitting.{Loads}
 use Rattle.oak_core.specs.Step.{Step, load, Told}
-use Rattle.oak_core.proofs.HeadersInArena.{names_named}
 use Rattle.oak_core.proofs.MetLists.{at_inside, each_at}
 use Rattle.chunk_ops.specs.PinRecords.{HasEntry, HasRoomPin, RoomPinned, OnlyMeets, pin_or, room_pin}
 use Rattle.chunk_ops.specs.RoomWords.{FindsKeyWord}
 use Rattle.chunk_ops.proofs.WordLoads.{pin_holds, load_at, load_reads}
 use Rattle.chunk_ops.proofs.WordParts.{byte_in, part_long}
-use Rattle.chunk_ops.proofs.KeyPlaces.{IsKeyPlace, key_place, key_word_few, above_none}
+use Rattle.chunk_ops.proofs.KeyPlaces.{IsKeyPlace, key_place, is_key_below, block_below}
 use Rattle.arena_core.proofs.ClassRooms.{place_room}
 
-counted_numbers : (o : Option ℕ) (es : List FoundEntry) (i : ℕ) (e : FoundEntry) → AreCounted o es → get_elem? es i ≡ some e → e.number ≡ i
+pub counted_numbers : (o : Option ℕ) (es : List FoundEntry) (i : ℕ) (e : FoundEntry) → AreCounted o es → get_elem? es i ≡ some e → e.number ≡ i
 counted_numbers None es i e c at = let l = at_inside es i e at in let q : length es ≡ 0 = ap length c in absurd (omega arith)
 counted_numbers (Some n) es i e c at = c.1 i e at
 
@@ -77,25 +66,13 @@ module _ (z : Sizes) (call r : ℕ) (x : Step) (v : PassState) (n : ℕ) (w : Pa
   weighs = subst (λ (j : ℕ). weight (m.rooms.pin j) ≡ 1) p.pin.room held.cover
 
   pub is_key_there : is_key_word word ≡ 1
-  is_key_there = let a = entry_adds z m.rooms (content m.arena.bytes) hs (λ s y. 1 - is_key_word y.word) r i p.inside weighs (numbers_once (entries_in (m.rooms.count r)) i entry_below) in
-      let none = t.rule.covers.placed in let few = key_word_few word in let same : is_key_word (m.rooms.key r i) ≡ is_key_word word = ap is_key_word word_there in omega arith
+  is_key_there = subst (λ (y : ℕ). is_key_word y ≡ 1) word_there (is_key_below z t.table t.rule r i p.inside weighs entry_below)
 
   pub key_there : IsKeyPlace word
   key_there = key_place word is_key_there
 
-  owns : 1 ≤ entry_owners z m.rooms (content m.arena.bytes) hs (class_in word) (block_in word)
-  owns = let names : ℕ → ℕ = names_block (class_in word) (block_in word) in let ms = map moving_of hs in
-      let a = room_le z.chunks m.rooms.pin (used_at m.rooms (content m.arena.bytes)) ms (each (owning names)) r p.inside weighs in
-      let b = total_map (entry_at m.rooms (content m.arena.bytes) r) (owning names (span_in m.rooms r)) (in_use m.rooms r) in
-      let c = total_in (λ j. owning names (span_in m.rooms r) (entry_at m.rooms (content m.arena.bytes) r j)) i (in_use m.rooms r) (let o = numbers_once (entries_in (m.rooms.count r)) i entry_below in omega arith) in
-      let d : owning names (span_in m.rooms r) (entry_at m.rooms (content m.arena.bytes) r i) ≡ 1 = owning_one (m.rooms.key r i) word_there in omega arith
-    where
-      owning_one : (y : ℕ) → y ≡ word → one_if (nat_lt 0 y) * names_block (class_in word) (block_in word) y ≡ 1
-      owning_one y e = (λ j. one_if (nat_lt 0 (e j)) * names_block (class_in word) (block_in word) (e j))
-          ∙ (λ j. one_if (lt-ltb 0 word (above_none word key_there.some_byte) j) * names_named (class_in word) (block_in word) word refl refl j)
-
   pub block_there : block_in word < blocks z (class_in word)
-  block_there = dite (dec_lt (block_in word) (blocks z (class_in word))) (λ l. l) (λ g. let none = t.rule.blocks.inside (class_in word) (block_in word) (omega arith) in let o = owns in absurd (omega arith))
+  block_there = subst (λ (y : ℕ). block_in y < blocks z (class_in y)) word_there (block_below z t.table t.rule r i p.inside weighs entry_below)
 
   pub class_there : class_in word < CLASSES
   class_there = let c = class_below key_there.place.class in let e = key_there.place.is_in in omega arith
