@@ -5,6 +5,8 @@ mod bounds;
 mod comparing;
 mod entries;
 mod finding;
+mod held_keys;
+mod latching;
 mod loading;
 mod nearest;
 #[cfg(test)]

@@ -1,5 +1,5 @@
 //! Bytes as they stand in words: eight in each, the first of them highest.
-ghost use Rattle.std.specs.Prelude.{◌≡◌, ◌+◌, ◌*◌, ◌<◌, ◌≤◌, length, take};
+ghost use Rattle.std.specs.Prelude.{◌≡◌, ◌+◌, ◌*◌, ◌<◌, ◌≤◌, ◌++◌, length, take};
 ghost use Rattle.std.specs.Int.{w64, from_be_bytes};
 ghost use Rattle.oak_model.specs.WordBytes.{word_bytes};
 ghost use Rattle.chunk_ops.specs.Words.{bytes_in, word_at, word_of};
@@ -44,4 +44,13 @@ pub fn first_bytes(word: u64, n: usize) -> u64
     }
     let bytes = word.to_be_bytes();
     word_from(&bytes[..n], 0)
+}
+
+/// Copies the eight bytes of a word to their place, from `8 * i` on.
+pub(crate) fn put_word(out: &mut [u8], i: usize, word: u64)
+    requires { WORD * i + WORD ≤ length out.old }
+    ensures { take (WORD * i + WORD) out.new ≡ take (WORD * i) out.old ++ word_bytes word }
+{
+    let from = WORD * i;
+    out[from..from + WORD].copy_from_slice(&word.to_be_bytes());
 }
