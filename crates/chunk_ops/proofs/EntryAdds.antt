@@ -39,6 +39,7 @@ use Rattle.oak_core.specs.EntryOwners.{is_class, is_key_word}
 use Rattle.oak_core.specs.Memory.{Memory, memory}
 use Rattle.oak_core.specs.RoomCalls.{PublishesEntry}
 use Rattle.oak_core.specs.Step.{MayPublishEntry, Told}
+use Rattle.oak_core.proofs.CallSteps.{stands_learns}
 use Rattle.oak_core.proofs.MetLists.{at_inside, each_at}
 use Rattle.oak_core.proofs.PublishFacts.{pin_stands, count_is, key_word, words_there}
 use Rattle.chunk_ops.specs.Adds.{MayAdd, given}
@@ -201,7 +202,7 @@ module _ (z : Sizes) (r : ℕ) (c : Class) (b len count : ℕ) (key : List ℕ) 
 
     pub adds_here : AddsUnder z call r (entries_in count) c b key v w
     adds_here = record {
-      stands = stands_on z call (publish_entry r (count + 1)) v t.0 w t.1;
+      learns = stands_learns call v w (stands_on z call (publish_entry r (count + 1)) v t.0 w t.1);
       headers = ap (λ (y : PassState). y.headers) t.1.after;
       blocks = ap (λ (y : PassState). y.blocks) t.1.after ∙ (λ i. record v.blocks { held = without ((ap class_in first_word ∙ class_is) i) ((ap block_in first_word ∙ block_is) i) v.blocks.held });
       latched = subst (λ (a : RoomHolds). latches_on r a ≡ 1) (sym rooms_are) (one_at-same r r refl);

@@ -17,25 +17,17 @@ use Rattle.chunk_core.specs.PinnedRooms.{found_key, span_of}
 use Rattle.chunk_core.specs.RoomCopies.{entry_with, latch_with}
 use Rattle.chunk_core.specs.RoomStep.{of_key, of_value}
 use Rattle.oak_core.specs.declared.states.PassState.{PassState}
-use Rattle.oak_core.proofs.CallSteps.{stands_both, stands_in}
+use Rattle.oak_core.proofs.CallSteps.{learns_both, stands_both, stands_in, stands_learns}
 use Rattle.chunk_ops.specs.Adds.{MayAdd, HasKeyBlock, given}
 use Rattle.chunk_ops.specs.AskedRanges.{CoversKey}
 use Rattle.chunk_ops.specs.Latching.{with_latch, MayEnter, WritesEntry, AddsUnder}
 use Rattle.chunk_ops.specs.PinRecords.{RoomPinned, PinKept, OnlyMeets, pin_or, room_pin}
 use Rattle.chunk_ops.proofs.LatchSteps.{latch_stored}
+use Rattle.chunk_ops.proofs.PinsKept.{pinned_latched}
 
 pub count_fits : (z : Sizes) (n : ℕ) → IsInLimits z → n < 2 ^ 64 → entries_in n < z.entries → n + 1 < 2 ^ 64
 unfolding entries_in
 count_fits z n limits small room = let g = limits.entries_greatest in omega arith
-
--- the pin does not ask for the latch
-pub pinned_latched : (z : Sizes) (r : ℕ) (a : RoomHolds) (o : Option Latch) → RoomPinned z r a → RoomPinned z r (with_latch o a)
-pinned_latched z r a o p = record {
-  inside = p.inside;
-  pin = record { is = p.pin.is; room = p.pin.room; good = p.pin.good };
-  bounds = record { fit = p.bounds.fit; low = p.bounds.low; high = p.bounds.high };
-  few = p.few;
-}
 
 -- the key may be added as long as the pass holds what it held, and its pin stands as it did
 pub add_still : (z : Sizes) (c : Class) (b len : ℕ) (key : List ℕ) (v w : PassState) → w.blocks ≡ v.blocks → span_of (room_pin w) ≡ span_of (room_pin v) → MayAdd z c b len key v → MayAdd z c b len key w
@@ -79,7 +71,7 @@ module _ (z : Sizes) (r : ℕ) (c : Class) (b len count : ℕ) (key : List ℕ) 
   -- what is added behind the stores is added behind all
   pub adds_behind : (call i : ℕ) (k : List ℕ) (y : PassState) → first ≡ call → now ≡ call → AddsUnder z call r i c b k w y → AddsUnder z call r i c b k v y
   adds_behind call i k y f n a = record {
-    stands = stands_both call v u y (stands_in call first v u f o.stands) (stands_both call u w y (stands_in call now u w n x.stands) a.stands);
+    learns = learns_both call v w y (stands_learns call v w (stands_both call v u w (stands_in call first v u f o.stands) (stands_in call now u w n x.stands))) a.learns;
     headers = a.headers ∙ (x.headers ∙ o.headers);
     blocks = a.blocks ∙ ap (given c b) (x.blocks ∙ o.blocks);
     latched = a.latched;

@@ -14,9 +14,11 @@ use Rattle.chunk_core.specs.RoomCopies.{latch_with}
 use Rattle.chunk_core.specs.RoomRule.{latches_on}
 use Rattle.chunk_core.specs.RoomStep.{of_key, of_value}
 use Rattle.oak_core.specs.declared.states.PassState.{PassState}
-use Rattle.oak_core.specs.CallSteps.{Stands}
-use Rattle.chunk_ops.specs.Adds.{MayAdd, given}
-use Rattle.chunk_ops.specs.PinRecords.{room_pin, HasRoomPin, HasEntry, PinKept}
+use Rattle.oak_core.specs.CallSteps.{Learns, Stands}
+use Rattle.chunk_ops.specs.declared.adding.Outcome.{Outcome}
+use Rattle.chunk_ops.specs.declared.adding.Outcome.TheVariants.{Found, Added, Full}
+use Rattle.chunk_ops.specs.Adds.{MayAdd, FoundCrowded, given}
+use Rattle.chunk_ops.specs.PinRecords.{room_pin, HasRoomPin, HasEntry, PinKept, UnderPin}
 
 abbrev pub with_latch : Option Latch → RoomHolds → RoomHolds
 with_latch o a = record a { latch = o }
@@ -55,11 +57,17 @@ pub record MayEnter (z : Sizes) (r : ℕ) (c : Class) (b len count : ℕ) (key :
   pub may : MayAdd z c b len key v
   pub none : (e : FoundEntry) → Has e (room_pin v).entries → found_key e ≢ key_number key
 
--- the room has an entry of the key, which the pin has found, and the pass has the latch still
+-- the room has an entry of the key more, which the pin has found, and the pass has the latch still
 pub record AddsUnder (z : Sizes) (call r i : ℕ) (c : Class) (b : ℕ) (key : List ℕ) (v w : PassState) : Type 0 where
-  pub stands : Stands call v w
+  pub learns : Learns call v w
   pub headers : w.headers ≡ v.headers
   pub blocks : w.blocks ≡ given c b v.blocks
   pub latched : latches_on r w.rooms ≡ 1
   pub pin : PinKept z r (with_latch None v.rooms) (with_latch None w.rooms)
   pub entry : HasEntry r i key w
+
+-- what was done under the latch: an entry of the key was found, or added, or there is no room for one
+abbrev pub Does : Outcome → Sizes → ℕ → ℕ → Class → ℕ → List ℕ → PassState → PassState → Type 0
+Does (Found i) z call r c b key v w = UnderPin z call r v w × HasEntry r i key w
+Does (Added i) z call r c b key v w = AddsUnder z call r i c b key v w
+Does Full z call r c b key v w = UnderPin z call r v w × FoundCrowded z call r key v w

@@ -1,6 +1,7 @@
 //! Rooms under a pin: pinned by a key or a bound, their bounds, and the searches of their entries.
 #![tactic(auto)]
 
+mod adding;
 mod bounds;
 mod comparing;
 mod entries;
@@ -21,6 +22,7 @@ mod tests;
 mod way;
 mod words;
 
+pub use adding::add;
 pub use bounds::{high_byte, high_len, low_byte, low_len};
 pub use entries::{AddHalt, Content, EntryNo, Found, NotAdded};
 pub use loading::{base_of, content, key_byte, key_len};
