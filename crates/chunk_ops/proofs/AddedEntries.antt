@@ -87,15 +87,27 @@ latched_since z call r t u v o f = record { step = step_since z call (on_rooms (
 
 -- ---- around what is done under it
 
-module _ (z : Sizes) (call r : ℕ) (t v w x : PassState) (s : Stands call t v) (blocks : v.blocks ≡ t.blocks) (headers : v.headers ≡ t.headers) (rooms : with_latch None v.rooms ≡ t.rooms) (g : GivesRoomLatch call w x) where
+module _ (z : Sizes) (call r : ℕ) (t u v w x : PassState) (o : OnlyMeets call t u) (l : TakesRoomLatch call r u v) (none : t.rooms.latch ≡ None) (g : GivesRoomLatch call w x) where
+  s : Stands call t v
+  s = taken_stands z call r t u v o l
+
+  blocks : v.blocks ≡ t.blocks
+  blocks = taken_blocks z call r t u v o l
+
+  headers : v.headers ≡ t.headers
+  headers = taken_headers z call r t u v o l
+
+  rooms : with_latch None v.rooms ≡ t.rooms
+  rooms = taken_back z call r t u v o l none
+
   kept_around : PinKept z r (with_latch None v.rooms) (with_latch None w.rooms) → PinKept z r t.rooms x.rooms
   kept_around k = subst (λ (a : RoomHolds). PinKept z r t.rooms a) (sym g.rooms) (subst (λ (a : RoomHolds). PinKept z r a (with_latch None w.rooms)) rooms k)
 
   learns_around : Learns call v w → Learns call t x
-  learns_around l = learns_both call t v x (stands_learns call t v s) (learns_both call v w x l (stands_learns call w x g.stands))
+  learns_around a = learns_both call t v x (stands_learns call t v s) (learns_both call v w x a (stands_learns call w x g.stands))
 
   pub under_around : UnderPin z call r v w → UnderPin z call r t x
-  under_around u = record { learns = learns_around u.learns; blocks = g.blocks ∙ (u.blocks ∙ blocks); headers = g.headers ∙ (u.headers ∙ headers); pin = kept_around (kept_unlatched z r v.rooms w.rooms u.pin) }
+  under_around p = record { learns = learns_around p.learns; blocks = g.blocks ∙ (p.blocks ∙ blocks); headers = g.headers ∙ (p.headers ∙ headers); pin = kept_around (kept_unlatched z r v.rooms w.rooms p.pin) }
 
   pub entry_around : (i : ℕ) (k : List ℕ) → HasEntry r i k w → HasEntry r i k x
   entry_around i k h = entry_still r i k None w x g.rooms h
