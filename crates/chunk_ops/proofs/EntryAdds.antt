@@ -85,10 +85,17 @@ numbered (Some n) es c i e at = c.1 i e at
 
 -- a pin that has found more entries, which are those of the room, has found what it had
 pub pin_grows : (z : Sizes) (m : RoomMemory) (bytes : ℕ → List ℕ) (p : PinnedRoom) (x : ℕ) → RoomPinHolds z m bytes p → length p.entries ≤ entries_in x → PinStays p (pin_with m bytes x p)
-pin_grows z m bytes p x h le = record { room = refl; found = refl; base = refl; low = refl; high = refl; entries = λ i e there.
-    let s = each_at (EntryStands (m.count p.room) (m.key p.room) bytes) p.entries h.entries i e there in let lt = at_inside p.entries i e there in
-    rows_has (found_at m bytes p.room) 0 (entries_in x) i (omega arith)
-    ∙ ap some (found_same bytes (m.key p.room) (0 + i) i e (let f : 0 + i ≡ i = omega arith in f) (numbered p.count p.entries h.counted i e there) s.word s.words) }
+pin_grows z m bytes p x h le = record {
+  room = refl;
+  found = refl;
+  base = refl;
+  low = refl;
+  high = refl;
+  entries = λ i e there.
+      let s = each_at (EntryStands (m.count p.room) (m.key p.room) bytes) p.entries h.entries i e there in let lt = at_inside p.entries i e there in
+      rows_has (found_at m bytes p.room) 0 (entries_in x) i (omega arith)
+      ∙ ap some (found_same bytes (m.key p.room) (0 + i) i e (let f : 0 + i ≡ i = omega arith in f) (numbered p.count p.entries h.counted i e there) s.word s.words);
+}
 
 -- ---- what the step asks
 

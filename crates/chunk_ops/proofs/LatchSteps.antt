@@ -58,14 +58,16 @@ module _ (z : Sizes) (call r : ℕ) (v : PassState) (n : ℕ) (w : PassState) (t
 
   -- it was taken, and stays so
   pub latch_found : (n == 0) ≡ false → FoundLatched z call r v w × OnlyMeets call v w
-  latch_found e = (record { step = step_alone z call (on_rooms (latch_room r)) v n w t; taken = positive n e },
+  latch_found e = (
+    record { step = step_alone z call (on_rooms (latch_room r)) v n w t; taken = positive n e },
     record {
       stands = stands_on z call (latch_room r) v n w t;
       blocks = ap (λ (y : PassState). y.blocks) t.after;
       headers = ap (λ (y : PassState). y.headers) t.after;
       rooms = rooms_are ∙ ap (λ (b : Bool). with_latch (cond b (Some (latched_at m.rooms r (m.rooms.count r))) v.rooms.latch) v.rooms) e;
       still = runs_as (DoesStep z (on_rooms (latch_room r)) n) WordsStay v w (λ a b d. d.1 ∙ (kept a d.0 ∙ set-get_or a (index z (in_rooms (at_latch r))) 0)) (step_runs z call (on_rooms (latch_room r)) v n w tt t);
-    })
+    },
+  )
     where
       kept : (a : List ℕ) → n ≡ get_or a (index z (in_rooms (at_latch r))) 0 → set a (index z (in_rooms (at_latch r))) (either (get_or a (index z (in_rooms (at_latch r))) 0 == 0) 1 (get_or a (index z (in_rooms (at_latch r))) 0)) ≡ set a (index z (in_rooms (at_latch r))) (get_or a (index z (in_rooms (at_latch r))) 0)
       kept a q = let i : ℕ = index z (in_rooms (at_latch r)) in ap (λ (b : Bool). set a i (either b 1 (get_or a i 0))) (ap (λ (k : ℕ). k == 0) (sym q) ∙ e)

@@ -32,6 +32,10 @@ pub record TakesRoomLatch (call r : ℕ) (v w : PassState) : Type 0 where
   pub room : latch.room ≡ r
   pub rooms : w.rooms ≡ with_latch (Some latch) v.rooms
 
+-- of a pass that is alone: that it came to this
+abbrev pub Never : List ℕ → List ℕ → Type 0
+Never before after = ⊥
+
 -- it has no latch any more
 pub record GivesRoomLatch (call : ℕ) (v w : PassState) : Type 0 where
   pub stands : Stands call v w

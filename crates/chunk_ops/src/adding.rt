@@ -4,10 +4,12 @@ ghost use Rattle.oak_model.specs.Key.{IsKey};
 ghost use Rattle.chunk_core.specs.declared.holds.Latch.{Latch};
 ghost use Rattle.chunk_core.specs.MayOnRooms.{HasLatch};
 ghost use Rattle.chunk_core.specs.RoomRule.{latches_on};
+ghost use Rattle.oak_core.specs.AloneWords.{Runs};
 ghost use Rattle.oak_core.specs.Passes.{IsPassOf, Stays, state, key as sizes, call_of};
 ghost use Rattle.chunk_ops.specs.Adds.{MayAdd, AddsEntry, NotAddedBy};
+ghost use Rattle.chunk_ops.specs.declared.entries.AddHalt.TheVariants.{Busy};
 ghost use Rattle.chunk_ops.specs.Finds.{FindsKey, FindsMissing};
-ghost use Rattle.chunk_ops.specs.Latching.{Does};
+ghost use Rattle.chunk_ops.specs.Latching.{Does, Never};
 ghost use Rattle.chunk_ops.specs.PinRecords.{HasRoomPin, UnderPin, room_pin};
 
 use crate::entries::{AddHalt, EntryNo, NotAdded};
@@ -69,7 +71,8 @@ fn add_latched(
 /// An entry of the key whose first `len` bytes stand in the block. Where the room has none it is added,
 /// and has the block and the room's base as its floor; else the block is given back. `Crowded` comes
 /// only where the room had as many entries as it may and none of the key, `Busy` only where its latch
-/// was found taken; both hand the block back.
+/// was found taken, which a pass that is alone never
+/// finds; both hand the block back.
 pub fn add(
     table: &OakTable,
     pass: &mut Pass,
@@ -86,6 +89,7 @@ pub fn add(
     ensures block { IfErr result (λ n. n.block ≡ block) }
     ensures under { IfErr result (λ n. UnderPin (sizes table.now) (call_of pass.old) pin.now.room (state pass.old) (state pass.new)) }
     ensures not_added { IfErr result (λ n. (k : List ℕ) → MayAdd (sizes table.now) block.class block.number len k (state pass.old) → NotAddedBy n.why (sizes table.now) (call_of pass.old) pin.now.room k (state pass.old) (state pass.new)) }
+    ensures alone { IfErr result (λ n. n.why ≡ Busy → Runs Never (state pass.old) (state pass.new)) }
 {
     let key = held_bytes(table, pass, &block, len);
     if !take_latch(table, pass, pin.room) {

@@ -4,9 +4,10 @@ ghost use Rattle.chunk_core.specs.declared.holds.Latch.{Latch};
 ghost use Rattle.chunk_core.specs.LinkedEntries.{entries_in};
 ghost use Rattle.chunk_core.specs.MayOnRooms.{HasLatch};
 ghost use Rattle.chunk_core.specs.RoomRule.{latches_on};
+ghost use Rattle.oak_core.specs.AloneWords.{Runs};
 ghost use Rattle.oak_core.specs.Passes.{IsPassOf, Stays, state, key, call_of};
 ghost use Rattle.chunk_ops.specs.Adds.{FoundLatched, MayAdd};
-ghost use Rattle.chunk_ops.specs.Latching.{TakesRoomLatch, GivesRoomLatch, WritesEntry, MayEnter, AddsUnder};
+ghost use Rattle.chunk_ops.specs.Latching.{Never, TakesRoomLatch, GivesRoomLatch, WritesEntry, MayEnter, AddsUnder};
 ghost use Rattle.chunk_ops.specs.PinRecords.{HasRoomPin, OnlyMeets, room_pin};
 
 use crate::finding::entries_in;
@@ -23,6 +24,7 @@ pub(crate) fn take_latch(table: &OakTable, pass: &mut Pass, room: u32) -> bool
     ensures own { Stays pass.old pass.new }
     ensures taken { result ≡ true → TakesRoomLatch (call_of pass.old) room (state pass.old) (state pass.new) }
     ensures found { result ≡ false → FoundLatched (key table.now) (call_of pass.old) room (state pass.old) (state pass.new) × OnlyMeets (call_of pass.old) (state pass.old) (state pass.new) }
+    ensures alone { result ≡ false → Runs Never (state pass.old) (state pass.new) }
 {
     let word = table.latch_at(room);
     steps::latch(table, pass, word, 0, 1) == 0

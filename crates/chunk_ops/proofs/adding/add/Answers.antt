@@ -3,10 +3,10 @@ use Rattle.oak_model.specs.Limits.{Sizes}
 use Rattle.oak_core.specs.Passes.{state, key as sizes, call_of}
 use Rattle.arena_ops.specs.Taking.{Gives}
 use Rattle.chunk_ops.specs.Adds.{AddsEntry, FoundCrowded, FoundLatched}
-use Rattle.chunk_ops.specs.Latching.{AddsUnder, GivesRoomLatch, TakesRoomLatch}
+use Rattle.chunk_ops.specs.Latching.{Never, AddsUnder, GivesRoomLatch, TakesRoomLatch}
 use Rattle.chunk_ops.specs.PinRecords.{HasEntry, OnlyMeets, UnderPin}
 use Rattle.chunk_ops.proofs.AddedEntries.{latched_since, under_around, entry_around, adds_around, crowded_around, given_back, key_looked}
-use Rattle.chunk_ops.proofs.PinSteps.{only_both, only_in}
+use Rattle.chunk_ops.proofs.PinSteps.{only_both, only_in, stays_then}
 use Rattle.chunk_ops.proofs.PinsKept.{under_only}
 use Rattle.chunk_ops.proofs.adding.add.Goals as goal
 
@@ -21,6 +21,10 @@ pub returns-then-not-take_latch-clause-not_added : goal.returns-then-not-take_la
 returns-then-not-take_latch-clause-not_added c k m = let z : Sizes = sizes c.args.table.now in let call = call_of c.args.pass.now in let r = c.args.pin.now.room in let t = state c.args.pass.now in let u = state c.held_bytes-key.new.pass in let v = state c.take_latch.new.pass in
     let h = c.held_bytes-key.ensures in let f = c.take_latch.ensures.found c.if-not-take_latch.true in
     latched_since z call r t u v h.only (subst (λ (n : ℕ). FoundLatched z n r u v) h.own.call f.0)
+
+pub returns-then-not-take_latch-clause-alone : goal.returns-then-not-take_latch-clause-alone
+returns-then-not-take_latch-clause-alone c e = let u = state c.held_bytes-key.new.pass in let v = state c.take_latch.new.pass in
+    stays_then Never (state c.args.pass.now) u v c.held_bytes-key.ensures.only.still (c.take_latch.ensures.alone c.if-not-take_latch.true)
 
 -- it was taken
 

@@ -22,17 +22,21 @@ missing o P Q is m = subst (λ (x : Option ℕ). MatchOption x P Q) is m
 
 pub returns-then-entries_in-entries-clause-does : goal.returns-then-entries_in-entries-clause-does
 returns-then-entries_in-entries-clause-does c = let z : Sizes = sizes c.args.table.now in let call = call_of c.args.pass.now in let r = c.args.pin.now.room in let v = state c.args.pass.now in let w = state c.find_counted-count.new.pass in let b = c.args.block.now in let k = c.args.key.now in
-    let f = c.find_counted-count.ensures in let n = c.find_counted-count.result.0 in
-    (f.under, crowded_here z call r b.class b.number n k v w f.under f.count
-    (missing c.find_counted-count.result.1 (FindsMissing z call r k v w) (λ i. FindsKey z call r i k v w) c.in_default.is f.found) c.requires.may
-    (sym c.entries_in.ensures ∙ (c.if-entries_in-entries.true ∙ c.entries.ensures.is)))
+    let f = c.find_counted-count.ensures in let n = c.find_counted-count.result.0 in (
+      f.under,
+      crowded_here z call r b.class b.number n k v w f.under f.count
+          (missing c.find_counted-count.result.1 (FindsMissing z call r k v w) (λ i. FindsKey z call r i k v w) c.in_default.is f.found) c.requires.may
+          (sym c.entries_in.ensures ∙ (c.if-entries_in-entries.true ∙ c.entries.ensures.is)),
+    )
 
 pub enter-requires-clause-may : goal.enter-requires-clause-may
 enter-requires-clause-may c = let z : Sizes = sizes c.args.table.now in let call = call_of c.args.pass.now in let r = c.args.pin.now.room in let v = state c.args.pass.now in let w = state c.find_counted-count.new.pass in let b = c.args.block.now in let k = c.args.key.now in
-    let f = c.find_counted-count.ensures in let n = c.find_counted-count.result.0 in let l = c.requires.latched in
-    (k, may_enter_here z call r b.class b.number n k v w f.under f.count
-    (missing c.find_counted-count.result.1 (FindsMissing z call r k v w) (λ i. FindsKey z call r i k v w) c.in_default.is f.found) l.0 l.1 c.requires.may
-    (λ e. c.if-entries_in-entries.false (c.entries_in.ensures ∙ (e ∙ sym c.entries.ensures.is))))
+    let f = c.find_counted-count.ensures in let n = c.find_counted-count.result.0 in let l = c.requires.latched in (
+      k,
+      may_enter_here z call r b.class b.number n k v w f.under f.count
+          (missing c.find_counted-count.result.1 (FindsMissing z call r k v w) (λ i. FindsKey z call r i k v w) c.in_default.is f.found) l.0 l.1 c.requires.may
+          (λ e. c.if-entries_in-entries.false (c.entries_in.ensures ∙ (e ∙ sym c.entries.ensures.is))),
+    )
 
 pub returns-clause-does : goal.returns-clause-does
 returns-clause-does c = let z : Sizes = sizes c.args.table.now in let call = call_of c.args.pass.now in let r = c.args.pin.now.room in let v = state c.args.pass.now in let u = state c.find_counted-count.new.pass in let w = state c.enter.new.pass in let b = c.args.block.now in let k = c.args.key.now in

@@ -10,11 +10,11 @@ use Rattle.chunk_ops.proofs.held_keys.held_bytes.Goals as goal
 
 pub loop-i-preserved : goal.loop-i-preserved
 loop-i-preserved c = let s = c.loop-i.invariant in let o = c.block_word-word.ensures.own in let b = c.args.block.now in let call = call_of c.args.pass.now in let v = state c.args.pass.now in let w = state c.loop-i.pass in let i = c.loop-i.i in record {
-      own = stays_both s.own o;
-      only = only_both call v w (state c.block_word-word.new.pass) s.only (only_in call (call_of c.loop-i.pass) w (state c.block_word-word.new.pass) s.own.call c.block_word-word.ensures.only);
-      copied = copied_more (bytes_of (words_held (class_number b.class) b.number v.blocks.held)) c.loop-i.bytes c.put_word.new.out i s.copied
-          (c.put_word.ensures ∙ ap (λ (xs : List ℕ). take (8 * i) c.loop-i.bytes ++ xs) (c.block_word-word.ensures.word ∙ bytes_still call b.class b.number i v w s.only));
-    }
+  own = stays_both s.own o;
+  only = only_both call v w (state c.block_word-word.new.pass) s.only (only_in call (call_of c.loop-i.pass) w (state c.block_word-word.new.pass) s.own.call c.block_word-word.ensures.only);
+  copied = copied_more (bytes_of (words_held (class_number b.class) b.number v.blocks.held)) c.loop-i.bytes c.put_word.new.out i s.copied
+      (c.put_word.ensures ∙ ap (λ (xs : List ℕ). take (8 * i) c.loop-i.bytes ++ xs) (c.block_word-word.ensures.word ∙ bytes_still call b.class b.number i v w s.only));
+}
 
 pub returns-clause-bytes : goal.returns-clause-bytes
 returns-clause-bytes c = let s = c.loop-i.invariant in let b = c.args.block.now in let d = c.div_ceil-i-end.ensures in let t = c.loop-i-test.false in

@@ -13,10 +13,12 @@ overflow_add-count c = let l = count_fits (key c.args.table.now) c.args.count c.
 
 pub publish_entry-requires-clause-names : goal.publish_entry-requires-clause-names
 publish_entry-requires-clause-names c = let z : Sizes = key c.args.table.now in let call = call_of c.args.pass.now in let now = call_of c.base_of-base.new.pass in let v = state c.args.pass.now in let u = state c.base_of-base.new.pass in let w = state c.write_entry.new.pass in
-    let r = c.args.pin.now.room in let b = c.args.block.now in let m = c.requires.may in let f = c.base_of-base.ensures in let place = c.place_word-place.result in let base = c.base_of-base.result in let x = c.write_entry.ensures.written in
-    (r, record { inside = m.1.pinned.inside; word_is = c.count_at-word.ensures },
-    may_publish z r b.class b.number c.args.len c.args.count m.0 w (may_enter z r b.class b.number c.args.len c.args.count m.0 call now place base v u w m.1 f.only x)
-    f.base.step.told.rule.sizes c.place_word-place.ensures (base_still z r b.class b.number c.args.len c.args.count m.0 call now place base v u w m.1 f.only x f.base.pinned))
+    let r = c.args.pin.now.room in let b = c.args.block.now in let m = c.requires.may in let f = c.base_of-base.ensures in let place = c.place_word-place.result in let base = c.base_of-base.result in let x = c.write_entry.ensures.written in (
+      r,
+      record { inside = m.1.pinned.inside; word_is = c.count_at-word.ensures },
+      may_publish z r b.class b.number c.args.len c.args.count m.0 w (may_enter z r b.class b.number c.args.len c.args.count m.0 call now place base v u w m.1 f.only x)
+          f.base.step.told.rule.sizes c.place_word-place.ensures (base_still z r b.class b.number c.args.len c.args.count m.0 call now place base v u w m.1 f.only x f.base.pinned),
+    )
 
 pub returns-clause-adds : goal.returns-clause-adds
 returns-clause-adds c k may = let z : Sizes = key c.args.table.now in let call = call_of c.args.pass.now in let now = call_of c.base_of-base.new.pass in let v = state c.args.pass.now in let u = state c.base_of-base.new.pass in let w = state c.write_entry.new.pass in let y = state c.publish_entry.new.pass in
