@@ -36,56 +36,19 @@ use Rattle.oak_core.specs.declared.states.PassState.{PassState}
 use Rattle.oak_core.specs.EntryOwners.{is_class, is_key_word, entry_owners}
 use Rattle.oak_core.specs.Memory.{Memory, Spot, in_arena, in_rooms, index, IsInside, memory}
 use Rattle.oak_core.specs.PassState.{rooms_held}
+use Rattle.oak_core.specs.Rule.{Rule}
 use Rattle.oak_core.specs.Splitting.{Loads}
 use Rattle.oak_core.specs.Step.{Step, load, Told}
+use Rattle.oak_core.specs.TableState.{TableState}
 use Rattle.oak_core.proofs.HeadersInArena.{names_named}
 use Rattle.oak_core.proofs.MetLists.{at_inside, each_at}
 use Rattle.chunk_ops.specs.PinRecords.{HasEntry, HasRoomPin, RoomPinned, OnlyMeets, pin_or, room_pin}
 use Rattle.chunk_ops.specs.RoomWords.{FindsKeyWord}
 use Rattle.chunk_ops.proofs.WordLoads.{pin_holds, load_at, load_reads}
 use Rattle.chunk_ops.proofs.WordParts.{length-bytes_of, byte_in, part_long}
+use Rattle.chunk_ops.proofs.KeyPlaces.{IsKeyPlace, key_place, is_key_below, block_below, place_room}
 
--- a class that is found for a length has room for it
-
-found_fits : (n : ℕ) (c : Class) (cs : List Class) → find (λ d. nat_le n (class_bytes d)) cs ≡ Some c → n ≤ class_bytes c
-found_fits n c [] e = absurd cc
-found_fits n c (d ∷ ds) e = test-cases (nat_le n (class_bytes d)) (λ t. cond t (Some d) (find (λ d. nat_le n (class_bytes d)) ds) ≡ Some c → n ≤ class_bytes c)
-    (λ t f. let g : d ≡ c = cc in subst (λ (k : Class). n ≤ class_bytes k) g (leb-true n (class_bytes d) t)) (λ _ f. found_fits n c ds f) e
-
-place_room : (p : ℕ) → IsPlace p → length_in p ≤ 8 * block_words (class_in p)
-place_room p is = subst (λ (c : ℕ). length_in p ≤ 8 * (2 * 4 ^ c)) (sym is.is_in) (let f = found_fits (length_in p) is.class classes is.fits in let k : ℕ = 4 ^ class_number is.class in let f' : length_in p ≤ 16 * k = f in let g : length_in p ≤ 8 * (2 * k) = omega arith in g)
-
--- a key word names a block of the class that its length has, which is a key's
-pub record IsKeyPlace (word : ℕ) : Type 0 where
-  pub some_byte : 0 < length_in word
-  pub few : length_in word ≤ GREATEST_KEY
-  pub place : IsPlace word
-
-pub key_place : (word : ℕ) → is_key_word word ≡ 1 → IsKeyPlace word
-key_place word e = let b = both_true (nat_lt 0 (length_in word)) (nat_le (length_in word) GREATEST_KEY && is_class (class_in word) (class_of (length_in word))) (tested _ e) in
-    let d = both_true (nat_le (length_in word) GREATEST_KEY) (is_class (class_in word) (class_of (length_in word))) b.1 in record {
-      some_byte = ltb-true 0 (length_in word) b.0;
-      few = leb-true (length_in word) GREATEST_KEY d.0;
-      place = by (class_of (length_in word)) refl d.1;
-    }
-  where
-    tested : (t : Bool) → one_if t ≡ 1 → t ≡ true
-    tested true h = refl
-    tested false h = absurd (omega arith)
-
-    by : (o : Option Class) → class_of (length_in word) ≡ o → is_class (class_in word) o ≡ true → IsPlace word
-    by None f t = absurd cc
-    by (Some d) f t = record { class = d; is_in = eqb-true (class_in word) (class_number d) t; fits = f }
-
-key_word_few : (word : ℕ) → is_key_word word ≤ 1
-key_word_few word = test-cases (nat_lt 0 (length_in word) && (nat_le (length_in word) GREATEST_KEY && is_class (class_in word) (class_of (length_in word)))) (λ t. one_if t ≤ 1) (λ _. omega arith) (λ _. omega arith)
-
--- no word is 0 that names a key's block
-above_none : (word : ℕ) → 0 < length_in word → 0 < word
-unfolding length_in
-above_none word lt = omega arith
-
-counted_numbers : (o : Option ℕ) (es : List FoundEntry) (i : ℕ) (e : FoundEntry) → AreCounted o es → get_elem? es i ≡ some e → e.number ≡ i
+pub counted_numbers : (o : Option ℕ) (es : List FoundEntry) (i : ℕ) (e : FoundEntry) → AreCounted o es → get_elem? es i ≡ some e → e.number ≡ i
 counted_numbers None es i e c at = let l = at_inside es i e at in let q : length es ≡ 0 = ap length c in absurd (omega arith)
 counted_numbers (Some n) es i e c at = c.1 i e at
 
@@ -119,25 +82,13 @@ module _ (z : Sizes) (call r : ℕ) (x : Step) (v : PassState) (n : ℕ) (w : Pa
   weighs = subst (λ (j : ℕ). weight (m.rooms.pin j) ≡ 1) p.pin.room held.cover
 
   pub is_key_there : is_key_word word ≡ 1
-  is_key_there = let a = entry_adds z m.rooms (content m.arena.bytes) hs (λ s y. 1 - is_key_word y.word) r i p.inside weighs (numbers_once (entries_in (m.rooms.count r)) i entry_below) in
-      let none = t.rule.covers.placed in let few = key_word_few word in let same : is_key_word (m.rooms.key r i) ≡ is_key_word word = ap is_key_word word_there in omega arith
+  is_key_there = subst (λ (y : ℕ). is_key_word y ≡ 1) word_there (is_key_below z t.table t.rule r i p.inside weighs entry_below)
 
   pub key_there : IsKeyPlace word
   key_there = key_place word is_key_there
 
-  owns : 1 ≤ entry_owners z m.rooms (content m.arena.bytes) hs (class_in word) (block_in word)
-  owns = let names : ℕ → ℕ = names_block (class_in word) (block_in word) in let ms = map moving_of hs in
-      let a = room_le z.chunks m.rooms.pin (used_at m.rooms (content m.arena.bytes)) ms (each (owning names)) r p.inside weighs in
-      let b = total_map (entry_at m.rooms (content m.arena.bytes) r) (owning names (span_in m.rooms r)) (in_use m.rooms r) in
-      let c = total_in (λ j. owning names (span_in m.rooms r) (entry_at m.rooms (content m.arena.bytes) r j)) i (in_use m.rooms r) (let o = numbers_once (entries_in (m.rooms.count r)) i entry_below in omega arith) in
-      let d : owning names (span_in m.rooms r) (entry_at m.rooms (content m.arena.bytes) r i) ≡ 1 = owning_one (m.rooms.key r i) word_there in omega arith
-    where
-      owning_one : (y : ℕ) → y ≡ word → one_if (nat_lt 0 y) * names_block (class_in word) (block_in word) y ≡ 1
-      owning_one y e = (λ j. one_if (nat_lt 0 (e j)) * names_block (class_in word) (block_in word) (e j))
-          ∙ (λ j. one_if (lt-ltb 0 word (above_none word key_there.some_byte) j) * names_named (class_in word) (block_in word) word refl refl j)
-
   pub block_there : block_in word < blocks z (class_in word)
-  block_there = dite (dec_lt (block_in word) (blocks z (class_in word))) (λ l. l) (λ g. let none = t.rule.blocks.inside (class_in word) (block_in word) (omega arith) in let o = owns in absurd (omega arith))
+  block_there = subst (λ (y : ℕ). block_in y < blocks z (class_in y)) word_there (block_below z t.table t.rule r i p.inside weighs entry_below)
 
   pub class_there : class_in word < CLASSES
   class_there = let c = class_below key_there.place.class in let e = key_there.place.is_in in omega arith

@@ -28,43 +28,41 @@ joined_append (m ∷ a) b = ap (λ (xs : List Met). m ++ xs) (joined_append a b)
 readings_both : (P : List Met → Type 0) (xs ys : List Met) → AreReadings P xs → AreReadings P ys → AreReadings P (xs ++ ys)
 readings_both P xs ys p q = (p.0 ++ q.0, (λ i. p.1 i ++ q.1 i) ∙ sym (joined_append p.0 q.0), each_append P p.0 q.0 p.2 q.2)
 
-module _ {S : Type 0} {pinned : S → Type 0} {room : S → Room} {met : S → List Met} {stays : S → S → Type 0} {P : Room → List Met → Type 0} where
-  pub reads_here : (s : S) → pinned s → stays s s → Reads pinned room met stays P 0 s s
+module _ {S : Type 0} {pinned : S → Type 0} {room : S → Room} {meets : S → S → List Met → Type 0} {P : Room → List Met → Type 0} where
+  pub reads_here : (s : S) → pinned s → meets s s [] → Reads pinned room meets P 0 s s
   unfolding key_loads
-  reads_here s p o = record { pin = p; same = refl; on = o; more = []; is = sym (append-nil (met s)); each = ([], refl, tt); few = omega arith }
+  reads_here s p o = record { pin = p; same = refl; more = []; on = o; each = ([], refl, tt); few = omega arith }
 
-  pub reads_few : (m n : ℕ) (s t : S) → Reads pinned room met stays P m s t → m ≤ n → Reads pinned room met stays P n s t
-  reads_few m n s t r le = let f = r.few in record { pin = r.pin; same = r.same; on = r.on; more = r.more; is = r.is; each = r.each; few = omega arith }
+  pub reads_few : (m n : ℕ) (s t : S) → Reads pinned room meets P m s t → m ≤ n → Reads pinned room meets P n s t
+  reads_few m n s t r le = let f = r.few in record { pin = r.pin; same = r.same; more = r.more; on = r.on; each = r.each; few = omega arith }
 
-  pub reads_both : ((s t u : S) → stays s t → stays t u → stays s u) → (m n : ℕ) (s t u : S) → Reads pinned room met stays P m s t → Reads pinned room met stays P n t u → Reads pinned room met stays P (m + n) s u
+  pub reads_both : ((s t u : S) (a b : List Met) → meets s t a → meets t u b → meets s u (a ++ b)) → (m n : ℕ) (s t u : S) → Reads pinned room meets P m s t → Reads pinned room meets P n t u → Reads pinned room meets P (m + n) s u
   reads_both on m n s t u p q = let l = loads_append p.more q.more in let f = p.few in let f' = q.few in record {
     pin = q.pin;
     same = q.same ∙ p.same;
-    on = on s t u p.on q.on;
     more = p.more ++ q.more;
-    is = q.is ∙ (ap (λ (xs : List Met). xs ++ q.more) p.is ∙ append_assoc (met s) p.more q.more);
+    on = on s t u p.more q.more p.on q.on;
     each = readings_both (P (room u)) p.more q.more (subst (λ (r : Room). AreReadings (P r) p.more) (sym q.same) p.each) q.each;
     few = omega arith;
   }
 
   -- what P says says Q
-  pub reads_as : (Q : Room → List Met → Type 0) → ((r : Room) (ms : List Met) → P r ms → Q r ms) → (n : ℕ) (s t : S) → Reads pinned room met stays P n s t → Reads pinned room met stays Q n s t
+  pub reads_as : (Q : Room → List Met → Type 0) → ((r : Room) (ms : List Met) → P r ms → Q r ms) → (n : ℕ) (s t : S) → Reads pinned room meets P n s t → Reads pinned room meets Q n s t
   reads_as Q f n s t r = record {
     pin = r.pin;
     same = r.same;
-    on = r.on;
     more = r.more;
-    is = r.is;
+    on = r.on;
     each = (r.each.0, r.each.1, each_map (P (room t)) (Q (room t)) r.each.0 (f (room t)) r.each.2);
     few = r.few;
   }
 
   -- the count was loaded first
-  pub counts : (n m w : ℕ) (s q t : S) → met q ≡ met s ++ met_count w ∷ [] → entries_in w ≡ entries (room q) → prefix_in w ≡ (room q).prefix → Reads pinned room met stays P n q t → n ≤ m → CountsFirst (room t) P m (met s) (met t)
-  counts n m w s q t e many prefix r le = let f = r.few in record {
+  pub counts : ((s t u : S) (a b : List Met) → meets s t a → meets t u b → meets s u (a ++ b)) → (n m w : ℕ) (s q t : S) → meets s q (met_count w ∷ []) → entries_in w ≡ entries (room q) → prefix_in w ≡ (room q).prefix → Reads pinned room meets P n q t → n ≤ m → CountsFirst meets (room t) P m s t
+  counts on n m w s q t e many prefix r le = let f = r.few in record {
     word = w;
     more = r.more;
-    is = r.is ∙ (ap (λ (xs : List Met). xs ++ r.more) e ∙ append_assoc (met s) (met_count w ∷ []) r.more);
+    on = on s q t (met_count w ∷ []) r.more e r.on;
     many = many ∙ ap entries (sym r.same);
     prefix = prefix ∙ ap (λ (x : Room). x.prefix) (sym r.same);
     each = r.each;
@@ -72,34 +70,33 @@ module _ {S : Type 0} {pinned : S → Type 0} {room : S → Room} {met : S → L
   }
 
 -- the key word of entry e was loaded, and then i words of its block
-abbrev pub Loaded : ℕ → ℕ → ℕ → List Met → List Met → Type 0
-Loaded e w i before now = (ws : List Met) × (now ≡ before ++ met_key e w ∷ ws) × AreWords w 0 ws × (length ws ≡ i)
+abbrev pub Loaded : {S : Type 0} → (S → S → List Met → Type 0) → ℕ → ℕ → ℕ → S → S → Type 0
+Loaded meets e w i s t = (ws : List Met) × meets s t (met_key e w ∷ ws) × AreWords w 0 ws × (length ws ≡ i)
 
-pub loaded_more : (e w i : ℕ) (before now after : List Met) → Loaded e w i before now → (n : ℕ) × (after ≡ now ++ met_block w i n ∷ []) → Loaded e w (i + 1) before after
-loaded_more e w i before now after l m = let ws : List Met = l.0 in let b : List Met = met_block w i m.0 ∷ [] in let at : 0 + length ws ≡ i = let h = l.3 in omega arith in (
+pub loaded_more : {S : Type 0} {meets : S → S → List Met → Type 0} → ((s t u : S) (a b : List Met) → meets s t a → meets t u b → meets s u (a ++ b)) → (e w i : ℕ) (s t u : S) → Loaded meets e w i s t → (n : ℕ) × meets t u (met_block w i n ∷ []) → Loaded meets e w (i + 1) s u
+loaded_more on e w i s t u l m = let ws : List Met = l.0 in let b : List Met = met_block w i m.0 ∷ [] in let at : 0 + length ws ≡ i = let h = l.3 in omega arith in (
   ws ++ b,
-  m.1 ∙ (ap (λ (xs : List Met). xs ++ b) l.1 ∙ append_assoc before (met_key e w ∷ ws) b),
+  on s t u (met_key e w ∷ ws) b l.1 m.1,
   subst (λ (k : ℕ). AreWords w 0 (ws ++ met_block w k m.0 ∷ [])) at (words_more w 0 m.0 ws l.2),
   (let a = length-append ws b in let h = l.3 in omega arith),
 )
 
-pub loaded_key : (e w i t : ℕ) (a b : List ℕ) (before after : List Met) → Loaded e w i before after → 8 * i < length a + 8 → 8 * i < length b + 8 → ((j : ℕ) → j < t → word_at a j ≡ word_at b j) → i ≤ t + 1 → LoadsKey e a b before after
-loaded_key e w i t a b before after l f g h s = let z = l.3 in (
+pub loaded_key : {S : Type 0} (meets : S → S → List Met → Type 0) (e w i t : ℕ) (a b : List ℕ) (u v : S) → Loaded meets e w i u v → 8 * i < length a + 8 → 8 * i < length b + 8 → ((j : ℕ) → j < t → word_at a j ≡ word_at b j) → i ≤ t + 1 → LoadsKey meets e a b u v
+loaded_key meets e w i t a b u v l f g h s = let z = l.3 in (
   met_key e w ∷ l.0,
   l.1,
   record { word = w; words = l.0; is = refl; each = l.2; first = omega arith; second = omega arith; tied = t; agree = h; stops = omega arith },
 )
 
-module _ {S : Type 0} {pinned : S → Type 0} {room : S → Room} {met : S → List Met} {stays : S → S → Type 0} where
+module _ {S : Type 0} {pinned : S → Type 0} {room : S → Room} {meets : S → S → List Met → Type 0} where
   -- the key of one entry was compared with k
-  pub key_reads : (k : List ℕ) (e : ℕ) (s t : S) → e < entries (room s) → LoadsKey e k (key_at (room s) e) (met s) (met t) → pinned t → room t ≡ room s → stays s t → Reads pinned room met stays (Compares k) 1 s t
+  pub key_reads : (k : List ℕ) (e : ℕ) (s t : S) → e < entries (room s) → LoadsKey meets e k (key_at (room s) e) s t → pinned t → room t ≡ room s → Reads pinned room meets (Compares k) 1 s t
   unfolding key_loads
-  key_reads k e s t lt l p r o = let x = l.2 in let n = no_loads x.word 0 x.words x.each in let g : key_loads l.0 ≡ 1 + key_loads x.words = ap key_loads x.is in record {
+  key_reads k e s t lt l p r = let x = l.2 in let n = no_loads x.word 0 x.words x.each in let g : key_loads l.0 ≡ 1 + key_loads x.words = ap key_loads x.is in record {
     pin = p;
     same = r;
-    on = o;
     more = l.0;
-    is = l.1;
+    on = l.1;
     each = (l.0 ∷ [], sym (append-nil l.0), (subst (λ (q : Room). Compares k q l.0) (sym r) (e, lt, x), tt));
     few = omega arith;
   }

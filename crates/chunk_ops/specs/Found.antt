@@ -29,10 +29,10 @@ IsFound r k (Some i) = IsEntryOf r k i
 IsFound r k None = HasNot r k 0 (entries r)
 
 -- The count was loaded, and then keys as P says, with at most n key words; the room is that below this count.
-pub record CountsFirst (r : Room) (P : Room → List Met → Type 0) (n : ℕ) (before after : List Met) : Type 0 where
+pub record CountsFirst {S : Type 0} (meets : S → S → List Met → Type 0) (r : Room) (P : Room → List Met → Type 0) (n : ℕ) (s t : S) : Type 0 where
   pub word : ℕ
   pub more : List Met
-  pub is : after ≡ before ++ met_count word ∷ more
+  pub on : meets s t (met_count word ∷ more)
   pub many : entries_in word ≡ entries r
   pub prefix : prefix_in word ≡ r.prefix
   pub each : AreReadings (P r) more

@@ -37,8 +37,8 @@ pub record ReadsKey (i : ℕ) (a b : List ℕ) (ms : List Met) : Type 0 where
   pub agree : (j : ℕ) → j < tied → word_at a j ≡ word_at b j
   pub stops : length words ≤ tied + 1
 
-abbrev pub LoadsKey : ℕ → List ℕ → List ℕ → List Met → List Met → Type 0
-LoadsKey i a b before after = (ms : List Met) × (after ≡ before ++ ms) × ReadsKey i a b ms
+abbrev pub LoadsKey : {S : Type 0} → (S → S → List Met → Type 0) → ℕ → List ℕ → List ℕ → S → S → Type 0
+LoadsKey meets i a b s t = (ms : List Met) × meets s t ms × ReadsKey i a b ms
 
 -- the key of one entry was compared with k
 abbrev pub Compares : List ℕ → Room → List Met → Type 0
@@ -58,11 +58,10 @@ abbrev pub AreReadings : (List Met → Type 0) → List Met → Type 0
 AreReadings P ms = (parts : List (List Met)) × (ms ≡ joined parts) × Each P parts
 
 -- From s to t the room was read, one key behind another as P says, by at most n loads of key words, and stands as it did.
-pub record Reads {S : Type 0} (pinned : S → Type 0) (room : S → Room) (met : S → List Met) (stays : S → S → Type 0) (P : Room → List Met → Type 0) (n : ℕ) (s t : S) : Type 0 where
+pub record Reads {S : Type 0} (pinned : S → Type 0) (room : S → Room) (meets : S → S → List Met → Type 0) (P : Room → List Met → Type 0) (n : ℕ) (s t : S) : Type 0 where
   pub pin : pinned t
   pub same : room t ≡ room s
-  pub on : stays s t
   pub more : List Met
-  pub is : met t ≡ met s ++ more
+  pub on : meets s t more
   pub each : AreReadings (P (room t)) more
   pub few : key_loads more ≤ n

@@ -1,6 +1,5 @@
 //! Entries are added to a pinned room.
-ghost use Rattle.std.specs.Prelude.{◌≡◌, ℕ, List, None, Some, IfOk, IfErr, MatchOption, length};
-ghost use Rattle.oak_model.specs.Key.{IsKey};
+ghost use Rattle.std.specs.Prelude.{◌≡◌, ℕ, List, None, IfOk, IfErr, length};
 ghost use Rattle.chunk_core.specs.declared.holds.Latch.{Latch};
 ghost use Rattle.chunk_core.specs.MayOnRooms.{HasLatch};
 ghost use Rattle.chunk_core.specs.RoomRule.{latches_on};
@@ -8,7 +7,6 @@ ghost use Rattle.oak_core.specs.AloneWords.{Runs};
 ghost use Rattle.oak_core.specs.Passes.{IsPassOf, Stays, state, key as sizes, call_of};
 ghost use Rattle.chunk_ops.specs.Adds.{MayAdd, AddsEntry, NotAddedBy};
 ghost use Rattle.chunk_ops.specs.declared.entries.AddHalt.TheVariants.{Busy};
-ghost use Rattle.chunk_ops.specs.Finds.{FindsKey, FindsMissing};
 ghost use Rattle.chunk_ops.specs.Latching.{Does, Never};
 ghost use Rattle.chunk_ops.specs.PinRecords.{HasRoomPin, UnderPin, room_pin};
 
@@ -17,6 +15,7 @@ use crate::finding::entries_in;
 use crate::held_keys::held_bytes;
 use crate::latching::{enter, give_latch, take_latch};
 use crate::pins::RoomPin;
+use crate::searching::find_counted;
 use arena_ops::give;
 use oak_core::{Block, OakTable, Pass};
 
@@ -26,20 +25,6 @@ pub(crate) enum Outcome {
     Found(u32),
     Added(u32),
     Full,
-}
-
-// STAND-IN: its proof has holes, until the search of a pinned room is there.
-/// The count word of the pinned room, and the entry of the key, if one has it.
-fn find_counted(table: &OakTable, pass: &mut Pass, pin: &RoomPin, key: &[u8]) -> (u64, Option<u32>)
-    requires own { IsPassOf table.now pass.old }
-    requires key { IsKey key.now }
-    requires pinned { HasRoomPin (sizes table.now) pin.now.room (state pass.old) }
-    ensures own { Stays pass.old pass.new }
-    ensures count { (room_pin (state pass.new)).count ≡ Some result.0 }
-    ensures found { MatchOption result.1 (FindsMissing (sizes table.now) (call_of pass.old) pin.now.room key.now (state pass.old) (state pass.new)) (λ i. FindsKey (sizes table.now) (call_of pass.old) pin.now.room i key.now (state pass.old) (state pass.new)) }
-    ensures under { UnderPin (sizes table.now) (call_of pass.old) pin.now.room (state pass.old) (state pass.new) }
-{
-    (0, None)
 }
 
 /// Adds an entry for the key in the block, under the latch, unless one has it or there is no room.

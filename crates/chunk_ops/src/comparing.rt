@@ -18,9 +18,8 @@ fn compare_word<R: SearchedRoom>(room: &mut R, key: &[u8], place: u64, i: usize)
     requires theirs { (e : ℕ) × (e < entries (R.room room.old)) × (place ≡ place_at (R.room room.old) e) × (WORD * i < length (key_at (R.room room.old) e)) }
     ensures pinned { R.pinned room.new }
     ensures same { R.room room.new ≡ R.room room.old }
-    ensures stays { R.stays room.old room.new }
     ensures order { (e : ℕ) → e < entries (R.room room.old) → place ≡ place_at (R.room room.old) e → result ≡ nat_cmp (word_at key.now i) (word_at (key_at (R.room room.old) e) i) }
-    ensures met { (n : ℕ) × (R.met room.new ≡ R.met room.old ++ met_block place i n ∷ []) }
+    ensures meets { (n : ℕ) × R.meets room.old room.new (met_block place i n ∷ []) }
 {
     let left = length_in(place) - WORD * i;
     let word = first_bytes(room.block_word(place, i), left);
@@ -32,9 +31,9 @@ fn compare_word<R: SearchedRoom>(room: &mut R, key: &[u8], place: u64, i: usize)
 pub(crate) fn compare<R: SearchedRoom>(room: &mut R, key: &[u8], entry: u32) -> Ordering
     requires pinned { R.pinned room.old }
     requires within { entry < entries (R.room room.old) }
-    ensures reads { Reads R.pinned R.room R.met R.stays (Compares key.now) 1 room.old room.new }
+    ensures reads { Reads R.pinned R.room R.meets (Compares key.now) 1 room.old room.new }
     ensures order { result ≡ key_cmp key.now (key_at (R.room room.old) entry) }
-    ensures met { LoadsKey entry key.now (key_at (R.room room.old) entry) (R.met room.old) (R.met room.new) }
+    ensures meets { LoadsKey R.meets entry key.now (key_at (R.room room.old) entry) room.old room.new }
 {
     let place = room.key_word(entry);
     let length = length_in(place);

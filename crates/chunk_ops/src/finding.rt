@@ -35,7 +35,7 @@ pub(crate) fn search_sorted<R: SearchedRoom>(
 ) -> Result<u32, u32>
     requires pinned { R.pinned room.old }
     requires prefix { prefix ≡ (R.room room.old).prefix }
-    ensures reads { Reads R.pinned R.room R.met R.stays (Compares key.now) (bits prefix) room.old room.new }
+    ensures reads { Reads R.pinned R.room R.meets (Compares key.now) (bits prefix) room.old room.new }
     ensures place { MatchResult result (λ i. IsAt (R.room room.old) key.now i) (λ i. IsBetween (R.room room.old) key.now i) }
 {
     let mut low = 0;
@@ -61,7 +61,7 @@ pub(crate) fn find_between<R: SearchedRoom>(
     requires pinned { R.pinned room.old }
     requires ordered { from ≤ to }
     requires within { to ≤ entries (R.room room.old) }
-    ensures reads { Reads R.pinned R.room R.met R.stays (Compares key.now) (to - from) room.old room.new }
+    ensures reads { Reads R.pinned R.room R.meets (Compares key.now) (to - from) room.old room.new }
     ensures found { MatchOption result (HasNot (R.room room.old) key.now from to) (λ i. IsEntryOf (R.room room.old) key.now i) }
 {
     for entry in from..to {
@@ -77,9 +77,8 @@ pub(crate) fn find_between<R: SearchedRoom>(
 pub(crate) fn find<R: SearchedRoom>(room: &mut R, key: &[u8]) -> Option<u32>
     requires { R.pinned room.old }
     ensures pinned { R.pinned room.new }
-    ensures stays { R.stays room.old room.new }
     ensures found { IsFound (R.room room.new) key.now result }
-    ensures loads { CountsFirst (R.room room.new) (Compares key.now) (search_loads (R.room room.new)) (R.met room.old) (R.met room.new) }
+    ensures loads { CountsFirst R.meets (R.room room.new) (Compares key.now) (search_loads (R.room room.new)) room.old room.new }
 {
     let count = room.count();
     let prefix = prefix_in(count);

@@ -12,10 +12,12 @@ mod loading;
 mod nearest;
 #[cfg(test)]
 mod order_tests;
+mod pinned;
 mod pinning;
 mod pins;
 mod ranges;
 mod room;
+mod searching;
 mod stored;
 #[cfg(test)]
 mod tests;
@@ -28,3 +30,4 @@ pub use entries::{AddHalt, Content, EntryNo, Found, NotAdded};
 pub use loading::{base_of, content, key_byte, key_len};
 pub use pinning::{Moved, pin_for, pin_last};
 pub use pins::{RoomPin, unpin};
+pub use searching::find;

@@ -27,7 +27,7 @@ fn nearest_sorted<R: SearchedRoom>(
 ) -> Option<u32>
     requires pinned { R.pinned room.old }
     requires prefix { prefix ≡ (R.room room.old).prefix }
-    ensures reads { Reads R.pinned R.room R.met R.stays Looks (bits prefix) room.old room.new }
+    ensures reads { Reads R.pinned R.room R.meets Looks (bits prefix) room.old room.new }
     ensures nearest { IsNearest (R.room room.old) way (bound_bytes bound.entry) 0 prefix result }
 {
     match bound {
@@ -50,7 +50,7 @@ fn nearer<R: SearchedRoom>(
     requires pinned { R.pinned room.old }
     requires within { entry < entries (R.room room.old) }
     requires candidate { IsCandidate (R.room room.old) best }
-    ensures reads { Reads R.pinned R.room R.met R.stays Looks 1 room.old room.new }
+    ensures reads { Reads R.pinned R.room R.meets Looks 1 room.old room.new }
     ensures candidate { IsCandidate (R.room room.old) result }
     ensures nearest { (b : Option (List ℕ)) → IsBound bound.now b → IsNearest (R.room room.old) way b 0 entry (entry_of best) → IsNearest (R.room room.old) way b 0 (entry + 1) (entry_of result) }
 {
@@ -79,7 +79,7 @@ fn walk<R: SearchedRoom>(
     requires ordered { from ≤ to }
     requires within { to ≤ entries (R.room room.old) }
     requires candidate { IsCandidate (R.room room.old) first }
-    ensures reads { Reads R.pinned R.room R.met R.stays Looks (to - from) room.old room.new }
+    ensures reads { Reads R.pinned R.room R.meets Looks (to - from) room.old room.new }
     ensures nearest { (b : Option (List ℕ)) → IsBound bound.now b → IsNearest (R.room room.old) way b 0 from (entry_of first) → IsNearest (R.room room.old) way b 0 to result }
 {
     let mut best = first;
@@ -96,7 +96,7 @@ fn walk<R: SearchedRoom>(
 fn load_candidate<R: SearchedRoom>(room: &mut R, entry: Option<u32>) -> Option<Candidate>
     requires pinned { R.pinned room.old }
     requires within { MatchOption entry Unit (λ i. i < entries (R.room room.old)) }
-    ensures reads { Reads R.pinned R.room R.met R.stays Looks 1 room.old room.new }
+    ensures reads { Reads R.pinned R.room R.meets Looks 1 room.old room.new }
     ensures entry { entry_of result ≡ entry }
     ensures candidate { IsCandidate (R.room room.old) result }
 {
@@ -126,9 +126,8 @@ fn nearest<R: SearchedRoom>(room: &mut R, way: Way, bound: Option<&[u8]>) -> Opt
     requires pinned { R.pinned room.old }
     requires key { IsKeyBound (bound_bytes bound) }
     ensures pinned { R.pinned room.new }
-    ensures stays { R.stays room.old room.new }
     ensures nearest { IsNearest (R.room room.new) way (bound_bytes bound.entry) 0 (entries (R.room room.new)) result }
-    ensures loads { CountsFirst (R.room room.new) Looks (search_loads (R.room room.new)) (R.met room.old) (R.met room.new) }
+    ensures loads { CountsFirst R.meets (R.room room.new) Looks (search_loads (R.room room.new)) room.old room.new }
 {
     let count = room.count();
     let prefix = prefix_in(count);
@@ -150,9 +149,8 @@ pub(crate) fn above<R: SearchedRoom>(room: &mut R, bound: Option<&[u8]>) -> Opti
     requires pinned { R.pinned room.old }
     requires key { IsKeyBound (bound_bytes bound) }
     ensures pinned { R.pinned room.new }
-    ensures stays { R.stays room.old room.new }
     ensures nearest { IsNearest (R.room room.new) Way.Up (bound_bytes bound.entry) 0 (entries (R.room room.new)) result }
-    ensures loads { CountsFirst (R.room room.new) Looks (search_loads (R.room room.new)) (R.met room.old) (R.met room.new) }
+    ensures loads { CountsFirst R.meets (R.room room.new) Looks (search_loads (R.room room.new)) room.old room.new }
 {
     nearest(room, Way::Up, bound)
 }
@@ -162,9 +160,8 @@ pub(crate) fn below<R: SearchedRoom>(room: &mut R, bound: Option<&[u8]>) -> Opti
     requires pinned { R.pinned room.old }
     requires key { IsKeyBound (bound_bytes bound) }
     ensures pinned { R.pinned room.new }
-    ensures stays { R.stays room.old room.new }
     ensures nearest { IsNearest (R.room room.new) Way.Down (bound_bytes bound.entry) 0 (entries (R.room room.new)) result }
-    ensures loads { CountsFirst (R.room room.new) Looks (search_loads (R.room room.new)) (R.met room.old) (R.met room.new) }
+    ensures loads { CountsFirst R.meets (R.room room.new) Looks (search_loads (R.room room.new)) room.old room.new }
 {
     nearest(room, Way::Down, bound)
 }

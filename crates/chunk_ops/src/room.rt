@@ -15,19 +15,16 @@ pub(crate) trait SearchedRoom {
     // what stands under it
     ghost room: { Self → Room };
 
-    ghost met: { Self → List Met };
-
-    // the later one is of the same pin, and its pass only met more
-    ghost stays: { Self → Self → Type 0 };
+    // the later one is of the same pin, and its pass met just these words since the earlier one
+    ghost meets: { Self → Self → List Met → Type 0 };
 
     /// The count word. The entries below the count found stand from then on.
     fn count(&mut self) -> u64
         requires { pinned self.old }
         ensures pinned { pinned self.new }
-        ensures stays { stays self.old self.new }
         ensures many { entries_in result ≡ entries (room self.new) }
         ensures prefix { prefix_in result ≡ (room self.new).prefix }
-        ensures met { met self.new ≡ met self.old ++ met_count result ∷ [] };
+        ensures meets { meets self.old self.new (met_count result ∷ []) };
 
     /// The key word of an entry.
     fn key_word(&mut self, entry: u32) -> u64
@@ -35,9 +32,8 @@ pub(crate) trait SearchedRoom {
         requires within { entry < entries (room self.old) }
         ensures pinned { pinned self.new }
         ensures same { room self.new ≡ room self.old }
-        ensures stays { stays self.old self.new }
         ensures word { result ≡ place_at (room self.old) entry }
-        ensures met { met self.new ≡ met self.old ++ met_key entry result ∷ [] };
+        ensures meets { meets self.old self.new (met_key entry result ∷ []) };
 
     /// Word `i` of the block that a key word names. Behind the key's last byte it has any bytes.
     fn block_word(&mut self, place: u64, i: usize) -> u64
@@ -45,13 +41,12 @@ pub(crate) trait SearchedRoom {
         requires named { (e : ℕ) × (e < entries (room self.old)) × (place ≡ place_at (room self.old) e) × (8 * i < length (key_at (room self.old) e)) }
         ensures pinned { pinned self.new }
         ensures same { room self.new ≡ room self.old }
-        ensures stays { stays self.old self.new }
         ensures bytes { (e : ℕ) → e < entries (room self.old) → place ≡ place_at (room self.old) e → take (length (key_at (room self.old) e) - 8 * i) (word_bytes result) ≡ bytes_in i (key_at (room self.old) e) }
-        ensures met { met self.new ≡ met self.old ++ met_block place i result ∷ [] };
+        ensures meets { meets self.old self.new (met_block place i result ∷ []) };
 
     ghost is_room: { (s : Self) → pinned s → IsRoom (room s) };
 
-    ghost stays_here: { (s : Self) → stays s s };
+    ghost meets_none: { (s : Self) → meets s s [] };
 
-    ghost stays_on: { (s t u : Self) → stays s t → stays t u → stays s u };
+    ghost meets_both: { (s t u : Self) (a b : List Met) → meets s t a → meets t u b → meets s u (a ++ b) };
 }

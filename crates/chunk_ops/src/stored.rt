@@ -63,7 +63,7 @@ impl StoredKey {
 pub(crate) fn load_key<R: SearchedRoom>(room: &mut R, entry: u32) -> StoredKey
     requires pinned { R.pinned room.old }
     requires within { entry < entries (R.room room.old) }
-    ensures reads { Reads R.pinned R.room R.met R.stays Looks 1 room.old room.new }
+    ensures reads { Reads R.pinned R.room R.meets Looks 1 room.old room.new }
     ensures key { IsStored result (key_at (R.room room.old) entry) }
 {
     let place = room.key_word(entry);

@@ -10,8 +10,7 @@ abbrev pub invariant-loop-i : goal.invariant-loop-i
 invariant-loop-i g l = record {
   pin : g.R.SearchedRoom.pinned l.room;
   same : g.R.SearchedRoom.room l.room ≡ g.R.SearchedRoom.room l.fn.room;
-  on : g.R.SearchedRoom.stays l.fn.room l.room;
-  words : Loaded l.entry l.place l.i (g.R.SearchedRoom.met l.fn.room) (g.R.SearchedRoom.met l.room);
+  words : Loaded g.R.SearchedRoom.meets l.entry l.place l.i l.fn.room l.room;
   tied : padded_cmp (8 * l.i) l.key (key_at (g.R.SearchedRoom.room l.fn.room) l.entry) ≡ Equal;
   agree : (j : ℕ) → j < l.i → word_at l.key j ≡ word_at (key_at (g.R.SearchedRoom.room l.fn.room) l.entry) j;
 }

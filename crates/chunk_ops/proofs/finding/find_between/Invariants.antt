@@ -5,6 +5,6 @@ use Rattle.chunk_ops.proofs.finding.find_between.Given as goal
 
 abbrev pub invariant-loop-entry : goal.invariant-loop-entry
 invariant-loop-entry g l = let r = g.R.SearchedRoom.room l.fn.room in record {
-  reads : Reads g.R.SearchedRoom.pinned g.R.SearchedRoom.room g.R.SearchedRoom.met g.R.SearchedRoom.stays (Compares l.key) (l.entry - l.from) l.fn.room l.room;
+  reads : Reads g.R.SearchedRoom.pinned g.R.SearchedRoom.room g.R.SearchedRoom.meets (Compares l.key) (l.entry - l.from) l.fn.room l.room;
   none : HasNot r l.key l.from l.entry;
 }

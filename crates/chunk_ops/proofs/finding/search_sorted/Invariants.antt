@@ -8,7 +8,7 @@ use Rattle.chunk_ops.proofs.finding.search_sorted.Given as goal
 abbrev pub invariant-loop-low : goal.invariant-loop-low
 invariant-loop-low g l = let r = g.R.SearchedRoom.room l.fn.room in record {
   inside : (l.low ≤ l.high) × (l.high ≤ r.prefix);
-  reads : (n : ℕ) × (n + bits (l.high - l.low) ≤ bits r.prefix) × Reads g.R.SearchedRoom.pinned g.R.SearchedRoom.room g.R.SearchedRoom.met g.R.SearchedRoom.stays (Compares l.key) n l.fn.room l.room;
+  reads : (n : ℕ) × (n + bits (l.high - l.low) ≤ bits r.prefix) × Reads g.R.SearchedRoom.pinned g.R.SearchedRoom.room g.R.SearchedRoom.meets (Compares l.key) n l.fn.room l.room;
   below : (j : ℕ) → j < l.low → IsKeyBefore (key_at r j) l.key;
   above : (j : ℕ) → l.high ≤ j → j < r.prefix → IsKeyBefore l.key (key_at r j);
 }

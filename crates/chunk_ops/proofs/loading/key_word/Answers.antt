@@ -1,4 +1,4 @@
-use Rattle.std.proofs.Common.{◌≡◌, ℕ, ap, sym, subst, ◌∙◌, arith}
+use Rattle.std.proofs.Common.{arith}
 use Rattle.oak_model.specs.Limits.{Sizes}
 use Rattle.chunk_core.specs.Rooms.{at_key}
 use Rattle.oak_core.specs.Memory.{in_rooms}

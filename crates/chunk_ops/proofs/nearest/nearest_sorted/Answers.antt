@@ -8,7 +8,7 @@ use Rattle.chunk_ops.proofs.ReadLaws.{reads_here, reads_few, reads_as}
 use Rattle.chunk_ops.proofs.nearest.nearest_sorted.Goals as goal
 
 pub returns-in-None-clause-reads : goal.returns-in-None-clause-reads
-returns-in-None-clause-reads g c = let s = c.args.room.now in reads_few 0 (bits c.args.prefix) s s (reads_here s c.requires.pinned (g.met.R.SearchedRoom.stays_here s)) (omega arith)
+returns-in-None-clause-reads g c = let s = c.args.room.now in reads_few 0 (bits c.args.prefix) s s (reads_here s c.requires.pinned (g.met.R.SearchedRoom.meets_none s)) (omega arith)
 
 pub returns-in-Some-clause-reads : goal.returns-in-Some-clause-reads
 returns-in-Some-clause-reads g c = let key = c.in-Some.key.now in reads_as Looks (λ r ms q. (key, q)) (bits c.args.prefix) c.args.room.now c.search_sorted-found.new.room c.search_sorted-found.ensures.reads

@@ -6,7 +6,7 @@ use Rattle.chunk_ops.proofs.nearest.walk.Goals as goal
 
 pub loop-entry-init : goal.loop-entry-init
 loop-entry-init g c = let s = c.args.room.now in record {
-  reads = reads_few 0 (c.args.from - c.args.from) s s (reads_here s c.requires.pinned (g.met.R.SearchedRoom.stays_here s)) (omega arith);
+  reads = reads_few 0 (c.args.from - c.args.from) s s (reads_here s c.requires.pinned (g.met.R.SearchedRoom.meets_none s)) (omega arith);
   candidate = c.requires.candidate;
   nearest = λ b q n. n;
 }
@@ -22,7 +22,7 @@ nearer-best-requires-clause-candidate g c = let rd = c.loop-entry.invariant.read
 
 pub loop-entry-preserved : goal.loop-entry-preserved
 loop-entry-preserved g c = let s = c.args.room.now in let i = c.loop-entry.invariant in let rd = i.reads in let w = c.nearer-best in let e = c.loop-entry.entry in let f = c.loop-entry.auto.entry in let way = c.args.way in record {
-  reads = reads_few (e - c.args.from + 1) (e + 1 - c.args.from) s w.new.room (reads_both g.met.R.SearchedRoom.stays_on (e - c.args.from) 1 s c.loop-entry.room w.new.room rd w.ensures.reads) (omega arith);
+  reads = reads_few (e - c.args.from + 1) (e + 1 - c.args.from) s w.new.room (reads_both g.met.R.SearchedRoom.meets_both (e - c.args.from) 1 s c.loop-entry.room w.new.room rd w.ensures.reads) (omega arith);
   candidate = subst (λ (q : Room). IsCandidate q w.result) rd.same w.ensures.candidate;
   nearest = λ b q n. subst (λ (x : Room). IsNearest x way b 0 (e + 1) (entry_of w.result)) rd.same (w.ensures.nearest b q (subst (λ (x : Room). IsNearest x way b 0 e (entry_of c.loop-entry.best)) (sym rd.same) (i.nearest b q n)));
 }

@@ -8,7 +8,6 @@ abbrev pub invariant-loop-i : goal.invariant-loop-i
 invariant-loop-i g l = record {
   pin : g.R.SearchedRoom.pinned l.room;
   same : g.R.SearchedRoom.room l.room ≡ g.R.SearchedRoom.room l.fn.room;
-  on : g.R.SearchedRoom.stays l.fn.room l.room;
-  met : Loaded l.entry l.place l.i (g.R.SearchedRoom.met l.fn.room) (g.R.SearchedRoom.met l.room);
+  meets : Loaded g.R.SearchedRoom.meets l.entry l.place l.i l.fn.room l.room;
   words : Filled (key_at (g.R.SearchedRoom.room l.fn.room) l.entry) l.i l.words;
 }

@@ -1,0 +1,67 @@
+-- What a search for a key found, by the room that it searched.
+use Rattle.std.proofs.Common.{◌≡◌, ◌≢◌, ℕ, ◌+◌, ◌<◌, ◌≤◌, List, [], length, sym, refl, ap, ◌∙◌, subst, arith, Option, Some, None, MatchOption}
+use mathlib.Core.Option.{some}
+use lib.ListN.{get_elem?}
+use Rattle.oak_model.specs.Counts.{Has}
+use Rattle.oak_model.specs.Key.{IsKey, AreBytes}
+use Rattle.oak_model.specs.KeyNumber.{key_number}
+use Rattle.oak_model.specs.Limits.{Sizes}
+use Rattle.oak_model.proofs.NumberLaws.{key_number_is}
+use Rattle.arena_core.specs.Place.{content}
+use Rattle.chunk_core.specs.declared.holds.FoundEntry.{FoundEntry}
+use Rattle.chunk_core.specs.KeyWords.{key_in, key_bytes}
+use Rattle.chunk_core.specs.LinkedEntries.{entries_in}
+use Rattle.chunk_core.specs.PinnedRooms.{found_key, span_of}
+use Rattle.chunk_core.specs.RoomReads.{found_at}
+use Rattle.chunk_core.proofs.CountLoads.{rows_is, rows_has}
+use Rattle.oak_core.specs.declared.states.PassState.{PassState}
+use Rattle.oak_core.specs.AloneWords.{Runs}
+use Rattle.oak_core.specs.Memory.{Memory, memory}
+use Rattle.oak_core.proofs.AloneRuns.{runs_as}
+use Rattle.chunk_ops.specs.Finds.{FindsKey, FindsMissing}
+use Rattle.chunk_ops.specs.FindsAlone.{FindsIn, HasKeyAt, as_found, used_key}
+use Rattle.chunk_ops.specs.Found.{IsFound}
+use Rattle.chunk_ops.specs.PinRecords.{HasEntry, room_pin}
+use Rattle.chunk_ops.specs.Room.{Room, IsRoom, key_at, entries}
+use Rattle.chunk_ops.specs.RoomLoads.{room_below, entry_key}
+use Rattle.chunk_ops.proofs.BelowCounts.{found_below_count, has_at}
+use Rattle.chunk_ops.proofs.PinnedWords.{entry_there}
+use Rattle.chunk_ops.proofs.SearchedRooms.{SearchedTo}
+
+module _ (z : Sizes) (call r n : ℕ) (v w : PassState) (s : SearchedTo z call r n v w) (ordered : IsRoom (room_below n (room_pin w))) where
+  -- an entry that was found has a key, which its number tells
+  pub key_of_found : (k : List ℕ) → IsKey k → AreBytes k → (e : FoundEntry) → Has e (room_pin w).entries → found_key e ≡ key_number k → entry_key e ≡ k
+  unfolding key_in
+  key_of_found k is small e h same = let f = found_below_count n (room_pin w) e s.many h in key_number_is (entry_key e) k (subst AreBytes f.key (ordered.bytes f.number)) small (subst IsKey f.key (ordered.key f.number f.below)) is same
+
+  module _ (k : List ℕ) (is : IsKey k) (small : AreBytes k) where
+    -- each entry is one of the room, so none has the key that none of the room has
+    none_found : IsFound (room_below n (room_pin w)) k None → (e : FoundEntry) → Has e (room_pin w).entries → found_key e ≢ key_number k
+    none_found none e h same = let f = found_below_count n (room_pin w) e s.many h in none f.number (omega arith) f.below (f.key ∙ key_of_found k is small e h same)
+
+    pub finds_key : (x : Option ℕ) → IsFound (room_below n (room_pin w)) k x → MatchOption x (FindsMissing z call r k v w) (λ i. FindsKey z call r i k v w)
+    finds_key None f = record { counted = s.counted; none = none_found f; read = λ covers. s.absent (key_number k) covers (none_found f) }
+    finds_key (Some i) f = let h = entry_there z r n i w s.under.pin.has f.0 in record { counted = s.counted; entry = record { entry = h.entry; finds = h.finds; key_is = h.key_is ∙ f.1 } }
+
+    -- ---- in the words of the table
+
+    abbrev m : Memory
+    m = memory z s.words
+
+    abbrev bytes : ℕ → List ℕ
+    bytes = content m.arena.bytes
+
+    found_in : (i : ℕ) (e : FoundEntry) → get_elem? (room_pin w).entries i ≡ some e → (i < entries_in n) × (found_at m.rooms bytes r i ≡ e)
+    found_in i e at = let t = rows_is (found_at m.rooms bytes r) 0 (entries_in n) i e (subst (λ (xs : List FoundEntry). get_elem? xs i ≡ some e) s.entries at) in (t.0, ap (found_at m.rooms bytes r) (let q : i ≡ 0 + i = omega arith in q) ∙ t.1)
+
+    found_has : (i : ℕ) → i < entries_in n → Has (found_at m.rooms bytes r i) (room_pin w).entries
+    found_has i lt = subst (Has (found_at m.rooms bytes r i)) (sym s.entries) (has_at _ i (found_at m.rooms bytes r i) (rows_has (found_at m.rooms bytes r) 0 (entries_in n) i lt ∙ ap (λ (j : ℕ). some (found_at m.rooms bytes r j)) (let q : 0 + i ≡ i = omega arith in q)))
+
+    has_key : (x : Option ℕ) → IsFound (room_below n (room_pin w)) k x → HasKeyAt (memory z s.words) r k (as_found x)
+    unfolding key_in
+    has_key None f = λ i used same. none_found f (found_at m.rooms bytes r i) (found_has i (subst (λ (c : ℕ). i < entries_in c) s.count used)) (ap key_number same)
+    has_key (Some i) f = let h = entry_there z r n i w s.under.pin.has f.0 in let g = found_in i h.entry h.finds.there in
+        (subst (λ (c : ℕ). i < entries_in c) (sym s.count) g.0, ap entry_key g.1 ∙ (h.key_is ∙ f.1))
+
+    pub finds_alone : (x : Option ℕ) → IsFound (room_below n (room_pin w)) k x → Runs (FindsIn z r k (as_found x)) v w
+    finds_alone x f = runs_as (λ a b. (a ≡ s.words) × (b ≡ a)) (FindsIn z r k (as_found x)) v w (λ a b d. (d.1, subst (λ (ws : List ℕ). HasKeyAt (memory z ws) r k (as_found x)) (sym d.0) (has_key x f))) s.alone

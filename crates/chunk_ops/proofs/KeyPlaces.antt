@@ -1,0 +1,112 @@
+-- The key word of an entry below the count of a room that is a cover: it names a block of the table, which is a key's.
+use Rattle.std.proofs.Common.{◌≡◌, ℕ, ◌+◌, ◌-◌, ◌*◌, ◌/◌, ◌%◌, ◌^◌, ◌<◌, ◌≤◌, ◌==◌, ◌&&◌, nat_lt, nat_le, true, false, Bool, cond, List, [], ◌∷◌, map, length, get_or, take, sym, refl, ap, ◌∙◌, subst, arith, Option, Some, None, leb-true, ltb-true, eqb-true}
+use Rattle.std.proofs.lemmas.Bool.{lt-ltb}
+use Rattle.std.specs.List.{find}
+use mathlib.Core.Logic.{dite}
+use mathlib.Core.Option.{some}
+use lib.ListN.{get_elem?}
+use native.Mathlib.Decide.{dec_lt}
+use Rattle.oak_model.specs.declared.classes.Class.{Class}
+use Rattle.oak_model.specs.declared.limits.TheConstants.{CLASSES, GREATEST_KEY}
+use Rattle.oak_model.specs.Class.{class_number, class_bytes, classes, class_of}
+use Rattle.oak_model.specs.Counts.{one_if, one_at, total}
+use Rattle.oak_model.specs.Key.{IsKey}
+use Rattle.oak_model.specs.Limits.{Sizes}
+use Rattle.oak_model.specs.WordBytes.{word_bytes, bytes_of}
+use Rattle.oak_model.proofs.Counting.{test-cases, both_true, total_map}
+use Rattle.oak_model.proofs.Lists.{rows_length, rows_at}
+use Rattle.oak_model.proofs.SumLaws.{total_in}
+use Rattle.arena_core.specs.Arena.{at_bytes, block_words, blocks, IsInArena}
+use Rattle.arena_core.specs.Place.{IsPlace, class_in, block_in, length_in, names_block, content}
+use Rattle.arena_core.proofs.PlaceLaws.{class_below}
+use Rattle.chunk_core.specs.declared.holds.FoundEntry.{FoundEntry}
+use Rattle.chunk_core.specs.declared.holds.PinnedRoom.{PinnedRoom}
+use Rattle.chunk_core.specs.declared.holds.RoomHolds.{RoomHolds}
+use Rattle.chunk_core.specs.Covers.{span_in, entry_at, used_at, moving_of}
+use Rattle.chunk_core.specs.CoverSums.{weight, each, owning}
+use Rattle.chunk_core.specs.KeyWords.{key_length, key_bytes}
+use Rattle.chunk_core.specs.LinkedEntries.{entries_in, in_use, first_numbers}
+use Rattle.chunk_core.specs.MayOnRooms.{FindsEntry}
+use Rattle.chunk_core.specs.PinnedRooms.{AreCounted, EntryStands, RoomPinHolds}
+use Rattle.chunk_core.specs.Rooms.{at_key}
+use Rattle.chunk_core.proofs.CoverFacts.{entry_adds}
+use Rattle.chunk_core.proofs.CoverLaws.{room_le}
+use Rattle.chunk_core.proofs.EntryNumbers.{numbers_once}
+use Rattle.oak_core.specs.declared.states.PassState.{PassState}
+use Rattle.oak_core.specs.EntryOwners.{is_class, is_key_word, entry_owners}
+use Rattle.oak_core.specs.Memory.{Memory, Spot, in_arena, in_rooms, index, IsInside, memory}
+use Rattle.oak_core.specs.PassState.{rooms_held}
+use Rattle.oak_core.specs.Rule.{Rule}
+use Rattle.oak_core.specs.Splitting.{Loads}
+use Rattle.oak_core.specs.Step.{Step, load, Told}
+use Rattle.oak_core.specs.TableState.{TableState}
+use Rattle.oak_core.proofs.HeadersInArena.{names_named}
+use Rattle.oak_core.proofs.MetLists.{at_inside, each_at}
+
+-- a class that is found for a length has room for it
+
+found_fits : (n : ℕ) (c : Class) (cs : List Class) → find (λ d. nat_le n (class_bytes d)) cs ≡ Some c → n ≤ class_bytes c
+found_fits n c [] e = absurd cc
+found_fits n c (d ∷ ds) e = test-cases (nat_le n (class_bytes d)) (λ t. cond t (Some d) (find (λ d. nat_le n (class_bytes d)) ds) ≡ Some c → n ≤ class_bytes c)
+    (λ t f. let g : d ≡ c = cc in subst (λ (k : Class). n ≤ class_bytes k) g (leb-true n (class_bytes d) t)) (λ _ f. found_fits n c ds f) e
+
+pub place_room : (p : ℕ) → IsPlace p → length_in p ≤ 8 * block_words (class_in p)
+place_room p is = subst (λ (c : ℕ). length_in p ≤ 8 * (2 * 4 ^ c)) (sym is.is_in) (let f = found_fits (length_in p) is.class classes is.fits in let k : ℕ = 4 ^ class_number is.class in let f' : length_in p ≤ 16 * k = f in let g : length_in p ≤ 8 * (2 * k) = omega arith in g)
+
+-- a key word names a block of the class that its length has, which is a key's
+pub record IsKeyPlace (word : ℕ) : Type 0 where
+  pub some_byte : 0 < length_in word
+  pub few : length_in word ≤ GREATEST_KEY
+  pub place : IsPlace word
+
+pub key_place : (word : ℕ) → is_key_word word ≡ 1 → IsKeyPlace word
+key_place word e = let b = both_true (nat_lt 0 (length_in word)) (nat_le (length_in word) GREATEST_KEY && is_class (class_in word) (class_of (length_in word))) (tested _ e) in
+    let d = both_true (nat_le (length_in word) GREATEST_KEY) (is_class (class_in word) (class_of (length_in word))) b.1 in record {
+      some_byte = ltb-true 0 (length_in word) b.0;
+      few = leb-true (length_in word) GREATEST_KEY d.0;
+      place = by (class_of (length_in word)) refl d.1;
+    }
+  where
+    tested : (t : Bool) → one_if t ≡ 1 → t ≡ true
+    tested true h = refl
+    tested false h = absurd (omega arith)
+
+    by : (o : Option Class) → class_of (length_in word) ≡ o → is_class (class_in word) o ≡ true → IsPlace word
+    by None f t = absurd cc
+    by (Some d) f t = record { class = d; is_in = eqb-true (class_in word) (class_number d) t; fits = f }
+
+pub key_word_few : (word : ℕ) → is_key_word word ≤ 1
+key_word_few word = test-cases (nat_lt 0 (length_in word) && (nat_le (length_in word) GREATEST_KEY && is_class (class_in word) (class_of (length_in word)))) (λ t. one_if t ≤ 1) (λ _. omega arith) (λ _. omega arith)
+
+-- no word is 0 that names a key's block
+above_none : (word : ℕ) → 0 < length_in word → 0 < word
+unfolding length_in
+above_none word lt = omega arith
+
+-- an entry below the count of a room that is a cover
+module _ (z : Sizes) (s : TableState) (rule : Rule z s) (r i : ℕ) (inside : r < z.chunks) (weighs : weight ((memory z s.words).rooms.pin r) ≡ 1) (below : i < entries_in ((memory z s.words).rooms.count r)) where
+  abbrev m : Memory
+  m = memory z s.words
+
+  abbrev hs : List RoomHolds
+  hs = map rooms_held s.states
+
+  abbrev word : ℕ
+  word = m.rooms.key r i
+
+  pub is_key_below : is_key_word ((memory z s.words).rooms.key r i) ≡ 1
+  is_key_below = let a = entry_adds z m.rooms (content m.arena.bytes) hs (λ _ y. 1 - is_key_word y.word) r i inside weighs (numbers_once (entries_in (m.rooms.count r)) i below) in
+      let none = rule.covers.placed in let few = key_word_few word in omega arith
+
+  owns : 1 ≤ entry_owners z m.rooms (content m.arena.bytes) hs (class_in word) (block_in word)
+  owns = let names : ℕ → ℕ = names_block (class_in word) (block_in word) in let ms = map moving_of hs in
+      let a = room_le z.chunks m.rooms.pin (used_at m.rooms (content m.arena.bytes)) ms (each (owning names)) r inside weighs in
+      let b = total_map (entry_at m.rooms (content m.arena.bytes) r) (owning names (span_in m.rooms r)) (in_use m.rooms r) in
+      let c = total_in (λ j. owning names (span_in m.rooms r) (entry_at m.rooms (content m.arena.bytes) r j)) i (in_use m.rooms r) (let o = numbers_once (entries_in (m.rooms.count r)) i below in omega arith) in
+      let d : owning names (span_in m.rooms r) (entry_at m.rooms (content m.arena.bytes) r i) ≡ 1 = owning_one in omega arith
+    where
+      owning_one : one_if (nat_lt 0 word) * names_block (class_in word) (block_in word) word ≡ 1
+      owning_one = λ j. one_if (lt-ltb 0 word (above_none word (key_place word is_key_below).some_byte) j) * names_named (class_in word) (block_in word) word refl refl j
+
+  pub block_below : block_in ((memory z s.words).rooms.key r i) < blocks z (class_in ((memory z s.words).rooms.key r i))
+  block_below = dite (dec_lt (block_in word) (blocks z (class_in word))) (λ l. l) (λ g. let none = rule.blocks.inside (class_in word) (block_in word) (omega arith) in let o = owns in absurd (omega arith))
