@@ -28,7 +28,7 @@ use Rattle.chunk_ops.specs.Latching.{Never}
 lone_latch : (z : Sizes) (s : TableState) → Rule z s → (seat : ℕ) (v : PassState) → get_elem? s.states seat ≡ some v → IsAlone v → v.rooms.latch ≡ None → (k : ℕ) → (memory z s.words).rooms.latch k ≡ 0
 lone_latch z s r seat v here alone none k = sym (r.rooms.latched k) ∙ dite (dec_lt 0 (total (latches_on k) (map rooms_held s.states)))
     (λ l. let t = total_some (latches_on k) (map rooms_held s.states) l in let a = at_unmap rooms_held s.states t.0 t.1 t.2 in
-      let free : latches_on k t.1 ≡ 0 = ap (latches_on k) (sym a.2) ∙ has_none t.0 a.0 a.1 in let some_of = t.3 in absurd (omega arith))
+    let free : latches_on k t.1 ≡ 0 = ap (latches_on k) (sym a.2) ∙ has_none t.0 a.0 a.1 in let some_of = t.3 in absurd (omega arith))
     (λ n. omega (arith, n))
   where
     has_none : (j : ℕ) (u : PassState) → get_elem? s.states j ≡ some u → latches_on k u.rooms ≡ 0
