@@ -27,6 +27,7 @@ use Rattle.chunk_ops.specs.RoomLoads.{room_below, entry_key}
 use Rattle.chunk_ops.proofs.BelowCounts.{found_below_count, has_at}
 use Rattle.chunk_ops.proofs.PinnedWords.{entry_there}
 use Rattle.chunk_ops.proofs.SearchedRooms.{SearchedTo}
+use Rattle.chunk_ops.proofs.UsedEntries.{found_used, used_found}
 
 module _ (z : Sizes) (call r n : ℕ) (v w : PassState) (s : SearchedTo z call r n v w) (ordered : IsRoom (room_below n (room_pin w))) where
   -- an entry that was found has a key, which its number tells
@@ -45,23 +46,10 @@ module _ (z : Sizes) (call r n : ℕ) (v w : PassState) (s : SearchedTo z call r
 
     -- ---- in the words of the table
 
-    abbrev m : Memory
-    m = memory z s.words
-
-    abbrev bytes : ℕ → List ℕ
-    bytes = content m.arena.bytes
-
-    found_in : (i : ℕ) (e : FoundEntry) → get_elem? (room_pin w).entries i ≡ some e → (i < entries_in n) × (found_at m.rooms bytes r i ≡ e)
-    found_in i e at = let t = rows_is (found_at m.rooms bytes r) 0 (entries_in n) i e (subst (λ (xs : List FoundEntry). get_elem? xs i ≡ some e) s.entries at) in (t.0, ap (found_at m.rooms bytes r) (let q : i ≡ 0 + i = omega arith in q) ∙ t.1)
-
-    found_has : (i : ℕ) → i < entries_in n → Has (found_at m.rooms bytes r i) (room_pin w).entries
-    found_has i lt = subst (Has (found_at m.rooms bytes r i)) (sym s.entries) (has_at _ i (found_at m.rooms bytes r i) (rows_has (found_at m.rooms bytes r) 0 (entries_in n) i lt ∙ ap (λ (j : ℕ). some (found_at m.rooms bytes r j)) (let q : 0 + i ≡ i = omega arith in q)))
-
     has_key : (x : Option ℕ) → IsFound (room_below n (room_pin w)) k x → HasKeyAt (memory z s.words) r k (as_found x)
     unfolding key_in
-    has_key None f = λ i used same. none_found f (found_at m.rooms bytes r i) (found_has i (subst (λ (c : ℕ). i < entries_in c) s.count used)) (ap key_number same)
-    has_key (Some i) f = let h = entry_there z r n i w s.under.pin.has f.0 in let g = found_in i h.entry h.finds.there in
-        (subst (λ (c : ℕ). i < entries_in c) (sym s.count) g.0, ap entry_key g.1 ∙ (h.key_is ∙ f.1))
+    has_key None f = λ i used same. (let u = used_found z call r n v w s i used in none_found f u.entry u.has (u.number ∙ ap key_number same))
+    has_key (Some i) f = let h = entry_there z r n i w s.under.pin.has f.0 in let g = found_used z call r n v w s i h.entry h.finds.there in (g.0, g.1 ∙ (h.key_is ∙ f.1))
 
     pub finds_alone : (x : Option ℕ) → IsFound (room_below n (room_pin w)) k x → Runs (FindsIn z r k (as_found x)) v w
     finds_alone x f = runs_as (λ a b. (a ≡ s.words) × (b ≡ a)) (FindsIn z r k (as_found x)) v w (λ a b d. (d.1, subst (λ (ws : List ℕ). HasKeyAt (memory z ws) r k (as_found x)) (sym d.0) (has_key x f))) s.alone

@@ -2,11 +2,15 @@
 use Rattle.std.specs.Prelude.{◌≡◌, ◌≢◌, ℕ, ◌<◌, List, Option, Some, None}
 use Rattle.oak_model.specs.Limits.{Sizes}
 use Rattle.arena_core.specs.Place.{content}
+use Rattle.oak_model.specs.KeyNumber.{key_number}
 use Rattle.chunk_core.specs.KeyWords.{key_bytes}
 use Rattle.chunk_core.specs.LinkedEntries.{entries_in}
 use Rattle.oak_core.specs.Memory.{Memory, memory}
+use Rattle.chunk_ops.specs.declared.entries.EntryNo.{EntryNo}
 use Rattle.chunk_ops.specs.declared.entries.Found.{Found}
 use Rattle.chunk_ops.specs.declared.entries.Found.TheVariants.{Entry, Missing}
+use Rattle.chunk_ops.specs.declared.way.Way.{Way}
+use Rattle.chunk_ops.specs.Finds.{IsPast, IsNearer}
 
 -- entry i of the room r is in use
 abbrev pub IsUsed : Memory → ℕ → ℕ → Type 0
@@ -29,3 +33,16 @@ FindsIn z r key found before after = (after ≡ before) × HasKeyAt (memory z be
 abbrev pub as_found : Option ℕ → Found
 as_found None = Missing
 as_found (Some i) = Entry (record { 0 = i })
+
+-- the entry is in use and lies that way of the bound, and none in use does that is nearer; or none in use lies there
+abbrev pub HasNearest : Memory → ℕ → Way → Option (List ℕ) → Option EntryNo → Type 0
+HasNearest m r way bound (Some i) = IsUsed m r i.0 × IsPast way bound (key_number (used_key m r i.0)) × ((j : ℕ) → IsUsed m r j → IsPast way bound (key_number (used_key m r j)) → IsNearer way (key_number (used_key m r j)) (key_number (used_key m r i.0)) → ⊥)
+HasNearest m r way bound None = (j : ℕ) → IsUsed m r j → IsPast way bound (key_number (used_key m r j)) → ⊥
+
+abbrev pub NearestIn : Sizes → ℕ → Way → Option (List ℕ) → Option EntryNo → List ℕ → List ℕ → Type 0
+NearestIn z r way bound found before after = (after ≡ before) × HasNearest (memory z before) r way bound found
+
+-- an entry's number as what is nearest
+abbrev pub as_entry : Option ℕ → Option EntryNo
+as_entry None = None
+as_entry (Some i) = Some (record { 0 = i })

@@ -2,8 +2,7 @@
 use Rattle.std.specs.Prelude.{◌≡◌, ◌≢◌, ℕ, ◌+◌, ◌-◌, ◌<◌, ◌≤◌, nat_lt, if◌then◌else◌, List, Option, Some, None, Result, Ok, Err}
 use Rattle.std.specs.declared.cmp.Ordering.{Ordering}
 use Rattle.std.specs.declared.cmp.Ordering.TheVariants.{Less, Greater}
-use denote.Ref.{Bor}
-use Rattle.oak_model.specs.Key.{IsKey, key_cmp}
+use Rattle.oak_model.specs.Key.{AreBytes, key_cmp}
 use Rattle.chunk_ops.specs.declared.way.Way.{Way}
 use Rattle.chunk_ops.specs.declared.way.Way.TheVariants.{Up, Down}
 use Rattle.chunk_ops.specs.declared.nearest.Candidate.{Candidate}
@@ -26,10 +25,10 @@ abbrev pub IsNearest : Room → Way → Option (List ℕ) → ℕ → ℕ → Op
 IsNearest r way bound a b None = (j : ℕ) → a ≤ j → j < b → IsBeyond way bound (key_at r j) → ⊥
 IsNearest r way bound a b (Some i) = ((a ≤ i) × (i < b)) × IsBeyond way bound (key_at r i) × ((j : ℕ) → a ≤ j → j < b → IsBeyond way bound (key_at r j) → key_cmp (key_at r j) (key_at r i) ≢ way_order way)
 
--- the bytes that an optional slice has
-abbrev pub bound_bytes : Option (Bor (List ℕ)) → Option (List ℕ)
-bound_bytes None = None
-bound_bytes (Some b) = Some b.now
+-- the bytes of a bound are bytes, as its type says
+abbrev pub AreBoundBytes : Option (List ℕ) → Type 0
+AreBoundBytes None = Unit {0}
+AreBoundBytes (Some b) = AreBytes b
 
 -- a stored bound is of these bytes
 abbrev pub IsBound : Option StoredKey → Option (List ℕ) → Type 0
@@ -58,7 +57,3 @@ beside Down (Err i) prefix = if nat_lt 0 i then Some (i - 1) else None
 abbrev pub outermost : Way → ℕ → Option ℕ
 outermost Up prefix = if nat_lt 0 prefix then Some 0 else None
 outermost Down prefix = if nat_lt 0 prefix then Some (prefix - 1) else None
-
-abbrev pub IsKeyBound : Option (List ℕ) → Type 0
-IsKeyBound None = Unit {0}
-IsKeyBound (Some b) = IsKey b

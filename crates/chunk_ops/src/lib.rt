@@ -30,4 +30,4 @@ pub use entries::{AddHalt, Content, EntryNo, Found, NotAdded};
 pub use loading::{base_of, content, key_byte, key_len};
 pub use pinning::{Moved, pin_for, pin_last};
 pub use pins::{RoomPin, unpin};
-pub use searching::find;
+pub use searching::{above, below, find};

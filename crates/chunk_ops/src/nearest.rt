@@ -2,7 +2,8 @@
 ghost use Rattle.std.specs.Prelude.{◌≡◌, ℕ, ◌+◌, ◌-◌, ◌<◌, ◌≤◌, Option, List, MatchOption};
 ghost use Rattle.chunk_ops.specs.Bits.{bits};
 ghost use Rattle.chunk_ops.specs.Found.{CountsFirst, search_loads};
-ghost use Rattle.chunk_ops.specs.Nearest.{IsNearest, IsBound, IsKeyBound, IsCandidate, bound_bytes, entry_of};
+ghost use Rattle.chunk_ops.specs.AskedRanges.{IsKeyOrNone, bytes_in_option};
+ghost use Rattle.chunk_ops.specs.Nearest.{AreBoundBytes, IsNearest, IsBound, IsCandidate, entry_of};
 ghost use Rattle.chunk_ops.specs.Reads.{Reads, Looks};
 ghost use Rattle.chunk_ops.specs.Room.{entries};
 
@@ -28,7 +29,7 @@ fn nearest_sorted<R: SearchedRoom>(
     requires pinned { R.pinned room.old }
     requires prefix { prefix ≡ (R.room room.old).prefix }
     ensures reads { Reads R.pinned R.room R.meets Looks (bits prefix) room.old room.new }
-    ensures nearest { IsNearest (R.room room.old) way (bound_bytes bound.entry) 0 prefix result }
+    ensures nearest { IsNearest (R.room room.old) way (bytes_in_option bound.entry) 0 prefix result }
 {
     match bound {
         None => way.outermost(prefix),
@@ -111,8 +112,8 @@ fn load_candidate<R: SearchedRoom>(room: &mut R, entry: Option<u32>) -> Option<C
 
 /// The bound, to be compared by its words.
 fn stored_bound(bound: Option<&[u8]>) -> Option<StoredKey>
-    requires { IsKeyBound (bound_bytes bound) }
-    ensures { IsBound result (bound_bytes bound.entry) }
+    requires { IsKeyOrNone (bytes_in_option bound) }
+    ensures { IsBound result (bytes_in_option bound.entry) }
 {
     match bound {
         Some(key) => Some(StoredKey::of(key)),
@@ -122,11 +123,12 @@ fn stored_bound(bound: Option<&[u8]>) -> Option<StoredKey>
 
 /// The nearest entry on one side of the bound among those below the count found, the outermost of all
 /// where there is no bound.
-fn nearest<R: SearchedRoom>(room: &mut R, way: Way, bound: Option<&[u8]>) -> Option<u32>
+pub(crate) fn nearest<R: SearchedRoom>(room: &mut R, way: Way, bound: Option<&[u8]>) -> Option<u32>
     requires pinned { R.pinned room.old }
-    requires key { IsKeyBound (bound_bytes bound) }
+    requires key { IsKeyOrNone (bytes_in_option bound) }
+    ensures bytes { AreBoundBytes (bytes_in_option bound.entry) }
     ensures pinned { R.pinned room.new }
-    ensures nearest { IsNearest (R.room room.new) way (bound_bytes bound.entry) 0 (entries (R.room room.new)) result }
+    ensures nearest { IsNearest (R.room room.new) way (bytes_in_option bound.entry) 0 (entries (R.room room.new)) result }
     ensures loads { CountsFirst R.meets (R.room room.new) Looks (search_loads (R.room room.new)) room.old room.new }
 {
     let count = room.count();
@@ -141,27 +143,4 @@ fn nearest<R: SearchedRoom>(room: &mut R, way: Way, bound: Option<&[u8]>) -> Opt
         prefix,
         entries_in(count),
     )
-}
-
-/// The entry of the least key above the bound, or of the least of all, among the entries below the count
-/// found; none where there is no such entry.
-pub(crate) fn above<R: SearchedRoom>(room: &mut R, bound: Option<&[u8]>) -> Option<u32>
-    requires pinned { R.pinned room.old }
-    requires key { IsKeyBound (bound_bytes bound) }
-    ensures pinned { R.pinned room.new }
-    ensures nearest { IsNearest (R.room room.new) Way.Up (bound_bytes bound.entry) 0 (entries (R.room room.new)) result }
-    ensures loads { CountsFirst R.meets (R.room room.new) Looks (search_loads (R.room room.new)) room.old room.new }
-{
-    nearest(room, Way::Up, bound)
-}
-
-/// The entry of the greatest key below the bound, or of the greatest of all, likewise.
-pub(crate) fn below<R: SearchedRoom>(room: &mut R, bound: Option<&[u8]>) -> Option<u32>
-    requires pinned { R.pinned room.old }
-    requires key { IsKeyBound (bound_bytes bound) }
-    ensures pinned { R.pinned room.new }
-    ensures nearest { IsNearest (R.room room.new) Way.Down (bound_bytes bound.entry) 0 (entries (R.room room.new)) result }
-    ensures loads { CountsFirst R.meets (R.room room.new) Looks (search_loads (R.room room.new)) room.old room.new }
-{
-    nearest(room, Way::Down, bound)
 }

@@ -3,14 +3,17 @@ ghost use Rattle.std.specs.Prelude.{◌≡◌, Some, MatchOption};
 ghost use Rattle.oak_model.specs.Key.{IsKey};
 ghost use Rattle.oak_core.specs.AloneWords.{Runs};
 ghost use Rattle.oak_core.specs.Passes.{IsPassOf, Stays, state, key as sizes, call_of};
-ghost use Rattle.chunk_ops.specs.Finds.{Finds, FindsKey, FindsMissing, LoadsFew};
-ghost use Rattle.chunk_ops.specs.FindsAlone.{FindsIn, as_found};
+ghost use Rattle.chunk_ops.specs.AskedRanges.{IsKeyOrNone, bytes_in_option};
+ghost use Rattle.chunk_ops.specs.Finds.{Finds, FindsKey, FindsMissing, FindsNearest, FindsNone, LoadsFew};
+ghost use Rattle.chunk_ops.specs.FindsAlone.{FindsIn, NearestIn, as_found};
 ghost use Rattle.chunk_ops.specs.PinRecords.{HasRoomPin, UnderPin, room_pin};
 
 use crate::entries::{EntryNo, Found};
 use crate::finding;
+use crate::nearest;
 use crate::pinned::PinnedTable;
 use crate::pins::RoomPin;
+use crate::way::Way;
 use oak_core::{OakTable, Pass};
 
 /// The entry of the key, with the count word below which it was sought.
@@ -51,4 +54,68 @@ pub fn find(table: &OakTable, pass: &mut Pass, pin: &RoomPin, key: &[u8]) -> Fou
         Some(entry) => Found::Entry(EntryNo(entry)),
         None => Found::Missing,
     }
+}
+
+/// The nearest entry on one side of a key, or the outermost where there is no key.
+fn beside(
+    table: &OakTable,
+    pass: &mut Pass,
+    pin: &RoomPin,
+    way: Way,
+    key: Option<&[u8]>,
+) -> Option<EntryNo>
+    requires own { IsPassOf table.now pass.old }
+    requires key { IsKeyOrNone (bytes_in_option key) }
+    requires pinned { HasRoomPin (sizes table.now) pin.now.room (state pass.old) }
+    ensures own { Stays pass.old pass.new }
+    ensures nearest { MatchOption result (FindsNone (sizes table.now) (call_of pass.old) pin.now.room way (bytes_in_option key.entry) (state pass.old) (state pass.new)) (λ i. FindsNearest (sizes table.now) (call_of pass.old) pin.now.room way (bytes_in_option key.entry) i.0 (state pass.old) (state pass.new)) }
+    ensures under { UnderPin (sizes table.now) (call_of pass.old) pin.now.room (state pass.old) (state pass.new) }
+    ensures few { LoadsFew (sizes table.now) pin.now.room (state pass.old) (state pass.new) }
+    ensures alone { Runs (NearestIn (sizes table.now) pin.now.room way (bytes_in_option key.entry) result) (state pass.old) (state pass.new) }
+{
+    let mut room = PinnedTable { table, pass, room: pin.room, count: 0 };
+    match nearest::nearest(&mut room, way, key) {
+        Some(entry) => Some(EntryNo(entry)),
+        None => None,
+    }
+}
+
+/// The entry of the least key above this one, or of the least of all, among all entries that the room had
+/// at one moment of this call, at which its count was loaded. Each key of the range that lies between was
+/// absent then.
+pub fn above(
+    table: &OakTable,
+    pass: &mut Pass,
+    pin: &RoomPin,
+    key: Option<&[u8]>,
+) -> Option<EntryNo>
+    requires own { IsPassOf table.now pass.old }
+    requires key { IsKeyOrNone (bytes_in_option key) }
+    requires pinned { HasRoomPin (sizes table.now) pin.now.room (state pass.old) }
+    ensures own { Stays pass.old pass.new }
+    ensures nearest { MatchOption result (FindsNone (sizes table.now) (call_of pass.old) pin.now.room Way.Up (bytes_in_option key.entry) (state pass.old) (state pass.new)) (λ i. FindsNearest (sizes table.now) (call_of pass.old) pin.now.room Way.Up (bytes_in_option key.entry) i.0 (state pass.old) (state pass.new)) }
+    ensures under { UnderPin (sizes table.now) (call_of pass.old) pin.now.room (state pass.old) (state pass.new) }
+    ensures few { LoadsFew (sizes table.now) pin.now.room (state pass.old) (state pass.new) }
+    ensures alone { Runs (NearestIn (sizes table.now) pin.now.room Way.Up (bytes_in_option key.entry) result) (state pass.old) (state pass.new) }
+{
+    beside(table, pass, pin, Way::Up, key)
+}
+
+/// The entry of the greatest key below this one, or of the greatest of all, likewise.
+pub fn below(
+    table: &OakTable,
+    pass: &mut Pass,
+    pin: &RoomPin,
+    key: Option<&[u8]>,
+) -> Option<EntryNo>
+    requires own { IsPassOf table.now pass.old }
+    requires key { IsKeyOrNone (bytes_in_option key) }
+    requires pinned { HasRoomPin (sizes table.now) pin.now.room (state pass.old) }
+    ensures own { Stays pass.old pass.new }
+    ensures nearest { MatchOption result (FindsNone (sizes table.now) (call_of pass.old) pin.now.room Way.Down (bytes_in_option key.entry) (state pass.old) (state pass.new)) (λ i. FindsNearest (sizes table.now) (call_of pass.old) pin.now.room Way.Down (bytes_in_option key.entry) i.0 (state pass.old) (state pass.new)) }
+    ensures under { UnderPin (sizes table.now) (call_of pass.old) pin.now.room (state pass.old) (state pass.new) }
+    ensures few { LoadsFew (sizes table.now) pin.now.room (state pass.old) (state pass.new) }
+    ensures alone { Runs (NearestIn (sizes table.now) pin.now.room Way.Down (bytes_in_option key.entry) result) (state pass.old) (state pass.new) }
+{
+    beside(table, pass, pin, Way::Down, key)
 }

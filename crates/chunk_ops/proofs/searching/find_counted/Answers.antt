@@ -1,5 +1,5 @@
-use Rattle.std.proofs.Common.{◌≡◌, ℕ, List, refl, sym, ap, ◌∙◌, subst, arith, Some, rules}
-use Rattle.chunk_core.specs.LinkedEntries.{entries_in, prefix_in}
+use Rattle.std.proofs.Common.{arith, rules}
+use Rattle.chunk_core.specs.LinkedEntries.{entries_in}
 use Rattle.oak_core.specs.Passes.{state}
 use Rattle.chunk_ops.specs.PinRecords.{room_pin}
 use Rattle.chunk_ops.specs.Reads.{Compares}

@@ -1,4 +1,4 @@
-use Rattle.std.proofs.Common.{◌≡◌, ℕ, ◌<◌, ◌*◌, List, length, refl, sym, ap, ◌∙◌, subst, arith}
+use Rattle.std.proofs.Common.{◌≡◌, ℕ, ◌<◌, ◌*◌, length, refl, sym, ap, ◌∙◌, subst, arith}
 use Rattle.chunk_core.specs.declared.holds.RoomHolds.{RoomHolds}
 use Rattle.oak_model.specs.declared.classes.Class.{Class}
 use Rattle.oak_model.specs.declared.limits.TheConstants.{CLASSES}
@@ -12,7 +12,7 @@ use Rattle.oak_core.specs.Passes.{state, key, call_of}
 use Rattle.oak_core.proofs.Words.{index_below}
 use Rattle.chunk_ops.specs.PinRecords.{RoomPinned, pin_or}
 use Rattle.chunk_ops.specs.Room.{IsRoom, Room, place_at, key_at, entries}
-use Rattle.chunk_ops.specs.RoomLoads.{AreNamed, NamesKey, room_below, room_of}
+use Rattle.chunk_ops.specs.RoomLoads.{AreNamed, room_below, room_of}
 use Rattle.chunk_ops.proofs.PinnedWords.{block_is, named_inside}
 use Rattle.chunk_ops.proofs.WordLoads.{load_at, only_loaded}
 use Rattle.chunk_ops.proofs.pinned.PinnedTableSearchedRoom.block_word.Goals as goal
