@@ -2,12 +2,11 @@
 use Rattle.std.proofs.Common.{◌≡◌, ◌≢◌, ℕ, List, ◌++◌, take, sym, refl, ap, ◌∙◌, subst, Option, Some, None}
 use Rattle.oak_model.specs.declared.classes.Class.{Class}
 use Rattle.oak_model.specs.Class.{class_number}
-use Rattle.oak_model.specs.Counts.{Each, Has}
+use Rattle.oak_model.specs.Counts.{Has}
 use Rattle.oak_model.specs.KeyNumber.{key_number}
 use Rattle.oak_model.specs.Limits.{Sizes}
 use Rattle.oak_model.specs.WordBytes.{bytes_of}
 use Rattle.oak_model.proofs.Lists.{each_map}
-use Rattle.arena_core.specs.declared.blocks.HeldBlocks.{HeldBlocks}
 use Rattle.arena_core.specs.Blocks.{HoldsBlock, words_held}
 use Rattle.chunk_core.specs.declared.holds.FoundEntry.{FoundEntry}
 use Rattle.chunk_core.specs.declared.holds.Latch.{Latch}
@@ -18,7 +17,6 @@ use Rattle.chunk_core.specs.PinnedRooms.{found_key, span_of}
 use Rattle.chunk_core.specs.RoomStep.{latch_room}
 use Rattle.chunk_core.specs.Rooms.{at_count}
 use Rattle.oak_core.specs.declared.states.Finding.{Finding}
-use Rattle.oak_core.specs.declared.states.Knowledge.{Knowledge}
 use Rattle.oak_core.specs.declared.states.PassState.{PassState}
 use Rattle.oak_core.specs.declared.states.Sight.{Sight}
 use Rattle.oak_core.specs.CallSteps.{Learns, Stands}
@@ -26,7 +24,7 @@ use Rattle.oak_core.specs.CountReads.{EndsAbsent}
 use Rattle.oak_core.specs.Finding.{IsOf}
 use Rattle.oak_core.specs.Memory.{in_rooms}
 use Rattle.oak_core.specs.Step.{load, on_rooms}
-use Rattle.oak_core.proofs.CallSteps.{learns_both, met_none, stands_both, stands_learns, step_in, step_since}
+use Rattle.oak_core.proofs.CallSteps.{learns_both, stands_both, stands_learns, step_in, step_since}
 use Rattle.oak_core.proofs.KnownReads.{read_stays, read_since}
 use Rattle.arena_ops.specs.Taking.{Gives}
 use Rattle.chunk_ops.specs.Adds.{MayAdd, AddsEntry, FoundCrowded, FoundLatched, given}

@@ -1,15 +1,13 @@
 -- The count that is loaded under the latch of a pinned room is the one that the pass keeps with the latch.
-use Rattle.std.proofs.Common.{◌≡◌, ◌≢◌, ℕ, ◌+◌, ◌<◌, ◌≤◌, List, ◌++◌, length, map, sym, ap, ◌∙◌, subst, arith, Option, Some, None}
+use Rattle.std.proofs.Common.{◌≡◌, ◌≢◌, ℕ, ◌≤◌, List, ◌++◌, length, map, sym, ap, ◌∙◌, subst, arith, Option, Some, None}
 use mathlib.Core.Option.{some}
 use lib.ListN.{get_elem?}
 use Rattle.oak_model.specs.declared.classes.Class.{Class}
 use Rattle.oak_model.specs.Kept.{AreTrueTo}
-use Rattle.oak_model.specs.KeyNumber.{key_number}
 use Rattle.oak_model.specs.Limits.{Sizes}
 use Rattle.oak_model.proofs.Lists.{at_map}
 use Rattle.arena_core.specs.Place.{content}
 use Rattle.chunk_core.specs.declared.holds.Latch.{Latch}
-use Rattle.chunk_core.specs.declared.holds.PinnedRoom.{PinnedRoom}
 use Rattle.chunk_core.specs.declared.holds.RoomHolds.{RoomHolds}
 use Rattle.chunk_core.specs.KeptRooms.{kept_of_latch, kept_of_claim, kept_of_rooms_held, kept_of_rooms}
 use Rattle.chunk_core.specs.LinkedEntries.{entries_in}
@@ -18,10 +16,10 @@ use Rattle.chunk_core.specs.PinnedRooms.{AreCounted, OnRoomPin, IsGoodRoom, Room
 use Rattle.chunk_core.specs.Rooms.{at_count, read_room}
 use Rattle.oak_core.specs.declared.states.PassState.{PassState}
 use Rattle.oak_core.specs.AloneWords.{Moment}
-use Rattle.oak_core.specs.Memory.{Memory, in_rooms, memory}
+use Rattle.oak_core.specs.Memory.{in_rooms, memory}
 use Rattle.oak_core.specs.PassState.{rooms_held}
 use Rattle.oak_core.specs.Rule.{Rule}
-use Rattle.oak_core.specs.Step.{load, Told}
+use Rattle.oak_core.specs.Step.{load}
 use Rattle.oak_core.specs.TableState.{TableState}
 use Rattle.oak_core.proofs.AloneRuns.{moment_after}
 use Rattle.oak_core.proofs.CallSteps.{learns_both}
@@ -29,7 +27,7 @@ use Rattle.oak_core.proofs.Words.{memory_read}
 use Rattle.chunk_ops.specs.Adds.{MayAdd, FoundCrowded, given}
 use Rattle.chunk_ops.specs.Finds.{CountsRoom, FindsMissing}
 use Rattle.chunk_ops.specs.Latching.{with_latch, MayEnter, AddsUnder}
-use Rattle.chunk_ops.specs.PinRecords.{RoomPinned, UnderPin, PinKept, pin_or, room_pin}
+use Rattle.chunk_ops.specs.PinRecords.{RoomPinned, UnderPin, pin_or, room_pin}
 use Rattle.chunk_ops.proofs.EntrySteps.{add_still}
 use Rattle.chunk_ops.proofs.PinsKept.{kept_unlatched, kept_both, latch_kept}
 

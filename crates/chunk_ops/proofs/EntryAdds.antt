@@ -1,13 +1,12 @@
 -- What the step that publishes an entry asks and leaves, where the entry's words stand past the count that was loaded under the latch.
-use Rattle.std.proofs.Common.{◌≡◌, ◌≢◌, ℕ, zero, suc, ◌+◌, ◌%◌, ◌^◌, ◌<◌, ◌≤◌, ◌&&◌, nat_lt, nat_le, true, false, Bool, List, [], ◌∷◌, length, map, take, sym, refl, ap, ◌∙◌, subst, arith, inl, inr, Option, Some, None, eq-eqb}
+use Rattle.std.proofs.Common.{◌≡◌, ◌≢◌, ℕ, suc, ◌+◌, ◌^◌, ◌<◌, ◌≤◌, ◌&&◌, nat_lt, nat_le, Bool, List, [], ◌∷◌, length, take, sym, refl, ap, ◌∙◌, subst, arith, inl, inr, Option, Some, None, eq-eqb}
 use Rattle.std.proofs.lemmas.Bool.{lt-ltb, le-leb}
 use mathlib.Core.Option.{some}
 use lib.ListN.{get_elem?}
 use Rattle.oak_model.specs.declared.classes.Class.{Class}
 use Rattle.oak_model.specs.declared.limits.TheConstants.{GREATEST_KEY}
 use Rattle.oak_model.specs.Class.{class_number, class_of}
-use Rattle.oak_model.specs.Counts.{one_if, rows, Each, Has}
-use Rattle.oak_model.specs.Key.{IsKey}
+use Rattle.oak_model.specs.Counts.{one_if, Each, Has}
 use Rattle.oak_model.specs.KeyNumber.{key_number}
 use Rattle.oak_model.specs.Limits.{Sizes, IsInLimits}
 use Rattle.oak_model.specs.WordBytes.{bytes_of}
@@ -15,18 +14,16 @@ use Rattle.oak_model.proofs.Counting.{true_both, one_at-same}
 use Rattle.oak_model.proofs.Lists.{rows_length}
 use Rattle.arena_core.specs.Blocks.{HoldsBlock, without, words_held}
 use Rattle.arena_core.specs.Place.{place_word, class_in, block_in, length_in, content}
-use Rattle.arena_core.specs.declared.blocks.HeldBlocks.{HeldBlocks}
 use Rattle.arena_core.proofs.ArenaSizes.{greatest_blocks}
 use Rattle.arena_core.proofs.PlaceLaws.{class_below, class_in-word, block_in-word, length_in-word}
 use Rattle.chunk_core.specs.declared.holds.FoundEntry.{FoundEntry}
-use Rattle.chunk_core.specs.declared.holds.Latch.{Latch}
 use Rattle.chunk_core.specs.declared.holds.PinnedRoom.{PinnedRoom}
 use Rattle.chunk_core.specs.declared.holds.RoomHolds.{RoomHolds}
 use Rattle.chunk_core.specs.KeyWords.{key_length, key_bytes, key_in}
 use Rattle.chunk_core.specs.LinkedEntries.{entries_in}
-use Rattle.chunk_core.specs.MayOnRooms.{MayPublish, HasLatch, FindsEntry}
+use Rattle.chunk_core.specs.MayOnRooms.{FindsEntry}
 use Rattle.chunk_core.specs.PinnedRooms.{EntryStands, RoomPinHolds, AreCounted, span_of, found_key}
-use Rattle.chunk_core.specs.RoomReads.{latched_at, found_at, found_below}
+use Rattle.chunk_core.specs.RoomReads.{latched_at, found_at}
 use Rattle.chunk_core.specs.RoomRule.{latches_on}
 use Rattle.chunk_core.specs.RoomStep.{publish_entry}
 use Rattle.chunk_core.specs.Rooms.{RoomMemory}
@@ -38,13 +35,13 @@ use Rattle.oak_core.specs.declared.states.PassState.{PassState}
 use Rattle.oak_core.specs.EntryOwners.{is_class, is_key_word}
 use Rattle.oak_core.specs.Memory.{Memory, memory}
 use Rattle.oak_core.specs.RoomCalls.{PublishesEntry}
-use Rattle.oak_core.specs.Step.{MayPublishEntry, Told}
+use Rattle.oak_core.specs.Step.{MayPublishEntry}
 use Rattle.oak_core.proofs.CallSteps.{stands_learns}
 use Rattle.oak_core.proofs.MetLists.{at_inside, each_at}
 use Rattle.oak_core.proofs.PublishFacts.{pin_stands, count_is, key_word, words_there}
-use Rattle.chunk_ops.specs.Adds.{MayAdd, given}
+use Rattle.chunk_ops.specs.Adds.{MayAdd}
 use Rattle.chunk_ops.specs.Latching.{with_latch, MayEnter, AddsUnder}
-use Rattle.chunk_ops.specs.PinRecords.{HasEntry, HasRoomPin, RoomPinned, PinKept, PinStays, pin_or, room_pin, with_room_pin}
+use Rattle.chunk_ops.specs.PinRecords.{HasEntry, RoomPinned, PinKept, PinStays, pin_or, room_pin}
 use Rattle.chunk_ops.proofs.LatchSteps.{stands_on}
 
 each_has : {A : Type 0} (P : A → Type 0) (xs : List A) → ((x : A) → Has x xs → P x) → Each P xs

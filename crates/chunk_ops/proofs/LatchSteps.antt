@@ -1,5 +1,5 @@
 -- What the steps on the latch of a pinned room leave, and those on the entry past its count.
-use Rattle.std.proofs.Common.{◌≡◌, ℕ, zero, suc, ◌<◌, ◌^◌, ◌==◌, Bool, true, false, cond, List, [], ◌∷◌, set, get_or, sym, refl, ap, ◌∙◌, subst, arith, Option, Some, None, eqb-true}
+use Rattle.std.proofs.Common.{◌≡◌, ℕ, zero, suc, ◌<◌, ◌^◌, ◌==◌, Bool, true, false, cond, List, [], ◌∷◌, set, get_or, sym, refl, ap, ◌∙◌, subst, arith, Option, Some}
 use prog.Atomic.{either}
 use lib.Seq.{set-get_or}
 use Rattle.oak_model.specs.Limits.{Sizes}
@@ -12,7 +12,6 @@ use Rattle.chunk_core.specs.MayOnRooms.{HasLatch}
 use Rattle.chunk_core.specs.RoomCopies.{entry_with, latch_with}
 use Rattle.chunk_core.specs.RoomHolds.{latches_of}
 use Rattle.chunk_core.specs.RoomReads.{latched_at}
-use Rattle.chunk_core.specs.RoomRule.{latches_on}
 use Rattle.chunk_core.specs.RoomStep.{EntryField, of_key, of_value, of_next, RoomStep, entry_spot, latch_room, store_entry, unlatch_room}
 use Rattle.chunk_core.specs.Rooms.{IsInRooms, at_latch}
 use Rattle.oak_core.specs.declared.states.PassState.{PassState}
@@ -25,7 +24,7 @@ use Rattle.oak_core.proofs.CallSteps.{step_alone, stands_both}
 use Rattle.oak_core.proofs.Words.{memory_read}
 use Rattle.chunk_ops.specs.Adds.{FoundLatched}
 use Rattle.chunk_ops.specs.Latching.{with_latch, TakesRoomLatch, GivesRoomLatch, WritesEntry}
-use Rattle.chunk_ops.specs.PinRecords.{HasRoomPin, OnlyMeets, WordsStay, room_pin}
+use Rattle.chunk_ops.specs.PinRecords.{OnlyMeets, WordsStay}
 
 -- a step on the rooms teaches nothing
 pub stands_on : (z : Sizes) (call : ℕ) (x : RoomStep) (v : PassState) (n : ℕ) (w : PassState) → Told z call (on_rooms x) v n w → Stands call v w

@@ -1,5 +1,5 @@
 -- To a pass that is alone and has no latch each latch is free.
-use Rattle.std.proofs.Common.{◌≡◌, ℕ, ◌<◌, ◌==◌, false, List, map, sym, ap, ◌∙◌, subst, arith, get_or, Option, None}
+use Rattle.std.proofs.Common.{◌≡◌, ℕ, ◌==◌, false, map, sym, ap, ◌∙◌, arith, None}
 use mathlib.Core.Logic.{dite}
 use mathlib.Core.Option.{some, some-injective}
 use native.Mathlib.Decide.{ℕ_discrete, dec_lt}
@@ -8,16 +8,13 @@ use Rattle.oak_model.specs.Counts.{total}
 use Rattle.oak_model.specs.Limits.{Sizes}
 use Rattle.oak_model.proofs.Counting.{total_some}
 use Rattle.oak_model.proofs.Lists.{at_unmap}
-use Rattle.chunk_core.specs.declared.holds.Latch.{Latch}
-use Rattle.chunk_core.specs.declared.holds.RoomHolds.{RoomHolds}
 use Rattle.chunk_core.specs.RoomHolds.{latches_of}
 use Rattle.chunk_core.specs.RoomRule.{latches_on}
-use Rattle.chunk_core.specs.RoomStep.{latch_room}
 use Rattle.chunk_core.specs.Rooms.{at_latch}
 use Rattle.oak_core.specs.declared.states.PassState.{PassState}
-use Rattle.oak_core.specs.AloneWords.{LeavesWords, RunsTo, Runs}
+use Rattle.oak_core.specs.AloneWords.{Runs}
 use Rattle.oak_core.specs.Memory.{in_rooms, memory}
-use Rattle.oak_core.specs.PassState.{IsAlone, rooms_held, spent_state}
+use Rattle.oak_core.specs.PassState.{IsAlone, rooms_held}
 use Rattle.oak_core.specs.RoomCalls.{TakesLatch}
 use Rattle.oak_core.specs.Rule.{Rule}
 use Rattle.oak_core.specs.TableState.{TableState}

@@ -1,10 +1,10 @@
-use Rattle.std.proofs.Common.{◌≡◌, ℕ, List, take, sym, subst, ◌∙◌}
+use Rattle.std.proofs.Common.{ℕ, List, take, sym, subst, ◌∙◌}
 use Rattle.oak_model.specs.Limits.{Sizes}
 use Rattle.oak_core.specs.Passes.{state, key as sizes, call_of}
 use Rattle.arena_ops.specs.Taking.{Gives}
 use Rattle.chunk_ops.specs.Adds.{AddsEntry, FoundCrowded, FoundLatched}
 use Rattle.chunk_ops.specs.Latching.{Never, AddsUnder, GivesRoomLatch, TakesRoomLatch}
-use Rattle.chunk_ops.specs.PinRecords.{HasEntry, OnlyMeets, UnderPin}
+use Rattle.chunk_ops.specs.PinRecords.{HasEntry, UnderPin}
 use Rattle.chunk_ops.proofs.AddedEntries.{latched_since, under_around, entry_around, adds_around, crowded_around, given_back, key_looked}
 use Rattle.chunk_ops.proofs.PinSteps.{only_both, only_in, stays_then}
 use Rattle.chunk_ops.proofs.PinsKept.{under_only}
