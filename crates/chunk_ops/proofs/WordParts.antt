@@ -13,7 +13,7 @@ length-bytes_of [] = refl
 length-bytes_of (n ∷ ns) = let e = length-append (word_bytes n) (bytes_of ns) in let r = length-bytes_of ns in let x : ℕ = length (bytes_of ns) in let e' : length (word_bytes n ++ bytes_of ns) ≡ 8 + x = e in omega arith
 
 -- the bytes of one word
-word_in : (ns : List ℕ) (i : ℕ) → i < length ns → bytes_in i (bytes_of ns) ≡ word_bytes (get_or ns i 0)
+pub word_in : (ns : List ℕ) (i : ℕ) → i < length ns → bytes_in i (bytes_of ns) ≡ word_bytes (get_or ns i 0)
 unfolding bytes_of
 word_in [] i lt = absurd (omega arith)
 word_in (n ∷ ns) zero lt = refl

@@ -1,5 +1,5 @@
 -- What a call that adds an entry finds and leaves. v is the state of the pass at the call, w the one at its end.
-use Rattle.std.specs.Prelude.{◌≡◌, ◌≢◌, ℕ, ◌<◌, List, length}
+use Rattle.std.specs.Prelude.{◌≡◌, ◌≢◌, ℕ, ◌<◌, List, length, Some}
 use Rattle.oak_model.specs.declared.classes.Class.{Class}
 use Rattle.oak_model.specs.Counts.{Has}
 use Rattle.oak_model.specs.Key.{IsKey}
@@ -9,13 +9,15 @@ use Rattle.chunk_core.specs.declared.holds.FoundEntry.{FoundEntry}
 use Rattle.chunk_core.specs.LinkedEntries.{entries_in}
 use Rattle.chunk_core.specs.PinnedRooms.{span_of, found_key}
 use Rattle.chunk_core.specs.RoomStep.{latch_room}
+use Rattle.chunk_core.specs.Rooms.{at_count}
 use Rattle.oak_core.specs.declared.states.PassState.{PassState}
 use Rattle.oak_core.specs.CallSteps.{Learns, StepOfCall}
-use Rattle.oak_core.specs.Step.{on_rooms}
+use Rattle.oak_core.specs.Memory.{in_rooms}
+use Rattle.oak_core.specs.Step.{load, on_rooms}
 use Rattle.chunk_ops.specs.declared.entries.AddHalt.{AddHalt}
 use Rattle.chunk_ops.specs.declared.entries.AddHalt.TheVariants.{Crowded, Busy}
 use Rattle.chunk_ops.specs.AskedRanges.{CoversKey}
-use Rattle.chunk_ops.specs.Finds.{CountsRoom, FoundAbsent}
+use Rattle.chunk_ops.specs.Finds.{FoundAbsent}
 use Rattle.chunk_ops.specs.KeyBlocks.{HasKeyBlock, given}
 use Rattle.chunk_ops.specs.PinRecords.{room_pin, HasEntry, KeepsPin}
 
@@ -34,9 +36,15 @@ pub record AddsEntry (z : Sizes) (call r i : ℕ) (c : Class) (b : ℕ) (key : L
   pub pin : KeepsPin z r v w
   pub entry : HasEntry r i key w
 
+-- The count of the room was loaded in the call, and the pin stands as it did behind that load: it has found all entries that the room had at that moment. The latch under which it was loaded has been given up.
+pub record CountsUnder (z : Sizes) (call r : ℕ) (v w : PassState) : Type 0 where
+  pub step : StepOfCall z call (load (in_rooms (at_count r))) v w
+  pub found : (room_pin w).count ≡ Some step.number
+  pub pin : w.rooms.pin ≡ step.to.rooms.pin
+
 -- the count was found at the room's size, and no entry had the key, which was absent then
 pub record FoundCrowded (z : Sizes) (call r : ℕ) (key : List ℕ) (v w : PassState) : Type 0 where
-  pub counted : CountsRoom z call r v w
+  pub counted : CountsUnder z call r v w
   pub full : entries_in counted.step.number ≡ z.entries
   pub none : (e : FoundEntry) → Has e (room_pin w).entries → found_key e ≢ key_number key
   pub absent : FoundAbsent call (key_number key) (room_pin v).base v w

@@ -1,10 +1,13 @@
 //! Rooms under a pin: pinned by a key or a bound, their bounds, and the searches of their entries.
 #![tactic(auto)]
 
+mod adding;
 mod bounds;
 mod comparing;
 mod entries;
 mod finding;
+mod held_keys;
+mod latching;
 mod key_blocks;
 mod loading;
 mod nearest;
@@ -21,6 +24,7 @@ mod stored;
 mod tests;
 mod way;
 
+pub use adding::add;
 pub use bounds::{high_byte, high_len, low_byte, low_len};
 pub use entries::{AddHalt, Content, EntryNo, Found, NotAdded};
 pub use key_blocks::store_key;

@@ -92,6 +92,6 @@ mod KeepsLoads
 mod KeepsCounts
 mod KeepsPublish
 mod UnwrittenKeys
-mod PublishFacts
+pub mod PublishFacts
 pub mod CallSteps
 pub mod CountTold

@@ -1,0 +1,109 @@
+-- What the steps on the latch of a pinned room leave, and those on the entry past its count.
+use Rattle.std.proofs.Common.{◌≡◌, ℕ, zero, suc, ◌<◌, ◌^◌, ◌==◌, Bool, true, false, cond, List, [], ◌∷◌, set, get_or, sym, refl, ap, ◌∙◌, subst, arith, Option, Some}
+use prog.Atomic.{either}
+use lib.Seq.{set-get_or}
+use Rattle.oak_model.specs.Limits.{Sizes}
+use Rattle.oak_model.proofs.Counting.{one_at-same}
+use Rattle.chunk_core.specs.declared.holds.Latch.{Latch}
+use Rattle.chunk_core.specs.declared.holds.PinnedRoom.{PinnedRoom}
+use Rattle.chunk_core.specs.declared.holds.RoomHolds.{RoomHolds}
+use Rattle.chunk_core.specs.LinkedEntries.{entries_in}
+use Rattle.chunk_core.specs.MayOnRooms.{HasLatch}
+use Rattle.chunk_core.specs.RoomCopies.{entry_with, latch_with}
+use Rattle.chunk_core.specs.RoomHolds.{latches_of}
+use Rattle.chunk_core.specs.RoomReads.{latched_at}
+use Rattle.chunk_core.specs.RoomStep.{EntryField, of_key, of_value, of_next, RoomStep, entry_spot, latch_room, store_entry, unlatch_room}
+use Rattle.chunk_core.specs.Rooms.{IsInRooms, at_latch}
+use Rattle.oak_core.specs.declared.states.PassState.{PassState}
+use Rattle.oak_core.specs.CallSteps.{Stands}
+use Rattle.oak_core.specs.Memory.{Memory, in_rooms, index, memory}
+use Rattle.oak_core.specs.RoomCalls.{TakesLatch, StoresEntry, GivesLatch}
+use Rattle.oak_core.specs.Step.{on_rooms, MayOnRooms, Told}
+use Rattle.oak_core.proofs.AloneRuns.{DoesStep, step_runs, runs_as}
+use Rattle.oak_core.proofs.CallSteps.{step_alone, stands_both}
+use Rattle.oak_core.proofs.Words.{memory_read}
+use Rattle.chunk_ops.specs.Adds.{FoundLatched}
+use Rattle.chunk_ops.specs.Latching.{with_latch, TakesRoomLatch, GivesRoomLatch, WritesEntry}
+use Rattle.chunk_ops.specs.PinRecords.{OnlyMeets, WordsStay}
+
+-- a step on the rooms teaches nothing
+pub stands_on : (z : Sizes) (call : ℕ) (x : RoomStep) (v : PassState) (n : ℕ) (w : PassState) → Told z call (on_rooms x) v n w → Stands call v w
+stands_on z call x v n w t = subst (Stands call v) (sym t.after) (record { met = record { more = _ ∷ []; met = refl; calls = (refl, tt) }; numbers = refl; knowledge = refl; fulls = refl; swept = refl; sights = refl; gones = refl })
+
+positive : (n : ℕ) → (n == 0) ≡ false → 0 < n
+positive zero e = absurd cc
+positive (suc n) e = omega arith
+
+module _ (z : Sizes) (call r : ℕ) (v : PassState) (n : ℕ) (w : PassState) (t : TakesLatch z call r v n w) where
+  abbrev m : Memory
+  m = memory z t.table.words
+
+  number_is : (memory z t.table.words).rooms.latch r ≡ n
+  number_is = memory_read z t.table.words (in_rooms (at_latch r)) t.may.inside ∙ t.finds
+
+  rooms_are : w.rooms ≡ with_latch (cond (n == 0) (Some (latched_at (memory z t.table.words).rooms r ((memory z t.table.words).rooms.count r))) v.rooms.latch) v.rooms
+  rooms_are = ap (λ (y : PassState). y.rooms) t.after ∙ ap (λ (k : ℕ). with_latch (cond (k == 0) (Some (latched_at m.rooms r (m.rooms.count r))) v.rooms.latch) v.rooms) number_is
+
+  -- it was free
+  pub latch_taken : (n == 0) ≡ true → TakesRoomLatch call r v w
+  latch_taken e = record {
+    stands = stands_on z call (latch_room r) v n w t;
+    blocks = ap (λ (y : PassState). y.blocks) t.after;
+    headers = ap (λ (y : PassState). y.headers) t.after;
+    latch = latched_at m.rooms r (m.rooms.count r);
+    room = refl;
+    rooms = rooms_are ∙ ap (λ (b : Bool). with_latch (cond b (Some (latched_at m.rooms r (m.rooms.count r))) v.rooms.latch) v.rooms) e;
+  }
+
+  -- it was taken, and stays so
+  pub latch_found : (n == 0) ≡ false → FoundLatched z call r v w × OnlyMeets call v w
+  latch_found e = (
+    record { step = step_alone z call (on_rooms (latch_room r)) v n w t; taken = positive n e },
+    record {
+      stands = stands_on z call (latch_room r) v n w t;
+      blocks = ap (λ (y : PassState). y.blocks) t.after;
+      headers = ap (λ (y : PassState). y.headers) t.after;
+      rooms = rooms_are ∙ ap (λ (b : Bool). with_latch (cond b (Some (latched_at m.rooms r (m.rooms.count r))) v.rooms.latch) v.rooms) e;
+      still = runs_as (DoesStep z (on_rooms (latch_room r)) n) WordsStay v w (λ a b d. d.1 ∙ (kept a d.0 ∙ set-get_or a (index z (in_rooms (at_latch r))) 0)) (step_runs z call (on_rooms (latch_room r)) v n w tt t);
+    },
+  )
+    where
+      kept : (a : List ℕ) → n ≡ get_or a (index z (in_rooms (at_latch r))) 0 → set a (index z (in_rooms (at_latch r))) (either (get_or a (index z (in_rooms (at_latch r))) 0 == 0) 1 (get_or a (index z (in_rooms (at_latch r))) 0)) ≡ set a (index z (in_rooms (at_latch r))) (get_or a (index z (in_rooms (at_latch r))) 0)
+      kept a q = let i : ℕ = index z (in_rooms (at_latch r)) in ap (λ (b : Bool). set a i (either b 1 (get_or a i 0))) (ap (λ (k : ℕ). k == 0) (sym q) ∙ e)
+
+pub latch_given : (z : Sizes) (call r : ℕ) (v w : PassState) → GivesLatch z call r v w → GivesRoomLatch call v w
+latch_given z call r v w g = record {
+  stands = stands_on z call (unlatch_room r) v g.0 w g.1;
+  blocks = ap (λ (y : PassState). y.blocks) g.1.after;
+  headers = ap (λ (y : PassState). y.headers) g.1.after;
+  rooms = ap (λ (y : PassState). y.rooms) g.1.after;
+}
+
+-- the latch of a room is one of it
+pub one_latch : (r : ℕ) (o : Option Latch) (l : Latch) → o ≡ Some l → l.room ≡ r → latches_of r o ≡ 1
+one_latch r o l is on = ap (latches_of r) is ∙ one_at-same l.room r on
+
+-- ---- stores to the entry past the count
+
+entry_inside : (z : Sizes) (f : EntryField) (r i : ℕ) → r < z.chunks → i < z.entries → IsInRooms z (entry_spot f r i)
+entry_inside z of_key r i lr li = (lr, li)
+entry_inside z of_value r i lr li = (lr, li)
+entry_inside z of_next r i lr li = (lr, li)
+
+pub may_store : (z : Sizes) (f : EntryField) (r i x : ℕ) (v : PassState) (p : PinnedRoom) (l : Latch) → r < z.chunks → i < z.entries → HasLatch r v.rooms p l → i ≡ entries_in l.count → x < 2 ^ 64 → MayOnRooms z (store_entry f r i x) v
+may_store z f r i x v p l lr li has is small = record { inside = entry_inside z f r i lr li; rooms = (p, l, has, is, small) }
+
+-- behind a store the pass has the latch, with that word
+abbrev pub latch_stored : (f : EntryField) (r x : ℕ) (a : RoomHolds) (p : PinnedRoom) (l : Latch) → HasLatch r a p l → HasLatch r (with_latch (latch_with f x a.latch) a) p (record l { entry = entry_with f x l.entry })
+latch_stored f r x a p l has = record { is = ap (latch_with f x) has.is; room = has.room; pin = record { is = has.pin.is; room = has.pin.room; good = has.pin.good } }
+
+pub rooms_stored : (z : Sizes) (call : ℕ) (f : EntryField) (r i x : ℕ) (v w : PassState) → StoresEntry z call f r i x v w → w.rooms ≡ with_latch (latch_with f x v.rooms.latch) v.rooms
+rooms_stored z call f r i x v w s = ap (λ (y : PassState). y.rooms) s.1.after
+
+pub entry_written : (z : Sizes) (call r i place value : ℕ) (v u w : PassState) → StoresEntry z call of_key r i place v u → StoresEntry z call of_value r i value u w → WritesEntry call place value v w
+entry_written z call r i place value v u w s t = record {
+  stands = stands_both call v u w (stands_on z call (store_entry of_key r i place) v s.0 u s.1) (stands_on z call (store_entry of_value r i value) u t.0 w t.1);
+  blocks = ap (λ (y : PassState). y.blocks) t.1.after ∙ ap (λ (y : PassState). y.blocks) s.1.after;
+  headers = ap (λ (y : PassState). y.headers) t.1.after ∙ ap (λ (y : PassState). y.headers) s.1.after;
+  rooms = rooms_stored z call of_value r i value u w t ∙ ap (λ (a : RoomHolds). with_latch (latch_with of_value value a.latch) a) (rooms_stored z call of_key r i place v u s);
+}

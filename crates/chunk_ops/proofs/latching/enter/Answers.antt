@@ -1,0 +1,32 @@
+use Rattle.std.proofs.Common.{◌≡◌, ℕ, ◌+◌, ◌∙◌, refl, sym, subst, arith}
+use Rattle.oak_model.specs.Limits.{Sizes}
+use Rattle.chunk_core.specs.LinkedEntries.{entries_in}
+use Rattle.oak_core.specs.Passes.{state, key, call_of}
+use Rattle.oak_core.specs.RoomCalls.{PublishesEntry}
+use Rattle.chunk_ops.specs.Latching.{AddsUnder}
+use Rattle.chunk_ops.proofs.EntryAdds.{may_publish, adds_each}
+use Rattle.chunk_ops.proofs.EntrySteps.{count_fits, may_enter, base_still, adds_behind, may_still}
+use Rattle.chunk_ops.proofs.latching.enter.Goals as goal
+
+pub overflow_add-count : goal.overflow_add-count
+overflow_add-count c = let l = count_fits (key c.args.table.now) c.args.count c.base_of-base.ensures.base.step.told.rule.sizes c.ranges.count.fits c.requires.may.1.room in omega arith
+
+pub publish_entry-requires-clause-names : goal.publish_entry-requires-clause-names
+publish_entry-requires-clause-names c = let z : Sizes = key c.args.table.now in let call = call_of c.args.pass.now in let now = call_of c.base_of-base.new.pass in let v = state c.args.pass.now in let u = state c.base_of-base.new.pass in let w = state c.write_entry.new.pass in
+    let r = c.args.pin.now.room in let b = c.args.block.now in let m = c.requires.may in let f = c.base_of-base.ensures in let place = c.place_word-place.result in let base = c.base_of-base.result in let x = c.write_entry.ensures.written in (
+      r,
+      record { inside = m.1.pinned.inside; word_is = c.count_at-word.ensures },
+      may_publish z r b.class b.number c.args.len c.args.count m.0 w (may_enter z r b.class b.number c.args.len c.args.count m.0 call now place base v u w m.1 f.only x)
+          f.base.step.told.rule.sizes c.place_word-place.ensures (base_still z r b.class b.number c.args.len c.args.count m.0 call now place base v u w m.1 f.only x f.base.pinned),
+    )
+
+pub returns-clause-adds : goal.returns-clause-adds
+returns-clause-adds c k may = let z : Sizes = key c.args.table.now in let call = call_of c.args.pass.now in let now = call_of c.base_of-base.new.pass in let v = state c.args.pass.now in let u = state c.base_of-base.new.pass in let w = state c.write_entry.new.pass in let y = state c.publish_entry.new.pass in
+    let r = c.args.pin.now.room in let b = c.args.block.now in let m = c.requires.may in let f = c.base_of-base.ensures in let place = c.place_word-place.result in let base = c.base_of-base.result in let x = c.write_entry.ensures.written in
+    let e : now ≡ call = f.own.call in let g : call_of c.write_entry.new.pass ≡ call = c.write_entry.ensures.own.call ∙ e in
+    let told : PublishesEntry z call r (c.args.count + 1) w y = subst (λ (n : ℕ). PublishesEntry z n r (c.args.count + 1) w y) g (c.publish_entry.ensures.told r record { inside = m.1.pinned.inside; word_is = c.count_at-word.ensures }) in
+    subst (λ (i : ℕ). AddsUnder z call r i b.class b.number k v y) (sym c.entries_in-entry.ensures)
+    (adds_behind z r b.class b.number c.args.len c.args.count m.0 call now place base v u w m.1 f.only x call (entries_in c.args.count) k y refl e
+    (adds_each z r b.class b.number c.args.len c.args.count m.0 w (may_enter z r b.class b.number c.args.len c.args.count m.0 call now place base v u w m.1 f.only x)
+    f.base.step.told.rule.sizes c.place_word-place.ensures (base_still z r b.class b.number c.args.len c.args.count m.0 call now place base v u w m.1 f.only x f.base.pinned)
+    call y told k (may_still z r b.class b.number c.args.len c.args.count m.0 call now place base v u w m.1 f.only x k may)))
