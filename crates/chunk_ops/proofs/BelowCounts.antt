@@ -1,5 +1,5 @@
 -- What a pin has found below a count, as the room that is searched.
-use Rattle.std.proofs.Common.{◌≡◌, ℕ, zero, suc, ◌<◌, ◌≤◌, List, [], ◌∷◌, length, get_or, map, take, sym, refl, ap, ◌∙◌, subst, arith, inl, inr, Option, Some, None}
+use Rattle.std.proofs.Common.{◌≡◌, ℕ, zero, suc, ◌<◌, List, [], ◌∷◌, length, get_or, map, take, sym, ap, ◌∙◌, subst, arith, inl, inr}
 use Rattle.std.proofs.lemmas.List.{length-map, length-take-le, take_all}
 use mathlib.Core.Option.{some, some-injective, some-ne-none}
 use lib.ListN.{get_elem?}
@@ -8,7 +8,7 @@ use Rattle.chunk_core.specs.declared.holds.FoundEntry.{FoundEntry}
 use Rattle.chunk_core.specs.declared.holds.PinnedRoom.{PinnedRoom}
 use Rattle.chunk_core.specs.LinkedEntries.{entries_in, prefix_in}
 use Rattle.oak_core.proofs.MetLists.{at_inside, at_some}
-use Rattle.chunk_ops.specs.Room.{Room, IsRoom, place_at, key_at, entries}
+use Rattle.chunk_ops.specs.Room.{IsRoom, place_at, key_at, entries}
 use Rattle.chunk_ops.specs.RoomLoads.{room_below, entry_word, entry_key}
 
 module _ {A : Type 0} where

@@ -1,5 +1,5 @@
 -- What the load of the count of a pinned room leaves: the pin has found all entries below it, which are a room in order, and each other key of the range was absent.
-use Rattle.std.proofs.Common.{◌≡◌, ◌≢◌, ℕ, ◌+◌, ◌-◌, ◌*◌, ◌<◌, ◌≤◌, List, [], length, get_or, map, take, sym, refl, ap, ◌∙◌, subst, arith, Some, None}
+use Rattle.std.proofs.Common.{◌≡◌, ◌≢◌, ℕ, ◌+◌, ◌<◌, List, [], length, map, take, sym, refl, ap, ◌∙◌, subst, arith, Some}
 use Rattle.std.proofs.lemmas.List.{take_all, get_or_past}
 use mathlib.Core.Logic.{dite}
 use mathlib.Core.Option.{some}
@@ -26,19 +26,15 @@ use Rattle.chunk_core.specs.Rooms.{at_count}
 use Rattle.chunk_core.specs.RoomsAfter.{pin_with}
 use Rattle.chunk_core.specs.Spans.{within}
 use Rattle.chunk_core.proofs.CountLoads.{rows_has}
-use Rattle.chunk_core.proofs.CoverFacts.{entry_adds}
-use Rattle.chunk_core.proofs.EntryNumbers.{numbers_once}
 use Rattle.oak_core.specs.declared.states.PassState.{PassState}
-use Rattle.oak_core.specs.CallSteps.{Learns}
-use Rattle.oak_core.specs.EntryOwners.{is_key_word}
 use Rattle.oak_core.specs.Memory.{Memory, in_rooms, memory}
 use Rattle.oak_core.specs.PassState.{rooms_held}
 use Rattle.oak_core.specs.Step.{load, Told}
 use Rattle.oak_core.proofs.CountTold.{count_found, pin_counted, count_learns, count_absence, count_ends}
-use Rattle.oak_core.proofs.MetLists.{at_inside, each_at}
+use Rattle.oak_core.proofs.MetLists.{each_at}
 use Rattle.chunk_ops.specs.Finds.{FoundAbsent}
 use Rattle.chunk_ops.specs.PinRecords.{HasRoomPin, RoomPinned, PinStays, UnderPin, pin_or, room_pin, with_room_pin}
-use Rattle.chunk_ops.specs.Room.{Room, IsRoom, key_at, place_at, entries}
+use Rattle.chunk_ops.specs.Room.{Room, IsRoom, key_at, place_at}
 use Rattle.chunk_ops.specs.RoomLoads.{AreNamed, NamesKey, room_below, entry_word, entry_key}
 use Rattle.chunk_ops.proofs.BelowCounts.{has_at}
 use Rattle.chunk_ops.proofs.FoundEntries.{counted_numbers}

@@ -1,30 +1,24 @@
 -- What a search for a key found, by the room that it searched.
-use Rattle.std.proofs.Common.{◌≡◌, ◌≢◌, ℕ, ◌+◌, ◌<◌, ◌≤◌, List, [], length, sym, refl, ap, ◌∙◌, subst, arith, Option, Some, None, MatchOption}
-use mathlib.Core.Option.{some}
-use lib.ListN.{get_elem?}
+use Rattle.std.proofs.Common.{◌≡◌, ◌≢◌, ℕ, List, sym, ap, ◌∙◌, subst, arith, Option, Some, None, MatchOption}
 use Rattle.oak_model.specs.Counts.{Has}
 use Rattle.oak_model.specs.Key.{IsKey, AreBytes}
 use Rattle.oak_model.specs.KeyNumber.{key_number}
 use Rattle.oak_model.specs.Limits.{Sizes}
 use Rattle.oak_model.proofs.NumberLaws.{key_number_is}
-use Rattle.arena_core.specs.Place.{content}
 use Rattle.chunk_core.specs.declared.holds.FoundEntry.{FoundEntry}
-use Rattle.chunk_core.specs.KeyWords.{key_in, key_bytes}
-use Rattle.chunk_core.specs.LinkedEntries.{entries_in}
-use Rattle.chunk_core.specs.PinnedRooms.{found_key, span_of}
-use Rattle.chunk_core.specs.RoomReads.{found_at}
-use Rattle.chunk_core.proofs.CountLoads.{rows_is, rows_has}
+use Rattle.chunk_core.specs.KeyWords.{key_in}
+use Rattle.chunk_core.specs.PinnedRooms.{found_key}
 use Rattle.oak_core.specs.declared.states.PassState.{PassState}
 use Rattle.oak_core.specs.AloneWords.{Runs}
-use Rattle.oak_core.specs.Memory.{Memory, memory}
+use Rattle.oak_core.specs.Memory.{memory}
 use Rattle.oak_core.proofs.AloneRuns.{runs_as}
 use Rattle.chunk_ops.specs.Finds.{FindsKey, FindsMissing}
-use Rattle.chunk_ops.specs.FindsAlone.{FindsIn, HasKeyAt, as_found, used_key}
+use Rattle.chunk_ops.specs.FindsAlone.{FindsIn, HasKeyAt, as_found}
 use Rattle.chunk_ops.specs.Found.{IsFound}
-use Rattle.chunk_ops.specs.PinRecords.{HasEntry, room_pin}
-use Rattle.chunk_ops.specs.Room.{Room, IsRoom, key_at, entries}
+use Rattle.chunk_ops.specs.PinRecords.{room_pin}
+use Rattle.chunk_ops.specs.Room.{IsRoom}
 use Rattle.chunk_ops.specs.RoomLoads.{room_below, entry_key}
-use Rattle.chunk_ops.proofs.BelowCounts.{found_below_count, has_at}
+use Rattle.chunk_ops.proofs.BelowCounts.{found_below_count}
 use Rattle.chunk_ops.proofs.PinnedWords.{entry_there}
 use Rattle.chunk_ops.proofs.SearchedRooms.{SearchedTo}
 use Rattle.chunk_ops.proofs.UsedEntries.{found_used, used_found}

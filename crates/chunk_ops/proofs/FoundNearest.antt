@@ -1,5 +1,5 @@
 -- What a search for the nearest key found, by the room that it searched.
-use Rattle.std.proofs.Common.{◌≡◌, ◌≢◌, ℕ, ◌+◌, ◌<◌, ◌≤◌, List, length, sym, refl, ap, ◌∙◌, subst, arith, Option, Some, None, MatchOption}
+use Rattle.std.proofs.Common.{◌≡◌, ℕ, List, sym, subst, arith, Option, Some, None, MatchOption}
 use Rattle.std.specs.declared.cmp.Ordering.TheVariants.{Less, Greater}
 use Rattle.oak_model.specs.Counts.{Has}
 use Rattle.oak_model.specs.Key.{IsKey, AreBytes, key_cmp}
@@ -8,22 +8,20 @@ use Rattle.oak_model.specs.Limits.{Sizes}
 use Rattle.oak_model.proofs.NumberLaws.{key_number_rises, key_before_is}
 use Rattle.chunk_core.specs.declared.holds.FoundEntry.{FoundEntry}
 use Rattle.chunk_core.specs.KeyWords.{key_in}
-use Rattle.chunk_core.specs.PinnedRooms.{found_key, span_of}
-use Rattle.chunk_core.specs.Spans.{within}
+use Rattle.chunk_core.specs.PinnedRooms.{found_key}
 use Rattle.oak_core.specs.declared.states.PassState.{PassState}
 use Rattle.oak_core.specs.AloneWords.{Runs}
 use Rattle.oak_core.specs.Memory.{memory}
 use Rattle.oak_core.proofs.AloneRuns.{runs_as}
-use Rattle.chunk_ops.specs.declared.entries.EntryNo.{EntryNo}
 use Rattle.chunk_ops.specs.declared.way.Way.{Way}
 use Rattle.chunk_ops.specs.declared.way.Way.TheVariants.{Up, Down}
 use Rattle.chunk_ops.specs.AskedRanges.{IsKeyOrNone}
-use Rattle.chunk_ops.specs.Finds.{FindsNearest, FindsNone, FoundAbsent, IsNearer, IsPast}
+use Rattle.chunk_ops.specs.Finds.{FindsNearest, FindsNone, IsNearer, IsPast}
 use Rattle.chunk_ops.specs.FindsAlone.{HasNearest, NearestIn, as_entry, used_key}
 use Rattle.chunk_ops.specs.Nearest.{AreBoundBytes, IsBeyond, IsNearest, way_order}
 use Rattle.chunk_ops.specs.PinRecords.{HasEntry, room_pin}
 use Rattle.chunk_ops.specs.Room.{Room, IsRoom, key_at, entries}
-use Rattle.chunk_ops.specs.RoomLoads.{room_below, entry_key}
+use Rattle.chunk_ops.specs.RoomLoads.{room_below}
 use Rattle.chunk_ops.proofs.BelowCounts.{FoundBelow, found_below_count}
 use Rattle.chunk_ops.proofs.PinnedWords.{entry_there}
 use Rattle.chunk_ops.proofs.SearchLaws.{turned}

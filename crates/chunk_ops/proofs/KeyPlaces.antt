@@ -1,47 +1,31 @@
 -- The key word of an entry below the count of a room that is a cover: it names a block of the table, which is a key's.
-use Rattle.std.proofs.Common.{◌≡◌, ℕ, ◌+◌, ◌-◌, ◌*◌, ◌/◌, ◌%◌, ◌^◌, ◌<◌, ◌≤◌, ◌==◌, ◌&&◌, nat_lt, nat_le, true, false, Bool, cond, List, [], ◌∷◌, map, length, get_or, take, sym, refl, ap, ◌∙◌, subst, arith, Option, Some, None, leb-true, ltb-true, eqb-true}
+use Rattle.std.proofs.Common.{◌≡◌, ℕ, ◌-◌, ◌*◌, ◌^◌, ◌<◌, ◌≤◌, ◌&&◌, nat_lt, nat_le, true, false, Bool, cond, List, [], ◌∷◌, map, sym, refl, subst, arith, Option, Some, None, leb-true, ltb-true, eqb-true}
 use Rattle.std.proofs.lemmas.Bool.{lt-ltb}
 use Rattle.std.specs.List.{find}
 use mathlib.Core.Logic.{dite}
-use mathlib.Core.Option.{some}
-use lib.ListN.{get_elem?}
 use native.Mathlib.Decide.{dec_lt}
 use Rattle.oak_model.specs.declared.classes.Class.{Class}
-use Rattle.oak_model.specs.declared.limits.TheConstants.{CLASSES, GREATEST_KEY}
+use Rattle.oak_model.specs.declared.limits.TheConstants.{GREATEST_KEY}
 use Rattle.oak_model.specs.Class.{class_number, class_bytes, classes, class_of}
-use Rattle.oak_model.specs.Counts.{one_if, one_at, total}
-use Rattle.oak_model.specs.Key.{IsKey}
+use Rattle.oak_model.specs.Counts.{one_if}
 use Rattle.oak_model.specs.Limits.{Sizes}
-use Rattle.oak_model.specs.WordBytes.{word_bytes, bytes_of}
 use Rattle.oak_model.proofs.Counting.{test-cases, both_true, total_map}
-use Rattle.oak_model.proofs.Lists.{rows_length, rows_at}
 use Rattle.oak_model.proofs.SumLaws.{total_in}
-use Rattle.arena_core.specs.Arena.{at_bytes, block_words, blocks, IsInArena}
+use Rattle.arena_core.specs.Arena.{block_words, blocks}
 use Rattle.arena_core.specs.Place.{IsPlace, class_in, block_in, length_in, names_block, content}
-use Rattle.arena_core.proofs.PlaceLaws.{class_below}
-use Rattle.chunk_core.specs.declared.holds.FoundEntry.{FoundEntry}
-use Rattle.chunk_core.specs.declared.holds.PinnedRoom.{PinnedRoom}
 use Rattle.chunk_core.specs.declared.holds.RoomHolds.{RoomHolds}
 use Rattle.chunk_core.specs.Covers.{span_in, entry_at, used_at, moving_of}
 use Rattle.chunk_core.specs.CoverSums.{weight, each, owning}
-use Rattle.chunk_core.specs.KeyWords.{key_length, key_bytes}
-use Rattle.chunk_core.specs.LinkedEntries.{entries_in, in_use, first_numbers}
-use Rattle.chunk_core.specs.MayOnRooms.{FindsEntry}
-use Rattle.chunk_core.specs.PinnedRooms.{AreCounted, EntryStands, RoomPinHolds}
-use Rattle.chunk_core.specs.Rooms.{at_key}
+use Rattle.chunk_core.specs.LinkedEntries.{entries_in, in_use}
 use Rattle.chunk_core.proofs.CoverFacts.{entry_adds}
 use Rattle.chunk_core.proofs.CoverLaws.{room_le}
 use Rattle.chunk_core.proofs.EntryNumbers.{numbers_once}
-use Rattle.oak_core.specs.declared.states.PassState.{PassState}
 use Rattle.oak_core.specs.EntryOwners.{is_class, is_key_word, entry_owners}
-use Rattle.oak_core.specs.Memory.{Memory, Spot, in_arena, in_rooms, index, IsInside, memory}
+use Rattle.oak_core.specs.Memory.{Memory, memory}
 use Rattle.oak_core.specs.PassState.{rooms_held}
 use Rattle.oak_core.specs.Rule.{Rule}
-use Rattle.oak_core.specs.Splitting.{Loads}
-use Rattle.oak_core.specs.Step.{Step, load, Told}
 use Rattle.oak_core.specs.TableState.{TableState}
 use Rattle.oak_core.proofs.HeadersInArena.{names_named}
-use Rattle.oak_core.proofs.MetLists.{at_inside, each_at}
 
 -- a class that is found for a length has room for it
 

@@ -1,7 +1,7 @@
 -- Loads of the entries of a room that is searched.
-use Rattle.std.proofs.Common.{◌≡◌, ℕ, ◌-◌, ◌*◌, ◌/◌, ◌<◌, ◌≤◌, List, length, get_or, take, sym, refl, ap, ◌∙◌, subst, arith}
+use Rattle.std.proofs.Common.{◌≡◌, ℕ, ◌-◌, ◌*◌, ◌/◌, ◌<◌, List, length, take, sym, ap, ◌∙◌, subst, arith}
 use Rattle.oak_model.specs.Limits.{Sizes}
-use Rattle.oak_model.specs.WordBytes.{word_bytes, bytes_of}
+use Rattle.oak_model.specs.WordBytes.{word_bytes}
 use Rattle.arena_core.specs.Arena.{at_bytes, block_words, IsInArena}
 use Rattle.arena_core.specs.Place.{class_in, block_in, length_in}
 use Rattle.chunk_core.specs.Rooms.{at_key, IsInRooms}
@@ -9,9 +9,9 @@ use Rattle.oak_core.specs.declared.states.PassState.{PassState}
 use Rattle.oak_core.specs.Memory.{in_arena, in_rooms}
 use Rattle.oak_core.specs.Step.{Step, load, Told}
 use Rattle.oak_core.proofs.MetLists.{at_inside}
-use Rattle.chunk_ops.specs.PinRecords.{HasEntry, HasRoomPin, OnlyMeets, room_pin}
+use Rattle.chunk_ops.specs.PinRecords.{HasEntry, HasRoomPin, room_pin}
 use Rattle.chunk_ops.specs.Room.{place_at, key_at, entries}
-use Rattle.chunk_ops.specs.RoomLoads.{NamesKey, room_below, entry_key}
+use Rattle.chunk_ops.specs.RoomLoads.{NamesKey, room_below}
 use Rattle.chunk_ops.specs.Words.{bytes_in}
 use Rattle.chunk_ops.proofs.BelowCounts.{EntryBelow, entry_below_count}
 use Rattle.chunk_ops.proofs.FoundEntries.{key_word_is, block_word_is, key_is_there, room_there, in_block, key_long}

@@ -1,8 +1,6 @@
 -- What a search leaves: its call loaded the count of the room, and then words of entries alone.
-use Rattle.std.proofs.Common.{◌≡◌, ◌≢◌, ℕ, ◌+◌, ◌-◌, ◌<◌, ◌≤◌, List, [], ◌∷◌, length, get_or, set, sym, refl, ap, ◌∙◌, subst, arith, inr, Option, Some, None}
+use Rattle.std.proofs.Common.{◌≡◌, ◌≢◌, ℕ, ◌+◌, ◌-◌, ◌≤◌, List, ◌∷◌, length, get_or, set, sym, refl, ap, ◌∙◌, subst, arith, inr, Some, None}
 use lib.Seq.{set-get_or}
-use mathlib.Core.Option.{some}
-use lib.ListN.{get_elem?}
 use Rattle.oak_model.specs.Counts.{Each, Has}
 use Rattle.oak_model.specs.Limits.{Sizes}
 use Rattle.arena_core.specs.Place.{content}
@@ -13,11 +11,10 @@ use Rattle.chunk_core.specs.PinnedRooms.{span_of, found_key}
 use Rattle.chunk_core.specs.RoomReads.{found_below}
 use Rattle.chunk_core.specs.Rooms.{at_count}
 use Rattle.chunk_core.specs.Spans.{within}
-use Rattle.oak_core.specs.declared.states.Knowledge.{Knowledge}
 use Rattle.oak_core.specs.declared.states.PassState.{PassState}
 use Rattle.oak_core.specs.AloneWords.{Runs}
 use Rattle.oak_core.specs.CountReads.{EndsAbsent}
-use Rattle.oak_core.specs.Memory.{Memory, Spot, in_rooms, index, memory}
+use Rattle.oak_core.specs.Memory.{Spot, in_rooms, index, memory}
 use Rattle.oak_core.specs.Step.{load, Told}
 use Rattle.oak_core.proofs.AloneRuns.{Then, load_runs, runs_as, runs_then, step_starts, words_stand}
 use Rattle.oak_core.proofs.CallSteps.{learns_both, stands_learns, step_alone, step_until}
@@ -27,7 +24,7 @@ use Rattle.chunk_ops.specs.Finds.{CountsRoom, FoundAbsent, LoadsFew}
 use Rattle.chunk_ops.specs.PinRecords.{HasRoomPin, OnlyMeets, PinKept, UnderPin, WordsStay, pin_or, room_pin}
 use Rattle.chunk_ops.specs.Reads.{Met, met_count, key_loads}
 use Rattle.chunk_ops.specs.RoomLoads.{LoadsEach}
-use Rattle.chunk_ops.proofs.CountedRooms.{CountsNow, counts_now}
+use Rattle.chunk_ops.proofs.CountedRooms.{counts_now}
 use Rattle.chunk_ops.proofs.LoadedWords.{IsOfEntry, loads_only, loads_few}
 
 -- what was absent is so behind loads

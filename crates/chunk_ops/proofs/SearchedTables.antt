@@ -6,8 +6,8 @@ use Rattle.oak_core.specs.Passes.{state, key as sizes, call_of}
 use Rattle.chunk_ops.specs.declared.pinned.PinnedTable.{PinnedTable}
 use Rattle.chunk_ops.specs.Bits.{bits}
 use Rattle.chunk_ops.specs.Found.{CountsFirst, search_loads}
-use Rattle.chunk_ops.specs.Reads.{Met, met_count, key_loads, AreReadings}
-use Rattle.chunk_ops.specs.Room.{Room, entries}
+use Rattle.chunk_ops.specs.Reads.{Met, key_loads, AreReadings}
+use Rattle.chunk_ops.specs.Room.{Room}
 use Rattle.chunk_ops.specs.PinRecords.{HasRoomPin}
 use Rattle.chunk_ops.specs.RoomLoads.{MeetsInTable, room_of}
 use Rattle.chunk_ops.proofs.LoadedWords.{IsOfEntry, count_kept}

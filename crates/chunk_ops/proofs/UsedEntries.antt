@@ -7,7 +7,7 @@ use Rattle.oak_model.specs.KeyNumber.{key_number}
 use Rattle.oak_model.specs.Limits.{Sizes}
 use Rattle.arena_core.specs.Place.{content}
 use Rattle.chunk_core.specs.declared.holds.FoundEntry.{FoundEntry}
-use Rattle.chunk_core.specs.KeyWords.{key_in, key_bytes}
+use Rattle.chunk_core.specs.KeyWords.{key_in}
 use Rattle.chunk_core.specs.LinkedEntries.{entries_in}
 use Rattle.chunk_core.specs.PinnedRooms.{found_key}
 use Rattle.chunk_core.specs.RoomReads.{found_at}
