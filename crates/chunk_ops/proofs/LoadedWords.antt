@@ -85,8 +85,8 @@ unfolding below
 one_of_them g x zero apart = omega arith
 one_of_them g x (suc n) apart = one_at-cases x (g n) (λ (k : ℕ). below (λ i. one_at x (g i)) n + k ≤ 1)
     (λ e. dite (dec_lt 0 (below (λ i. one_at x (g i)) n))
-        (λ l. let s = below_some (λ i. one_at x (g i)) n l in let a = one_at-true x (g s.0) s.2 in let b = apart s.0 n (let h = s.1 in omega arith) (omega arith) (sym a ∙ e) in absurd (let h = s.1 in omega arith))
-        (λ m. omega arith))
+    (λ l. let s = below_some (λ i. one_at x (g i)) n l in let a = one_at-true x (g s.0) s.2 in let b = apart s.0 n (let h = s.1 in omega arith) (omega arith) (sym a ∙ e) in absurd (let h = s.1 in omega arith))
+    (λ m. omega arith))
     (λ _. let h = one_of_them g x n (λ i j a b. apart i j (omega arith) (omega arith)) in omega arith)
 
 kind_of : Spot → ℕ
@@ -108,7 +108,7 @@ module _ (z : Sizes) (call r : ℕ) (inside : r < z.chunks) where
   unfolding kind_of
   not_key p at ne = dite (dec_lt 0 (below (λ i. one_at (index z p) (index z (in_rooms (at_key r i)))) z.entries))
       (λ l. let s = below_some (λ i. one_at (index z p) (index z (in_rooms (at_key r i)))) z.entries l in
-          absurd (ne (ap kind_of (index_apart z p (in_rooms (at_key r s.0)) at (inside, s.1) (one_at-true (index z p) (index z (in_rooms (at_key r s.0))) s.2)))))
+      absurd (ne (ap kind_of (index_apart z p (in_rooms (at_key r s.0)) at (inside, s.1) (one_at-true (index z p) (index z (in_rooms (at_key r s.0))) s.2)))))
       (λ n. omega arith)
 
   key_words : (m : Met) → IsInside z (spot_of r m) → below (λ i. one_at (index z (spot_of r m)) (index z (in_rooms (at_key r i)))) z.entries ≤ is_key_load m

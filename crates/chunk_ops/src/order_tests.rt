@@ -1,4 +1,4 @@
-use crate::StoredKey;
+use crate::stored::StoredKey;
 use oak_model::{GREATEST_KEY, is_key};
 use std::process::Abort;
 use std::test::Fail;

@@ -9,11 +9,10 @@ ghost use Rattle.chunk_ops.specs.FindsAlone.{FindsIn, NearestIn, as_found};
 ghost use Rattle.chunk_ops.specs.PinRecords.{HasRoomPin, UnderPin, room_pin};
 
 use crate::entries::{EntryNo, Found};
-use crate::finding;
-use crate::nearest;
 use crate::pinned::PinnedTable;
 use crate::pins::RoomPin;
 use crate::way::Way;
+use crate::{finding, nearest};
 use oak_core::{OakTable, Pass};
 
 /// The entry of the key, with the count word below which it was sought.
@@ -33,7 +32,12 @@ pub(crate) fn find_counted(
     ensures few { LoadsFew (sizes table.now) pin.now.room (state pass.old) (state pass.new) }
     ensures alone { Runs (FindsIn (sizes table.now) pin.now.room key.now (as_found result.1)) (state pass.old) (state pass.new) }
 {
-    let mut room = PinnedTable { table, pass, room: pin.room, count: 0 };
+    let mut room = PinnedTable {
+        table,
+        pass,
+        room: pin.room,
+        count: 0,
+    };
     let found = finding::find(&mut room, key);
     (room.count, found)
 }
@@ -73,7 +77,12 @@ fn beside(
     ensures few { LoadsFew (sizes table.now) pin.now.room (state pass.old) (state pass.new) }
     ensures alone { Runs (NearestIn (sizes table.now) pin.now.room way (bytes_in_option key.entry) result) (state pass.old) (state pass.new) }
 {
-    let mut room = PinnedTable { table, pass, room: pin.room, count: 0 };
+    let mut room = PinnedTable {
+        table,
+        pass,
+        room: pin.room,
+        count: 0,
+    };
     match nearest::nearest(&mut room, way, key) {
         Some(entry) => Some(EntryNo(entry)),
         None => None,
