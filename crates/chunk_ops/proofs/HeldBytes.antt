@@ -53,13 +53,15 @@ module _ (z : Sizes) (call : ℕ) (c : Class) (b : ℕ) (v : PassState) (h : Hol
   pub word_loaded : (i at n : ℕ) (w : PassState) → i < block_words (class_number c) → at ≡ index z (in_arena (at_bytes (class_number c) b i)) → Loads z call at v n w → word_bytes n ≡ bytes_in i (bytes_of (words_held (class_number c) b v.blocks.held))
   word_loaded i at n w lt is l = bytes_are i n w (load_at z call at n v w (in_arena (at_bytes (class_number c) b i)) (held_inside z c b i v h lt) is l) lt
 
--- loads leave them
-pub bytes_still : (call : ℕ) (c : Class) (b i : ℕ) (v w : PassState) → OnlyMeets call v w → bytes_in i (bytes_of (words_held (class_number c) b w.blocks.held)) ≡ bytes_in i (bytes_of (words_held (class_number c) b v.blocks.held))
-bytes_still call c b i v w o = ap (λ (a : HeldBlocks). bytes_in i (bytes_of (words_held (class_number c) b a.held))) o.blocks
+-- a loop that copies them word by word, by loads that leave them
 
--- a loop that copies them word by word
-pub copied_more : (bs xs ys : List ℕ) (i : ℕ) → take (8 * i) xs ≡ take (8 * i) bs → take (8 * i + 8) ys ≡ take (8 * i) xs ++ bytes_in i bs → take (8 * (i + 1)) ys ≡ take (8 * (i + 1)) bs
+copied_more : (bs xs ys : List ℕ) (i : ℕ) → take (8 * i) xs ≡ take (8 * i) bs → take (8 * i + 8) ys ≡ take (8 * i) xs ++ bytes_in i bs → take (8 * (i + 1)) ys ≡ take (8 * (i + 1)) bs
 copied_more bs xs ys i before put = let e : 8 * (i + 1) ≡ 8 * i + 8 = omega arith in ap (λ (j : ℕ). take j ys) e ∙ (put ∙ (ap (λ (zs : List ℕ). zs ++ bytes_in i bs) before ∙ (sym (take-add (8 * i) 8 bs) ∙ ap (λ (j : ℕ). take j bs) (sym e))))
+
+pub copied_word : (call : ℕ) (c : Class) (b i n : ℕ) (v w : PassState) (xs ys : List ℕ) → OnlyMeets call v w → take (8 * i) xs ≡ take (8 * i) (bytes_of (words_held (class_number c) b v.blocks.held)) → word_bytes n ≡ bytes_in i (bytes_of (words_held (class_number c) b w.blocks.held))
+    → take (8 * i + 8) ys ≡ take (8 * i) xs ++ word_bytes n → take (8 * (i + 1)) ys ≡ take (8 * (i + 1)) (bytes_of (words_held (class_number c) b v.blocks.held))
+copied_word call c b i n v w xs ys o before word put = copied_more (bytes_of (words_held (class_number c) b v.blocks.held)) xs ys i before
+    (put ∙ ap (λ (zs : List ℕ). take (8 * i) xs ++ zs) (word ∙ ap (λ (a : HeldBlocks). bytes_in i (bytes_of (words_held (class_number c) b a.held))) o.blocks))
 
 pub copied_all : (bs xs : List ℕ) (n len : ℕ) → len ≤ n → take n xs ≡ take n bs → take len xs ≡ take len bs
 copied_all bs xs n len le same = sym (take-take len n xs le) ∙ (ap (take len) same ∙ take-take len n bs le)
