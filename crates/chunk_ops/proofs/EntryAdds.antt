@@ -1,16 +1,12 @@
 -- What the step that publishes an entry asks and leaves, where the entry's words stand past the count that was loaded under the latch.
-use Rattle.std.proofs.Common.{◌≡◌, ◌≢◌, ℕ, suc, ◌+◌, ◌^◌, ◌<◌, ◌≤◌, ◌&&◌, nat_lt, nat_le, Bool, List, [], ◌∷◌, length, take, sym, refl, ap, ◌∙◌, subst, arith, inl, inr, Option, Some, None, eq-eqb}
-use Rattle.std.proofs.lemmas.Bool.{lt-ltb, le-leb}
+use Rattle.std.proofs.Common.{◌≡◌, ◌≢◌, ℕ, suc, ◌+◌, ◌^◌, ◌<◌, List, length, take, sym, refl, ap, ◌∙◌, subst, arith, Option, Some, None}
 use mathlib.Core.Option.{some}
-use lib.ListN.{get_elem?}
 use Rattle.oak_model.specs.declared.classes.Class.{Class}
-use Rattle.oak_model.specs.declared.limits.TheConstants.{GREATEST_KEY}
-use Rattle.oak_model.specs.Class.{class_number, class_of}
-use Rattle.oak_model.specs.Counts.{one_if, Each, Has}
+use Rattle.oak_model.specs.Class.{class_number}
 use Rattle.oak_model.specs.KeyNumber.{key_number}
 use Rattle.oak_model.specs.Limits.{Sizes, IsInLimits}
 use Rattle.oak_model.specs.WordBytes.{bytes_of}
-use Rattle.oak_model.proofs.Counting.{true_both, one_at-same}
+use Rattle.oak_model.proofs.Counting.{one_at-same}
 use Rattle.oak_model.proofs.Lists.{rows_length}
 use Rattle.arena_core.specs.Blocks.{HoldsBlock, without, words_held}
 use Rattle.arena_core.specs.Place.{place_word, class_in, block_in, length_in, content}
@@ -19,80 +15,28 @@ use Rattle.arena_core.proofs.PlaceLaws.{class_below, class_in-word, block_in-wor
 use Rattle.chunk_core.specs.declared.holds.FoundEntry.{FoundEntry}
 use Rattle.chunk_core.specs.declared.holds.PinnedRoom.{PinnedRoom}
 use Rattle.chunk_core.specs.declared.holds.RoomHolds.{RoomHolds}
-use Rattle.chunk_core.specs.KeyWords.{key_length, key_bytes, key_in}
+use Rattle.chunk_core.specs.KeyWords.{key_bytes, key_in}
 use Rattle.chunk_core.specs.LinkedEntries.{entries_in}
 use Rattle.chunk_core.specs.MayOnRooms.{FindsEntry}
-use Rattle.chunk_core.specs.PinnedRooms.{EntryStands, RoomPinHolds, AreCounted, span_of, found_key}
+use Rattle.chunk_core.specs.PinnedRooms.{RoomPinHolds, AreCounted, span_of, found_key}
 use Rattle.chunk_core.specs.RoomReads.{latched_at, found_at}
 use Rattle.chunk_core.specs.RoomRule.{latches_on}
 use Rattle.chunk_core.specs.RoomStep.{publish_entry}
-use Rattle.chunk_core.specs.Rooms.{RoomMemory}
 use Rattle.chunk_core.specs.RoomsAfter.{pin_with, counted_more}
 use Rattle.chunk_core.specs.Spans.{within}
 use Rattle.chunk_core.proofs.CountLoads.{rows_has}
 use Rattle.chunk_core.proofs.EntryNumbers.{count_more}
 use Rattle.oak_core.specs.declared.states.PassState.{PassState}
-use Rattle.oak_core.specs.EntryOwners.{is_class, is_key_word}
 use Rattle.oak_core.specs.Memory.{Memory, memory}
 use Rattle.oak_core.specs.RoomCalls.{PublishesEntry}
 use Rattle.oak_core.specs.Step.{MayPublishEntry}
 use Rattle.oak_core.proofs.CallSteps.{stands_learns}
-use Rattle.oak_core.proofs.MetLists.{at_inside, each_at}
 use Rattle.oak_core.proofs.PublishFacts.{pin_stands, count_is, key_word, words_there}
 use Rattle.chunk_ops.specs.Adds.{MayAdd}
 use Rattle.chunk_ops.specs.Latching.{with_latch, MayEnter, AddsUnder}
-use Rattle.chunk_ops.specs.PinRecords.{HasEntry, RoomPinned, PinKept, PinStays, pin_or, room_pin}
+use Rattle.chunk_ops.specs.PinRecords.{HasEntry, RoomPinned, PinKept, pin_or, room_pin}
 use Rattle.chunk_ops.proofs.LatchSteps.{stands_on}
-
-each_has : {A : Type 0} (P : A → Type 0) (xs : List A) → ((x : A) → Has x xs → P x) → Each P xs
-each_has P [] f = tt
-each_has P (x ∷ xs) f = (f x (inl refl), each_has P xs (λ y h. f y (inr h)))
-
--- the key word that names a key's block is one
-pub is_key-word : (word n : ℕ) (c : Class) → length_in word ≡ n → class_in word ≡ class_number c → 0 < n → n ≤ GREATEST_KEY → class_of n ≡ Some c → is_key_word word ≡ 1
-is_key-word word n c long is some_byte few fits = let lt = lt-ltb 0 n some_byte in let le = le-leb n GREATEST_KEY few in
-    ap (λ (b : Bool). one_if b) (true_both (nat_lt 0 (length_in word)) (nat_le (length_in word) GREATEST_KEY && is_class (class_in word) (class_of (length_in word))) (ap (nat_lt 0) long ∙ lt)
-    (true_both (nat_le (length_in word) GREATEST_KEY) (is_class (class_in word) (class_of (length_in word))) (ap (λ (k : ℕ). nat_le k GREATEST_KEY) long ∙ le)
-    (ap (is_class (class_in word)) (ap class_of long ∙ fits) ∙ eq-eqb (class_in word) (class_number c) is)))
-
-key_length-is : (word : ℕ) → key_length word ≡ length_in word
-unfolding key_length length_in
-key_length-is word = refl
-
-key_in-is : (word : ℕ) (words key : List ℕ) → key_bytes word words ≡ key → key_in word words ≡ key_number key
-unfolding key_in
-key_in-is word words key e = ap key_number e
-
--- the key in such a block is one
-pub one_key : (z : Sizes) (c : Class) (b len : ℕ) (k l : List ℕ) (v : PassState) → MayAdd z c b len k v → MayAdd z c b len l v → k ≡ l
-one_key z c b len k l v m n = let ws : List ℕ = words_held (class_number c) b v.blocks.held in
-    sym m.block.key_is ∙ (ap (λ (j : ℕ). take j (bytes_of ws)) (m.long ∙ sym n.long) ∙ n.block.key_is)
-
--- an entry as it is found
-
-abbrev entry_of : ℕ → ℕ → List ℕ → FoundEntry
-entry_of n word words = record { number = n; word = word; words = words }
-
-found_same : (bytes : ℕ → List ℕ) (f : ℕ → ℕ) (i j : ℕ) (e : FoundEntry) → i ≡ j → e.number ≡ j → f e.number ≡ e.word → bytes e.word ≡ e.words → entry_of i (f i) (bytes (f i)) ≡ e
-found_same bytes f i j e is n w b = let a : i ≡ e.number = is ∙ sym n in let there : f i ≡ e.word = ap f a ∙ w in let all : bytes (f i) ≡ e.words = ap bytes there ∙ b in λ k. entry_of (a k) (there k) (all k)
-
-numbered : (o : Option ℕ) (es : List FoundEntry) → AreCounted o es → (i : ℕ) (e : FoundEntry) → get_elem? es i ≡ some e → e.number ≡ i
-numbered None es c i e at = let l = at_inside es i e at in let q : length es ≡ 0 = ap length c in absurd (omega arith)
-numbered (Some n) es c i e at = c.1 i e at
-
--- a pin that has found more entries, which are those of the room, has found what it had
-pub pin_grows : (z : Sizes) (m : RoomMemory) (bytes : ℕ → List ℕ) (p : PinnedRoom) (x : ℕ) → RoomPinHolds z m bytes p → length p.entries ≤ entries_in x → PinStays p (pin_with m bytes x p)
-pin_grows z m bytes p x h le = record {
-  room = refl;
-  found = refl;
-  base = refl;
-  low = refl;
-  high = refl;
-  entries = λ i e there.
-      let s = each_at (EntryStands (m.count p.room) (m.key p.room) bytes) p.entries h.entries i e there in let lt = at_inside p.entries i e there in
-      rows_has (found_at m bytes p.room) 0 (entries_in x) i (omega arith)
-      ∙ ap some (found_same bytes (m.key p.room) (0 + i) i e (let f : 0 + i ≡ i = omega arith in f) (numbered p.count p.entries h.counted i e there) s.word s.words);
-}
+use Rattle.chunk_ops.proofs.EntryKeys.{each_has, is_key-word, key_length-is, key_in-is, one_key, pin_grows}
 
 -- ---- what the step asks
 

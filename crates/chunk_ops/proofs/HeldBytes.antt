@@ -1,7 +1,6 @@
 -- The words of a block that a pass holds, as loads find them, and the bytes that they have.
-use Rattle.std.proofs.Common.{◌≡◌, ℕ, ◌+◌, ◌*◌, ◌<◌, ◌≤◌, List, ◌++◌, length, get_or, take, sym, ap, ◌∙◌, arith}
-use Rattle.std.proofs.lemmas.List.{take-take}
-use Rattle.std.proofs.Math.Seq.{take-add}
+use Rattle.std.proofs.Common.{◌≡◌, ℕ, ◌+◌, ◌*◌, ◌<◌, ◌≤◌, List, ◌++◌, length, get_or, take, sym, ap, ◌∙◌, arith, ◌-◌}
+use Rattle.std.proofs.lemmas.List.{take-take, take_all}
 use Rattle.oak_model.specs.declared.classes.Class.{Class}
 use Rattle.oak_model.specs.Class.{class_number}
 use Rattle.oak_model.specs.Counts.{rows}
@@ -23,6 +22,7 @@ use Rattle.chunk_ops.specs.PinRecords.{OnlyMeets}
 use Rattle.arena_core.specs.Words.{bytes_in}
 use Rattle.chunk_ops.proofs.WordLoads.{load_at, load_reads}
 use Rattle.chunk_ops.proofs.WordParts.{word_in}
+use Rattle.arena_core.proofs.ByteFacts.{copied_more}
 
 pub held_inside : (z : Sizes) (c : Class) (b i : ℕ) (v : PassState) → HoldsBlock z (class_number c) b v.blocks → i < block_words (class_number c) → IsInArena z (at_bytes (class_number c) b i)
 held_inside z c b i v h lt = (class_below c, h.inside, lt)
@@ -53,13 +53,11 @@ module _ (z : Sizes) (call : ℕ) (c : Class) (b : ℕ) (v : PassState) (h : Hol
   pub word_loaded : (i at n : ℕ) (w : PassState) → i < block_words (class_number c) → at ≡ index z (in_arena (at_bytes (class_number c) b i)) → Loads z call at v n w → word_bytes n ≡ bytes_in i (bytes_of (words_held (class_number c) b v.blocks.held))
   word_loaded i at n w lt is l = bytes_are i n w (load_at z call at n v w (in_arena (at_bytes (class_number c) b i)) (held_inside z c b i v h lt) is l) lt
 
--- loads leave them
-pub bytes_still : (call : ℕ) (c : Class) (b i : ℕ) (v w : PassState) → OnlyMeets call v w → bytes_in i (bytes_of (words_held (class_number c) b w.blocks.held)) ≡ bytes_in i (bytes_of (words_held (class_number c) b v.blocks.held))
-bytes_still call c b i v w o = ap (λ (a : HeldBlocks). bytes_in i (bytes_of (words_held (class_number c) b a.held))) o.blocks
-
 -- a loop that copies them word by word
-pub copied_more : (bs xs ys : List ℕ) (i : ℕ) → take (8 * i) xs ≡ take (8 * i) bs → take (8 * i + 8) ys ≡ take (8 * i) xs ++ bytes_in i bs → take (8 * (i + 1)) ys ≡ take (8 * (i + 1)) bs
-copied_more bs xs ys i before put = let e : 8 * (i + 1) ≡ 8 * i + 8 = omega arith in ap (λ (j : ℕ). take j ys) e ∙ (put ∙ (ap (λ (zs : List ℕ). zs ++ bytes_in i bs) before ∙ (sym (take-add (8 * i) 8 bs) ∙ ap (λ (j : ℕ). take j bs) (sym e))))
+pub copied_word : (call : ℕ) (c : Class) (b i n : ℕ) (v w : PassState) (xs ys : List ℕ) → OnlyMeets call v w → take (8 * i) xs ≡ take (8 * i) (bytes_of (words_held (class_number c) b v.blocks.held)) → word_bytes n ≡ bytes_in i (bytes_of (words_held (class_number c) b w.blocks.held))
+    → 8 * i + 8 ≤ length xs → take (8 * i + 8) ys ≡ take (8 * i) xs ++ take (length xs - 8 * i) (word_bytes n) → take (8 * (i + 1)) ys ≡ take (8 * (i + 1)) (bytes_of (words_held (class_number c) b v.blocks.held))
+copied_word call c b i n v w xs ys o before word room put = copied_more (bytes_of (words_held (class_number c) b v.blocks.held)) xs ys i before
+    (put ∙ ap (λ (zs : List ℕ). take (8 * i) xs ++ zs) (take_all (length xs - 8 * i) (word_bytes n) (omega arith) ∙ word ∙ ap (λ (a : HeldBlocks). bytes_in i (bytes_of (words_held (class_number c) b a.held))) o.blocks))
 
 pub copied_all : (bs xs : List ℕ) (n len : ℕ) → len ≤ n → take n xs ≡ take n bs → take len xs ≡ take len bs
 copied_all bs xs n len le same = sym (take-take len n xs le) ∙ (ap (take len) same ∙ take-take len n bs le)
