@@ -12,7 +12,7 @@ ghost use Rattle.chunk_ops.specs.PinRecords.{HasRoomPin, UnderPin, room_pin};
 
 use crate::entries::{AddHalt, EntryNo, NotAdded};
 use crate::finding::entries_in;
-use crate::held_keys::held_bytes;
+use crate::key_blocks::held_bytes;
 use crate::latching::{enter, give_latch, take_latch};
 use crate::pins::RoomPin;
 use crate::searching::find_counted;
@@ -56,8 +56,7 @@ fn add_latched(
 /// An entry of the key whose first `len` bytes stand in the block. Where the room has none it is added,
 /// and has the block and the room's base as its floor; else the block is given back. `Crowded` comes
 /// only where the room had as many entries as it may and none of the key, `Busy` only where its latch
-/// was found taken, which a pass that is alone never
-/// finds; both hand the block back.
+/// was found taken, which a pass that is alone never finds; both hand the block back.
 pub fn add(
     table: &OakTable,
     pass: &mut Pass,

@@ -2,13 +2,14 @@
 #![tactic(auto)]
 
 mod adding;
+#[cfg(test)]
+mod adding_tests;
 mod bounds;
 mod comparing;
 mod entries;
 mod finding;
-mod held_keys;
-mod latching;
 mod key_blocks;
+mod latching;
 mod loading;
 mod nearest;
 #[cfg(test)]

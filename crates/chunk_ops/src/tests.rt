@@ -58,8 +58,8 @@ fn keys_room(rt: &impl Abort, table: &OakTable, pass: &mut Pass, key: &[u8], hin
     }
 }
 
-/// Room 0 is open, and no pin stands.
-fn no_pin_left(rt: &impl Abort, table: &OakTable, pass: &mut Pass)
+/// Room 0 is open, and its word counts no pin.
+pub(crate) fn no_pin_left(rt: &impl Abort, table: &OakTable, pass: &mut Pass)
     requires own { IsPassOf table.now pass.old }
     requires idle { HoldsNothing (state pass.old) }
     ensures own { Stays pass.old pass.new }

@@ -4,7 +4,7 @@ use Rattle.oak_model.specs.WordBytes.{bytes_of}
 use Rattle.arena_core.specs.Blocks.{words_held}
 use Rattle.oak_core.specs.Passes.{Stays, state, call_of}
 use Rattle.chunk_ops.specs.PinRecords.{OnlyMeets}
-use Rattle.chunk_ops.proofs.held_keys.held_bytes.Given as goal
+use Rattle.chunk_ops.proofs.key_blocks.held_bytes.Given as goal
 
 abbrev pub invariant-loop-i : goal.invariant-loop-i
 invariant-loop-i l = record {

@@ -6,7 +6,7 @@ use Rattle.oak_core.specs.Passes.{state, call_of}
 use Rattle.oak_core.proofs.SamePass.{stays_both}
 use Rattle.chunk_ops.proofs.HeldBytes.{copied_word, copied_all}
 use Rattle.chunk_ops.proofs.MeetingCalls.{only_both, only_in}
-use Rattle.chunk_ops.proofs.held_keys.held_bytes.Goals as goal
+use Rattle.chunk_ops.proofs.key_blocks.held_bytes.Goals as goal
 
 pub loop-i-preserved : goal.loop-i-preserved
 loop-i-preserved c = let s = c.loop-i.invariant in let o = c.block_word-word.ensures.own in let b = c.args.block.now in let call = call_of c.args.pass.now in let v = state c.args.pass.now in let w = state c.loop-i.pass in let i = c.loop-i.i in record {

@@ -7,7 +7,7 @@ use Rattle.oak_core.specs.Passes.{state, key, call_of}
 use Rattle.oak_core.proofs.Words.{index_below}
 use Rattle.chunk_ops.proofs.HeldBytes.{held_inside, word_loaded}
 use Rattle.chunk_ops.proofs.WordLoads.{only_loaded}
-use Rattle.chunk_ops.proofs.held_keys.block_word.Goals as goal
+use Rattle.chunk_ops.proofs.key_blocks.block_word.Goals as goal
 
 pub load-requires-clause-inside : goal.load-requires-clause-inside
 load-requires-clause-inside c = let z : Sizes = key c.args.table.now in let b = c.args.block.now in let e = c.bytes_at-at.ensures in
