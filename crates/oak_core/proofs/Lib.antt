@@ -9,6 +9,10 @@ pub mod Teaching
 pub mod LessonLaws
 pub mod PinsKnown
 pub mod HeardKeeps
+pub mod HistoryEnds
+pub mod HomeWords
+pub mod WrittenHistories
+pub mod WriteLessons
 pub mod LessonSeats
 pub mod LessonRanges
 pub mod MissedKeys
