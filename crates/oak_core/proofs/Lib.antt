@@ -13,6 +13,7 @@ pub mod HistoryEnds
 pub mod HomeWords
 pub mod WrittenHistories
 pub mod WriteLessons
+pub mod CallerWrites
 pub mod LessonSeats
 pub mod LessonRanges
 pub mod MissedKeys
