@@ -14,6 +14,7 @@ pub mod HomeWords
 pub mod WrittenHistories
 pub mod WriteLessons
 pub mod CallerWrites
+pub mod WritesCounted
 pub mod LessonSeats
 pub mod LessonRanges
 pub mod MissedKeys
