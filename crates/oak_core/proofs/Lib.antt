@@ -15,6 +15,12 @@ pub mod WrittenHistories
 pub mod WriteLessons
 pub mod CallerWrites
 pub mod WritesCounted
+pub mod BoundWrites
+pub mod HomeKeys
+pub mod KeyFrames
+pub mod KnownKeys
+pub mod KnownWrites
+pub mod NewLives
 pub mod LessonSeats
 pub mod LessonRanges
 pub mod MissedKeys
