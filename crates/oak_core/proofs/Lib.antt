@@ -20,7 +20,10 @@ pub mod HomeKeys
 pub mod KeyFrames
 pub mod KnownKeys
 pub mod KnownWrites
+pub mod UnnamedHeaders
 pub mod NewLives
+pub mod SetValue
+pub mod LockKeys
 pub mod LessonSeats
 pub mod LessonRanges
 pub mod MissedKeys
