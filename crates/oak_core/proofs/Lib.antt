@@ -24,6 +24,11 @@ pub mod UnnamedHeaders
 pub mod NewLives
 pub mod SetValue
 pub mod LockKeys
+pub mod LockedWrites
+pub mod Unlinks
+pub mod TakesBack
+pub mod WrittenLessons
+pub mod UnlinkLessons
 pub mod LessonSeats
 pub mod LessonRanges
 pub mod MissedKeys
