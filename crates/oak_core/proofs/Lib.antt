@@ -29,6 +29,12 @@ pub mod Unlinks
 pub mod TakesBack
 pub mod WrittenLessons
 pub mod UnlinkLessons
+pub mod Removals
+pub mod LivesOnce
+pub mod RemovedReads
+pub mod RemovalsKnown
+pub mod KeyLoads
+pub mod HeaderLessons
 pub mod LessonSeats
 pub mod LessonRanges
 pub mod MissedKeys
