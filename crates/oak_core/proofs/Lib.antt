@@ -35,6 +35,7 @@ pub mod RemovedReads
 pub mod RemovalsKnown
 pub mod KeyLoads
 pub mod HeaderLessons
+pub mod FloorLoads
 pub mod LessonSeats
 pub mod LessonRanges
 pub mod MissedKeys
