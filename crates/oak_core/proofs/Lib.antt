@@ -36,6 +36,8 @@ pub mod RemovalsKnown
 pub mod KeyLoads
 pub mod HeaderLessons
 pub mod FloorLoads
+pub mod KnownHeaders
+pub mod StampLoads
 pub mod LessonSeats
 pub mod LessonRanges
 pub mod MissedKeys
