@@ -1,16 +1,16 @@
 -- No stamp, floor or base is above the number of all writes: what that gives of each key, and that a step keeps it, where it makes no write or one.
-use Rattle.std.proofs.Common.{◌≡◌, ◌≢◌, ℕ, zero, suc, ◌+◌, ◌-◌, ◌*◌, ◌^◌, ◌<◌, ◌≤◌, cond, Bool, List, [], ◌∷◌, ◌++◌, map, sym, refl, ap, ◌∙◌, subst, arith, eq-eqb, ne_eqb}
+use Rattle.std.proofs.Common.{◌≡◌, ◌≢◌, ℕ, zero, suc, ◌+◌, ◌-◌, ◌*◌, ◌≤◌, cond, Bool, List, [], ◌∷◌, ◌++◌, map, sym, ap, ◌∙◌, subst, arith, eq-eqb, ne_eqb}
 use mathlib.Core.Logic.{dite}
-use native.Mathlib.Decide.{ℕ_discrete, dec_le}
+use native.Mathlib.Decide.{ℕ_discrete}
 use Rattle.oak_model.specs.Counts.{one_at, total, below}
 use Rattle.oak_model.specs.Limits.{Sizes}
 use Rattle.oak_model.proofs.Counting.{one_at-le, below_same}
 use Rattle.oak_model.proofs.SumLaws.{times-none, times-one, total_same}
 use Rattle.arena_core.specs.Place.{content}
 use Rattle.chunk_core.specs.CoverRule.{CoversPartition}
-use Rattle.chunk_core.specs.CoverSums.{each, has_key, is_in, base_for, covers, all_of, weight}
-use Rattle.chunk_core.specs.Covers.{Entry, Cover, cover_at, moving_of}
-use Rattle.chunk_core.specs.Spans.{Span, within}
+use Rattle.chunk_core.specs.CoverSums.{each, has_key, is_in, base_for, covers, weight}
+use Rattle.chunk_core.specs.Covers.{Cover, cover_at, moving_of}
+use Rattle.chunk_core.specs.Spans.{within}
 use Rattle.chunk_core.specs.ValueWord.{names_header}
 use Rattle.chunk_core.proofs.CoverLaws.{covers_plus}
 use Rattle.chunk_core.proofs.Lookups.{picked, each_le, all_le}
@@ -20,7 +20,7 @@ use Rattle.oak_core.specs.declared.states.PassState.{PassState}
 use Rattle.oak_core.specs.Bounds.{floor_in, floor_over, base_over, BasesBound}
 use Rattle.oak_core.specs.Callers.{made_by}
 use Rattle.oak_core.specs.KeyHistories.{stamp_behind}
-use Rattle.oak_core.specs.KeyReads.{sum_now, word_now, base_now, history_now, level_in, level_now}
+use Rattle.oak_core.specs.KeyReads.{sum_now, word_now, base_now, history_now, level_now}
 use Rattle.oak_core.specs.Memory.{Memory}
 use Rattle.oak_core.specs.PassState.{rooms_held}
 use Rattle.oak_core.proofs.HistoryEnds.{stamp_snoc}

@@ -24,7 +24,6 @@ use Rattle.chunk_core.proofs.CoverFacts.{entry_word}
 use Rattle.chunk_core.proofs.EntryNumbers.{numbers_once}
 use Rattle.oak_core.specs.declared.states.Knowledge.{Knowledge}
 use Rattle.oak_core.specs.declared.states.PassState.{PassState}
-use Rattle.oak_core.specs.EntryOwners.{is_key_word}
 use Rattle.oak_core.specs.FoundKeys.{pinned_key, entry_key}
 use Rattle.oak_core.specs.KeyReads.{word_now}
 use Rattle.oak_core.specs.KeyRule.{KeysStand}

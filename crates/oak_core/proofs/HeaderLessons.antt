@@ -1,5 +1,5 @@
 -- The steps on headers that teach: a lock, and a pin that finds a life over.
-use Rattle.std.proofs.Common.{◌≡◌, ◌≢◌, ℕ, ◌+◌, ◌-◌, List, [], ◌∷◌, ◌++◌, map, set, sym, refl, ap, ◌∙◌, subst, inl, Option, Some}
+use Rattle.std.proofs.Common.{◌≡◌, ◌≢◌, ℕ, ◌-◌, List, [], ◌∷◌, ◌++◌, map, set, sym, refl, ap, ◌∙◌, subst, inl, Option, Some}
 use mathlib.Core.Option.{some}
 use lib.ListN.{get_elem?}
 use Rattle.pin_word.specs.PinWord.{generation_of, state_of}
@@ -41,7 +41,6 @@ use Rattle.oak_core.proofs.LivesOnce.{begins_once}
 use Rattle.oak_core.proofs.PinsKnown.{counted_on, pins_stay, has_first, has_later}
 use Rattle.oak_core.proofs.Removals.{removed_at_is, removed_at_some}
 use Rattle.oak_core.proofs.RemovalsKnown.{pin_removal, removed_at_once}
-
 use Rattle.oak_core.proofs.LockKeys as locks
 
 -- a lock teaches all of its key's history
@@ -91,8 +90,8 @@ module _ (z : Sizes) (m m' : Memory) (words : m'.rooms ≡ m.rooms) (bytes : m'.
           let same = removed_at_once (home_of h g) hist named (keys.legal (key_number key)).lives (rise (key_number key)) (begins_once vs callers (home_of h g) (key_number key) names) (m.headers.stamp h) r in
           let there = has_later v.knowledge.heard (lesson ∷ []) lesson (inl refl) in
           subst (λ (t : ℕ × ℕ). KnowsRemoval (key_number key) t.0 t.1 u.knowledge) (λ i. (home_of (sym at i) (sym wanted i), sym stamp i))
-            (pin_removal (map knowledge_of vs) histories rise seat v.knowledge u.knowledge (at_map knowledge_of vs seat v here) key (home_of h g) (m.headers.stamp h) r
-              (subst (λ (n : ℕ). Has (lesson_by (of_key_to key n) (map knowledge_of vs)) u.knowledge.heard) same (subst (Has lesson) (sym heard_is) there)))
+          (pin_removal (map knowledge_of vs) histories rise seat v.knowledge u.knowledge (at_map knowledge_of vs seat v here) key (home_of h g) (m.headers.stamp h) r
+          (subst (λ (n : ℕ). Has (lesson_by (of_key_to key n) (map knowledge_of vs)) u.knowledge.heard) same (subst (Has lesson) (sym heard_is) there)))
 
   pub pin_step_heard : HeardStands z m' (set vs seat u)
   pin_step_heard = removed_heard z m m' words bytes vs keys histories heard seat v u here key (removed_at (home_of h g) (history (key_number key) (map knowledge_of vs)) - 1) rooms pins (ap (λ (q : Knowledge). q.seen) knowledge) heard_is (home_of h g) found_removal

@@ -1,6 +1,6 @@
 -- A history with one write more at its end.
 use Rattle.std.specs.Prelude.{fold}
-use Rattle.std.proofs.Common.{◌≡◌, ℕ, ◌+◌, ◌-◌, ◌<◌, ◌≤◌, true, false, List, [], ◌∷◌, ◌++◌, sym, refl, ap, ◌∙◌, subst, inl, inr, arith, None, append-nil}
+use Rattle.std.proofs.Common.{◌≡◌, ℕ, ◌<◌, ◌≤◌, true, false, List, [], ◌∷◌, ◌++◌, sym, refl, ap, ◌∙◌, subst, inl, inr, arith, None, append-nil}
 use Rattle.oak_model.specs.Counts.{Has, one_at}
 use Rattle.oak_model.specs.History.{last_state, StampsRise, IsWriteOn, FollowsCell}
 use Rattle.oak_model.specs.State.{State}

@@ -1,5 +1,5 @@
 -- A write that ends a lock: the header becomes live again with other bytes, or dead, and the key's history has one write more.
-use Rattle.std.proofs.Common.{◌≡◌, ◌≢◌, ℕ, ◌+◌, ◌-◌, ◌*◌, ◌^◌, ◌<◌, ◌≤◌, ◌⊎◌, true, false, List, [], ◌∷◌, ◌++◌, map, set, sym, refl, ap, ◌∙◌, subst, inl, inr, ⊎_elim, arith, Some, None}
+use Rattle.std.proofs.Common.{◌≡◌, ◌≢◌, ℕ, ◌+◌, ◌*◌, ◌^◌, ◌<◌, ◌≤◌, ◌⊎◌, true, false, List, [], ◌∷◌, ◌++◌, map, set, sym, refl, ap, ◌∙◌, subst, inl, inr, ⊎_elim, arith, Some, None}
 use mathlib.Core.Logic.{dite}
 use mathlib.Core.Option.{some}
 use native.Mathlib.Decide.{ℕ_discrete}
@@ -30,7 +30,7 @@ use Rattle.header_core.proofs.HeaderFacts.{held_is, unheld_else}
 use Rattle.header_core.proofs.HeldHeaders.{rows_have}
 use Rattle.header_core.proofs.StockedStates.{stocked_le, stocked_high}
 use Rattle.chunk_core.specs.CoverRule.{CoversPartition}
-use Rattle.chunk_core.specs.CoverSums.{each, naming, names, all_of, word_of, base_of}
+use Rattle.chunk_core.specs.CoverSums.{each, naming, all_of, word_of, base_of}
 use Rattle.chunk_core.specs.ValueWord.{names_header, header_in, generation_in}
 use Rattle.chunk_core.proofs.CoverFacts.{named_once}
 use Rattle.oak_core.specs.declared.states.Findings.{Findings}
@@ -260,7 +260,7 @@ module _ (z : Sizes) (m : Memory) (is_key_word : ℕ → ℕ) (vs : List PassSta
         ((λ l. absurd (now_there (was_over w l))), tt))))
         (λ ne. subst (λ (l : List KeyedWrite). Each (OverIsRemoved m'.headers.pin l) l) (sym (hist_else j ne)) (each_map (OverIsRemoved m.headers.pin (history j qs)) (OverIsRemoved m'.headers.pin (history j qs)) (history j qs) (λ y f l. f (was_over y l)) (keys.over j)));
     loaded = λ j q e. ⊎_elim (λ (y : (j ≡ seat) × (wrote k w qs v.knowledge ≡ q)). subst (LoadedStand (λ t. history t (map knowledge_of vs'))) y.1 (lives v.knowledge (keys.loaded seat v.knowledge q_here)))
-      (λ (y : (j ≢ seat) × (get_elem? qs j ≡ some q)). lives q (keys.loaded j q y.1)) (at_set qs seat j (wrote k w qs v.knowledge) q (subst (λ (l : List Knowledge). get_elem? l j ≡ some q) qs_is e));
+        (λ (y : (j ≢ seat) × (get_elem? qs j ≡ some q)). lives q (keys.loaded j q y.1)) (at_set qs seat j (wrote k w qs v.knowledge) q (subst (λ (l : List Knowledge). get_elem? l j ≡ some q) qs_is e));
   }
     where
       was_over : (y : KeyedWrite) → generation_in y.home < generation_of (m'.headers.pin (header_in y.home)) → generation_in y.home < generation_of (m.headers.pin (header_in y.home))
@@ -271,6 +271,10 @@ module _ (z : Sizes) (m : Memory) (is_key_word : ℕ → ℕ) (vs : List PassSta
 
       lives : (q : Knowledge) → LoadedStand (λ t. history t qs) q → LoadedStand (λ t. history t (map knowledge_of vs')) q
       lives q p = each_map (λ (l : KnownLife). (names_header l.home ≡ 1) × (0 < homes_in l.home (history (key_number l.key) qs)) × IsKeyOf (key_number l.key) l.key) (λ (l : KnownLife). (names_header l.home ≡ 1) × (0 < homes_in l.home (history (key_number l.key) (map knowledge_of vs'))) × IsKeyOf (key_number l.key) l.key) q.loaded
-          (λ l t. (t.0, dite (ℕ_discrete (key_number l.key) k)
-            (λ e. subst (λ (y : ℕ). 0 < homes_in l.home (history y (map knowledge_of vs'))) (sym e) (subst (λ (ws : List KeyedWrite). 0 < homes_in l.home ws) (sym hist_here) (homes_snoc l.home (history k qs) w (subst (λ (y : ℕ). 0 < homes_in l.home (history y qs)) e t.1))))
-            (λ ne. subst (λ (ws : List KeyedWrite). 0 < homes_in l.home ws) (sym (hist_else (key_number l.key) ne)) t.1), t.2)) p
+          (λ l t. (
+            t.0,
+            dite (ℕ_discrete (key_number l.key) k)
+                (λ e. subst (λ (y : ℕ). 0 < homes_in l.home (history y (map knowledge_of vs'))) (sym e) (subst (λ (ws : List KeyedWrite). 0 < homes_in l.home ws) (sym hist_here) (homes_snoc l.home (history k qs) w (subst (λ (y : ℕ). 0 < homes_in l.home (history y qs)) e t.1))))
+                (λ ne. subst (λ (ws : List KeyedWrite). 0 < homes_in l.home ws) (sym (hist_else (key_number l.key) ne)) t.1),
+            t.2,
+          )) p

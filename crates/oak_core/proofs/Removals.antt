@@ -49,10 +49,10 @@ unfolding state_from
 at_stamp s [] w r m t = absurd m
 at_stamp s (x ∷ xs) w r (inl e) t = let same = ap (λ (y : KeyedWrite). y.write.stamp) e in
     subst (λ (b : Bool). state_from t (take (cond b (suc (place_of (writes_of xs) w.write.stamp)) (place_of (writes_of xs) w.write.stamp)) (x.write ∷ writes_of xs)) ≡ w.write.after) (sym (le-leb x.write.stamp w.write.stamp (omega arith)))
-      (ap (λ (n : ℕ). state_from x.write.after (take n (writes_of xs))) (none_at w.write.stamp xs (subst (λ (n : ℕ). StampsRise n (writes_of xs)) (sym same) r.1)) ∙ ap (λ (y : KeyedWrite). y.write.after) (sym e))
+    (ap (λ (n : ℕ). state_from x.write.after (take n (writes_of xs))) (none_at w.write.stamp xs (subst (λ (n : ℕ). StampsRise n (writes_of xs)) (sym same) r.1)) ∙ ap (λ (y : KeyedWrite). y.write.after) (sym e))
 at_stamp s (x ∷ xs) w r (inr m) t = let lt = stamp_above x.write.stamp xs w r.1 m in
     subst (λ (b : Bool). state_from t (take (cond b (suc (place_of (writes_of xs) w.write.stamp)) (place_of (writes_of xs) w.write.stamp)) (x.write ∷ writes_of xs)) ≡ w.write.after) (sym (le-leb x.write.stamp w.write.stamp (omega arith)))
-      (at_stamp x.write.stamp xs w r.1 m x.write.after)
+    (at_stamp x.write.stamp xs w r.1 m x.write.after)
 
 -- so it is absent at the place of a removal
 pub removed_state : (home n : ℕ) (h : List KeyedWrite) → StampsRise 0 (writes_of h) → IsRemovedAt home n h → state_at (writes_of h) (place_of (writes_of h) n) ≡ None

@@ -1,5 +1,5 @@
 -- An entry with a floor gets a fresh header: the write that inserts.
-use Rattle.std.proofs.Common.{◌≡◌, ◌≢◌, ℕ, ◌+◌, ◌-◌, ◌*◌, ◌^◌, ◌<◌, ◌≤◌, ◌⊎◌, true, false, List, [], ◌∷◌, ◌++◌, map, set, sym, refl, ap, ◌∙◌, subst, ⊎_elim, arith, None}
+use Rattle.std.proofs.Common.{◌≡◌, ◌≢◌, ℕ, ◌+◌, ◌*◌, ◌^◌, ◌<◌, ◌≤◌, true, false, List, [], ◌∷◌, ◌++◌, map, set, sym, refl, ap, ◌∙◌, subst, ⊎_elim, arith, None}
 use mathlib.Core.Logic.{dite}
 use mathlib.Core.Option.{some}
 use native.Mathlib.Decide.{ℕ_discrete}
@@ -242,7 +242,7 @@ module _ (z : Sizes) (m : Memory) (is_key_word : ℕ → ℕ) (vs : List PassSta
         ((λ l. absurd (now_there l)), tt))))
         (λ ne. subst (λ (l : List KeyedWrite). Each (OverIsRemoved m.headers.pin l) l) (sym (hist_else j ne)) (keys.over j));
     loaded = λ j q at. ⊎_elim (λ (y : (j ≡ seat) × (wrote k w qs v.knowledge ≡ q)). subst (LoadedStand (λ t. history t (map knowledge_of vs'))) y.1 (lives v.knowledge (keys.loaded seat v.knowledge q_here)))
-      (λ (y : (j ≢ seat) × (get_elem? qs j ≡ some q)). lives q (keys.loaded j q y.1)) (at_set qs seat j (wrote k w qs v.knowledge) q (subst (λ (l : List Knowledge). get_elem? l j ≡ some q) qs_is at));
+        (λ (y : (j ≢ seat) × (get_elem? qs j ≡ some q)). lives q (keys.loaded j q y.1)) (at_set qs seat j (wrote k w qs v.knowledge) q (subst (λ (l : List Knowledge). get_elem? l j ≡ some q) qs_is at));
   }
     where
       now_there : generation_in w.home < generation_of (m.headers.pin (header_in w.home)) → ⊥
@@ -250,6 +250,10 @@ module _ (z : Sizes) (m : Memory) (is_key_word : ℕ → ℕ) (vs : List PassSta
 
       lives : (q : Knowledge) → LoadedStand (λ t. history t qs) q → Each (λ (l : KnownLife). (names_header l.home ≡ 1) × (0 < homes_in l.home (history (key_number l.key) (map knowledge_of vs'))) × IsKeyOf (key_number l.key) l.key) q.loaded
       lives q p = each_map (λ (l : KnownLife). (names_header l.home ≡ 1) × (0 < homes_in l.home (history (key_number l.key) qs)) × IsKeyOf (key_number l.key) l.key) (λ (l : KnownLife). (names_header l.home ≡ 1) × (0 < homes_in l.home (history (key_number l.key) (map knowledge_of vs'))) × IsKeyOf (key_number l.key) l.key) q.loaded
-          (λ l t. (t.0, dite (ℕ_discrete (key_number l.key) k)
-            (λ e. subst (λ (y : ℕ). 0 < homes_in l.home (history y (map knowledge_of vs'))) (sym e) (subst (λ (ws : List KeyedWrite). 0 < homes_in l.home ws) (sym hist_here) (homes_snoc l.home (history k qs) w (subst (λ (y : ℕ). 0 < homes_in l.home (history y qs)) e t.1))))
-            (λ ne. subst (λ (ws : List KeyedWrite). 0 < homes_in l.home ws) (sym (hist_else (key_number l.key) ne)) t.1), t.2)) p
+          (λ l t. (
+            t.0,
+            dite (ℕ_discrete (key_number l.key) k)
+                (λ e. subst (λ (y : ℕ). 0 < homes_in l.home (history y (map knowledge_of vs'))) (sym e) (subst (λ (ws : List KeyedWrite). 0 < homes_in l.home ws) (sym hist_here) (homes_snoc l.home (history k qs) w (subst (λ (y : ℕ). 0 < homes_in l.home (history y qs)) e t.1))))
+                (λ ne. subst (λ (ws : List KeyedWrite). 0 < homes_in l.home ws) (sym (hist_else (key_number l.key) ne)) t.1),
+            t.2,
+          )) p

@@ -1,6 +1,6 @@
 -- The load of the stamp word of a pinned header, whose life the pin found, live or dead: the pass learns all that was written of the life's key up to the stamp.
 use Rattle.std.specs.Prelude.{not}
-use Rattle.std.proofs.Common.{◌≡◌, ℕ, ◌+◌, ◌-◌, ◌<◌, ◌⊎◌, ◌==◌, ◌&&◌, Bool, true, false, List, [], ◌∷◌, map, set, sym, refl, ap, ◌∙◌, subst, inl, inr, ⊎_elim, arith, Option, Some, eq-eqb}
+use Rattle.std.proofs.Common.{◌≡◌, ℕ, ◌+◌, ◌<◌, ◌⊎◌, ◌==◌, ◌&&◌, Bool, true, false, List, [], ◌∷◌, map, set, sym, refl, ap, ◌∙◌, subst, inl, inr, ⊎_elim, arith, Option, Some, eq-eqb}
 use mathlib.Core.Option.{some}
 use lib.ListN.{get_elem?}
 use Rattle.pin_word.specs.PinWord.{generation_of, state_of}
@@ -22,7 +22,6 @@ use Rattle.chunk_core.specs.declared.holds.RoomHolds.{RoomHolds}
 use Rattle.oak_core.specs.declared.states.Knowledge.{Knowledge}
 use Rattle.oak_core.specs.declared.states.PassState.{PassState}
 use Rattle.oak_core.specs.Callers.{CallersAgree}
-use Rattle.oak_core.specs.EntryOwners.{is_key_word}
 use Rattle.oak_core.specs.KeyHistories.{IsRemovedAt, homes_in}
 use Rattle.oak_core.specs.KeyReads.{home_of, level_now, history_now}
 use Rattle.oak_core.specs.KeyRule.{KeysStand}
@@ -63,7 +62,7 @@ module _ (z : Sizes) (m : Memory) (is_key_word : ℕ → ℕ) (vs : List PassSta
   test_is : (state_of p.found ≡ LIVE) ⊎ (state_of p.found ≡ DEAD) → finds_life p.header (Some p) ≡ true
   test_is o = true_both (p.header == p.header) ((generation_of p.found == p.wanted) && not (not (state_of p.found == LIVE) && not (state_of p.found == DEAD))) (eq-eqb p.header p.header refl)
       (true_both (generation_of p.found == p.wanted) (not (not (state_of p.found == LIVE) && not (state_of p.found == DEAD))) (eq-eqb (generation_of p.found) p.wanted wanted) (either (state_of p.found == LIVE) (state_of p.found == DEAD)
-        (⊎_elim (λ (e : state_of p.found ≡ LIVE). inl (eq-eqb (state_of p.found) LIVE e)) (λ (e : state_of p.found ≡ DEAD). inr (eq-eqb (state_of p.found) DEAD e)) o)))
+      (⊎_elim (λ (e : state_of p.found ≡ LIVE). inl (eq-eqb (state_of p.found) LIVE e)) (λ (e : state_of p.found ≡ DEAD). inr (eq-eqb (state_of p.found) DEAD e)) o)))
     where
       either : (a b : Bool) → (a ≡ true) ⊎ (b ≡ true) → not (not a && not b) ≡ true
       either true b o = refl
@@ -99,7 +98,7 @@ module _ (z : Sizes) (m : Memory) (is_key_word : ℕ → ℕ) (vs : List PassSta
         word : word_of z m.rooms (content m.arena.bytes) (map rooms_held vs) (key_number key) ≡ home_of p.header p.wanted + 1
         word = let g = holds.generation in subst (λ (t : ℕ). word_of z m.rooms (content m.arena.bytes) (map rooms_held vs) (key_number key) ≡ home_of p.header t + 1) g
             (known_key z m is_key_word vs parts keys callers p.header (let w = named in omega arith) (subst (λ (t : ℕ). names_header (home_of p.header t) ≡ 1) (sym g) named_at.names) (key_number key)
-              (subst (λ (t : ℕ). 0 < homes_in (home_of p.header t) (history (key_number key) (map knowledge_of vs))) (sym g) life.there))
+            (subst (λ (t : ℕ). 0 < homes_in (home_of p.header t) (history (key_number key) (map knowledge_of vs))) (sym g) life.there))
 
     -- a pin that found the header dead knows the removal, whose stamp is there still
     pub dead_stamp_heard : state_of p.found ≡ DEAD → HeardStands z m (set vs seat u)

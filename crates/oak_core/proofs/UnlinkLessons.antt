@@ -1,5 +1,5 @@
 -- A header that is unlinked keeps the points on lessons: the floor that takes its place is not below the last stamp of its key.
-use Rattle.std.proofs.Common.{◌≡◌, ℕ, ◌-◌, ◌<◌, ◌≤◌, List, [], ◌∷◌, map, set, sym, ap, ◌∙◌, append-nil}
+use Rattle.std.proofs.Common.{◌≡◌, ℕ, ◌<◌, ◌≤◌, List, [], ◌∷◌, map, set, sym, ap, ◌∙◌, append-nil}
 use mathlib.Core.Option.{some}
 use lib.ListN.{get_elem?}
 use Rattle.oak_model.specs.Counts.{one_at, total}
@@ -24,7 +24,6 @@ use Rattle.oak_core.specs.PassState.{history, knowledge_of, rooms_held}
 use Rattle.oak_core.proofs.HeardKeeps.{heard_idle}
 use Rattle.oak_core.proofs.Levels.{level_at, goes_unlinked}
 use Rattle.oak_core.proofs.PinsKnown.{pins_stay}
-
 use Rattle.chunk_core.proofs.ValueLaws as values
 
 -- the value word of a linked entry, which named a header, becomes a floor that is not below the last stamp of its key
@@ -41,10 +40,10 @@ module _ (z : Sizes) (m : Memory) (is_key_word : ℕ → ℕ) (vs : List PassSta
   pub unlink_heard : HeardStands z (record m { rooms = put_room m.rooms (at_value r i) x }) (set vs seat u)
   unlink_heard = heard_idle z m (record m { rooms = put_room m.rooms (at_value r i) x }) vs seat v u here heard
       (level_at z m (record m { rooms = put_room m.rooms (at_value r i) x }) vs (set vs seat u) its_key
-        (goes_unlinked (base_of z m.rooms (content m.arena.bytes) (map rooms_held vs) its_key) (base_of z (put_room m.rooms (at_value r i) x) (content m.arena.bytes) (map rooms_held (set vs seat u)) its_key)
-          (word_of z m.rooms (content m.arena.bytes) (map rooms_held vs) its_key) (word_of z (put_room m.rooms (at_value r i) x) (content m.arena.bytes) (map rooms_held (set vs seat u)) its_key) (m.rooms.value r i) x (history its_key (map knowledge_of vs)) (history its_key (map knowledge_of (set vs seat u)))
-          (values.word_before z m.rooms (content m.arena.bytes) is_key_word (map rooms_held vs) (map rooms_held (set vs seat u)) (v.rooms ∷ []) (u.rooms ∷ []) parts c moving r i x lr cover once) named
-          (values.word_valued z m.rooms (content m.arena.bytes) is_key_word (map rooms_held vs) (map rooms_held (set vs seat u)) (v.rooms ∷ []) (u.rooms ∷ []) parts c moving r i x lr cover once) floor last (unlink_same its_key))
-        (values.word_others z m.rooms (content m.arena.bytes) is_key_word (map rooms_held vs) (map rooms_held (set vs seat u)) (v.rooms ∷ []) (u.rooms ∷ []) parts c moving r i x lr cover once)
-        (values.base_valued z m.rooms (content m.arena.bytes) is_key_word (map rooms_held vs) (map rooms_held (set vs seat u)) (v.rooms ∷ []) (u.rooms ∷ []) parts c moving r i x lr cover once) (λ k _. unlink_same k))
+      (goes_unlinked (base_of z m.rooms (content m.arena.bytes) (map rooms_held vs) its_key) (base_of z (put_room m.rooms (at_value r i) x) (content m.arena.bytes) (map rooms_held (set vs seat u)) its_key)
+      (word_of z m.rooms (content m.arena.bytes) (map rooms_held vs) its_key) (word_of z (put_room m.rooms (at_value r i) x) (content m.arena.bytes) (map rooms_held (set vs seat u)) its_key) (m.rooms.value r i) x (history its_key (map knowledge_of vs)) (history its_key (map knowledge_of (set vs seat u)))
+      (values.word_before z m.rooms (content m.arena.bytes) is_key_word (map rooms_held vs) (map rooms_held (set vs seat u)) (v.rooms ∷ []) (u.rooms ∷ []) parts c moving r i x lr cover once) named
+      (values.word_valued z m.rooms (content m.arena.bytes) is_key_word (map rooms_held vs) (map rooms_held (set vs seat u)) (v.rooms ∷ []) (u.rooms ∷ []) parts c moving r i x lr cover once) floor last (unlink_same its_key))
+      (values.word_others z m.rooms (content m.arena.bytes) is_key_word (map rooms_held vs) (map rooms_held (set vs seat u)) (v.rooms ∷ []) (u.rooms ∷ []) parts c moving r i x lr cover once)
+      (values.base_valued z m.rooms (content m.arena.bytes) is_key_word (map rooms_held vs) (map rooms_held (set vs seat u)) (v.rooms ∷ []) (u.rooms ∷ []) parts c moving r i x lr cover once) (λ k _. unlink_same k))
       knowledge (pins_stay v u pin header_pin [] (ap (λ (q : Knowledge). q.heard) knowledge ∙ sym (append-nil v.knowledge.heard)) (heard.pins seat v here))

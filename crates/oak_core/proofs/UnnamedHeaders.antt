@@ -1,6 +1,6 @@
 -- How often headers are dead and named by no entry any more.
 use Rattle.std.specs.Prelude.{not}
-use Rattle.std.proofs.Common.{◌≡◌, ◌≢◌, ℕ, ◌-◌, ◌*◌, ◌≤◌, true, false, List, sym, ap, ◌∙◌, arith}
+use Rattle.std.proofs.Common.{◌≡◌, ◌≢◌, ℕ, ◌*◌, ◌≤◌, true, false, List, sym, ap, ◌∙◌, arith}
 use Rattle.oak_model.specs.Counts.{one_at, one_if, total}
 use Rattle.oak_model.proofs.Counting.{one_at-other}
 use Rattle.oak_model.proofs.RowLaws.{total_le}

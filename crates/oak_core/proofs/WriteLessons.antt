@@ -1,5 +1,5 @@
 -- What a write teaches its pass: the history that it ends. A write above the level of its key keeps the points on lessons.
-use Rattle.std.proofs.Common.{◌≡◌, ◌≢◌, ℕ, suc, ◌+◌, ◌-◌, ◌*◌, ◌<◌, ◌≤◌, List, [], ◌∷◌, ◌++◌, map, length, sym, refl, ap, ◌∙◌, subst, arith, set}
+use Rattle.std.proofs.Common.{◌≡◌, ◌≢◌, ℕ, suc, ◌+◌, ◌*◌, ◌<◌, ◌≤◌, List, [], ◌∷◌, ◌++◌, map, length, sym, refl, ap, ◌∙◌, subst, arith, set}
 use mathlib.Core.Logic.{dite}
 use mathlib.Core.Option.{some}
 use native.Mathlib.Decide.{ℕ_discrete}
@@ -16,7 +16,7 @@ use Rattle.oak_core.specs.declared.states.Knowledge.{Knowledge}
 use Rattle.oak_core.specs.declared.states.PassState.{PassState}
 use Rattle.oak_core.specs.KeyHistories.{writes_of, stamp_behind, before}
 use Rattle.oak_core.specs.KeyReads.{level_in, level_now, history_now, word_now, base_now}
-use Rattle.oak_core.specs.Learning.{reach_of, taught, wrote, write_lesson, heard_of}
+use Rattle.oak_core.specs.Learning.{reach_of, wrote, write_lesson, heard_of}
 use Rattle.oak_core.specs.Lessons.{GoesUp, LessonStands, PinsKnow, HeardStands}
 use Rattle.oak_core.specs.Memory.{Memory}
 use Rattle.oak_core.specs.PassState.{of_key, seen_of, history, knowledge_of}
@@ -67,9 +67,9 @@ module _ (qs : List Knowledge) (rule : HistoriesStand qs) (i : ℕ) (q : Knowled
   lesson_wrote = record {
     upto = λ j. dite (ℕ_discrete j k) (λ e. let r = reach_here in let a = ap (reach_of (write_lesson w (history k qs)).taught) e in let b = ap level e in omega arith) (λ ne. let r = reach_else j ne in omega arith);
     writes = λ j. dite (ℕ_discrete j k)
-      (λ e. subst (λ (t : ℕ). heard_of t (write_lesson w (history k qs)) ≡ before (reach_of (write_lesson w (history k qs)).taught t) (hist t)) (sym e)
+        (λ e. subst (λ (t : ℕ). heard_of t (write_lesson w (history k qs)) ≡ before (reach_of (write_lesson w (history k qs)).taught t) (hist t)) (sym e)
         (one_longest (of_key k H) ∙ (own ∙ sym (ap (λ (n : ℕ). before n (hist k)) reach_here ∙ (ap (before (suc w.write.stamp)) hist_here ∙ whole)))))
-      (λ ne. one_longest (of_key j H) ∙ (cross j ne ∙ sym (ap (λ (n : ℕ). before n (hist j)) (reach_else j ne) ∙ none_behind 0 0 (hist j) (rise j) (omega arith))));
+        (λ ne. one_longest (of_key j H) ∙ (cross j ne ∙ sym (ap (λ (n : ℕ). before n (hist j)) (reach_else j ne) ∙ none_behind 0 0 (hist j) (rise j) (omega arith))));
     absent = λ j. tt;
     seen = λ j. let e = ap length (one_longest (of_key j H)) in let l = longest_le (map (of_key j) (q.seen ++ H ∷ [])) (length q.seen) (of_key j H) (at_map (of_key j) (q.seen ++ H ∷ []) (length q.seen) H (at_last q.seen H)) in omega arith;
   }
@@ -85,9 +85,9 @@ module _ (z : Sizes) (m m' : Memory) (vs : List PassState) (seat : ℕ) (v u : P
       → ((j : ℕ) → j ≢ k → word_now z m' (set vs seat u) j ≡ word_now z m vs j) → ((j : ℕ) → base_now z m vs j ≤ base_now z m' (set vs seat u) j) → PinsKnow u → HeardStands z m' (set vs seat u)
   heard_write k w home key histories rise knowledge above now names ew le pins =
       heard_one z m m' vs seat v u here heard (level_at z m m' vs vs' k (goes_written (base_now z m vs k) (base_now z m' vs' k) (word_now z m vs k) (word_now z m' vs' k) home (history_now vs k) (history_now vs' k) w above now names hist_here) ew le hist_else)
-        (λ j. let e = ap (λ (q : Knowledge). length (seen_of j q)) knowledge in let t = wrote_more (map knowledge_of vs) histories seat v.knowledge q_here k w key j in omega arith)
-        (write_lesson w (history_now vs k) ∷ []) (ap (λ (q : Knowledge). q.heard) knowledge)
-        (subst (λ (q : Knowledge). LessonStands (level_now z m' vs') (history_now vs') q (write_lesson w (history_now vs k))) (sym knowledge) (lesson_wrote (map knowledge_of vs) histories seat v.knowledge q_here k w key (level_now z m' vs') (history_now vs') hist_here rise upto), tt) pins
+      (λ j. let e = ap (λ (q : Knowledge). length (seen_of j q)) knowledge in let t = wrote_more (map knowledge_of vs) histories seat v.knowledge q_here k w key j in omega arith)
+      (write_lesson w (history_now vs k) ∷ []) (ap (λ (q : Knowledge). q.heard) knowledge)
+      (subst (λ (q : Knowledge). LessonStands (level_now z m' vs') (history_now vs') q (write_lesson w (history_now vs k))) (sym knowledge) (lesson_wrote (map knowledge_of vs) histories seat v.knowledge q_here k w key (level_now z m' vs') (history_now vs') hist_here rise upto), tt) pins
     where
       q_here : get_elem? (map knowledge_of vs) seat ≡ some v.knowledge
       q_here = at_map knowledge_of vs seat v here

@@ -1,7 +1,6 @@
 -- How many writes there are: a pass makes at most one in each of its calls, and there are few passes. So the number of all writes, and with it each stamp, is small.
-use Rattle.std.proofs.Common.{◌≡◌, ◌≢◌, ℕ, zero, suc, ◌+◌, ◌-◌, ◌*◌, ◌^◌, ◌<◌, ◌≤◌, cond, Bool, true, false, List, [], ◌∷◌, map, length, sym, refl, ap, ◌∙◌, subst, arith}
+use Rattle.std.proofs.Common.{◌≡◌, ℕ, zero, suc, ◌+◌, ◌-◌, ◌*◌, ◌^◌, ◌<◌, ◌≤◌, cond, Bool, List, [], ◌∷◌, map, length, refl, ap, arith}
 use Rattle.std.proofs.lemmas.Nat.Bits.{bit_at-lt}
-use Rattle.std.specs.Int.{bit_at}
 use mathlib.Core.Logic.{dite}
 use mathlib.Core.Option.{some}
 use native.Mathlib.Decide.{dec_lt}
@@ -9,14 +8,13 @@ use lib.ListN.{get_elem?}
 use Rattle.oak_model.specs.Counts.{one_at, total, below, Each, Every}
 use Rattle.oak_model.specs.Limits.{Sizes, IsInLimits}
 use Rattle.oak_model.proofs.Counting.{one_at-same, test-cases, total_at, total_map, total_zero, below_at, below_add}
-use Rattle.oak_model.proofs.Lists.{each_map}
 use Rattle.oak_model.proofs.RowLaws.{total_le}
 use Rattle.oak_model.proofs.SumLaws.{total_plus}
 use Rattle.oak_core.specs.declared.states.Joined.{Joined}
 use Rattle.oak_core.specs.declared.states.KeyedWrite.{KeyedWrite}
 use Rattle.oak_core.specs.declared.states.Numbers.{Numbers}
 use Rattle.oak_core.specs.declared.states.PassState.{PassState}
-use Rattle.oak_core.specs.Callers.{CallsRise, AreWritesOf, WritesStand, made_by, CallersAgree}
+use Rattle.oak_core.specs.Callers.{CallsRise, AreWritesOf, made_by, CallersAgree}
 use Rattle.oak_core.specs.KeyReads.{history_now}
 use Rattle.oak_core.specs.PassState.{rooted, has_number, numbers_of}
 use Rattle.oak_core.specs.Rule.{NumbersStand, SpentIsSpent}

@@ -1,5 +1,5 @@
 -- Writes keep the points on lessons: the one that inserts, and those of the holder of a lock.
-use Rattle.std.proofs.Common.{◌≡◌, ℕ, ◌+◌, ◌-◌, ◌^◌, ◌<◌, true, List, [], ◌∷◌, map, set, refl, ap, ◌∙◌, arith, None}
+use Rattle.std.proofs.Common.{◌≡◌, ℕ, ◌+◌, ◌^◌, ◌<◌, true, List, [], ◌∷◌, map, set, refl, ap, ◌∙◌, arith, None}
 use mathlib.Core.Option.{some}
 use lib.ListN.{get_elem?}
 use Rattle.oak_model.specs.Counts.{one_at, total, Has}
@@ -36,7 +36,6 @@ use Rattle.oak_core.proofs.HomeWords.{NamesAt}
 use Rattle.oak_core.proofs.Levels.{level-floor, level-named}
 use Rattle.oak_core.proofs.PinsKnown.{pins_stay}
 use Rattle.oak_core.proofs.WriteLessons.{heard_write}
-
 use Rattle.oak_core.proofs.SetValue as sets
 
 -- the write that inserts
@@ -84,6 +83,6 @@ module _ (z : Sizes) (m m' : Memory) (words : m'.rooms ≡ m.rooms) (bytes : m'.
   pub lock_heard : HeardStands z m' (set vs seat u)
   lock_heard = heard_write z m m' vs seat v u here heard (key_number own.key) w (home_of own.header own.generation) key histories rise knowledge
       (let n = level-named (base_of z m.rooms (content m.arena.bytes) (map rooms_held vs) (key_number own.key)) (stamp_behind (history (key_number own.key) (map knowledge_of vs))) (word_of z m.rooms (content m.arena.bytes) (map rooms_held vs) (key_number own.key)) (home_of own.header own.generation) lock.named names in
-        let s = lock.stamp in omega arith)
+      let s = lock.stamp in omega arith)
       (covers_same (each (word_for (key_number own.key))) ∙ lock.named) names (λ j _. covers_same (each (word_for j))) (λ j. let e = covers_same (base_for j) in omega arith)
       (pins_stay v u (ap (λ (a : RoomHolds). a.pin) rooms) pin (write_lesson w (history (key_number own.key) (map knowledge_of vs)) ∷ []) (ap (λ (q : Knowledge). q.heard) knowledge) (heard.pins seat v here))

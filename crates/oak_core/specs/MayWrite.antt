@@ -1,5 +1,5 @@
 -- What the steps that write, and the one that unlinks, ask of their pass.
-use Rattle.std.specs.Prelude.{◌≡◌, ◌≢◌, ℕ, ◌+◌, ◌^◌, ◌<◌, true, List, Some, None}
+use Rattle.std.specs.Prelude.{◌≡◌, ◌≢◌, ℕ, ◌+◌, ◌^◌, ◌<◌, true, Some, None}
 use Rattle.oak_model.specs.declared.writes.Kind.{Kind}
 use Rattle.oak_model.specs.Counts.{Each, Has}
 use Rattle.oak_model.specs.History.{IsWriteOn}
