@@ -38,6 +38,8 @@ pub mod HeaderLessons
 pub mod FloorLoads
 pub mod KnownHeaders
 pub mod StampLoads
+pub mod KeyPlaces
+pub mod KeysCounted
 pub mod LessonSeats
 pub mod LessonRanges
 pub mod MissedKeys
