@@ -115,7 +115,7 @@ names_le : (v : ℕ) → names_header v ≤ 1
 unfolding names_header
 names_le v = one_at-le (v / 2 ^ 63) 1
 
-last_home : (v d : ℕ) (h : List KeyedWrite) → v ≢ d → last_of (λ w. w.home) d h ≡ v → 0 < homes_in v h
+pub last_home : (v d : ℕ) (h : List KeyedWrite) → v ≢ d → last_of (λ w. w.home) d h ≡ v → 0 < homes_in v h
 unfolding total last_of
 last_home v d [] ne e = absurd (ne (sym e))
 last_home v d (w ∷ ws) ne e = dite (ℕ_discrete v w.home) (λ s. let o = one_at-same w.home v (sym s) in omega arith) (λ n. let t = last_home v w.home ws n e in omega arith)

@@ -35,11 +35,12 @@ pub mod RemovedReads
 pub mod RemovalsKnown
 pub mod KeyLoads
 pub mod HeaderLessons
-pub mod FloorLoads
 pub mod KnownHeaders
 pub mod StampLoads
 pub mod KeyPlaces
 pub mod KeysCounted
+pub mod FoundValues
+pub mod ValueLoads
 pub mod LessonSeats
 pub mod LessonRanges
 pub mod MissedKeys
