@@ -41,6 +41,7 @@ pub mod KeyPlaces
 pub mod KeysCounted
 pub mod FoundValues
 pub mod ValueLoads
+pub mod OverLives
 pub mod LessonSeats
 pub mod LessonRanges
 pub mod MissedKeys
