@@ -42,6 +42,8 @@ pub mod KeysCounted
 pub mod FoundValues
 pub mod ValueLoads
 pub mod OverLives
+pub mod LocksEnded
+pub mod UnlinkedHolds
 pub mod LessonSeats
 pub mod LessonRanges
 pub mod MissedKeys
