@@ -44,6 +44,7 @@ pub mod ValueLoads
 pub mod OverLives
 pub mod LocksEnded
 pub mod UnlinkedHolds
+pub mod BoundSteps
 pub mod LessonSeats
 pub mod LessonRanges
 pub mod MissedKeys
