@@ -45,6 +45,7 @@ pub mod OverLives
 pub mod LocksEnded
 pub mod UnlinkedHolds
 pub mod BoundSteps
+pub mod HeldTruths
 pub mod LessonSeats
 pub mod LessonRanges
 pub mod MissedKeys
