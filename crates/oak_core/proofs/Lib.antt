@@ -46,6 +46,8 @@ pub mod LocksEnded
 pub mod UnlinkedHolds
 pub mod BoundSteps
 pub mod HeldTruths
+pub mod SetsValue
+pub mod WritesLocked
 pub mod LessonSeats
 pub mod LessonRanges
 pub mod MissedKeys
