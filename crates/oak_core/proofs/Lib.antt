@@ -48,6 +48,8 @@ pub mod BoundSteps
 pub mod HeldTruths
 pub mod SetsValue
 pub mod WritesLocked
+pub mod CallersKept
+pub mod UnlinksEntry
 pub mod LessonSeats
 pub mod LessonRanges
 pub mod MissedKeys
