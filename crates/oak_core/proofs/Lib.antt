@@ -39,6 +39,7 @@ pub mod KnownHeaders
 pub mod StampLoads
 pub mod KeyPlaces
 pub mod KeysCounted
+pub mod KeysUnnamed
 pub mod FoundValues
 pub mod ValueLoads
 pub mod OverLives
@@ -50,6 +51,7 @@ pub mod SetsValue
 pub mod WritesLocked
 pub mod CallersKept
 pub mod UnlinksEntry
+pub mod LocksHeader
 pub mod LessonSeats
 pub mod LessonRanges
 pub mod MissedKeys
