@@ -52,6 +52,7 @@ pub mod WritesLocked
 pub mod CallersKept
 pub mod UnlinksEntry
 pub mod LocksHeader
+pub mod SeatsAgree
 pub mod LessonSeats
 pub mod LessonRanges
 pub mod MissedKeys
