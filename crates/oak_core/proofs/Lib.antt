@@ -49,6 +49,7 @@ pub mod BoundSteps
 pub mod HeldTruths
 pub mod SetsValue
 pub mod WritesLocked
+pub mod UnchangedLocks
 pub mod CallersKept
 pub mod UnlinksEntry
 pub mod LocksHeader
