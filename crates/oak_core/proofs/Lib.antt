@@ -40,6 +40,7 @@ pub mod StampLoads
 pub mod KeyPlaces
 pub mod KeysCounted
 pub mod KeysUnnamed
+pub mod KeysStored
 pub mod FoundValues
 pub mod ValueLoads
 pub mod OverLives
