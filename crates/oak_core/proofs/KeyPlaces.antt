@@ -1,6 +1,6 @@
 -- A key word names a block of the class that its length has, so the bytes that stand there are those of a key.
 use Rattle.std.specs.List.{find}
-use Rattle.std.proofs.Common.{◌≡◌, ℕ, zero, suc, ◌+◌, ◌-◌, ◌*◌, ◌^◌, ◌<◌, ◌≤◌, ◌&&◌, nat_lt, nat_le, true, false, Bool, cond, List, [], ◌∷◌, ◌++◌, length, get_or, take, sym, refl, subst, arith, Option, Some, None, leb-true, ltb-true, eqb-true}
+use Rattle.std.proofs.Common.{◌≡◌, ℕ, zero, suc, ◌+◌, ◌*◌, ◌^◌, ◌<◌, ◌≤◌, ◌&&◌, nat_lt, nat_le, true, false, Bool, cond, List, [], ◌∷◌, ◌++◌, length, get_or, take, sym, refl, subst, arith, Option, Some, None, leb-true, ltb-true, eqb-true}
 use Rattle.std.proofs.lemmas.List.{length-append, length-take, length-take-le, get_or-take, get_or_past}
 use mathlib.Core.Logic.{dite}
 use native.Mathlib.Decide.{dec_lt}

@@ -44,7 +44,6 @@ use Rattle.oak_core.proofs.KnownHeaders.{known_life, none_fresh}
 use Rattle.oak_core.proofs.KnownLaws.{known_some}
 use Rattle.oak_core.proofs.LocksEnded.{returned_fresh, returned_unnamed}
 use Rattle.oak_core.proofs.UnlinkedHolds.{locked_keyed}
-
 use Rattle.oak_core.proofs.LockKeys as locks
 use Rattle.oak_core.proofs.TakesBack as returns
 

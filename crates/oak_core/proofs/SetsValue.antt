@@ -1,5 +1,5 @@
 -- A pass sets its fresh header as the value of an entry that it found: by what the step asks of it, and the points before it, all points on keys, covers, headers, histories, lessons, callers and bounds stand behind it.
-use Rattle.std.proofs.Common.{◌≡◌, ◌≢◌, ℕ, ◌+◌, ◌-◌, ◌^◌, ◌<◌, ◌≤◌, cond, Bool, false, List, [], ◌∷◌, ◌++◌, map, set, sym, refl, ap, ◌∙◌, subst, inl, inr, arith, Option, Some, None, eq-eqb, ne_eqb}
+use Rattle.std.proofs.Common.{◌≡◌, ◌≢◌, ℕ, ◌+◌, ◌^◌, ◌<◌, ◌≤◌, cond, Bool, false, List, [], ◌∷◌, ◌++◌, map, set, sym, refl, ap, ◌∙◌, subst, inl, inr, arith, Option, Some, None, eq-eqb, ne_eqb}
 use mathlib.Core.Logic.{dite}
 use mathlib.Core.Option.{some}
 use native.Mathlib.Decide.{ℕ_discrete}
@@ -65,7 +65,6 @@ use Rattle.oak_core.proofs.HomeWords.{NamesAt}
 use Rattle.oak_core.proofs.NewLives.{none_begun}
 use Rattle.oak_core.proofs.WrittenHistories.{wrote_here, wrote_others}
 use Rattle.oak_core.proofs.WrittenLessons.{set_heard}
-
 use Rattle.oak_core.proofs.SetValue as sets
 use Rattle.oak_core.proofs.KnownWrites as knows
 

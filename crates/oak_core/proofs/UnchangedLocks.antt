@@ -28,7 +28,7 @@ use Rattle.header_core.proofs.HeaderFacts.{held_is}
 use Rattle.header_core.proofs.HeldHeaders.{held_in, rows_have}
 use Rattle.header_core.proofs.StockedStates.{stocked_le, stocked_high}
 use Rattle.chunk_core.specs.CoverRule.{CoversPartition}
-use Rattle.chunk_core.specs.CoverSums.{each, naming, names, word_for, base_for, all_of}
+use Rattle.chunk_core.specs.CoverSums.{each, naming, word_for, base_for, all_of}
 use Rattle.chunk_core.specs.Covers.{Cover}
 use Rattle.chunk_core.specs.ValueWord.{names_header, header_in}
 use Rattle.chunk_core.specs.declared.holds.RoomHolds.{RoomHolds}

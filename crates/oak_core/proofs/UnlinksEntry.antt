@@ -1,5 +1,5 @@
 -- A pass unlinks the header that it buries from the entry that it found: by what the step asks of it, and the points before it, all points on keys, covers, lessons, callers and bounds stand behind it.
-use Rattle.std.proofs.Common.{◌≡◌, ℕ, ◌-◌, ◌/◌, ◌^◌, ◌<◌, ◌≤◌, true, List, [], ◌∷◌, map, set, sym, refl, ap, ◌∙◌, subst, inl, inr, arith, Some}
+use Rattle.std.proofs.Common.{◌≡◌, ℕ, ◌/◌, ◌^◌, ◌<◌, ◌≤◌, true, List, [], ◌∷◌, map, set, sym, refl, ap, ◌∙◌, subst, inl, inr, arith, Some}
 use mathlib.Core.Option.{some}
 use lib.ListN.{get_elem?}
 use Rattle.pin_word.specs.PinWord.{state_of}
@@ -59,7 +59,6 @@ use Rattle.oak_core.proofs.HomeWords.{NamesAt}
 use Rattle.oak_core.proofs.Removals.{removal_within}
 use Rattle.oak_core.proofs.UnlinkLessons.{unlink_heard}
 use Rattle.oak_core.proofs.UnlinkedHolds.{unlinked_fresh, unlinked_unnamed, unlinked_holds}
-
 use Rattle.oak_core.proofs.Unlinks as unlinks
 
 -- a small number names no header

@@ -1,5 +1,5 @@
 -- The load of the value word of an entry that was found under a good pin: where it is a floor, the pass learns all that was written of the key up to it, and where it names a header, that life of the key.
-use Rattle.std.proofs.Common.{◌≡◌, ℕ, ◌+◌, ◌-◌, ◌<◌, ◌==◌, ◌&&◌, cond, Bool, true, false, List, [], ◌∷◌, ◌++◌, map, set, refl, ap, ◌∙◌, arith, Some, eq-eqb, ne_eqb}
+use Rattle.std.proofs.Common.{◌≡◌, ℕ, ◌+◌, ◌<◌, ◌==◌, ◌&&◌, cond, Bool, true, false, List, [], ◌∷◌, ◌++◌, map, set, refl, ap, ◌∙◌, arith, Some, eq-eqb, ne_eqb}
 use mathlib.Core.Option.{some}
 use lib.ListN.{get_elem?}
 use Rattle.oak_model.specs.KeyNumber.{key_number}

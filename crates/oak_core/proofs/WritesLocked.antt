@@ -60,7 +60,6 @@ use Rattle.oak_core.proofs.KnownWrites.{known_after, known_new}
 use Rattle.oak_core.proofs.LocksEnded.{unlocked_fresh, unlocked_unnamed, unlocked_holds, buried_fresh, buried_unnamed, buried_holds}
 use Rattle.oak_core.proofs.WrittenHistories.{wrote_here, wrote_others, wrote_stand}
 use Rattle.oak_core.proofs.WrittenLessons.{lock_heard}
-
 use Rattle.oak_model.specs.declared.cells.CellCall.TheVariants as calls
 use Rattle.oak_core.proofs.LockedWrites as writes
 
