@@ -55,6 +55,7 @@ pub mod CallersKept
 pub mod UnlinksEntry
 pub mod LocksHeader
 pub mod SeatsAgree
+pub mod KnowledgeAfter
 pub mod LessonSeats
 pub mod LessonRanges
 pub mod MissedKeys
