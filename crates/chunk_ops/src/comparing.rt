@@ -7,8 +7,8 @@ ghost use Rattle.chunk_ops.specs.Room.{place_at, key_at, entries};
 ghost use Rattle.arena_core.specs.Words.{word_at};
 
 use crate::room::SearchedRoom;
-use arena_core::words::{WORD, first_bytes, word_from};
 use arena_core::place::length_in;
+use arena_core::words::{WORD, first_bytes, word_from};
 use std::cmp::Ordering;
 
 /// Compares the bytes in word `i`, as numbers, with zeros behind the last bytes.

@@ -7,8 +7,8 @@ mod comparing;
 mod entries;
 mod finding;
 mod held_keys;
-mod latching;
 mod key_blocks;
+mod latching;
 mod loading;
 mod nearest;
 #[cfg(test)]

@@ -7,8 +7,8 @@ ghost use Rattle.chunk_ops.specs.RoomWords.{FindsBase, FindsContent, FindsKeyWor
 
 use crate::entries::{Content, EntryNo};
 use crate::pins::RoomPin;
-use arena_core::words::WORD;
 use arena_core::place::{block_in, class_in, length_in};
+use arena_core::words::WORD;
 use oak_core::{OakTable, Pass, load};
 
 /// What the top bit of a value word adds to it, where it names a header.

@@ -6,8 +6,8 @@ ghost use Rattle.chunk_ops.specs.Room.{key_at, entries};
 ghost use Rattle.chunk_ops.specs.Stored.{IsStored};
 
 use crate::room::SearchedRoom;
-use arena_core::words::{WORD, first_bytes, word_from};
 use arena_core::place::length_in;
+use arena_core::words::{WORD, first_bytes, word_from};
 use oak_model::GREATEST_KEY;
 use std::cmp::Ordering;
 
