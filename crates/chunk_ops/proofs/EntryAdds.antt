@@ -33,6 +33,7 @@ use Rattle.oak_core.specs.Step.{MayPublishEntry}
 use Rattle.oak_core.proofs.CallSteps.{stands_learns}
 use Rattle.oak_core.proofs.PublishFacts.{pin_stands, count_is, key_word, words_there}
 use Rattle.chunk_ops.specs.Adds.{MayAdd}
+use Rattle.chunk_ops.specs.FindsAlone.{used_key}
 use Rattle.chunk_ops.specs.Latching.{with_latch, MayEnter, AddsUnder}
 use Rattle.chunk_ops.specs.PinRecords.{HasEntry, RoomPinned, PinKept, pin_or, room_pin}
 use Rattle.chunk_ops.proofs.LatchSteps.{stands_on}
@@ -124,8 +125,12 @@ module _ (z : Sizes) (r : ℕ) (c : Class) (b len count : ℕ) (key : List ℕ) 
     unfolding may_publish
     bytes_there = ap bytes word_there ∙ words_there z t.1.table t.1.seat v t.1.rule t.1.here r (count + 1) may_publish
 
-    one_more : entries_in (count + 1) ≡ suc (entries_in count)
+    pub one_more : entries_in (count + 1) ≡ suc (entries_in count)
     one_more = (count_more count (let f = e.room in let g = limits.entries_greatest in omega arith)).0
+
+    -- the entry past the count has the key in the words that the step found
+    pub key_used : used_key (memory z t.1.table.words) r (entries_in count) ≡ key
+    key_used = subst (λ (s : ℕ). used_key m s (entries_in count) ≡ key) e.pinned.pin.room ((λ i. key_bytes (word_there i) (bytes_there i)) ∙ key_there)
 
     long : length p.entries ≡ entries_in count
     long = (subst (λ (o : Option ℕ). AreCounted o p.entries) e.counted holds.counted).0

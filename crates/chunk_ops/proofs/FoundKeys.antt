@@ -12,8 +12,9 @@ use Rattle.oak_core.specs.declared.states.PassState.{PassState}
 use Rattle.oak_core.specs.AloneWords.{Runs}
 use Rattle.oak_core.specs.Memory.{memory}
 use Rattle.oak_core.proofs.AloneRuns.{runs_as}
+use Rattle.chunk_ops.specs.declared.entries.Found.{Found}
 use Rattle.chunk_ops.specs.Finds.{FindsKey, FindsMissing}
-use Rattle.chunk_ops.specs.FindsAlone.{FindsIn, HasKeyAt, as_found}
+use Rattle.chunk_ops.specs.FindsAlone.{CountedIn, FindsIn, HasKeyAt, as_found}
 use Rattle.chunk_ops.specs.Found.{IsFound}
 use Rattle.chunk_ops.specs.PinRecords.{room_pin}
 use Rattle.chunk_ops.specs.Room.{IsRoom}
@@ -45,5 +46,10 @@ module _ (z : Sizes) (call r n : ℕ) (v w : PassState) (s : SearchedTo z call r
     has_key None f = λ i used same. (let u = used_found z call r n v w s i used in none_found f u.entry u.has (u.number ∙ ap key_number same))
     has_key (Some i) f = let h = entry_there z r n i w s.under.pin.has f.0 in let g = found_used z call r n v w s i h.entry h.finds.there in (g.0, g.1 ∙ (h.key_is ∙ f.1))
 
-    pub finds_alone : (x : Option ℕ) → IsFound (room_below n (room_pin w)) k x → Runs (FindsIn z r k (as_found x)) v w
-    finds_alone x f = runs_as (λ a b. (a ≡ s.words) × (b ≡ a)) (FindsIn z r k (as_found x)) v w (λ a b d. (d.1, subst (λ (ws : List ℕ). HasKeyAt (memory z ws) r k (as_found x)) (sym d.0) (has_key x f))) s.alone
+    pub counted_alone : (x : Option ℕ) → IsFound (room_below n (room_pin w)) k x → Runs (CountedIn z r k n (as_found x)) v w
+    counted_alone x f = runs_as (λ a b. (a ≡ s.words) × (b ≡ a)) (CountedIn z r k n (as_found x)) v w
+        (λ a b d. ((d.1, subst (λ (ws : List ℕ). HasKeyAt (memory z ws) r k (as_found x)) (sym d.0) (has_key x f)), ap (λ (ws : List ℕ). (memory z ws).rooms.count r) d.0 ∙ s.count)) s.alone
+
+-- but for the count
+pub finds_alone : (z : Sizes) (r : ℕ) (k : List ℕ) (n : ℕ) (x : Found) (v w : PassState) → Runs (CountedIn z r k n x) v w → Runs (FindsIn z r k x) v w
+finds_alone z r k n x v w h = runs_as (CountedIn z r k n x) (FindsIn z r k x) v w (λ a b d. d.0) h

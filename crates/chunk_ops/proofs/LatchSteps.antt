@@ -1,5 +1,5 @@
 -- What the steps on the latch of a pinned room leave, and those on the entry past its count.
-use Rattle.std.proofs.Common.{◌≡◌, ℕ, zero, suc, ◌<◌, ◌^◌, ◌==◌, Bool, true, false, cond, List, [], ◌∷◌, set, get_or, sym, refl, ap, ◌∙◌, subst, arith, Option, Some}
+use Rattle.std.proofs.Common.{◌≡◌, ℕ, zero, suc, ◌<◌, ◌^◌, ◌==◌, Bool, true, false, cond, List, [], ◌∷◌, set, get_or, sym, refl, ap, ◌∙◌, subst, arith, Option, Some, eqb-true}
 use prog.Atomic.{either}
 use lib.Seq.{set-get_or}
 use Rattle.oak_model.specs.Limits.{Sizes}
@@ -13,16 +13,18 @@ use Rattle.chunk_core.specs.RoomCopies.{entry_with, latch_with}
 use Rattle.chunk_core.specs.RoomHolds.{latches_of}
 use Rattle.chunk_core.specs.RoomReads.{latched_at}
 use Rattle.chunk_core.specs.RoomStep.{EntryField, of_key, of_value, of_next, RoomStep, entry_spot, latch_room, store_entry, unlatch_room}
-use Rattle.chunk_core.specs.Rooms.{IsInRooms, at_latch}
+use Rattle.chunk_core.specs.Rooms.{IsInRooms, at_latch, at_value}
 use Rattle.oak_core.specs.declared.states.PassState.{PassState}
+use Rattle.oak_core.specs.AloneWords.{Runs}
 use Rattle.oak_core.specs.CallSteps.{Stands}
 use Rattle.oak_core.specs.Memory.{Memory, in_rooms, index, memory}
 use Rattle.oak_core.specs.RoomCalls.{TakesLatch, StoresEntry, GivesLatch}
 use Rattle.oak_core.specs.Step.{on_rooms, MayOnRooms, Told}
-use Rattle.oak_core.proofs.AloneRuns.{DoesStep, step_runs, runs_as}
+use Rattle.oak_core.proofs.AloneRuns.{DoesStep, Then, step_runs, runs_as, runs_then}
 use Rattle.oak_core.proofs.CallSteps.{step_alone, stands_both}
 use Rattle.oak_core.proofs.Words.{memory_read}
 use Rattle.chunk_ops.specs.Adds.{FoundLatched}
+use Rattle.chunk_ops.specs.AddsAlone.{TakesLatchIn, GivesLatchIn, WritesEntryIn}
 use Rattle.chunk_ops.specs.Latching.{with_latch, TakesRoomLatch, GivesRoomLatch, WritesEntry}
 use Rattle.chunk_ops.specs.PinRecords.{OnlyMeets, WordsStay}
 
@@ -55,6 +57,14 @@ module _ (z : Sizes) (call r : ℕ) (v : PassState) (n : ℕ) (w : PassState) (t
     rooms = rooms_are ∙ ap (λ (b : Bool). with_latch (cond b (Some (latched_at m.rooms r (m.rooms.count r))) v.rooms.latch) v.rooms) e;
   }
 
+  -- to a pass that is alone
+  pub taken_alone : (n == 0) ≡ true → Runs (TakesLatchIn z r) v w
+  taken_alone e = runs_as (DoesStep z (on_rooms (latch_room r)) n) (TakesLatchIn z r) v w
+      (λ a b d. (memory_read z a (in_rooms (at_latch r)) t.may.inside ∙ (sym d.0 ∙ eqb-true n 0 e), d.1 ∙ taken a d.0)) (step_runs z call (on_rooms (latch_room r)) v n w tt t)
+    where
+      taken : (a : List ℕ) → n ≡ get_or a (index z (in_rooms (at_latch r))) 0 → set a (index z (in_rooms (at_latch r))) (either (get_or a (index z (in_rooms (at_latch r))) 0 == 0) 1 (get_or a (index z (in_rooms (at_latch r))) 0)) ≡ set a (index z (in_rooms (at_latch r))) 1
+      taken a q = let i : ℕ = index z (in_rooms (at_latch r)) in ap (λ (b : Bool). set a i (either b 1 (get_or a i 0))) (ap (λ (k : ℕ). k == 0) (sym q) ∙ e)
+
   -- it was taken, and stays so
   pub latch_found : (n == 0) ≡ false → FoundLatched z call r v w × OnlyMeets call v w
   latch_found e = (
@@ -78,6 +88,10 @@ latch_given z call r v w g = record {
   headers = ap (λ (y : PassState). y.headers) g.1.after;
   rooms = ap (λ (y : PassState). y.rooms) g.1.after;
 }
+
+-- to a pass that is alone
+pub given_alone : (z : Sizes) (call r : ℕ) (v w : PassState) → GivesLatch z call r v w → Runs (GivesLatchIn z r) v w
+given_alone z call r v w g = runs_as (DoesStep z (on_rooms (unlatch_room r)) g.0) (GivesLatchIn z r) v w (λ a b d. d.1) (step_runs z call (on_rooms (unlatch_room r)) v g.0 w tt g.1)
 
 -- the latch of a room is one of it
 pub one_latch : (r : ℕ) (o : Option Latch) (l : Latch) → o ≡ Some l → l.room ≡ r → latches_of r o ≡ 1
@@ -107,3 +121,9 @@ entry_written z call r i place value v u w s t = record {
   headers = ap (λ (y : PassState). y.headers) t.1.after ∙ ap (λ (y : PassState). y.headers) s.1.after;
   rooms = rooms_stored z call of_value r i value u w t ∙ ap (λ (a : RoomHolds). with_latch (latch_with of_value value a.latch) a) (rooms_stored z call of_key r i place v u s);
 }
+
+-- to a pass that is alone
+pub written_alone : (z : Sizes) (call r i place value : ℕ) (v u w : PassState) → StoresEntry z call of_key r i place v u → StoresEntry z call of_value r i value u w → Runs (WritesEntryIn z r i place value) v w
+written_alone z call r i place value v u w s t = let x = on_rooms (store_entry of_key r i place) in let y = on_rooms (store_entry of_value r i value) in
+    runs_as (Then (DoesStep z x s.0) (DoesStep z y t.0)) (WritesEntryIn z r i place value) v w (λ a b d. d.2.1 ∙ ap (λ (ws : List ℕ). set ws (index z (in_rooms (at_value r i))) value) d.1.1)
+    (runs_then (DoesStep z x s.0) (DoesStep z y t.0) v u w (step_runs z call x v s.0 u tt s.1) (step_runs z call y u t.0 w tt t.1))

@@ -29,6 +29,10 @@ HasKeyAt m r key Missing = (i : ℕ) → IsUsed m r i → used_key m r i ≢ key
 abbrev pub FindsIn : Sizes → ℕ → List ℕ → Found → List ℕ → List ℕ → Type 0
 FindsIn z r key found before after = (after ≡ before) × HasKeyAt (memory z before) r key found
 
+-- and the room's count is n in them
+abbrev pub CountedIn : Sizes → ℕ → List ℕ → ℕ → Found → List ℕ → List ℕ → Type 0
+CountedIn z r key n found before after = FindsIn z r key found before after × ((memory z before).rooms.count r ≡ n)
+
 -- an entry's number as what was found
 abbrev pub as_found : Option ℕ → Found
 as_found None = Missing

@@ -6,8 +6,8 @@ ghost use Rattle.chunk_core.specs.RoomRule.{latches_on};
 ghost use Rattle.oak_core.specs.AloneWords.{Runs};
 ghost use Rattle.oak_core.specs.Passes.{IsPassOf, Stays, state, key as sizes, call_of};
 ghost use Rattle.chunk_ops.specs.Adds.{MayAdd, AddsEntry, NotAddedBy};
-ghost use Rattle.chunk_ops.specs.declared.entries.AddHalt.TheVariants.{Busy};
-ghost use Rattle.chunk_ops.specs.Latching.{Does, Never};
+ghost use Rattle.chunk_ops.specs.AddsAlone.{AddsIn, NotAddedIn, DoesIn};
+ghost use Rattle.chunk_ops.specs.Latching.{Does};
 ghost use Rattle.chunk_ops.specs.PinRecords.{HasRoomPin, UnderPin, room_pin};
 
 use crate::entries::{AddHalt, EntryNo, NotAdded};
@@ -42,6 +42,7 @@ fn add_latched(
     ensures own { Stays pass.old pass.new }
     ensures latched { latches_on pin.now.room (state pass.new).rooms ≡ 1 }
     ensures does { Does result (sizes table.now) (call_of pass.old) pin.now.room block.now.class block.now.number key.now (state pass.old) (state pass.new) }
+    ensures alone { Runs (DoesIn result (sizes table.now) pin.now.room key.now) (state pass.old) (state pass.new) }
 {
     let (count, found) = find_counted(table, pass, pin, key);
     if let Some(entry) = found {
@@ -56,7 +57,8 @@ fn add_latched(
 /// An entry of the key whose first `len` bytes stand in the block. Where the room has none it is added,
 /// and has the block and the room's base as its floor; else the block is given back. `Crowded` comes
 /// only where the room had as many entries as it may and none of the key, `Busy` only where its latch
-/// was found taken, which a pass that is alone never finds; both hand the block back.
+/// was found taken; both hand the block back. To a pass that is alone `Crowded` comes exactly where the
+/// room has as many entries as it may and none of the key, and `Busy` never.
 pub fn add(
     table: &OakTable,
     pass: &mut Pass,
@@ -73,7 +75,8 @@ pub fn add(
     ensures block { IfErr result (λ n. n.block ≡ block) }
     ensures under { IfErr result (λ n. UnderPin (sizes table.now) (call_of pass.old) pin.now.room (state pass.old) (state pass.new)) }
     ensures not_added { IfErr result (λ n. (k : List ℕ) → MayAdd (sizes table.now) block.class block.number len k (state pass.old) → NotAddedBy n.why (sizes table.now) (call_of pass.old) pin.now.room k (state pass.old) (state pass.new)) }
-    ensures alone { IfErr result (λ n. n.why ≡ Busy → Runs Never (state pass.old) (state pass.new)) }
+    ensures alone { IfOk result (λ i. (k : List ℕ) → MayAdd (sizes table.now) block.class block.number len k (state pass.old) → Runs (AddsIn (sizes table.now) pin.now.room i k) (state pass.old) (state pass.new)) }
+    ensures alone_not_added { IfErr result (λ n. (k : List ℕ) → MayAdd (sizes table.now) block.class block.number len k (state pass.old) → Runs (NotAddedIn n.why (sizes table.now) pin.now.room k) (state pass.old) (state pass.new)) }
 {
     let key = held_bytes(table, pass, &block, len);
     if !take_latch(table, pass, pin.room) {

@@ -7,6 +7,7 @@ ghost use Rattle.chunk_core.specs.RoomRule.{latches_on};
 ghost use Rattle.oak_core.specs.AloneWords.{Runs};
 ghost use Rattle.oak_core.specs.Passes.{IsPassOf, Stays, state, key, call_of};
 ghost use Rattle.chunk_ops.specs.Adds.{FoundLatched, MayAdd};
+ghost use Rattle.chunk_ops.specs.AddsAlone.{TakesLatchIn, GivesLatchIn, WritesEntryIn, LeavesKey};
 ghost use Rattle.chunk_ops.specs.Latching.{Never, TakesRoomLatch, GivesRoomLatch, WritesEntry, MayEnter, AddsUnder};
 ghost use Rattle.chunk_ops.specs.PinRecords.{HasRoomPin, OnlyMeets, room_pin};
 
@@ -25,6 +26,7 @@ pub(crate) fn take_latch(table: &OakTable, pass: &mut Pass, room: u32) -> bool
     ensures taken { result ≡ true → TakesRoomLatch (call_of pass.old) room (state pass.old) (state pass.new) }
     ensures found { result ≡ false → FoundLatched (key table.now) (call_of pass.old) room (state pass.old) (state pass.new) × OnlyMeets (call_of pass.old) (state pass.old) (state pass.new) }
     ensures alone { result ≡ false → Runs Never (state pass.old) (state pass.new) }
+    ensures alone_taken { result ≡ true → Runs (TakesLatchIn (key table.now) room) (state pass.old) (state pass.new) }
 {
     let word = table.latch_at(room);
     steps::latch(table, pass, word, 0, 1) == 0
@@ -37,6 +39,7 @@ pub(crate) fn give_latch(table: &OakTable, pass: &mut Pass, room: u32)
     requires latched { latches_on room (state pass.old).rooms ≡ 1 }
     ensures own { Stays pass.old pass.new }
     ensures given { GivesRoomLatch (call_of pass.old) (state pass.old) (state pass.new) }
+    ensures alone { Runs (GivesLatchIn (key table.now) room) (state pass.old) (state pass.new) }
 {
     let word = table.latch_at(room);
     steps::unlatch(table, pass, word, 0);
@@ -50,6 +53,7 @@ fn write_entry(table: &OakTable, pass: &mut Pass, room: u32, entry: u32, place: 
     requires latched { (l : Latch) × HasLatch room (state pass.old).rooms (room_pin (state pass.old)) l × (entry ≡ entries_in l.count) }
     ensures own { Stays pass.old pass.new }
     ensures written { WritesEntry (call_of pass.old) place value (state pass.old) (state pass.new) }
+    ensures alone { Runs (WritesEntryIn (key table.now) room entry place value) (state pass.old) (state pass.new) }
 {
     let place_at = table.key_at(room, entry);
     steps::store_entry(table, pass, place_at, place);
@@ -70,7 +74,9 @@ pub(crate) fn enter(
     requires own { IsPassOf table.now pass.old }
     requires may { (k : List ℕ) × MayEnter (key table.now) pin.now.room block.now.class block.now.number len count k (state pass.old) }
     ensures own { Stays pass.old pass.new }
+    ensures next { result ≡ entries_in count }
     ensures adds { (k : List ℕ) → MayAdd (key table.now) block.now.class block.now.number len k (state pass.old) → AddsUnder (key table.now) (call_of pass.old) pin.now.room result block.now.class block.now.number k (state pass.old) (state pass.new) }
+    ensures alone { (k : List ℕ) → MayAdd (key table.now) block.now.class block.now.number len k (state pass.old) → Runs (LeavesKey (key table.now) pin.now.room (record { 0 = result }) k) (state pass.old) (state pass.new) }
 {
     let entry = entries_in(count);
     let base = base_of(table, pass, pin);

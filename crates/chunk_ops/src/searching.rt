@@ -5,7 +5,7 @@ ghost use Rattle.oak_core.specs.AloneWords.{Runs};
 ghost use Rattle.oak_core.specs.Passes.{IsPassOf, Stays, state, key as sizes, call_of};
 ghost use Rattle.chunk_ops.specs.AskedRanges.{IsKeyOrNone, bytes_in_option};
 ghost use Rattle.chunk_ops.specs.Finds.{Finds, FindsKey, FindsMissing, FindsNearest, FindsNone, LoadsFew};
-ghost use Rattle.chunk_ops.specs.FindsAlone.{FindsIn, NearestIn, as_found};
+ghost use Rattle.chunk_ops.specs.FindsAlone.{CountedIn, FindsIn, NearestIn, as_found};
 ghost use Rattle.chunk_ops.specs.PinRecords.{HasRoomPin, UnderPin, room_pin};
 
 use crate::entries::{EntryNo, Found};
@@ -30,7 +30,7 @@ pub(crate) fn find_counted(
     ensures found { MatchOption result.1 (FindsMissing (sizes table.now) (call_of pass.old) pin.now.room key.now (state pass.old) (state pass.new)) (λ i. FindsKey (sizes table.now) (call_of pass.old) pin.now.room i key.now (state pass.old) (state pass.new)) }
     ensures under { UnderPin (sizes table.now) (call_of pass.old) pin.now.room (state pass.old) (state pass.new) }
     ensures few { LoadsFew (sizes table.now) pin.now.room (state pass.old) (state pass.new) }
-    ensures alone { Runs (FindsIn (sizes table.now) pin.now.room key.now (as_found result.1)) (state pass.old) (state pass.new) }
+    ensures alone { Runs (CountedIn (sizes table.now) pin.now.room key.now result.0 (as_found result.1)) (state pass.old) (state pass.new) }
 {
     let mut room = PinnedTable {
         table,

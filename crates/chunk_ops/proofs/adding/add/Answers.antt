@@ -1,12 +1,15 @@
 use Rattle.std.proofs.Common.{ℕ, List, take, sym, subst, ◌∙◌}
 use Rattle.oak_model.specs.Limits.{Sizes}
+use Rattle.oak_core.specs.AloneWords.{Runs}
 use Rattle.oak_core.specs.Passes.{state, key as sizes, call_of}
 use Rattle.arena_ops.specs.Taking.{Gives}
 use Rattle.chunk_ops.specs.Adds.{AddsEntry, FoundCrowded, FoundLatched}
+use Rattle.chunk_ops.specs.AddsAlone.{AddsIn, CrowdedIn}
 use Rattle.chunk_ops.specs.Latching.{Never, AddsUnder, GivesRoomLatch, TakesRoomLatch}
 use Rattle.chunk_ops.specs.PinRecords.{HasEntry, UnderPin}
 use Rattle.chunk_ops.proofs.AddedEntries.{latched_since, under_around, entry_around, adds_around, crowded_around, given_back, key_looked}
 use Rattle.chunk_ops.proofs.PinsKept.{under_only}
+use Rattle.chunk_ops.proofs.LoneAdds.{crowded_alone, adds_alone, found_alone}
 use Rattle.chunk_ops.proofs.adding.add.Goals as goal
 use Rattle.chunk_ops.proofs.MeetingCalls.{only_both, only_in, stays_then}
 
@@ -21,10 +24,6 @@ pub returns-then-not-take_latch-clause-not_added : goal.returns-then-not-take_la
 returns-then-not-take_latch-clause-not_added c k m = let z : Sizes = sizes c.args.table.now in let call = call_of c.args.pass.now in let r = c.args.pin.now.room in let t = state c.args.pass.now in let u = state c.held_bytes-key.new.pass in let v = state c.take_latch.new.pass in
     let h = c.held_bytes-key.ensures in let f = c.take_latch.ensures.found c.if-not-take_latch.true in
     latched_since z call r t u v h.only (subst (λ (n : ℕ). FoundLatched z n r u v) h.own.call f.0)
-
-pub returns-then-not-take_latch-clause-alone : goal.returns-then-not-take_latch-clause-alone
-returns-then-not-take_latch-clause-alone c e = let u = state c.held_bytes-key.new.pass in let v = state c.take_latch.new.pass in
-    stays_then Never (state c.args.pass.now) u v c.held_bytes-key.ensures.only.still (c.take_latch.ensures.alone c.if-not-take_latch.true)
 
 -- it was taken
 
@@ -66,3 +65,33 @@ returns-in-Full-clause-not_added c k m = let z : Sizes = sizes c.args.table.now 
     let found : FoundCrowded z call r (take c.args.len c.held_bytes-key.result) v w = subst (λ (n : ℕ). FoundCrowded z n r (take c.args.len c.held_bytes-key.result) v w) e c.in-Full.ensures.does.1 in
     subst (λ (q : List ℕ). FoundCrowded z call r q t x) (sym (key_looked z b.class b.number c.args.len k c.held_bytes-key.result t m h.bytes))
     (crowded_around z call r t u v w x h.only l c.requires.latch up (take c.args.len c.held_bytes-key.result) found)
+
+-- ---- to a pass that is alone
+
+pub returns-then-not-take_latch-clause-alone_not_added : goal.returns-then-not-take_latch-clause-alone_not_added
+returns-then-not-take_latch-clause-alone_not_added c k m = let u = state c.held_bytes-key.new.pass in let v = state c.take_latch.new.pass in
+    stays_then Never (state c.args.pass.now) u v c.held_bytes-key.ensures.only.still (c.take_latch.ensures.alone c.if-not-take_latch.true)
+
+pub returns-in-Found-clause-alone : goal.returns-in-Found-clause-alone
+returns-in-Found-clause-alone c k m = let z : Sizes = sizes c.args.table.now in let r = c.args.pin.now.room in let b = c.args.block in
+    let t = state c.args.pass.now in let u = state c.held_bytes-key.new.pass in let v = state c.take_latch.new.pass in let w = state c.add_latched-outcome.new.pass in let x = state c.give_latch.new.pass in let y = state c.give.new.pass in
+    let h = c.held_bytes-key.ensures in
+    subst (λ (q : List ℕ). Runs (AddsIn z r (record { 0 = c.in-Found.entry }) q) t y) (sym (key_looked z b.class b.number c.args.len k c.held_bytes-key.result t m h.bytes))
+    (found_alone z r c.requires.pinned.inside t u v w x h.only.still (c.take_latch.ensures.alone_taken c.if-not-take_latch.false) c.give_latch.ensures.alone
+    (record { 0 = c.in-Found.entry }) (take c.args.len c.held_bytes-key.result) b.class b.number m.block.block.inside y c.in-Found.ensures.alone c.give.ensures.given.still)
+
+pub returns-in-Added-clause-alone : goal.returns-in-Added-clause-alone
+returns-in-Added-clause-alone c k m = let z : Sizes = sizes c.args.table.now in let r = c.args.pin.now.room in let b = c.args.block in
+    let t = state c.args.pass.now in let u = state c.held_bytes-key.new.pass in let v = state c.take_latch.new.pass in let w = state c.add_latched-outcome.new.pass in let x = state c.give_latch.new.pass in
+    let h = c.held_bytes-key.ensures in
+    subst (λ (q : List ℕ). Runs (AddsIn z r (record { 0 = c.in-Added.entry }) q) t x) (sym (key_looked z b.class b.number c.args.len k c.held_bytes-key.result t m h.bytes))
+    (adds_alone z r c.requires.pinned.inside t u v w x h.only.still (c.take_latch.ensures.alone_taken c.if-not-take_latch.false) c.give_latch.ensures.alone
+    (record { 0 = c.in-Added.entry }) (take c.args.len c.held_bytes-key.result) c.in-Added.ensures.alone)
+
+pub returns-in-Full-clause-alone_not_added : goal.returns-in-Full-clause-alone_not_added
+returns-in-Full-clause-alone_not_added c k m = let z : Sizes = sizes c.args.table.now in let r = c.args.pin.now.room in let b = c.args.block in
+    let t = state c.args.pass.now in let u = state c.held_bytes-key.new.pass in let v = state c.take_latch.new.pass in let w = state c.add_latched-outcome.new.pass in let x = state c.give_latch.new.pass in
+    let h = c.held_bytes-key.ensures in
+    subst (λ (q : List ℕ). Runs (CrowdedIn z r q) t x) (sym (key_looked z b.class b.number c.args.len k c.held_bytes-key.result t m h.bytes))
+    (crowded_alone z r c.requires.pinned.inside t u v w x h.only.still (c.take_latch.ensures.alone_taken c.if-not-take_latch.false) c.give_latch.ensures.alone
+    (take c.args.len c.held_bytes-key.result) c.in-Full.ensures.alone)

@@ -5,7 +5,7 @@ use Rattle.chunk_ops.specs.PinRecords.{room_pin}
 use Rattle.chunk_ops.specs.Reads.{Compares}
 use Rattle.chunk_ops.proofs.BelowCounts.{none_below}
 use Rattle.chunk_ops.proofs.CompareFacts.{slice_bytes}
-use Rattle.chunk_ops.proofs.FoundKeys.{finds_key, finds_alone}
+use Rattle.chunk_ops.proofs.FoundKeys.{finds_key, counted_alone}
 use Rattle.chunk_ops.proofs.LoadedWords.{compares_of_entry}
 use Rattle.chunk_ops.proofs.SearchedTables.{searched_table}
 use Rattle.chunk_ops.proofs.searching.find_counted.Goals as goal
@@ -33,5 +33,5 @@ returns-clause-found c = let t = c.find-found.new.room in let key = c.args.key.n
 
 pub returns-clause-alone : goal.returns-clause-alone
 returns-clause-alone c = let t = c.find-found.new.room in let key = c.args.key.now in let s = searched_table (Compares key) (compares_of_entry key) _ t c.find-found.ensures.loads c.requires.pinned in
-    let f = finds_alone _ _ _ t.count _ _ s c.find-found.ensures.pinned.ordered key c.requires.key (slice_bytes key c.type_inv.key) c.find-found.result c.find-found.ensures.found in
+    let f = counted_alone _ _ _ t.count _ _ s c.find-found.ensures.pinned.ordered key c.requires.key (slice_bytes key c.type_inv.key) c.find-found.result c.find-found.ensures.found in
     search (rules, f)
