@@ -54,7 +54,7 @@ fn add_latched(
     Outcome::Added(enter(table, pass, pin, block, key.len(), count))
 }
 
-/// An entry of the key whose first `len` bytes stand in the block. Where the room has none it is added,
+/// An entry of the key that the first `len` bytes of the block are. Where the room has none it is added,
 /// and has the block and the room's base as its floor; else the block is given back. `Crowded` comes
 /// only where the room had as many entries as it may and none of the key, `Busy` only where its latch
 /// was found taken; both hand the block back. To a pass that is alone `Crowded` comes exactly where the
@@ -63,45 +63,45 @@ pub fn add(
     table: &OakTable,
     pass: &mut Pass,
     pin: &RoomPin,
-    block: Block,
+    key: Block,
     len: usize,
 ) -> Result<EntryNo, NotAdded>
     requires own { IsPassOf table.now pass.old }
     requires pinned { HasRoomPin (sizes table.now) pin.now.room (state pass.old) }
     requires latch { (state pass.old).rooms.latch ≡ None }
-    requires key { (k : List ℕ) × MayAdd (sizes table.now) block.class block.number len k (state pass.old) }
+    requires key { (k : List ℕ) × MayAdd (sizes table.now) key.class key.number len k (state pass.old) }
     ensures own { Stays pass.old pass.new }
-    ensures added { IfOk result (λ i. (k : List ℕ) → MayAdd (sizes table.now) block.class block.number len k (state pass.old) → AddsEntry (sizes table.now) (call_of pass.old) pin.now.room i.0 block.class block.number k (state pass.old) (state pass.new)) }
-    ensures block { IfErr result (λ n. n.block ≡ block) }
+    ensures added { IfOk result (λ i. (k : List ℕ) → MayAdd (sizes table.now) key.class key.number len k (state pass.old) → AddsEntry (sizes table.now) (call_of pass.old) pin.now.room i.0 key.class key.number k (state pass.old) (state pass.new)) }
+    ensures block { IfErr result (λ n. n.block ≡ key) }
     ensures under { IfErr result (λ n. UnderPin (sizes table.now) (call_of pass.old) pin.now.room (state pass.old) (state pass.new)) }
-    ensures not_added { IfErr result (λ n. (k : List ℕ) → MayAdd (sizes table.now) block.class block.number len k (state pass.old) → NotAddedBy n.why (sizes table.now) (call_of pass.old) pin.now.room k (state pass.old) (state pass.new)) }
-    ensures alone { IfOk result (λ i. (k : List ℕ) → MayAdd (sizes table.now) block.class block.number len k (state pass.old) → Runs (AddsIn (sizes table.now) pin.now.room i k) (state pass.old) (state pass.new)) }
-    ensures alone_not_added { IfErr result (λ n. (k : List ℕ) → MayAdd (sizes table.now) block.class block.number len k (state pass.old) → Runs (NotAddedIn n.why (sizes table.now) pin.now.room k) (state pass.old) (state pass.new)) }
+    ensures not_added { IfErr result (λ n. (k : List ℕ) → MayAdd (sizes table.now) key.class key.number len k (state pass.old) → NotAddedBy n.why (sizes table.now) (call_of pass.old) pin.now.room k (state pass.old) (state pass.new)) }
+    ensures alone { IfOk result (λ i. (k : List ℕ) → MayAdd (sizes table.now) key.class key.number len k (state pass.old) → Runs (AddsIn (sizes table.now) pin.now.room i k) (state pass.old) (state pass.new)) }
+    ensures alone_not_added { IfErr result (λ n. (k : List ℕ) → MayAdd (sizes table.now) key.class key.number len k (state pass.old) → Runs (NotAddedIn n.why (sizes table.now) pin.now.room k) (state pass.old) (state pass.new)) }
 {
-    let key = held_bytes(table, pass, &block, len);
+    let bytes = held_bytes(table, pass, &key, len);
     if !take_latch(table, pass, pin.room) {
         return Err(NotAdded {
             why: AddHalt::Busy,
-            block,
+            block: key,
         });
     }
-    let outcome = add_latched(table, pass, pin, &block, &key[..len]);
+    let outcome = add_latched(table, pass, pin, &key, &bytes[..len]);
     give_latch(table, pass, pin.room);
     match outcome {
         Outcome::Found(entry) => {
-            give(table, pass, block);
+            give(table, pass, key);
             Ok(EntryNo(entry))
         }
         Outcome::Added(entry) => {
             let Block {
                 class: _,
                 number: _,
-            } = block;
+            } = key;
             Ok(EntryNo(entry))
         }
         Outcome::Full => Err(NotAdded {
             why: AddHalt::Crowded,
-            block,
+            block: key,
         }),
     }
 }

@@ -48,7 +48,7 @@ returns-clause-does c = let z : Sizes = sizes c.args.table.now in let call = cal
     adds_found z call r c.enter.result b.class b.number k v u w f.under
     (subst (λ (n : ℕ). AddsUnder z n r c.enter.result b.class b.number k u w) f.own.call (c.enter.ensures.adds k (still_here z call r b.class b.number (length k) k v u f.under c.requires.may)))
 
--- ---- to a pass that is alone
+-- to a pass that is alone
 
 pub returns-in-Some-clause-alone : goal.returns-in-Some-clause-alone
 returns-in-Some-clause-alone c = let z : Sizes = sizes c.args.table.now in let r = c.args.pin.now.room in let v = state c.args.pass.now in let w = state c.find_counted-count.new.pass in let k = c.args.key.now in let x = c.find_counted-count.result in
