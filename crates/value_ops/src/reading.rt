@@ -8,8 +8,8 @@ ghost use Rattle.value_ops.specs.Reading.{IsReading, OnlyLoads, FindsStamp, Read
 ghost use Rattle.arena_core.specs.Words.{bytes_in};
 
 use crate::pinning::{HeaderPin, unpin};
-use arena_core::words::{WORD, is_word, put_word};
 use arena_core::place::{block_in, class_in, length_in};
+use arena_core::words::{WORD, is_word, put_word};
 use oak_core::{OakTable, Pass, load};
 
 /// A value that is read under a good pin. It borrows the pass until [`Reading::done`] undoes the pin,

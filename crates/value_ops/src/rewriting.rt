@@ -18,8 +18,8 @@ ghost use Rattle.value_ops.specs.UnderLock.{HasLock, ComesTo, Rewrites, Refills,
 
 use crate::locking::Locked;
 use crate::recipes::{Recipe, apply_once};
-use arena_core::words::{WORD, put_word, word_from};
 use arena_core::place::{block_in, class_in, length_in, place_word};
+use arena_core::words::{WORD, put_word, word_from};
 use oak_core::{OakTable, Pass, load, steps};
 
 impl Locked {
