@@ -1,4 +1,4 @@
-//! Rooms under a pin: pinned by a key or a bound, their bounds, and the searches of their entries.
+//! Rooms under a pin: their bounds, the searches of their entries, and the entries added to them.
 #![tactic(auto)]
 
 mod adding;
