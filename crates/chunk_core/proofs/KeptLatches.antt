@@ -65,7 +65,7 @@ module _ (z : Sizes) (m : RoomMemory) (content : ℕ → List ℕ) (hs : List Ro
   mine = at_map kept_of_rooms hs seat a here
 
   -- no pass holds an open or frozen room
-  unheld : (r : ℕ) → weight (m.pin r) ≡ 1 → (j : ℕ) (u : RoomHolds) → get_elem? hs j ≡ some u → in_room_state r HELD u ≡ 0
+  pub unheld : (r : ℕ) → weight (m.pin r) ≡ 1 → (j : ℕ) (u : RoomHolds) → get_elem? hs j ≡ some u → in_room_state r HELD u ≡ 0
   unheld r w j u at = let h = rule.held r HELD (inr refl) in let t = total_at (in_room_state r HELD) hs j u at in
       let n : one_at (state_of (m.pin r)) HELD ≡ 0 = one_at-cases (state_of (m.pin r)) HELD (λ k. k ≡ 0) (λ e. absurd (let o = weight_held (m.pin r) e in omega arith)) (λ _. refl) in omega arith
 

@@ -28,4 +28,5 @@ pub mod StoredRooms
 pub mod ValueWords
 pub mod KeptLatches
 pub mod KeptRoomWords
+pub mod KeptValues
 pub mod UnkeptRooms

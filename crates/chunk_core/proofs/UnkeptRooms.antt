@@ -77,7 +77,7 @@ rooms_none q [] e = refl
 rooms_none q (h ∷ hs) e = let a = held_none q h.room h.held_as (omega arith) in let t = rooms_none q hs (omega arith) in let s = total_append (λ (w : KeptWord RoomSpot). one_if (same_room_spot w.spot q)) (kept_of_held h.room h.held_as) (kept_of_rooms_held hs) in omega arith
 
 -- with the latch's part, which a word of the room may be of
-none_with : (q : RoomSpot) (a : RoomHolds) → keeps same_room_spot q (kept_of_latch a.latch) ≡ 0 → a.claim ≡ None → in_room_state (room_at q) HELD a ≡ 0 → keeps same_room_spot q (kept_of_rooms a) ≡ 0
+pub none_with : (q : RoomSpot) (a : RoomHolds) → keeps same_room_spot q (kept_of_latch a.latch) ≡ 0 → a.claim ≡ None → in_room_state (room_at q) HELD a ≡ 0 → keeps same_room_spot q (kept_of_rooms a) ≡ 0
 none_with q a l claim held = let c = claim_none q a.claim claim in let h = rooms_none q a.held held in
     let s = total_append (λ (w : KeptWord RoomSpot). one_if (same_room_spot w.spot q)) (kept_of_latch a.latch) (kept_of_claim a.claim ++ kept_of_rooms_held a.held) in
     let t = total_append (λ (w : KeptWord RoomSpot). one_if (same_room_spot w.spot q)) (kept_of_claim a.claim) (kept_of_rooms_held a.held) in omega arith

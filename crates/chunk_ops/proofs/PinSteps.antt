@@ -148,8 +148,8 @@ module _ (z : Sizes) (call r n : ℕ) (v w : PassState) (t : PinsRoomWord z call
 pub pins_one : (z : Sizes) (r : ℕ) (a : RoomHolds) → PinIsOn z r a → room_pins r a ≡ 1
 pins_one z r a p = ap (pins_of r) p.is ∙ one_at-same _ r p.room
 
-pub may_unpin : (z : Sizes) (r : ℕ) (v : PassState) → PinIsOn z r v.rooms → MayOnRooms z (unpin_room r) v
-may_unpin z r v p = record { inside = (p.inside, omega arith); rooms = (pins_one z r v.rooms p, p.latch, p.claim) }
+pub may_unpin : (z : Sizes) (call r : ℕ) (v : PassState) → PinIsOn z r v.rooms → MayOnRooms z call (unpin_room r) v
+may_unpin z call r v p = record { inside = (p.inside, omega arith); rooms = (pins_one z r v.rooms p, p.latch, p.claim) }
 
 module _ (z : Sizes) (call r n : ℕ) (v w : PassState) (t : UnpinsRoomWord z call r v n w) where
   counts : 0 < count_of n

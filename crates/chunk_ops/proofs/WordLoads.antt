@@ -1,9 +1,9 @@
 -- Loads of words of a pinned room, which find what the pin recorded.
-use Rattle.std.proofs.Common.{◌≡◌, ℕ, ◌+◌, ◌-◌, ◌/◌, ◌%◌, ◌^◌, ◌<◌, ◌≤◌, List, map, [], ◌∷◌, get_or, sym, refl, ap, ◌∙◌, subst, arith}
+use Rattle.std.proofs.Common.{◌≡◌, ℕ, ◌+◌, ◌/◌, ◌^◌, ◌<◌, List, map, [], ◌∷◌, get_or, sym, refl, ap, ◌∙◌, subst, arith}
 use mathlib.Core.Logic.{dite}
 use native.Mathlib.Decide.{dec_lt}
 use Rattle.oak_model.specs.Limits.{Sizes}
-use Rattle.oak_model.proofs.Counting.{one_at-same, one_at-other}
+use Rattle.oak_model.proofs.Counting.{one_at-same}
 use Rattle.oak_model.proofs.Lists.{at_map, rows_at}
 use Rattle.arena_core.specs.Place.{content}
 use Rattle.chunk_core.specs.declared.layout.TheConstants.{BOUND_WORDS}
@@ -11,7 +11,7 @@ use Rattle.chunk_core.specs.PinnedRooms.{OnRoomPin, IsGoodRoom, RoomPinHolds}
 use Rattle.chunk_core.specs.CoverSums.{weight}
 use Rattle.chunk_core.specs.Covers.{Cover}
 use Rattle.chunk_core.specs.Rooms.{at_base, IsInRooms}
-use Rattle.chunk_core.specs.ValueWord.{names_header, header_in, generation_in}
+use Rattle.chunk_core.specs.ValueWord.{names_header}
 use Rattle.chunk_core.proofs.Lookups.{all_at}
 use Rattle.oak_core.specs.declared.states.PassState.{PassState}
 use Rattle.oak_core.specs.CallSteps.{Stands}
@@ -26,9 +26,8 @@ use Rattle.oak_core.proofs.Words.{index_apart, memory_read}
 use Rattle.chunk_ops.specs.declared.bounds.Bound.{Bound}
 use Rattle.chunk_ops.specs.declared.bounds.Bound.TheVariants.{Low, High}
 use Rattle.chunk_ops.specs.PinnedBounds.{bound_spot, bound_words}
-use Rattle.chunk_ops.specs.declared.entries.Content.TheVariants.{Value, Floor}
 use Rattle.chunk_ops.specs.PinRecords.{HasEntry, HasRoomPin, OnlyMeets, WordsStay, room_pin}
-use Rattle.chunk_ops.specs.RoomWords.{FindsBase, Says}
+use Rattle.chunk_ops.specs.RoomWords.{FindsBase}
 use Rattle.oak_core.specs.Loading.{IsPlain}
 use Rattle.oak_core.proofs.PlainLoads.{met_at}
 
@@ -92,16 +91,6 @@ base_loaded z call r n v w p t = let h = pin_holds z call r (load (in_rooms (at_
       let a = all_at z m.rooms (content m.arena.bytes) (map rooms_held t.table.states) r (λ (c : Cover). names_header c.span.base) p.inside weighs in
       let none = t.rule.covers.bases in let same : names_header (m.rooms.base r) ≡ names_header n = ap names_header reads in omega arith);
 }
-
--- what a value word says
-
-pub says_floor : (n : ℕ) → n < 2 ^ 63 → Says (Floor n) n
-unfolding names_header
-says_floor n lt = (one_at-other (n / 2 ^ 63) 1 (λ e. absurd (omega arith)), refl, lt)
-
-pub says_value : (n : ℕ) → n < 2 ^ 64 → 2 ^ 63 ≤ n → Says (Value ((n - 2 ^ 63) / 2 ^ 32) (n % 2 ^ 32)) n
-unfolding names_header header_in generation_in
-says_value n lt le = (one_at-same (n / 2 ^ 63) 1 (omega arith), omega arith, refl)
 
 -- an entry that the pin found is one of the room's
 pub found_inside : (z : Sizes) (r i : ℕ) (k : List ℕ) (v : PassState) → HasRoomPin z r v → HasEntry r i k v → i < z.entries

@@ -91,3 +91,11 @@ pub record OnlyMeets (call : ℕ) (v w : PassState) : Type 0 where
   pub headers : w.headers ≡ v.headers
   pub rooms : w.rooms ≡ v.rooms
   pub still : Runs WordsStay v w
+
+-- The call met more and may have learned, and the pass holds what it held. To a pass that is alone the words of the table stay.
+pub record OnlyLearns (call : ℕ) (v w : PassState) : Type 0 where
+  pub learns : Learns call v w
+  pub blocks : w.blocks ≡ v.blocks
+  pub headers : w.headers ≡ v.headers
+  pub rooms : w.rooms ≡ v.rooms
+  pub still : Runs WordsStay v w

@@ -6,14 +6,11 @@ use Rattle.oak_model.specs.Limits.{Sizes}
 use Rattle.arena_core.specs.Arena.{block_words, blocks}
 use Rattle.arena_core.specs.Place.{class_in, block_in, length_in}
 use Rattle.chunk_core.specs.declared.holds.FoundEntry.{FoundEntry}
-use Rattle.chunk_core.specs.Rooms.{at_base, at_value}
-use Rattle.chunk_core.specs.ValueWord.{names_header, header_in, generation_in}
+use Rattle.chunk_core.specs.Rooms.{at_base}
 use Rattle.oak_core.specs.declared.states.PassState.{PassState}
 use Rattle.oak_core.specs.CallSteps.{StepOfCall}
 use Rattle.oak_core.specs.Memory.{in_rooms}
 use Rattle.oak_core.specs.Step.{load}
-use Rattle.chunk_ops.specs.declared.entries.Content.{Content}
-use Rattle.chunk_ops.specs.declared.entries.Content.TheVariants.{Value, Floor}
 use Rattle.chunk_ops.specs.PinRecords.{room_pin}
 
 -- the base was loaded in the call, and is the one that the pin recorded
@@ -22,16 +19,6 @@ pub record FindsBase (z : Sizes) (call r base : ℕ) (v w : PassState) : Type 0 
   pub base_is : step.number ≡ base
   pub pinned : base ≡ (room_pin v).base
   pub small : base < 2 ^ 63
-
--- what a value word says
-abbrev pub Says : Content → ℕ → Type 0
-Says (Value h g) n = (names_header n ≡ 1) × (header_in n ≡ h) × (generation_in n ≡ g)
-Says (Floor stamp) n = (names_header n ≡ 0) × (n ≡ stamp) × (stamp < 2 ^ 63)
-
--- the value word of the entry was loaded in the call, and says so
-pub record FindsContent (z : Sizes) (call r i : ℕ) (c : Content) (v w : PassState) : Type 0 where
-  pub step : StepOfCall z call (load (in_rooms (at_value r i))) v w
-  pub says : Says c step.number
 
 -- the word is the entry's, and names a block of the table with room for the key, which has as many bytes as it says
 pub record FindsKeyWord (z : Sizes) (k : List ℕ) (e : FoundEntry) (word : ℕ) : Type 0 where

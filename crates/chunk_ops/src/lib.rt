@@ -1,4 +1,5 @@
-//! Rooms under a pin: their bounds, the searches of their entries, and the entries added to them.
+//! Rooms under a pin: their bounds, the searches of their entries, the entries added to them, and the values that are
+//! set in those and cleared.
 #![tactic(auto)]
 
 mod adding;
@@ -20,16 +21,20 @@ mod pins;
 mod ranges;
 mod room;
 mod searching;
+mod setting;
 mod stored;
 #[cfg(test)]
 mod tests;
+mod values;
 mod way;
 
 pub use adding::add;
 pub use bounds::{high_byte, high_len, low_byte, low_len};
 pub use entries::{AddHalt, Content, EntryNo, Found, NotAdded};
 pub use key_blocks::store_key;
-pub use loading::{base_of, content, key_byte, key_len};
+pub use loading::{base_of, key_byte, key_len};
 pub use pinning::{Moved, pin_for, pin_last};
 pub use pins::{RoomPin, unpin};
 pub use searching::{above, below, find};
+pub use setting::{clear_value, set_value};
+pub use values::content;

@@ -3,32 +3,13 @@ ghost use Rattle.std.specs.Prelude.{◌≡◌, ◌<◌, ℕ, List, length, slice
 ghost use Rattle.oak_model.specs.Key.{IsKey};
 ghost use Rattle.oak_core.specs.Passes.{IsPassOf, Stays, state, key, call_of};
 ghost use Rattle.chunk_ops.specs.PinRecords.{HasEntry, HasRoomPin, OnlyMeets};
-ghost use Rattle.chunk_ops.specs.RoomWords.{FindsBase, FindsContent, FindsKeyWord, Says};
+ghost use Rattle.chunk_ops.specs.RoomWords.{FindsBase, FindsKeyWord};
 
-use crate::entries::{Content, EntryNo};
+use crate::entries::EntryNo;
 use crate::pins::RoomPin;
 use arena_core::place::{block_in, class_in, length_in};
 use arena_core::words::WORD;
 use oak_core::{OakTable, Pass, load};
-
-/// What the top bit of a value word adds to it, where it names a header.
-const NAMES: u64 = 1 << 63;
-
-/// What one more in the header adds to a value word.
-const HEADER: u64 = 1 << 32;
-
-/// What a value word says.
-fn content_of(word: u64) -> Content
-    ensures { Says result word }
-{
-    if word < NAMES {
-        return Content::Floor { stamp: word };
-    }
-    Content::Value {
-        header: ((word - NAMES) / HEADER) as u32,
-        generation: (word % HEADER) as u32,
-    }
-}
 
 /// The base of the pinned room: each stamp that a key of its range had is at most this, where the key
 /// has no entry.
@@ -41,19 +22,6 @@ pub fn base_of(table: &OakTable, pass: &mut Pass, pin: &RoomPin) -> u64
 {
     let word = table.base_at(pin.room);
     load(table, pass, word)
-}
-
-/// What the value word of an entry says, which is loaded once.
-pub fn content(table: &OakTable, pass: &mut Pass, pin: &RoomPin, entry: EntryNo) -> Content
-    requires own { IsPassOf table.now pass.old }
-    requires pinned { HasRoomPin (key table.now) pin.now.room (state pass.old) }
-    requires entry { (k : List ℕ) × HasEntry pin.now.room entry.0 k (state pass.old) }
-    ensures own { Stays pass.old pass.new }
-    ensures content { FindsContent (key table.now) (call_of pass.old) pin.now.room entry.0 result (state pass.old) (state pass.new) }
-    ensures only { OnlyMeets (call_of pass.old) (state pass.old) (state pass.new) }
-{
-    let word = table.value_at(pin.room, entry.0);
-    content_of(load(table, pass, word))
 }
 
 /// Loads the key word of an entry.

@@ -1,11 +1,10 @@
 -- A word and an operand name at most one bit or word of the arena, so a step that may be taken is told of whatever they name.
-use Rattle.std.proofs.Common.{◌≡◌, ℕ, zero, suc, ◌-◌, ◌/◌, ◌%◌, ◌^◌, ◌<◌, false, sym, refl, ap, ◌∙◌, subst, arith, div-add-mod'}
+use Rattle.std.proofs.Common.{◌≡◌, ℕ, ◌-◌, ◌/◌, ◌%◌, ◌^◌, ◌<◌, false, sym, refl, ap, ◌∙◌, subst, arith, div-add-mod'}
 use Rattle.std.specs.Prelude.{bit_and, bit_or}
 use mathlib.Core.Option.{some}
 use lib.ListN.{get_elem?}
 use Rattle.atomic_table.specs.Table.{Me, Allows}
 use Rattle.oak_model.specs.declared.classes.Class.{Class}
-use Rattle.oak_model.specs.declared.classes.Class.TheVariants.{B16, B64, B256, B1024}
 use Rattle.oak_model.specs.Limits.{Sizes}
 use Rattle.oak_model.specs.Class.{class_number}
 use Rattle.arena_core.specs.Arena.{at_bits, at_bytes, IsInArena, block_words, blocks}
@@ -20,25 +19,9 @@ use Rattle.oak_core.specs.Rule.{Rule}
 use Rattle.oak_core.specs.Step.{on_arena, spot, effect, May}
 use Rattle.oak_core.specs.TableState.{TableState}
 use Rattle.oak_core.proofs.Allowed.{same_power, allows_at}
-use Rattle.oak_core.proofs.KeepsArena.{class_below}
+use Rattle.arena_core.proofs.PlaceLaws.{class_below, same_class}
 use Rattle.oak_core.proofs.OneOwner.{two_headers, unowned_held, inside_locked, has_locked}
 use Rattle.oak_core.proofs.Words.{index_below, index_apart}
-
-class_at : ℕ → Class
-class_at zero = B16
-class_at (suc zero) = B64
-class_at (suc (suc zero)) = B256
-class_at (suc (suc (suc n))) = B1024
-
-class_at-number : (c : Class) → class_at (class_number c) ≡ c
-unfolding class_at
-class_at-number B16 = refl
-class_at-number B64 = refl
-class_at-number B256 = refl
-class_at-number B1024 = refl
-
-pub same_class : (c d : Class) → class_number c ≡ class_number d → c ≡ d
-same_class c d e = sym (class_at-number c) ∙ (ap class_at e ∙ class_at-number d)
 
 -- the numbers in a spot
 first_of_spot : Spot → ℕ

@@ -126,7 +126,7 @@ module _ (vs : List PassState) (callers : CallersAgree vs) (histories : Historie
   made_now : (f : KeyedWrite → ℕ) → made_of f u ≡ made_of f v + f w
   made_now f = let a = ap (λ (q : Knowledge). total f q.mine) knowledge in let b = ap (λ (n : Numbers). total (λ (j : Joined). total f j.mine) n.joined) numbers in let c = total_snoc f v.knowledge.mine w in omega arith
 
-  made_all : (f : KeyedWrite → ℕ) → total (made_of f) vs' ≡ total (made_of f) vs + f w
+  pub made_all : (f : KeyedWrite → ℕ) → total (made_of f) vs' ≡ total (made_of f) vs + f w
   made_all f = let t = total_set (made_of f) vs seat v u here in let m = made_now f in omega arith
 
   -- one write more was made

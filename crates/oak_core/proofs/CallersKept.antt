@@ -1,10 +1,10 @@
 -- A step of one seat that makes no write, and changes no history and none of its pass's numbers, keeps the points on callers, and the number of all writes.
-use Rattle.std.proofs.Common.{◌≡◌, ◌≢◌, ℕ, List, length, set, sym, ap, ◌∙◌, subst, ⊎_elim, arith}
+use Rattle.std.proofs.Common.{◌≡◌, ◌≢◌, ℕ, List, [], None, length, set, sym, ap, ◌∙◌, subst, ⊎_elim, arith}
 use mathlib.Core.Option.{some}
 use lib.ListN.{get_elem?}
 use Rattle.oak_model.specs.Counts.{total, Each}
-use Rattle.oak_model.proofs.Counting.{total_set}
-use Rattle.oak_model.proofs.Lists.{at_set, map_set_same, each_map}
+use Rattle.oak_model.proofs.Counting.{total_set, total_map}
+use Rattle.oak_model.proofs.Lists.{at_set, each_map}
 use Rattle.oak_core.specs.declared.states.Joined.{Joined}
 use Rattle.oak_core.specs.declared.states.KeyedWrite.{KeyedWrite}
 use Rattle.oak_core.specs.declared.states.Numbers.{Numbers}
@@ -23,8 +23,12 @@ stand_same hist hist' same v s = record {
   joined = each_map (λ (j : Joined). AreWritesOf hist j.number j.mine) (λ (j : Joined). AreWritesOf hist' j.number j.mine) v.numbers.joined (λ j a. writes_same hist hist' same j.number j.mine a) s.joined;
 }
 
-module _ (vs : List PassState) (seat : ℕ) (v u : PassState) (here : get_elem? vs seat ≡ some v) (numbers : u.numbers ≡ v.numbers) (mine : u.knowledge.mine ≡ v.knowledge.mine) where
-  made_same : (f : KeyedWrite → ℕ) → total (made_of f) (set vs seat u) ≡ total (made_of f) vs
+-- the numbers that a pass has as its own, or of those joined into it
+abbrev pub without_hand : Numbers → Numbers
+without_hand n = record n { hand = None; made = [] }
+
+module _ (vs : List PassState) (seat : ℕ) (v u : PassState) (here : get_elem? vs seat ≡ some v) (numbers : without_hand u.numbers ≡ without_hand v.numbers) (mine : u.knowledge.mine ≡ v.knowledge.mine) where
+  pub made_same : (f : KeyedWrite → ℕ) → total (made_of f) (set vs seat u) ≡ total (made_of f) vs
   made_same f = let t = total_set (made_of f) vs seat v u here in let a = ap (total f) mine in let b = ap (λ (n : Numbers). total (λ (j : Joined). total f j.mine) n.joined) numbers in omega arith
 
   pub made_kept : total made_by (set vs seat u) ≡ total made_by vs
@@ -34,7 +38,7 @@ module _ (vs : List PassState) (seat : ℕ) (v u : PassState) (here : get_elem? 
   callers_kept callers same = record {
     writes = λ j t at. ⊎_elim (λ (y : (j ≡ seat) × (u ≡ t)). subst (WritesStand (history_now (set vs seat u))) y.1 own)
         (λ (y : (j ≢ seat) × (get_elem? vs j ≡ some t)). stand_same (history_now vs) (history_now (set vs seat u)) same t (callers.writes j t y.1)) (at_set vs seat j u t at);
-    others = λ i k none. ap (of_caller i) (same k) ∙ callers.others i k (let e = ap (total (rooted i)) (map_set_same numbers_of vs seat v u here numbers) in omega arith);
+    others = λ i k none. ap (of_caller i) (same k) ∙ callers.others i k (let a = total_map numbers_of (rooted i) vs in let b = total_map numbers_of (rooted i) (set vs seat u) in let t = total_set (λ (x : PassState). rooted i x.numbers) vs seat v u here in let e = ap (rooted i) numbers in omega arith);
     distinct = λ x names. let d = callers.distinct x names in let m = made_same (begins x) in omega arith;
   }
     where

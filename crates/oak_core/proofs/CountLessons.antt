@@ -26,11 +26,11 @@ use Rattle.oak_core.specs.declared.states.Taught.TheVariants.{OfRoom}
 use Rattle.oak_core.specs.KeyHistories.{writes_of, state_behind, before}
 use Rattle.oak_core.specs.KeyReads.{sum_now, history_now, level_now}
 use Rattle.oak_core.specs.KeyRule.{StatesAgree, HistoriesAreLegal}
-use Rattle.oak_core.specs.KnownPlaces.{KnowsPlace, Remembers, ReadAt}
+use Rattle.oak_core.specs.KnownPlaces.{KnowsPlace, ReadAt}
 use Rattle.oak_core.specs.Learning.{reach_of, lesson_by, taught_by}
 use Rattle.oak_core.specs.Lessons.{IsAbsentBehind, KnowsAbsent, HeardStands}
 use Rattle.oak_core.specs.Memory.{Memory}
-use Rattle.oak_core.specs.PassState.{Extends, seen_of, rooms_held, knowledge_of}
+use Rattle.oak_core.specs.PassState.{seen_of, rooms_held, knowledge_of}
 use Rattle.oak_core.specs.Rule.{HistoriesStand}
 use Rattle.oak_core.proofs.Histories.{seen_stands}
 use Rattle.oak_core.proofs.HeardKeeps.{heard_load}
@@ -38,8 +38,7 @@ use Rattle.oak_core.proofs.LessonLaws.{heard_taught}
 use Rattle.oak_core.proofs.LessonReach.{reach_missed}
 use Rattle.oak_core.proofs.MissedKeys.{missed_state, missed_absent, missed_upto, reach_misses}
 use Rattle.oak_core.proofs.PinsKnown.{KnowsMissed, KnowsDead, has_first, has_later, removed_on}
-use Rattle.oak_core.proofs.Remembering.{remembers_more}
-use Rattle.oak_core.proofs.TaughtReads.{taught_extends, taught_whole, read_taught}
+use Rattle.oak_core.proofs.TaughtReads.{taught_whole, read_taught}
 use Rattle.oak_core.proofs.TaughtStates.{history_taught, histories_taught}
 
 module _ (z : Sizes) (m : Memory) (is_key_word : ℕ → ℕ) (vs : List PassState) (rooms : RoomsStand z m.rooms (content m.arena.bytes) (map rooms_held vs)) (parts : CoversPartition z m.rooms (content m.arena.bytes) is_key_word (map rooms_held vs))
@@ -107,13 +106,6 @@ module _ (z : Sizes) (m : Memory) (is_key_word : ℕ → ℕ) (vs : List PassSta
       counted = subst (OnRoomPin (KnowsMissed u.knowledge)) (sym (ap (λ (a : RoomHolds). a.pin) pin)) counted_absent;
       removed = subst (OnPin (KnowsDead u.knowledge)) (sym header) (removed_on v.knowledge u.knowledge v.headers.pin (λ l h. subst (Has l) (sym taught) (has_first v.knowledge.heard (lesson ∷ []) l h)) (heard.pins seat v here).removed);
     })
-
-    -- the pass has seen all that it had, and forgets no place
-    pub count_extends : Extends v u
-    count_extends = taught_extends (OfRoom p') qs histories rise seat v.knowledge q_here u seen
-
-    pub count_remembers : Remembers v.knowledge u.knowledge
-    count_remembers = remembers_more v.knowledge u.knowledge (lesson ∷ []) taught
 
     -- a key that its pin misses
     module _ (k : ℕ) (misses : Misses (pin_with m.rooms (content m.arena.bytes) (m.rooms.count p.room) p) k) where

@@ -15,17 +15,15 @@ use Rattle.oak_core.specs.declared.states.Taught.TheVariants.{OfRoom}
 use Rattle.oak_core.specs.CallSteps.{Learns}
 use Rattle.oak_core.specs.CountReads.{ReadAbsent, EndsAbsent}
 use Rattle.oak_core.specs.EntryOwners.{is_key_word}
-use Rattle.oak_core.specs.KeyRule.{KeysStand}
 use Rattle.oak_core.specs.Learning.{taught_by, taught_where}
-use Rattle.oak_core.specs.Loading.{is_pinned, knows_count, sights_count}
+use Rattle.oak_core.specs.CountTeaching.{is_pinned, knows_count, sights_count}
 use Rattle.oak_core.specs.Memory.{Memory, in_rooms, memory}
 use Rattle.oak_core.specs.PassState.{knowledge_of}
 use Rattle.oak_core.specs.Sights.{sights_with}
 use Rattle.oak_core.specs.Step.{load, Told}
-use Rattle.oak_core.proofs.CallSteps.{step_met, begins_same}
-use Rattle.oak_core.proofs.CountLessons.{count_extends, count_remembers, count_read, count_known, count_absent}
+use Rattle.oak_core.proofs.CountLessons.{count_read, count_known, count_absent}
 use Rattle.oak_core.proofs.LessonReach.{reach_missed}
-use Rattle.oak_core.proofs.UnwrittenKeys.{keys_stand}
+use Rattle.oak_core.proofs.TaughtSteps.{load_learns}
 use Rattle.oak_core.proofs.Words.{memory_read}
 
 module _ (z : Sizes) (call : ℕ) (v : PassState) (n : ℕ) (w : PassState) (p : PinnedRoom) (is : v.rooms.pin ≡ Some p) (good : IsGoodRoom p) (t : Told z call (load (in_rooms (at_count p.room))) v n w) where
@@ -40,9 +38,6 @@ module _ (z : Sizes) (call : ℕ) (v : PassState) (n : ℕ) (w : PassState) (p :
 
   pinned_there : is_pinned p.room p ≡ true
   pinned_there = (λ i. eq-eqb p.room p.room refl i && eq-eqb (state_of p.found) OPEN good i)
-
-  keys : KeysStand z m t.table.states
-  keys = keys_stand z t.table t.rule
 
   -- the number found is the count
   pub count_found : (memory z t.table.words).rooms.count p.room ≡ n
@@ -77,19 +72,7 @@ module _ (z : Sizes) (call : ℕ) (v : PassState) (n : ℕ) (w : PassState) (p :
   heard_now = ap (λ (q : Knowledge). q.heard) taught_now
 
   pub count_learns : Learns call v w
-  count_learns = record {
-    met = step_met z call (load (in_rooms (at_count p.room))) v n w t;
-    sights = record { more = sight ∷ []; sights = sights_are; calls = (refl, tt) };
-    all = record {
-      numbers = ap (λ (y : PassState). y.numbers) t.after;
-      mine = ap (λ (q : Knowledge). q.mine) taught_now;
-      fulls = ap (λ (y : PassState). y.findings.fulls) t.after;
-      swept = ap (λ (y : PassState). y.findings.swept) t.after;
-      gones = begins_same v.findings.gones w.findings.gones (ap (λ (y : PassState). y.findings.gones) t.after);
-      seen = count_extends z m is_key_word t.table.states t.rule.rooms t.rule.covers keys.states keys.legal t.rule.histories t.seat v t.here p is good w rooms_are (ap (λ (a : _). a.pin) headers_same) seen_now heard_now;
-      remembers = count_remembers z m is_key_word t.table.states t.rule.rooms t.rule.covers keys.states keys.legal t.rule.histories t.seat v t.here p is good w rooms_are (ap (λ (a : _). a.pin) headers_same) seen_now heard_now;
-    };
-  }
+  count_learns = load_learns z call (in_rooms (at_count p.room)) v n w t true (OfRoom p') taught_now sights_are
 
   -- a key of the range that no entry below the count has
   module _ (k : ℕ) (misses : Misses (pin_with (memory z t.table.words).rooms (content (memory z t.table.words).arena.bytes) n p) k) where
@@ -98,7 +81,7 @@ module _ (z : Sizes) (call : ℕ) (v : PassState) (n : ℕ) (w : PassState) (p :
 
     pub count_absence : ReadAbsent call k p.base v w
     count_absence = record {
-      read = count_read z m is_key_word t.table.states t.rule.rooms t.rule.covers keys.states keys.legal t.rule.histories t.seat v t.here p is good w rooms_are (ap (λ (a : _). a.pin) headers_same) seen_now heard_now k missed;
+      read = count_read z m is_key_word t.table.states t.rule.rooms t.rule.covers t.rule.keys.states t.rule.keys.legal t.rule.histories t.seat v t.here p is good w rooms_are (ap (λ (a : _). a.pin) headers_same) seen_now heard_now k missed;
       sighted = record {
         more = sight ∷ [];
         sights = sights_are;
@@ -109,6 +92,6 @@ module _ (z : Sizes) (call : ℕ) (v : PassState) (n : ℕ) (w : PassState) (p :
 
     pub count_ends : EndsAbsent k p.base w.knowledge
     count_ends = record {
-      known = count_known z m is_key_word t.table.states t.rule.rooms t.rule.covers keys.states keys.legal t.rule.histories t.seat v t.here p is good w rooms_are (ap (λ (a : _). a.pin) headers_same) seen_now heard_now k missed;
-      state = count_absent z m is_key_word t.table.states t.rule.rooms t.rule.covers keys.states keys.legal t.rule.histories t.seat v t.here p is good w rooms_are (ap (λ (a : _). a.pin) headers_same) seen_now heard_now k missed;
+      known = count_known z m is_key_word t.table.states t.rule.rooms t.rule.covers t.rule.keys.states t.rule.keys.legal t.rule.histories t.seat v t.here p is good w rooms_are (ap (λ (a : _). a.pin) headers_same) seen_now heard_now k missed;
+      state = count_absent z m is_key_word t.table.states t.rule.rooms t.rule.covers t.rule.keys.states t.rule.keys.legal t.rule.histories t.seat v t.here p is good w rooms_are (ap (λ (a : _). a.pin) headers_same) seen_now heard_now k missed;
     }

@@ -8,7 +8,7 @@ use Rattle.oak_core.specs.TableState.{TableState}
 use Rattle.oak_core.specs.Rule.{Rule}
 use Rattle.oak_core.specs.Step.{Step, load, give_number, on_arena, on_headers, on_rooms, store_locked, May, table_after, note_full}
 use Rattle.oak_core.specs.Schedule.{Event, steps, splits, joins, Goes, IsSchedule}
-use Rattle.oak_core.proofs.KeepsCounts.{load_keeps}
+use Rattle.oak_core.proofs.KeepsAllLoads.{load_keeps}
 use Rattle.oak_core.proofs.KeepsGiven.{give_keeps}
 use Rattle.oak_core.proofs.KeepsArena.{arena_keeps}
 use Rattle.oak_core.proofs.KeepsHeaders.{header_keeps}

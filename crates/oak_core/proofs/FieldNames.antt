@@ -17,6 +17,7 @@ use Rattle.oak_core.specs.Known.{known}
 use Rattle.oak_core.specs.PassState.{headers_held, knowledge_of}
 use Rattle.oak_core.specs.Rule.{Rule}
 use Rattle.oak_core.specs.Running.{Holds, KeepsSeat}
+use Rattle.oak_core.specs.MayWrite.{MayEnd}
 use Rattle.oak_core.specs.Step.{on_headers, spot, effect, MayOnHeaders, Told}
 use Rattle.oak_core.specs.TableState.{TableState}
 use Rattle.oak_core.proofs.Allowed.{allows_at}
@@ -81,6 +82,12 @@ module _ (z : Sizes) (call : ℕ) (slots id : ℕ) (me : Me (Unit {0}) PassState
   stores of_stamp h x = refl
   stores of_locked_place h x = refl
 
+  -- a store ends no lock
+  ends : (f : HeaderField) (h x : ℕ) → MayEnd call (field_step f h x) me.0
+  ends of_place h x = tt
+  ends of_stamp h x = tt
+  ends of_locked_place h x = tt
+
   tells : (f : HeaderField) (h x n : ℕ) (w : PassState) → Told z call (on_headers (field_step f h x)) me.0 n w → StoresField z call f h x me.0 w
   tells of_place h x n w told = (n, told)
   tells of_stamp h x n w told = (n, told)
@@ -89,7 +96,7 @@ module _ (z : Sizes) (call : ℕ) (slots id : ℕ) (me : Me (Unit {0}) PassState
   pub allows_field : (word x : ℕ) (f : HeaderField) (h : ℕ) → NamesField z f h word → MayOnHeaders z (field_step f h x) me.0
       → Allows (Holds z) slots id me word (λ _. x) (λ _ m. ((g : HeaderField) (k : ℕ) → NamesField z g k word → MayOnHeaders z (field_step g k x) me.0 → StoresField z call g k x me.0 m.0) × KeepsSeat me m)
   allows_field word x f h names may = allows_at z call slots id me going (on_headers (field_step f h x)) (λ _ w. (g : HeaderField) (k : ℕ) → NamesField z g k word → MayOnHeaders z (field_step g k x) me.0 → StoresField z call g k x me.0 w) word (λ _. x)
-      (ap (index z) (store_spot f h x) ∙ sym names.word_is) (stores f h x) may
+      (ap (index z) (store_spot f h x) ∙ sym names.word_is) (stores f h x) (may, ends f h x)
       (λ n w told g k named also. let s = same_spots z f g h k word names named in let e = same_header f g h k s in
       let q = same_field told.table told.seat told.rule told.here f g h x (s ∙ ap (λ (i : ℕ). in_headers (field_spot g i)) (sym e)) may (subst (λ (i : ℕ). MayOnHeaders z (field_step g i x) me.0) (sym e) also) in
       subst (λ (i : HeaderField × ℕ). StoresField z call i.0 i.1 x me.0 w) (λ i. (q i, e i)) (tells f h x n w told))

@@ -1,5 +1,6 @@
 -- What stands of an entry that a pass found under a good pin: it is linked once in a room that is a cover, and its key is a real one, whose entry it is.
 use Rattle.std.proofs.Common.{◌≡◌, ℕ, zero, suc, ◌+◌, ◌-◌, ◌==◌, cond, Bool, List, [], ◌∷◌, map, length, sym, refl, ap, ◌∙◌, subst, inl, inr, arith, Option, Some, None, eq-eqb, ne_eqb, eqb-true}
+use Rattle.std.proofs.lemmas.Option.{none-some, same_Some}
 use mathlib.Core.Option.{some, some-injective, some-ne-none}
 use lib.ListN.{get_elem?}
 use Rattle.pin_word.specs.PinWord.{state_of}
@@ -27,24 +28,17 @@ use Rattle.oak_core.specs.EntryOwners.{is_key_word}
 use Rattle.oak_core.specs.FoundKeys.{entry_key, pinned_key}
 use Rattle.oak_core.specs.KeyHistories.{IsKeyOf}
 use Rattle.oak_core.specs.KeyReads.{word_now}
-use Rattle.oak_core.specs.LifeKeys.{key_or}
 use Rattle.oak_core.specs.Memory.{Memory}
 use Rattle.oak_core.specs.PassState.{rooms_held}
 use Rattle.oak_core.proofs.KeyPlaces.{word_is_key, key_word_few}
 use Rattle.oak_core.proofs.MetLists.{at_inside}
 
-none_some : (a : List ℕ) → None ≡ Some a → ⊥
-none_some a e = cc
-
-some_is : (a b : List ℕ) → Some a ≡ Some b → a ≡ b
-some_is a b e = ap key_or e
-
 -- the entry that has the number
 pub numbered : (i : ℕ) (es : List FoundEntry) (key : List ℕ) → entry_key i es ≡ Some key → (e : FoundEntry) × Has e es × (e.number ≡ i) × (key_bytes e.word e.words ≡ key)
 unfolding entry_key
-numbered i [] key e = absurd (none_some key e)
+numbered i [] key e = absurd (none-some key e)
 numbered i (x ∷ xs) key e = test-cases (x.number == i) (λ t. cond t (Some (key_bytes x.word x.words)) (entry_key i xs) ≡ Some key → (e : FoundEntry) × Has e (x ∷ xs) × (e.number ≡ i) × (key_bytes e.word e.words ≡ key))
-    (λ s q. (x, inl refl, eqb-true x.number i s, some_is (key_bytes x.word x.words) key q)) (λ _ q. let t = numbered i xs key q in (t.0, inr t.1, t.2, t.3)) e
+    (λ s q. (x, inl refl, eqb-true x.number i s, same_Some (key_bytes x.word x.words) key q)) (λ _ q. let t = numbered i xs key q in (t.0, inr t.1, t.2, t.3)) e
 
 -- an entry at a place has the place as its number, where the count was loaded
 key_from : (b i : ℕ) (es : List FoundEntry) (e : FoundEntry) → ((j : ℕ) (x : FoundEntry) → get_elem? es j ≡ some x → x.number ≡ b + j) → get_elem? es i ≡ some e → entry_key (b + i) es ≡ Some (key_bytes e.word e.words)

@@ -1,10 +1,13 @@
 -- A store leaves all other parts of the memory as they are, by computation: a point that reads another part needs no proof for it.
-use Rattle.std.proofs.Common.{◌≡◌, ℕ, refl}
+use Rattle.std.proofs.Common.{◌≡◌, ℕ, cond, Bool, refl, sym, ap}
+use mathlib.Core.Path.{fun_ext}
 use Rattle.oak_model.specs.Counts.{put}
+use Rattle.oak_model.proofs.Counting.{test-cases}
 use Rattle.arena_core.specs.Arena.{at_bits, at_bytes}
 use Rattle.header_core.specs.Headers.{at_pin, at_stamp}
 use Rattle.chunk_core.specs.Rooms.{at_count, at_value}
-use Rattle.oak_core.specs.Memory.{Memory, at_given, in_arena, in_headers, in_rooms, write}
+use Rattle.oak_core.specs.Memory.{Memory, Spot, at_given, in_arena, in_headers, in_rooms, memory_of, read, same_spot, write}
+use Rattle.oak_core.proofs.Words.{same_spot-is}
 
 module _ (m : Memory) (x : ℕ) where
   pub given_alone : write m at_given x ≡ record m { given = x }
@@ -27,3 +30,7 @@ module _ (m : Memory) (x : ℕ) where
 
   pub value_alone : (r i : ℕ) → (write m (in_rooms (at_value r i)) x).rooms.key ≡ m.rooms.key
   value_alone r i = refl
+
+-- a store of the number that stands there leaves the memory
+pub write_same : (m : Memory) (p : Spot) → write m p (read m p) ≡ m
+write_same m p = ap memory_of (fun_ext (λ q. test-cases (same_spot q p) (λ (b : Bool). cond b (read m p) (read m q) ≡ read m q) (λ is. ap (read m) (sym (same_spot-is q p is))) (λ _. refl)))

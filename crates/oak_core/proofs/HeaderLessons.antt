@@ -54,7 +54,7 @@ module _ (z : Sizes) (m : Memory) (is_key_word : ℕ → ℕ) (vs : List PassSta
   pub lock_step_heard : HeardStands z (locks.m' z m is_key_word vs parts keys callers histories heads seat v here fs h x live now generation named_at no_fresh key knows) (set vs seat u)
   lock_step_heard = live_heard z m (locks.m' z m is_key_word vs parts keys callers histories heads seat v here fs h x live now generation named_at no_fresh key knows) refl refl vs keys histories heard seat v u here key (m.headers.stamp h) refl
       (pins_stay v u refl refl (lesson_by (of_key_to key (m.headers.stamp h)) (map knowledge_of vs) ∷ []) refl (heard.pins seat v here)) refl refl (home_of h (generation_of (m.headers.pin h)))
-      (locks.named_by z m is_key_word vs parts keys callers histories heads seat v here fs h x live now generation named_at no_fresh key knows) named_at.names
+      (locks.lock_named z m is_key_word vs parts keys callers histories heads seat v here fs h x live now generation named_at no_fresh key knows) named_at.names
       (ap (λ (t : ℕ). state_of (m.headers.pin t)) named_at.header ∙ live) (ap m.headers.stamp (sym named_at.header))
 
 -- A pin that finds a life over teaches its removal, and where it finds the header dead, knows that its stamp is the removal's.

@@ -58,7 +58,8 @@ below_only g n a lt = let f = λ (h : ℕ). one_at a h * g h in
 times_alike : (s x y : ℕ) → (0 < s → x ≡ y) → s * x ≡ s * y
 times_alike s x y same = dite (dec_lt 0 s) (λ l. ap (λ (i : ℕ). s * i) (same l)) (λ no. let z : s ≡ 0 = omega arith in subst (λ (i : ℕ). i * x ≡ i * y) (sym z) (let e : 0 * x ≡ 0 * y = omega arith in e))
 
-held_in_state : (q : HeldAs) → (0 < held_state q) × (held_state q < RETIRED)
+-- what a pass holds is in one of the states between free and retired
+pub held_in_state : (q : HeldAs) → (0 < held_state q) × (held_state q < RETIRED)
 held_in_state Owned = ((omega arith), (omega arith))
 held_in_state Fresh = ((omega arith), (omega arith))
 held_in_state (Locked at) = ((omega arith), (omega arith))

@@ -1,5 +1,5 @@
 -- What the table has of a header that a pass holds: the place, the stamp and the words that the pass keeps of it, and its generation. So the value word of its life names it.
-use Rattle.std.proofs.Common.{◌≡◌, ℕ, ◌^◌, ◌<◌, List, [], ◌∷◌, ◌++◌, sym, refl, ap, ◌∙◌, subst, inl, inr, arith}
+use Rattle.std.proofs.Common.{◌≡◌, ℕ, ◌^◌, ◌<◌, List, [], ◌∷◌, ◌++◌, sym, refl, ap, ◌∙◌, subst, inl, inr, arith, Some}
 use mathlib.Core.Option.{some}
 use lib.ListN.{get_elem?}
 use Rattle.pin_word.specs.PinWord.{generation_of, state_of}
@@ -22,6 +22,7 @@ use Rattle.header_core.specs.declared.holds.HeldHeader.{HeldHeader}
 use Rattle.header_core.proofs.HeaderFacts.{true_numbers, held_one}
 use Rattle.header_core.proofs.HeldHeaders.{held_in, rows_have}
 use Rattle.oak_core.specs.declared.states.Knowledge.{Knowledge}
+use Rattle.oak_core.specs.KeyReads.{value_in, shown_by}
 use Rattle.oak_core.specs.Known.{known}
 use Rattle.oak_core.specs.Memory.{Memory}
 use Rattle.oak_core.specs.Owners.{HeadersAreHeld, IsWholeHeader, HeadersAreWhole, block_of_header, blocks_of_header, header_blocks}
@@ -74,3 +75,7 @@ module _ (m : Memory) (qs : List Knowledge) (hs : List HeaderHolds) (heads : Hea
         let low : class_in own.place < 4 = (let c = class_below place.class in let e = place.is_in in omega arith) in let same = class_number-from (class_in own.place) low in
         subst (λ (c : ℕ). rows 0 (block_words c) (m.arena.bytes c (block_in own.place)) ≡ own.words) same
         (words_are m.arena (block_of_header own) (each_has IsWholeHeader a.held own whole has some_block ∙ ap block_words (sym same)) (of_row (λ (w : KeptWord ArenaSpot). read_arena m.arena w.spot ≡ w.number) a.held own has some_block blocks))
+
+    -- so it shows the value that the pass has of it
+    pub held_shown : state_of (m.headers.pin own.header) ≡ held_state own.held_as → 0 < stocked (held_state own.held_as) → HeadersAreWhole a → AreTrueTo (read_arena m.arena) (kept_of_blocks (header_blocks a.held)) → Some (value_in own.place own.words) ≡ shown_by m own.header
+    held_shown state some_block whole blocks = sym (ap (λ (t : ℕ). Some (value_in t (content m.arena.bytes t))) held_place ∙ ap (λ (t : List ℕ). Some (value_in own.place t)) (held_content state some_block whole blocks))

@@ -16,7 +16,7 @@ pub each_of_every : {A : Type 0} (P : A → Type 0) (xs : List A) → Every P xs
 each_of_every P [] h = tt
 each_of_every P (x ∷ xs) h = (h zero x refl, each_of_every P xs (λ j y e. h (suc j) y e))
 
-none_long : {A : Type 0} (y : List A) → length y ≤ 0 → y ≡ []
+pub none_long : {A : Type 0} (y : List A) → length y ≤ 0 → y ≡ []
 none_long [] h = refl
 none_long (u ∷ us) h = absurd (omega arith)
 

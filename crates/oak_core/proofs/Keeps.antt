@@ -14,6 +14,7 @@ use Rattle.arena_core.specs.Blocks.{BlocksAreOwned}
 use Rattle.header_core.specs.declared.holds.HeaderHolds.{HeaderHolds}
 use Rattle.chunk_core.specs.declared.holds.RoomHolds.{RoomHolds}
 use Rattle.oak_core.specs.declared.states.Finding.{Finding}
+use Rattle.oak_core.specs.declared.states.Findings.{Findings}
 use Rattle.oak_core.specs.declared.states.Joined.{Joined}
 use Rattle.oak_core.specs.declared.states.Knowledge.{Knowledge}
 use Rattle.oak_core.specs.declared.states.PassState.{PassState}
@@ -29,10 +30,20 @@ use Rattle.oak_core.specs.Step.{Step, load, give_number, on_arena, on_headers, o
 use Rattle.oak_core.specs.Lack.{FullsStand}
 use Rattle.oak_core.proofs.Words.{first_word, index_apart, index_below, memory_set, memory_read}
 use Rattle.oak_core.proofs.Found.{found_more}
-use Rattle.oak_core.proofs.Lacked.{fulls_met}
+use Rattle.oak_core.proofs.Lacked.{fulls_more}
 use Rattle.oak_core.proofs.AloneLast.{alone_steps}
 use Rattle.oak_core.proofs.RoomBundles.{RoomBundles, rooms_now}
 use Rattle.oak_core.proofs.KeyBundles.{KeyBundles}
+
+-- the pass met one thing more, and swept and noted no more
+pub record MetOne (f : Finding) (fs gs : Findings) : Type 0 where
+  pub met : gs.met ≡ fs.met ++ f ∷ []
+  pub swept : gs.swept ≡ fs.swept
+  pub fulls : gs.fulls ≡ fs.fulls
+
+-- without anything else
+pub met_only : (f : Finding) (fs : Findings) → MetOne f fs (record fs { met = fs.met ++ f ∷ [] })
+met_only f fs = record { met = refl; swept = refl; fulls = refl }
 
 pub same_number : (n k : ℕ) → Some n ≡ Some k → n ≡ k
 same_number n k e = cc
@@ -117,7 +128,10 @@ module _ (z : Sizes) (s : TableState) (call seat : ℕ) (v : PassState) (r : Rul
         headers = subst (λ (a : Memory). HeadersAreHeld a.headers a.arena.bytes (known (map knowledge_of after)) (map headers_held after)) (sym law) headers;
         rooms = now.rooms;
         covers = now.covers;
-        written = known_now.written;
+        keys = known_now.keys;
+        callers = known_now.callers;
+        bounds = known_now.bounds;
+        opened = known_now.opened;
         heard = known_now.heard;
         passes = passes_stay (state_after z call x s v) pin;
         alone = alone_steps z s r seat v here going call x;
@@ -126,29 +140,39 @@ module _ (z : Sizes) (s : TableState) (call seat : ℕ) (v : PassState) (r : Rul
       }
 
   -- one more finding, at a word other than word 0
-  findings_elsewhere : (p : Spot) (f : Finding) (w : PassState) → IsInside z p → same_spot at_given p ≡ false → f.word ≡ index z p → w.findings ≡ record v.findings { met = v.findings.met ++ f ∷ [] } → FindingsStand z m.given (map findings_of (set s.states seat w))
+  findings_elsewhere : (p : Spot) (f : Finding) (w : PassState) → IsInside z p → same_spot at_given p ≡ false → f.word ≡ index z p → MetOne f v.findings w.findings → FindingsStand z m.given (map findings_of (set s.states seat w))
   findings_elsewhere p f w inside other at grew = let mine = r.findings seat v.findings (at_map findings_of s.states seat v here) in subst (FindingsStand z m.given) (sym (map_set findings_of s.states seat w))
       ((stepped (map findings_of s.states) seat v.findings w.findings (at_map findings_of s.states seat v here)).every (FindingsHold z m.given) (
         record {
-          found = found_more m.given v.findings w.findings f (λ i. (grew i).met) (λ zero_word n e k set_bit. absurd (true≢false (sym (ap (same_spot at_given) (index_apart z p at_given inside tt (sym at ∙ (zero_word ∙ sym (first_word z))))) ∙ other))) mine.found;
-          noted = fulls_met z v.findings w.findings f grew mine.noted;
+          found = found_more m.given v.findings w.findings f grew.met (λ zero_word n e k set_bit. absurd (true≢false (sym (ap (same_spot at_given) (index_apart z p at_given inside tt (sym at ∙ (zero_word ∙ sym (first_word z))))) ∙ other))) mine.found;
+          noted = fulls_more z v.findings w.findings f grew.met grew.swept grew.fulls mine.noted;
         },
         tt,
       )
       (λ j x _ e. r.findings j x e))
 
-  -- a step that stores to a word other than word 0, and leaves the numbers of its pass and what it knows, owes the bundles of the holds alone
-  pub elsewhere_rule : (x : Step) (f : Finding) → IsInside z (spot x) → effect x (found z x s) < 2 ^ 64 → same_spot at_given (spot x) ≡ false → let w = state_after z call x s v in f.word ≡ index z (spot x) → w.findings ≡ record v.findings { met = v.findings.met ++ f ∷ [] }
+  -- a step that stores to a word other than word 0, and leaves the numbers of its pass, owes the bundles of the holds, and of what the passes know
+  pub learning_rule : (x : Step) (f : Finding) → IsInside z (spot x) → effect x (found z x s) < 2 ^ 64 → same_spot at_given (spot x) ≡ false → let w = state_after z call x s v in f.word ≡ index z (spot x) → MetOne f v.findings w.findings
+      → w.numbers ≡ v.numbers → HistoriesStand (map knowledge_of (set s.states seat w)) → (let m' = write m (spot x) (effect x (found z x s)) in BlocksAreOwned z m'.arena.bits (all_others z m' (map rooms_held (set s.states seat w))) (map blocks_of (set s.states seat w)))
+      → (let m' = write m (spot x) (effect x (found z x s)) in HeadersAreHeld m'.headers m'.arena.bytes (known (map knowledge_of (set s.states seat w))) (map headers_held (set s.states seat w)))
+      → (let m' = write m (spot x) (effect x (found z x s)) in RoomBundles z m'.rooms m'.arena.bytes (map rooms_held (set s.states seat w)))
+      → KeyBundles z (write m (spot x) (effect x (found z x s))) (set s.states seat w) → KeptNumbersStand same_spot (read (write m (spot x) (effect x (found z x s)))) (map kept_of (set s.states seat w)) → PassStands w → Rule z (table_after z call x seat v s)
+  learning_rule x f inside small other at grew numbers histories blocks headers rooms keys kept pin =
+      let w : PassState = state_after z call x s v in let y : ℕ = effect x (found z x s) in let same : (write m (spot x) y).given ≡ m.given = ap (λ (b : Bool). cond b y m.given) other in
+      stepped_rule x inside small
+      (subst (λ (g : ℕ). NumbersStand z g (map numbers_of (set s.states seat w))) (sym same) (subst (NumbersStand z m.given) (sym (map_set_same numbers_of s.states seat v w here numbers)) r.numbers))
+      (subst (λ (g : ℕ). FindingsStand z g (map findings_of (set s.states seat w))) (sym same) (findings_elsewhere (spot x) f w inside other at grew))
+      histories blocks headers rooms keys kept pin
+
+  -- one that teaches nothing owes those of the holds alone
+  pub elsewhere_rule : (x : Step) (f : Finding) → IsInside z (spot x) → effect x (found z x s) < 2 ^ 64 → same_spot at_given (spot x) ≡ false → let w = state_after z call x s v in f.word ≡ index z (spot x) → MetOne f v.findings w.findings
       → w.numbers ≡ v.numbers → w.knowledge ≡ v.knowledge → (let m' = write m (spot x) (effect x (found z x s)) in BlocksAreOwned z m'.arena.bits (all_others z m' (map rooms_held (set s.states seat w))) (map blocks_of (set s.states seat w)))
       → (let m' = write m (spot x) (effect x (found z x s)) in HeadersAreHeld m'.headers m'.arena.bytes (known (map knowledge_of s.states)) (map headers_held (set s.states seat w)))
       → (let m' = write m (spot x) (effect x (found z x s)) in RoomBundles z m'.rooms m'.arena.bytes (map rooms_held (set s.states seat w)))
       → KeyBundles z (write m (spot x) (effect x (found z x s))) (set s.states seat w) → KeptNumbersStand same_spot (read (write m (spot x) (effect x (found z x s)))) (map kept_of (set s.states seat w)) → PassStands w → Rule z (table_after z call x seat v s)
   elsewhere_rule x f inside small other at grew numbers knowledge blocks headers rooms keys kept pin =
-      let w : PassState = state_after z call x s v in let y : ℕ = effect x (found z x s) in let same : (write m (spot x) y).given ≡ m.given = ap (λ (b : Bool). cond b y m.given) other in
-      stepped_rule x inside small
-      (subst (λ (g : ℕ). NumbersStand z g (map numbers_of (set s.states seat w))) (sym same) (subst (NumbersStand z m.given) (sym (map_set_same numbers_of s.states seat v w here numbers)) r.numbers))
-      (subst (λ (g : ℕ). FindingsStand z g (map findings_of (set s.states seat w))) (sym same) (findings_elsewhere (spot x) f w inside other at grew))
-      (subst HistoriesStand (sym (map_set_same knowledge_of s.states seat v w here knowledge)) r.histories) blocks
+      let w : PassState = state_after z call x s v in let y : ℕ = effect x (found z x s) in
+      learning_rule x f inside small other at grew numbers (subst HistoriesStand (sym (map_set_same knowledge_of s.states seat v w here knowledge)) r.histories) blocks
       (subst (λ (qs : List Knowledge). HeadersAreHeld (write m (spot x) y).headers (write m (spot x) y).arena.bytes (known qs) (map headers_held (set s.states seat w))) (sym (map_set_same knowledge_of s.states seat v w here knowledge)) headers) rooms keys kept pin
 
   -- one more finding at a word that stays, in a state whose other parts stay

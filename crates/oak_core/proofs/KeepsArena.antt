@@ -3,9 +3,6 @@ use Rattle.std.proofs.Common.{◌≡◌, ℕ, ◌-◌, ◌^◌, ◌<◌, false, 
 use Rattle.std.proofs.lemmas.Nat.{or_lt, and_le_l}
 use mathlib.Core.Option.{some}
 use lib.ListN.{get_elem?}
-use Rattle.oak_model.specs.declared.limits.TheConstants.{CLASSES}
-use Rattle.oak_model.specs.declared.classes.Class.{Class}
-use Rattle.oak_model.specs.declared.classes.Class.TheVariants.{B16, B64, B256, B1024}
 use Rattle.oak_model.specs.Limits.{Sizes}
 use Rattle.oak_model.specs.Class.{class_number}
 use Rattle.oak_model.specs.Kept.{KeptNumbersStand}
@@ -15,6 +12,7 @@ use Rattle.arena_core.specs.Arena.{read_arena, IsInArena, blocks}
 use Rattle.arena_core.specs.Blocks.{BlocksAreOwned}
 use Rattle.arena_core.specs.ArenaStep.{ArenaStep, take_bit, clear_bit, store_word, arena_spot, bit_of, arena_effect, arena_found, MayArena, blocks_after, put_arena}
 use Rattle.arena_core.proofs.ArenaSteps.{bit_of_below, arena_owned}
+pub use Rattle.arena_core.proofs.PlaceLaws.{class_below}
 use Rattle.chunk_core.specs.declared.holds.RoomHolds.{RoomHolds}
 use Rattle.oak_core.specs.declared.states.PassState.{PassState}
 use Rattle.oak_core.specs.Memory.{Memory, Spot, in_arena, same_spot, read, write, memory, index, IsInside}
@@ -30,20 +28,13 @@ use Rattle.oak_core.proofs.Words.{memory_read}
 use Rattle.oak_core.proofs.OwnerLaws.{live_inside}
 use Rattle.oak_core.proofs.HeaderSums.{headers_own}
 use Rattle.oak_core.proofs.EntryBlocks.{owned_whatever, rooms_on_arena, sums_on_arena}
-use Rattle.oak_core.proofs.Keeps.{of_rooms, elsewhere_rule}
+use Rattle.oak_core.proofs.Keeps.{met_only, of_rooms, elsewhere_rule}
 use Rattle.oak_core.proofs.KeptWords.{kept_with}
 use Rattle.oak_core.proofs.RoomBundles.{RoomBundles}
 use Rattle.oak_core.proofs.KeptInArena.{arena_kept}
-use Rattle.oak_core.proofs.HeadersInArena.{headers_on_arena}
-use Rattle.oak_core.proofs.KeyBundles.{keys_now, keys_framed, rooms_still}
-use Rattle.oak_core.proofs.UnwrittenHeaders.{unnamed_here}
+use Rattle.oak_core.proofs.HeadersInArena.{headers_on_arena, shown_on_arena}
+use Rattle.oak_core.proofs.KeyBundles.{keys_now, keys_idle, rooms_still}
 use Rattle.oak_core.proofs.PinsKnown.{pins_same}
-
-pub class_below : (c : Class) → class_number c < CLASSES
-class_below B16 = omega arith
-class_below B64 = omega arith
-class_below B256 = omega arith
-class_below B1024 = omega arith
 
 pub arena_inside : (z : Sizes) (x : ArenaStep) (a : HeldBlocks) → MayArena z x a → IsInArena z (arena_spot x)
 arena_inside z (take_bit c b) a may = let k : b < blocks z (class_number c) = may in (class_below c, omega arith)
@@ -101,5 +92,5 @@ module _ (z : Sizes) (s : TableState) (call seat : ℕ) (v : PassState) (r : Rul
       (arena_kept z m (all_others z m rs) s.states seat v here r.blocks (λ c b. let o = headers_own z s r c b in omega arith) r.kept x may))
 
   pub arena_keeps : Rule z (table_after z call (on_arena x) seat v s)
-  arena_keeps = elsewhere_rule z s call seat v r here going (on_arena x) (finding z call p (arena_found x n) y s.words v) inside (arena_small z x v.blocks n may (r.words.small (index z p))) refl refl refl refl refl owned_after headers_after_it (of_rooms z s call seat v r here going w refl (RoomBundles z m.rooms (write m p y).arena.bytes) (rooms_on_arena z s seat v r here x y may))
-      (keys_framed z m (write m p y) s.states seat v w here (keys_now z s r) (λ F. rooms_still z (write m p y) s.states seat v w here refl F ∙ sums_on_arena z s seat v r here x y may F) refl (unnamed_here z s r seat v here) (pins_same v w refl refl refl (r.heard.pins seat v here))) kept_after (r.passes seat v here)
+  arena_keeps = elsewhere_rule z s call seat v r here going (on_arena x) (finding z call p (arena_found x n) y s.words v) inside (arena_small z x v.blocks n may (r.words.small (index z p))) refl refl (met_only _ _) refl refl owned_after headers_after_it (of_rooms z s call seat v r here going w refl (RoomBundles z m.rooms (write m p y).arena.bytes) (rooms_on_arena z s seat v r here x y may))
+      (keys_idle z m (write m p y) s.states seat v w here (keys_now z s r) (λ F. rooms_still z (write m p y) s.states seat v w here refl F ∙ sums_on_arena z s seat v r here x y may F) refl refl refl refl (shown_on_arena z m s.states seat v here r.blocks knows r.headers (live_inside z s.words) x y may) (pins_same v w refl refl refl (r.heard.pins seat v here))) kept_after (r.passes seat v here)

@@ -1,11 +1,10 @@
 -- The load of the count of a room keeps the rule: under a good pin of the room it teaches its pass.
-use Rattle.std.proofs.Common.{◌≡◌, ℕ, ◌<◌, [], List, map, set, sym, refl, ap, ◌∙◌, subst, arith, Some, false, true, Bool, cond, ◌&&◌, ◌==◌, Option, None, eq-eqb, eqb-true, ◌+◌}
+use Rattle.std.proofs.Common.{◌≡◌, ℕ, List, map, set, sym, refl, ap, ◌∙◌, subst, arith, Some, false, true, Bool, cond, ◌&&◌, ◌==◌, Option, None, eq-eqb, eqb-true}
 use mathlib.Core.Option.{some}
 use lib.ListN.{get_elem?}
-use Rattle.oak_model.specs.Counts.{Every}
 use Rattle.oak_model.specs.Kept.{KeptNumbersStand}
 use Rattle.oak_model.specs.Limits.{Sizes}
-use Rattle.oak_model.proofs.Lists.{at_map, map_set, map_set_same, each_append}
+use Rattle.oak_model.proofs.Lists.{at_map, map_set, map_set_same}
 use Rattle.arena_core.specs.Blocks.{BlocksAreOwned}
 use Rattle.arena_core.specs.Place.{content, names_block}
 use Rattle.chunk_core.specs.declared.holds.PinnedRoom.{PinnedRoom}
@@ -13,40 +12,28 @@ use Rattle.chunk_core.specs.Rooms.{at_count, read_room, same_room_spot}
 use Rattle.oak_core.specs.declared.states.Knowledge.{Knowledge}
 use Rattle.oak_core.specs.declared.states.PassState.{PassState}
 use Rattle.oak_core.specs.EntryOwners.{all_others, is_key_word}
-use Rattle.oak_core.specs.Known.{known, knows_life}
-use Rattle.oak_core.specs.Loading.{is_pinned, count_taught, knows_count, sights_count}
-use Rattle.oak_core.specs.Memory.{Memory, Spot, in_rooms, memory, IsInside}
-use Rattle.oak_core.specs.Owners.{HeadersAreHeld}
-use Rattle.oak_core.specs.PassState.{blocks_of, headers_held, rooms_held, knowledge_of}
+use Rattle.oak_core.specs.CountTeaching.{is_pinned, count_taught, knows_count, sights_count}
+use Rattle.oak_core.specs.Memory.{Memory, in_rooms, memory, IsInside}
+use Rattle.oak_core.specs.PassState.{blocks_of, rooms_held, knowledge_of}
 use Rattle.oak_core.specs.Rule.{Rule}
 use Rattle.oak_core.specs.Step.{load, state_after, table_after}
 use Rattle.oak_core.specs.TableState.{TableState}
 use Rattle.oak_core.proofs.KeyBundles.{CoversStay}
 use Rattle.oak_core.proofs.RoomBundles.{RoomBundles}
-use Rattle.oak_core.proofs.UnwrittenHeaders.{knows_none}
-use Rattle.oak_core.proofs.UnwrittenKeys.{keys_stand, none_known, nothing_taught}
 use Rattle.pin_word.specs.PinWord.{state_of}
-use Rattle.oak_model.proofs.Changes.{stepped}
 use Rattle.oak_model.proofs.Counting.{both_true, test-cases}
-use Rattle.header_core.specs.declared.holds.HeaderHolds.{HeaderHolds}
-use Rattle.header_core.specs.declared.holds.PinnedHeader.{PinnedHeader}
-use Rattle.header_core.specs.HeaderHolds.{fresh_at}
 use Rattle.chunk_core.specs.declared.states.TheConstants.{OPEN}
 use Rattle.chunk_core.specs.CoverSums.{each, owning}
 use Rattle.chunk_core.specs.KeptRooms.{kept_of_rooms}
 use Rattle.chunk_core.specs.PinnedRooms.{IsGoodRoom}
 use Rattle.chunk_core.specs.RoomsAfter.{pin_with, counted_pin}
 use Rattle.chunk_core.proofs.CountLoads.{count_rooms, count_partition}
-use Rattle.oak_core.specs.declared.states.KeyedWrite.{KeyedWrite}
 use Rattle.oak_core.specs.declared.states.Taught.TheVariants.{OfRoom}
-use Rattle.oak_core.specs.Learning.{reach_of, lessons, taught_by, taught_where}
+use Rattle.oak_core.specs.Learning.{taught_by, taught_where}
 use Rattle.oak_core.specs.Sights.{sights_with}
-use Rattle.oak_core.specs.Unwritten.{KnowsNoWrite}
-use Rattle.oak_core.proofs.CountLessons.{sums_counted, histories_counted, count_heard}
-use Rattle.header_core.proofs.HeaderLaws.{on_pin}
-use Rattle.oak_core.specs.KeyRule.{KeysStand}
-use Rattle.oak_core.proofs.PlainLoads.{LoadTeachesNothing, plain_or_count, plain_teaches}
-use Rattle.oak_core.proofs.KeepsLoads.{load_rule, quiet_keeps}
+use Rattle.oak_core.proofs.CountLessons.{sums_counted, count_heard}
+use Rattle.oak_core.proofs.PlainLoads.{LoadTeachesNothing}
+use Rattle.oak_core.proofs.KeepsLoads.{load_rule, load_taught, quiet_keeps}
 
 module _ (z : Sizes) (s : TableState) (call seat : ℕ) (v : PassState) (r : Rule z s) (here : get_elem? s.states seat ≡ some v) (going : v.numbers.spent ≡ false) where
   abbrev m : Memory
@@ -75,9 +62,6 @@ module _ (z : Sizes) (s : TableState) (call seat : ℕ) (v : PassState) (r : Rul
     taught_now : w.knowledge ≡ taught_by (OfRoom p') qs v.knowledge
     taught_now = ap (λ (o : Option PinnedRoom). knows_count m.rooms bytes p.room o qs v.knowledge) is ∙ ap (λ (b : Bool). taught_where b (OfRoom p') qs v.knowledge) pinned_there
 
-    keys : KeysStand z m s.states
-    keys = keys_stand z s r
-
     abbrev seen_now : w.knowledge.seen ≡ (taught_by (OfRoom p') qs v.knowledge).seen
     seen_now = ap (λ (q : Knowledge). q.seen) taught_now
 
@@ -85,20 +69,7 @@ module _ (z : Sizes) (s : TableState) (call seat : ℕ) (v : PassState) (r : Rul
     heard_now = ap (λ (q : Knowledge). q.heard) taught_now
 
     sums : CoversStay z m m s.states (set s.states seat w)
-    sums = sums_counted z m is_key_word s.states r.rooms r.covers keys.states keys.legal r.histories seat v here p is good w rooms_are refl seen_now heard_now
-
-    no_write : KnowsNoWrite w.knowledge
-    no_write = subst KnowsNoWrite (sym taught_now) (let k = r.written.knowledge seat v.knowledge (at_map knowledge_of s.states seat v here) in record {
-      seen = each_append (λ (l : List KeyedWrite). l ≡ []) v.knowledge.seen (lessons (reach_of (OfRoom p')) qs) k.seen (nothing_taught (reach_of (OfRoom p')) qs r.written.knowledge);
-      loaded = k.loaded;
-      mine = k.mine;
-    })
-
-    no_writes : Every KnowsNoWrite (map knowledge_of (set s.states seat w))
-    no_writes = subst (Every KnowsNoWrite) (sym (map_set knowledge_of s.states seat w)) ((stepped qs seat v.knowledge w.knowledge (at_map knowledge_of s.states seat v here)).every KnowsNoWrite (no_write, tt) (λ j q _ at. r.written.knowledge j q at))
-
-    same_known : known (map knowledge_of (set s.states seat w)) ≡ known qs
-    same_known = λ i h g. (none_known (map knowledge_of (set s.states seat w)) no_writes h g ∙ sym (none_known qs r.written.knowledge h g)) i
+    sums = sums_counted z m is_key_word s.states r.rooms r.covers r.keys.states r.keys.legal r.histories seat v here p is good w rooms_are refl seen_now heard_now
 
     rooms_then : RoomBundles z m.rooms m.arena.bytes (map rooms_held (set s.states seat w))
     rooms_then = subst (RoomBundles z m.rooms m.arena.bytes) (sym (map_set rooms_held s.states seat w ∙ ap (set (map rooms_held s.states) seat) rooms_are)) record {
@@ -112,27 +83,13 @@ module _ (z : Sizes) (s : TableState) (call seat : ℕ) (v : PassState) (r : Rul
 
     pub counted_keeps : Rule z (table_after z call (load (in_rooms (at_count p.room))) seat v s)
     counted_keeps = load_rule z s call seat v r here going (in_rooms (at_count p.room)) inside
-        (histories_counted z m is_key_word s.states r.rooms r.covers keys.states keys.legal r.histories seat v here p is good w rooms_are refl seen_now heard_now)
+        (load_taught z s call seat v r here going (in_rooms (at_count p.room)) (OfRoom p') taught_now sums (count_heard z m is_key_word s.states r.rooms r.covers r.keys.states r.keys.legal r.histories seat v here p is good w rooms_are refl seen_now heard_now r.heard))
         (subst (BlocksAreOwned z m.arena.bits (all_others z m (map rooms_held (set s.states seat w)))) (sym (map_set_same blocks_of s.states seat v w here refl)) record {
           owned = λ c b. let e = owners c b in let o = r.blocks.owned c b in omega arith;
           inside = λ c b le. let e = owners c b in let o = r.blocks.inside c b le in omega arith;
           whole = r.blocks.whole;
         })
-        (subst (λ (t : (ℕ → ℕ → ℕ) × List HeaderHolds). HeadersAreHeld m.headers m.arena.bytes t.0 t.1) (λ i. (sym same_known i, sym (map_set_same headers_held s.states seat v w here refl) i)) r.headers)
         rooms_then
-        (record {
-          written = record {
-            knowledge = no_writes;
-            headers = λ j a at. r.written.headers j a (subst (λ (ds : List HeaderHolds). get_elem? ds j ≡ some a) (map_set_same headers_held s.states seat v w here refl) at);
-            values = sums _ ∙ r.written.values;
-          };
-          heard = count_heard z m is_key_word s.states r.rooms r.covers keys.states keys.legal r.histories seat v here p is good w rooms_are refl seen_now heard_now r.heard;
-        })
-        (record {
-          pin = on_pin (λ (q : PinnedHeader). 0 < fresh_at q.header q.wanted v.headers + knows_life q.header q.wanted v.knowledge) (λ (q : PinnedHeader). 0 < fresh_at q.header q.wanted v.headers + knows_life q.header q.wanted w.knowledge) v.headers.pin
-              (λ q _ known_so. let e = knows_none q.header q.wanted v.knowledge (r.written.knowledge seat v.knowledge (at_map knowledge_of s.states seat v here)) in omega arith) (r.passes seat v here).pin;
-          whole = (r.passes seat v here).whole;
-        })
 
   -- without a good pin of the room it teaches nothing
   idle_count : (k : ℕ) (o : Option PinnedRoom) → v.rooms.pin ≡ o → ((p : PinnedRoom) → o ≡ Some p → is_pinned k p ≡ false) → LoadTeachesNothing call (in_rooms (at_count k)) m (map knowledge_of s.states) v
@@ -147,7 +104,7 @@ module _ (z : Sizes) (s : TableState) (call seat : ℕ) (v : PassState) (r : Rul
     rooms = ap (λ (o : Option PinnedRoom). record v.rooms { pin = counted_pin m.rooms (content m.arena.bytes) k o }) is ∙ (ap (λ (t : Bool). record v.rooms { pin = Some (cond t (pin_with m.rooms (content m.arena.bytes) (m.rooms.count k) p) p) }) b ∙ ap (λ (o : Option PinnedRoom). record v.rooms { pin = o }) (sym is));
   }
 
-  count_keeps : (k : ℕ) → IsInside z (in_rooms (at_count k)) → (o : Option PinnedRoom) → v.rooms.pin ≡ o → Rule z (table_after z call (load (in_rooms (at_count k))) seat v s)
+  pub count_keeps : (k : ℕ) → IsInside z (in_rooms (at_count k)) → (o : Option PinnedRoom) → v.rooms.pin ≡ o → Rule z (table_after z call (load (in_rooms (at_count k))) seat v s)
   count_keeps k inside None is = quiet_keeps z s call seat v r here going (in_rooms (at_count k)) inside (idle_count k None is (λ p e. absurd cc))
   count_keeps k inside (Some p) is = test-cases (is_pinned k p) (λ t. is_pinned k p ≡ t → Rule z (table_after z call (load (in_rooms (at_count k))) seat v s))
       (λ same _. let b = both_true (p.room == k) (state_of p.found == OPEN) same in let at : p.room ≡ k = eqb-true p.room k b.0 in
@@ -156,6 +113,3 @@ module _ (z : Sizes) (s : TableState) (call seat : ℕ) (v : PassState) (r : Rul
     where
       same_pin : (p q : PinnedRoom) → Some p ≡ Some q → p ≡ q
       same_pin p q e = cc
-
-  pub load_keeps : (p : Spot) → IsInside z p → Rule z (table_after z call (load p) seat v s)
-  load_keeps = plain_or_count (λ p. IsInside z p → Rule z (table_after z call (load p) seat v s)) (λ p plain inside. quiet_keeps z s call seat v r here going p inside (plain_teaches call m (map knowledge_of s.states) v p plain)) (λ k inside. count_keeps k inside v.rooms.pin refl)

@@ -134,10 +134,10 @@ module _ (z : Sizes) (s : TableState) (seat : ℕ) (v : PassState) (r : Rule z s
     latch_keeps k may = let n : ℕ = get_or s.words (index z (in_rooms (at_latch k))) 0 in let t = latch_stands k may.rooms.0 may.rooms.1 may.rooms.2 in
         let read_is : m.rooms.latch k ≡ n = memory_read z s.words (in_rooms (at_latch k)) may.inside in
         let u = subst (λ (i : ℕ). Stands (at_latch k) (either (i == 0) 1 i) (cond (m.rooms.latch k == 0) (Some (latched_at m.rooms k (m.rooms.count k))) v.rooms.latch)) read_is t in
-        step_rule z s seat v r here call going (latch_room k) may.inside refl (test-cases (n == 0) (λ b. either b 1 n < 2 ^ 64) (λ _. omega arith) (λ _. r.words.small (index z (in_rooms (at_latch k))))) u.bundles u.blocks u.covers (pins_same v _ refl refl refl (r.heard.pins seat v here))
+        step_rule z s seat v r here call going (latch_room k) may.inside refl refl refl (test-cases (n == 0) (λ b. either b 1 n < 2 ^ 64) (λ _. omega arith) (λ _. r.words.small (index z (in_rooms (at_latch k))))) u.bundles u.blocks u.covers (pins_same v _ refl refl refl (r.heard.pins seat v here))
 
     pub store_keeps : (f : EntryField) (k i x : ℕ) → MayOnRoom z (store_entry f k i x) v → Rule z (table_after z call (on_rooms (store_entry f k i x)) seat v s)
-    store_keeps f k i x may = let t = store_stands f k i x may.rooms.0 may.rooms.1 may.rooms.2 may.rooms.3 in step_rule z s seat v r here call going (store_entry f k i x) may.inside refl may.rooms.4 t.bundles t.blocks t.covers (pins_same v _ refl refl refl (r.heard.pins seat v here))
+    store_keeps f k i x may = let t = store_stands f k i x may.rooms.0 may.rooms.1 may.rooms.2 may.rooms.3 in step_rule z s seat v r here call going (store_entry f k i x) may.inside refl refl refl may.rooms.4 t.bundles t.blocks t.covers (pins_same v _ refl refl refl (r.heard.pins seat v here))
 
     pub unlatch_keeps : (k : ℕ) → MayOnRoom z (unlatch_room k) v → Rule z (table_after z call (on_rooms (unlatch_room k)) seat v s)
-    unlatch_keeps k may = let t = unlatch_stands k may.rooms in step_rule z s seat v r here call going (unlatch_room k) may.inside refl (omega arith) t.bundles t.blocks t.covers (pins_same v _ refl refl refl (r.heard.pins seat v here))
+    unlatch_keeps k may = let t = unlatch_stands k may.rooms in step_rule z s seat v r here call going (unlatch_room k) may.inside refl refl refl (omega arith) t.bundles t.blocks t.covers (pins_same v _ refl refl refl (r.heard.pins seat v here))

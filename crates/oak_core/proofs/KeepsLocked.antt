@@ -1,5 +1,5 @@
 -- A store to a word of the block of a locked header keeps the rule.
-use Rattle.std.proofs.Common.{◌≡◌, ℕ, ◌+◌, ◌*◌, ◌/◌, ◌%◌, ◌<◌, true, false, List, [], ◌∷◌, map, set, sym, refl, ap, ◌∙◌, subst, arith, inl, inr, eq-eqb, ne_eqb, None, Some}
+use Rattle.std.proofs.Common.{◌≡◌, ℕ, ◌+◌, ◌*◌, ◌/◌, ◌%◌, ◌<◌, true, false, List, map, set, sym, refl, ap, ◌∙◌, subst, arith, eq-eqb, ne_eqb, None, Some}
 use mathlib.Core.Option.{some}
 use mathlib.Core.Logic.{dite}
 use native.Mathlib.Decide.{ℕ_discrete, dec_lt}
@@ -21,9 +21,7 @@ use Rattle.arena_core.proofs.BlockSums.{only}
 use Rattle.arena_core.proofs.HeldLists.{here, is_block-is, is_block-true}
 use Rattle.arena_core.proofs.KeptBlocks.{keeps_most, keeps_some}
 use Rattle.arena_core.proofs.PlaceLaws.{class_below, class_number-from}
-use Rattle.header_core.specs.declared.states.TheConstants.{LOCKED, RETIRED}
-use Rattle.header_core.specs.declared.holds.HeldAs.{HeldAs}
-use Rattle.header_core.specs.declared.holds.HeldAs.TheVariants.{Owned, Fresh, Locked, Buried}
+use Rattle.header_core.specs.declared.states.TheConstants.{LIVE, LOCKED}
 use Rattle.header_core.specs.declared.holds.HeldHeader.{HeldHeader}
 use Rattle.header_core.specs.declared.holds.HeaderHolds.{HeaderHolds}
 use Rattle.header_core.specs.declared.holds.PinnedHeader.{PinnedHeader}
@@ -32,7 +30,7 @@ use Rattle.header_core.specs.HeaderRule.{stocked, IsGood, PinHolds, GoodPinHolds
 use Rattle.header_core.proofs.HeaderFacts.{held_is, record_of, true_numbers}
 use Rattle.header_core.proofs.StockedStates.{stocked_high}
 use Rattle.header_core.proofs.HeaderLaws.{on_pin, reworded_keeps}
-use Rattle.header_core.proofs.HeldChanges.{fresh_reworded}
+use Rattle.header_core.proofs.HeldChanges.{fresh_reworded, rows_reworded}
 use Rattle.oak_model.proofs.MemberLaws.{total_has, each_has}
 use Rattle.header_core.proofs.HeldHeaders.{rows_have}
 use Rattle.chunk_core.specs.declared.holds.RoomHolds.{RoomHolds}
@@ -47,26 +45,20 @@ use Rattle.oak_core.specs.PassState.{blocks_of, headers_held, rooms_held, kept_o
 use Rattle.oak_core.specs.Rule.{Rule}
 use Rattle.oak_core.specs.Step.{store_locked, LocksBlock, MayStoreLocked, state_after, table_after}
 use Rattle.oak_core.specs.TableState.{TableState}
+use Rattle.oak_core.proofs.HeaderSums.{held_in_state}
 use Rattle.oak_core.proofs.HeaderWeights.{header_weight, weigh_headers}
 use Rattle.oak_core.proofs.HeaderStanding.{knows, stand, parts, at_headers}
-use Rattle.oak_core.proofs.HeadersInArena.{live_stocked, names_named, other_content, pin_fact}
-use Rattle.oak_core.proofs.EntryBlocks.{bytes_stored, owned_whatever}
-use Rattle.oak_core.proofs.Keeps.{of_rooms, elsewhere_rule}
+use Rattle.oak_core.proofs.HeadersInArena.{live_stocked, names_named, other_content, shown_still, pin_fact}
+use Rattle.oak_core.proofs.EntryBlocks.{bytes_stored, sums_stored, owned_whatever}
+use Rattle.oak_core.proofs.Keeps.{met_only, of_rooms, elsewhere_rule}
 use Rattle.oak_core.proofs.RoomBundles.{RoomBundles}
 use Rattle.oak_core.proofs.KeptInLocked.{Agrees, locked_kept}
 use Rattle.oak_core.proofs.OneOwner.{two_headers, unowned_held, state_locked, place_locked, inside_locked, has_locked}
 use Rattle.oak_core.proofs.OwnerLaws.{live_inside, owner_counts, place_below}
-use Rattle.oak_core.proofs.UnwrittenHeaders.{none_locked, unnamed_here}
-
-each_of : {A : Type 0} (P : A → Type 0) (xs : List A) → ((x : A) → Has x xs → P x) → Each P xs
-each_of P [] h = tt
-each_of P (x ∷ xs) h = (h x (inl refl), each_of P xs (λ y has. h y (inr has)))
-
-held_range : (t : HeldAs) → (0 < held_state t) × (held_state t < RETIRED)
-held_range Owned = ((omega arith), (omega arith))
-held_range Fresh = ((omega arith), (omega arith))
-held_range (Locked at) = ((omega arith), (omega arith))
-held_range Buried = ((omega arith), (omega arith))
+use Rattle.oak_core.proofs.KeyBundles.{KeyBundles, keys_now, keys_framed, rooms_still}
+use Rattle.oak_core.proofs.PinsKnown.{pins_same}
+use Rattle.oak_core.proofs.RewordedKeys.{holds_reworded, unnamed_reworded}
+use Rattle.oak_core.proofs.UnlinksEntry.{each_all}
 
 module _ (z : Sizes) (s : TableState) (seat : ℕ) (v : PassState) (r : Rule z s) (here_is : get_elem? s.states seat ≡ some v) (h : ℕ) (c : Class) (b : ℕ) (locks : LocksBlock h c b v.headers) where
   abbrev m : Memory
@@ -91,7 +83,7 @@ module _ (z : Sizes) (s : TableState) (seat : ℕ) (v : PassState) (r : Rule z s
   -- a header that has a block is so in the table, and its place has one of the classes
 
   stock_of : (q : HeldHeader) → Has q v.headers.held → stocked (held_state q.held_as) ≡ 1 → stocked (state_of (m.headers.pin q.header)) ≡ 1
-  stock_of q there one = let t = held_range q.held_as in ap stocked (held_is m.headers (content m.arena.bytes) IsPlace (knows s) hs (stand z s seat v r here_is) seat v.headers q.header (held_state q.held_as) (at_headers z s seat v r here_is) t.0 t.1 (rows_have q.header (held_state q.held_as) v.headers.held q there refl refl)) ∙ one
+  stock_of q there one = let t = held_in_state q.held_as in ap stocked (held_is m.headers (content m.arena.bytes) IsPlace (knows s) hs (stand z s seat v r here_is) seat v.headers q.header (held_state q.held_as) (at_headers z s seat v r here_is) t.0 t.1 (rows_have q.header (held_state q.held_as) v.headers.held q there refl refl)) ∙ one
 
   place_of_it : (q : HeldHeader) → Has q v.headers.held → m.headers.place q.header ≡ q.place
   place_of_it q there = (true_numbers m.headers v.headers.held q (parts z s seat v r here_is).headers there).0
@@ -150,15 +142,21 @@ module _ (z : Sizes) (s : TableState) (seat : ℕ) (v : PassState) (r : Rule z s
     pin_known = on_pin (λ (q : PinnedHeader). 0 < fresh_at q.header q.wanted v.headers + knows_life q.header q.wanted v.knowledge) (λ (q : PinnedHeader). 0 < fresh_at q.header q.wanted w.headers + knows_life q.header q.wanted v.knowledge) v.headers.pin
         (λ q _ known_so. let f = fresh_reworded h k x q.header q.wanted v.headers.held in omega arith) (r.passes seat v here_is).pin
 
+    -- no key shows the block: its header is locked, and no other has it
+    keys_then : KeyBundles z (write m p x) (set s.states seat w)
+    keys_then = keys_framed z m (write m p x) s.states seat v w here_is (keys_now z s r) (λ F. rooms_still z (write m p x) s.states seat v w here_is refl F ∙ sums_stored z s r n b k x no_entry F) refl refl (λ i. refl) (λ i _. refl)
+        (λ i live. shown_still m n b k x i (λ same. let e = ap (λ (j : ℕ). state_of (m.headers.pin j)) (only_header i (live_stocked (state_of (m.headers.pin i)) live) same.0 same.1) in let l = state_locked z s r seat v here_is h c b locks in absurd (omega arith)))
+        (λ i. rows_reworded h k x i LIVE v.headers.held) (λ i. unnamed_reworded h k x i v.headers) (λ word hist q. holds_reworded h k x word hist v.headers.held q) (pins_same v w refl refl refl (r.heard.pins seat v here_is))
+
     pub locked_keeps_it : Rule z (table_after z call (store_locked h c b k x) seat v s)
-    locked_keeps_it = elsewhere_rule z s call seat v r here_is going (store_locked h c b k x) (finding z call p None x s.words v) inside_it may.small refl refl refl refl refl
+    locked_keeps_it = elsewhere_rule z s call seat v r here_is going (store_locked h c b k x) (finding z call p None x s.words v) inside_it may.small refl refl (met_only _ _) refl refl
         (of_rooms z s call seat v r here_is going w refl (λ (rs : List RoomHolds). BlocksAreOwned z m.arena.bits (all_others z (write m p x) rs) (map blocks_of (set s.states seat w)))
         (owned_whatever z m (at_bytes n b k) x (map rooms_held s.states) m.arena.bits (map blocks_of (set s.states seat w)) (subst (BlocksAreOwned z m.arena.bits (all_others z m (map rooms_held s.states))) (sym (map_set_same blocks_of s.states seat v w here_is refl)) r.blocks)))
         (subst (HeadersAreHeld m.headers (write m p x).arena.bytes (knows s)) (sym (map_set headers_held s.states seat w)) stands)
         (of_rooms z s call seat v r here_is going w refl (RoomBundles z m.rooms (write m p x).arena.bytes) (bytes_stored z s r n b k x no_entry))
-        (absurd (let e = none_locked h v.headers (unnamed_here z s r seat v here_is) in let l = locks.locked in omega arith))
+        keys_then
         (subst (KeptNumbersStand same_spot (read (write m p x))) (sym (map_set kept_of s.states seat w))
-        (locked_kept m s.states seat v here_is r.kept h n b k x (each_of (Agrees n b h) v.headers.held agrees) whole (unkept k) (keeps_some n b k (header_blocks v.headers.held) in_blocks may.word)))
+        (locked_kept m s.states seat v here_is r.kept h n b k x (each_all (Agrees n b h) v.headers.held agrees) whole (unkept k) (keeps_some n b k (header_blocks v.headers.held) in_blocks may.word)))
         record { pin = pin_known; whole = whole_reworded h v.headers.held (r.passes seat v here_is).whole k x }
 
 pub locked_keeps : (z : Sizes) (s : TableState) (call seat : ℕ) (v : PassState) → Rule z s → get_elem? s.states seat ≡ some v → v.numbers.spent ≡ false → (h : ℕ) (c : Class) (b k x : ℕ) → MayStoreLocked h c b k x v.headers → Rule z (table_after z call (store_locked h c b k x) seat v s)

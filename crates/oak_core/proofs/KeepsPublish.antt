@@ -1,5 +1,5 @@
 -- A pass that publishes an entry keeps the rule: the entry past the count, which it alone wrote, is in use from then on, and has the block of its key.
-use Rattle.std.proofs.Common.{◌≡◌, ℕ, ◌+◌, ◌*◌, ◌<◌, ◌^◌, false, Bool, List, ◌∷◌, [], map, set, get_or, sym, refl, ap, ◌∙◌, subst, arith, Option, Some, nat_lt, lt-ltb, true, None, nat_le, ◌&&◌, eqb-true, true≢false, IsSome}
+use Rattle.std.proofs.Common.{◌≡◌, ℕ, ◌+◌, ◌*◌, ◌<◌, ◌^◌, false, List, ◌∷◌, [], map, set, get_or, sym, refl, ap, ◌∙◌, subst, arith, Option, Some, nat_lt, lt-ltb, None, IsSome}
 use mathlib.Core.Option.{some}
 use lib.ListN.{get_elem?}
 use Rattle.oak_model.specs.Counts.{one_if, total}
@@ -10,7 +10,7 @@ use Rattle.oak_model.proofs.Lists.{at_map, map_set, map_set_same}
 use Rattle.oak_model.proofs.SumLaws.{times-one}
 use Rattle.arena_core.specs.declared.blocks.HeldBlocks.{HeldBlocks}
 use Rattle.arena_core.specs.Blocks.{BlocksAreOwned, without}
-use Rattle.arena_core.specs.Place.{class_in, block_in, names_block, content, length_in}
+use Rattle.arena_core.specs.Place.{class_in, block_in, names_block, content}
 use Rattle.arena_core.proofs.HeldLists.{whole_without}
 use Rattle.arena_core.proofs.KeptBlocks.{true_without}
 use Rattle.arena_core.proofs.OwnedBlocks.{blocks_frame}
@@ -21,12 +21,11 @@ use Rattle.chunk_core.specs.RoomReads.{latched_at}
 use Rattle.chunk_core.specs.RoomStep.{publish_entry, put_room}
 use Rattle.chunk_core.specs.Rooms.{at_count, RoomMemory, read_room, same_room_spot}
 use Rattle.chunk_core.specs.RoomsAfter.{pin_with, counted_more}
-use Rattle.chunk_core.specs.ValueWord.{names_header}
 use Rattle.chunk_core.proofs.CoverLaws.{moves}
 use Rattle.chunk_core.proofs.KeptLatches.{kept_published}
-use Rattle.chunk_core.proofs.Publish.{more_all, more_partition, floor_low, publish_rooms}
+use Rattle.chunk_core.proofs.Publish.{more_all, more_partition, publish_rooms}
 use Rattle.oak_core.specs.declared.states.PassState.{PassState}
-use Rattle.oak_core.specs.EntryOwners.{all_others, is_key_word, is_class}
+use Rattle.oak_core.specs.EntryOwners.{all_others, is_key_word}
 use Rattle.oak_core.specs.Finding.{finding}
 use Rattle.oak_core.specs.Memory.{Memory, in_rooms, memory, write, read, same_spot, index, in_arena}
 use Rattle.oak_core.specs.PassState.{blocks_of, headers_held, rooms_held, kept_of, knowledge_of}
@@ -37,6 +36,7 @@ use Rattle.oak_core.proofs.BlocksWithHeaders.{held_named}
 use Rattle.oak_core.proofs.EntryBlocks.{key_some}
 use Rattle.oak_core.proofs.KeepsRoomPins.{at_rooms}
 use Rattle.oak_core.proofs.KeptInArena.{fewer}
+use Rattle.oak_core.proofs.KeyPlaces.{names_key}
 use Rattle.oak_core.proofs.KeptWords.{times_in_rooms, unkept_by_all, parts_put, still_true, kept_with}
 use Rattle.oak_core.proofs.PublishFacts.{pin_stands, same_room, more_is, key_word, value_word, base_is, few_there, room_left, once_held, is_key_there, inside_there, new_there}
 use Rattle.oak_core.proofs.RoomBundles.{RoomBundles}
@@ -45,33 +45,20 @@ use Rattle.chunk_core.specs.KeptRooms.{kept_of_rooms}
 use Rattle.chunk_core.specs.LinkedEntries.{entries_in}
 use Rattle.chunk_core.specs.PinnedRooms.{RoomPinHolds}
 use Rattle.oak_core.proofs.HeaderSums.{headers_own}
-use Rattle.oak_model.specs.declared.limits.TheConstants.{GREATEST_KEY}
-use Rattle.oak_model.specs.declared.classes.Class.{Class}
-use Rattle.oak_model.specs.Class.{class_number, class_of}
 use Rattle.arena_core.proofs.PlaceLaws.{class_below}
 use Rattle.chunk_core.specs.declared.holds.PinnedRoom.{PinnedRoom}
 use Rattle.header_core.specs.declared.holds.HeaderHolds.{HeaderHolds}
-use Rattle.oak_core.specs.declared.states.Knowledge.{Knowledge}
 use Rattle.oak_core.specs.Known.{known}
-use Rattle.oak_core.specs.Lessons.{HeardStands}
 use Rattle.oak_core.specs.Owners.{HeadersAreHeld}
-use Rattle.oak_core.proofs.Keeps.{elsewhere_rule}
-use Rattle.oak_model.proofs.Counting.{both_true}
+use Rattle.oak_core.proofs.Keeps.{met_only, elsewhere_rule}
 use Rattle.oak_core.proofs.HeaderStanding.{number_small}
-use Rattle.oak_core.proofs.PublishLessons.{publish_heard}
+use Rattle.oak_core.proofs.PublishKeys.{publish_bundles}
+use Rattle.oak_core.proofs.KeyBundles.{KeyBundles, keys_now}
+use Rattle.oak_core.proofs.CallersKept.{without_hand}
 
 -- a key word names one of the classes
 key_class : (word : ℕ) → is_key_word word ≡ 1 → class_in word < 4
-key_class word is = let low = both_true (nat_lt 0 (length_in word)) (nat_le (length_in word) GREATEST_KEY && is_class (class_in word) (class_of (length_in word))) (one_true _ is) in
-    of_class (class_of (length_in word)) (both_true (nat_le (length_in word) GREATEST_KEY) (is_class (class_in word) (class_of (length_in word))) low.1).1
-  where
-    one_true : (b : Bool) → one_if b ≡ 1 → b ≡ true
-    one_true true e = refl
-    one_true false e = absurd (omega arith)
-
-    of_class : (o : Option Class) → is_class (class_in word) o ≡ true → class_in word < 4
-    of_class None e = absurd (true≢false (sym e))
-    of_class (Some d) e = let q = eqb-true (class_in word) (class_number d) e in let b = class_below d in omega arith
+key_class word is = let p = (names_key word is).place in let e = p.is_in in let b = class_below p.class in omega arith
 
 -- a count that has room for one entry more is below the last number
 count_small : (n : ℕ) → n < 2 ^ 64 → entries_in n + 1 < 2 ^ 16 → n + 1 < 2 ^ 64
@@ -158,14 +145,10 @@ module _ (z : Sizes) (s : TableState) (seat : ℕ) (v : PassState) (r : Rule z s
       record { blocks = true_without (λ q. read m' (in_arena q)) (class_in word) (block_in word) v.blocks.held t.blocks; within = t.within; headers = t.headers }
       (λ q. let f = fewer z m (all_others z m hs) s.states seat v here r.blocks (λ c b. let o = headers_own z s r c b in omega arith) r.kept v.blocks (class_in word) (block_in word) q in let o = r.kept.once q in omega arith)
 
-  -- its floor is the base, which names no header
-  values : sum_of m'.rooms hs' (each (λ g e. names_header e.value)) ≡ 0
-  values = let e = more (λ g e. names_header e.value) in let n = r.written.values in let b = ap names_header (value_word z s seat v r here k x may ∙ sym (base_is z s seat v r here k x may)) in
-      let f = floor_low z m.rooms bytes is_key_word hs hs' (v.rooms ∷ []) (held ∷ []) r.covers (stepped hs seat v.rooms held own) still_moving room holds_room.inside holds_room.cover (room_left z s seat v r here k x may) (inside_there z s seat v r here k x may) (is_key_there z s seat v r here k x may) (new_there z s seat v r here k x may) in omega arith
-
-  heard : (u : PassState) → u.rooms ≡ record v.rooms { latch = Some (latched_at m.rooms room count); pin = counted_more m.rooms bytes count (Some may.rooms.pinned) } → u.headers ≡ v.headers → u.knowledge ≡ v.knowledge → HeardStands z m' (set s.states seat u)
-  heard u rooms headers knowledge = publish_heard z m m' is_key_word s.states r.covers r.heard seat v u here may.rooms.pinned may.rooms.has.pin.is holds_room (subst IsSome (sym may.rooms.counted) refl) refl refl
-      (ap (λ (a : RoomHolds). a.pin) rooms ∙ ap (counted_more m.rooms bytes count) (sym may.rooms.has.pin.is)) (ap (λ (a : RoomHolds). a.moving) rooms) (ap (λ (a : HeaderHolds). a.pin) headers) knowledge
+  -- the key of the entry had none
+  keys : (u : PassState) → u.rooms ≡ record v.rooms { latch = Some (latched_at m.rooms room count); pin = counted_more m.rooms bytes count (Some may.rooms.pinned) } → u.headers ≡ v.headers → u.knowledge ≡ v.knowledge → without_hand u.numbers ≡ without_hand v.numbers → KeyBundles z m' (set s.states seat u)
+  keys u rooms headers knowledge numbers = publish_bundles z m is_key_word s.states r.covers (keys_now z s r) seat v u here may.rooms.pinned may.rooms.has.pin.is holds_room (subst IsSome (sym may.rooms.counted) refl)
+      (ap (λ (a : RoomHolds). a.pin) rooms ∙ ap (counted_more m.rooms bytes count) (sym may.rooms.has.pin.is)) (ap (λ (a : RoomHolds). a.moving) rooms) headers knowledge numbers
       (room_left z s seat v r here k x may) (inside_there z s seat v r here k x may) (is_key_there z s seat v r here k x may) (new_there z s seat v r here k x may) (value_word z s seat v r here k x may ∙ sym (base_is z s seat v r here k x may))
 
   -- what stands behind the step, where the count of the room k' becomes x', the pass had this pin, and the key's block is that of the word given
@@ -174,30 +157,22 @@ module _ (z : Sizes) (s : TableState) (seat : ℕ) (v : PassState) (r : Rule z s
     blocks : BlocksAreOwned z m.arena.bits (all_others z (write m (in_rooms (at_count k')) x') (set hs seat (record v.rooms { latch = Some (latched_at m.rooms k' x'); pin = counted_more m.rooms bytes x' o })))
         (set (map blocks_of s.states) seat (record v.blocks { held = without (class_in word') (block_in word') v.blocks.held }))
     kept : KeptNumbersStand same_spot (read (write m (in_rooms (at_count k')) x')) (set (map kept_of s.states) seat (kept_with (record v.blocks { held = without (class_in word') (block_in word') v.blocks.held }) v.headers))
-    values : sum_of (write m (in_rooms (at_count k')) x').rooms (set hs seat (record v.rooms { latch = Some (latched_at m.rooms k' x'); pin = counted_more m.rooms bytes x' o })) (each (λ g e. names_header e.value)) ≡ 0
-    heard : (u : PassState) → u.rooms ≡ record v.rooms { latch = Some (latched_at m.rooms k' x'); pin = counted_more m.rooms bytes x' o } → u.headers ≡ v.headers → u.knowledge ≡ v.knowledge → HeardStands z (write m (in_rooms (at_count k')) x') (set s.states seat u)
+    keys : (u : PassState) → u.rooms ≡ record v.rooms { latch = Some (latched_at m.rooms k' x'); pin = counted_more m.rooms bytes x' o } → u.headers ≡ v.headers → u.knowledge ≡ v.knowledge → without_hand u.numbers ≡ without_hand v.numbers → KeyBundles z (write m (in_rooms (at_count k')) x') (set s.states seat u)
 
   published : Published k x v.rooms.pin (m.rooms.key k (entries_in (m.rooms.count k)))
   published = subst (λ (t : ℕ × ℕ × Option PinnedRoom × ℕ). Published t.0 t.1 t.2 t.3)
       (λ i. (may.rooms.has.pin.room i, sym (more_is z s seat v r here k x may) i, sym may.rooms.has.pin.is i, (sym (key_word z s seat v r here k x may) ∙ (λ j. m.rooms.key (may.rooms.has.pin.room j) (entries_in (m.rooms.count (may.rooms.has.pin.room j))))) i))
-      (record { bundles = bundles; blocks = blocks_then; kept = kept_then; values = values; heard = heard })
+      (record { bundles = bundles; blocks = blocks_then; kept = kept_then; keys = keys })
 
   module _ (call : ℕ) (going : v.numbers.spent ≡ false) where
     pub publish_keeps : Rule z (table_after z call (on_rooms (publish_entry k x)) seat v s)
     publish_keeps = let n : ℕ = get_or s.words (index z (in_rooms (at_count k))) 0 in let w : PassState = state_after z call (on_rooms (publish_entry k x)) s v in let y : Memory = write m (in_rooms (at_count k)) x in
-        elsewhere_rule z s call seat v r here going (on_rooms (publish_entry k x)) (finding z call (in_rooms (at_count k)) None x s.words v) may.inside small refl refl refl refl refl
+        elsewhere_rule z s call seat v r here going (on_rooms (publish_entry k x)) (finding z call (in_rooms (at_count k)) None x s.words v) may.inside small refl refl (met_only _ _) refl refl
         (subst (λ (bs : List HeldBlocks). BlocksAreOwned z m.arena.bits (all_others z y (map rooms_held (set s.states seat w))) bs) (sym (map_set blocks_of s.states seat w))
         (subst (λ (rs : List RoomHolds). BlocksAreOwned z m.arena.bits (all_others z y rs) (set (map blocks_of s.states) seat w.blocks)) (sym (map_set rooms_held s.states seat w)) published.blocks))
         (subst (λ (hh : List HeaderHolds). HeadersAreHeld m.headers m.arena.bytes (known (map knowledge_of s.states)) hh) (sym (map_set_same headers_held s.states seat v w here refl)) r.headers)
         (subst (RoomBundles z y.rooms m.arena.bytes) (sym (map_set rooms_held s.states seat w)) published.bundles)
-        (record {
-          written = record {
-            knowledge = λ j q at. r.written.knowledge j q (subst (λ (qs : List Knowledge). get_elem? qs j ≡ some q) (map_set_same knowledge_of s.states seat v w here refl) at);
-            headers = λ j a at. r.written.headers j a (subst (λ (ds : List HeaderHolds). get_elem? ds j ≡ some a) (map_set_same headers_held s.states seat v w here refl) at);
-            values = ap (λ (rs : List RoomHolds). sum_of y.rooms rs (each (λ g e. names_header e.value))) (map_set rooms_held s.states seat w) ∙ published.values;
-          };
-          heard = published.heard w refl refl refl;
-        })
+        (published.keys w refl refl refl refl)
         (subst (KeptNumbersStand same_spot (read y)) (sym (map_set kept_of s.states seat w)) published.kept)
         (r.passes seat v here)
       where

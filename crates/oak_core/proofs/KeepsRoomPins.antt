@@ -35,17 +35,16 @@ use Rattle.oak_core.specs.Memory.{Memory, in_rooms, same_spot, read, write, memo
 use Rattle.oak_core.specs.PassState.{blocks_of, headers_held, rooms_held, knowledge_of, kept_of}
 use Rattle.oak_core.specs.Known.{known}
 use Rattle.oak_core.specs.Owners.{HeadersAreHeld}
-use Rattle.oak_core.specs.Rule.{Rule}
+use Rattle.oak_core.specs.Rule.{HoldsKnown, Rule}
 use Rattle.oak_core.specs.Step.{on_rooms, MayOnRoom, state_after, table_after}
 use Rattle.oak_core.specs.TableState.{TableState}
 use Rattle.oak_core.proofs.FewPins.{few_room_pins}
 use Rattle.oak_core.proofs.HeaderStanding.{number_small}
-use Rattle.oak_core.proofs.Keeps.{elsewhere_rule}
+use Rattle.oak_core.proofs.Keeps.{met_only, elsewhere_rule}
 use Rattle.oak_core.proofs.KeptWords.{times_in_rooms, unkept_by_all, kept_with}
 use Rattle.oak_core.proofs.RoomBundles.{RoomBundles}
 use Rattle.oak_core.proofs.Words.{memory_read, read-write}
-use Rattle.oak_core.proofs.KeyBundles.{keys_now, keys_framed}
-use Rattle.oak_core.proofs.UnwrittenHeaders.{unnamed_here}
+use Rattle.oak_core.proofs.KeyBundles.{keys_now, keys_idle}
 use Rattle.oak_core.proofs.PinsKnown.{KnowsMissed}
 use Rattle.oak_core.specs.Lessons.{PinsKnow}
 use Rattle.chunk_core.specs.Covers.{Cover}
@@ -100,20 +99,20 @@ module _ (z : Sizes) (s : TableState) (seat : ℕ) (v : PassState) (r : Rule z s
         owners c b = let e = weight_owners z m.rooms (content m.arena.bytes) hs seat v.rooms (record v.rooms { pin = o }) at_rooms refl k x same_weight (names_block c b) in omega arith
 
   module _ (call : ℕ) (going : v.numbers.spent ≡ false) where
-    -- a step that leaves all but the rooms, and whatever is added up over covers
+    -- a step that leaves all but the rooms, teaches nothing, and leaves whatever is added up over covers
     pub step_rule : (x : RoomStep) → IsInRooms z (room_spot x) → let n = get_or s.words (index z (in_rooms (room_spot x))) 0 in let w = state_after z call (on_rooms x) s v in let m' = write m (in_rooms (room_spot x)) (room_effect x n) in
-        w.blocks ≡ v.blocks → room_effect x n < 2 ^ 64 → RoomBundles z m'.rooms m.arena.bytes (set hs seat w.rooms) → BlocksAreOwned z m.arena.bits (all_others z m' (set hs seat w.rooms)) (map blocks_of s.states)
+        w.blocks ≡ v.blocks → w.knowledge ≡ v.knowledge → w.headers ≡ v.headers → room_effect x n < 2 ^ 64 → RoomBundles z m'.rooms m.arena.bytes (set hs seat w.rooms) → BlocksAreOwned z m.arena.bits (all_others z m' (set hs seat w.rooms)) (map blocks_of s.states)
         → ((F : Cover → ℕ) → all_of z m'.rooms (content m.arena.bytes) (set hs seat w.rooms) F ≡ all_of z m.rooms (content m.arena.bytes) hs F) → PinsKnow w → Rule z (table_after z call (on_rooms x) seat v s)
-    step_rule x inside same small bundles blocks stay pins = let n : ℕ = get_or s.words (index z (in_rooms (room_spot x))) 0 in let w : PassState = state_after z call (on_rooms x) s v in let y : ℕ = room_effect x n in let m' : Memory = write m (in_rooms (room_spot x)) y in
-        elsewhere_rule z s call seat v r here going (on_rooms x) (finding z call (in_rooms (room_spot x)) (room_found x n) y s.words v) inside small refl refl refl refl refl
+    step_rule x inside same knowledge headers small bundles blocks stay pins = let n : ℕ = get_or s.words (index z (in_rooms (room_spot x))) 0 in let w : PassState = state_after z call (on_rooms x) s v in let y : ℕ = room_effect x n in let m' : Memory = write m (in_rooms (room_spot x)) y in
+        elsewhere_rule z s call seat v r here going (on_rooms x) (finding z call (in_rooms (room_spot x)) (room_found x n) y s.words v) inside small refl refl (met_only _ _) refl knowledge
         (subst (λ (bs : List HeldBlocks). BlocksAreOwned z m.arena.bits (all_others z m' (map rooms_held (set s.states seat w))) bs) (sym (map_set_same blocks_of s.states seat v w here same))
         (subst (λ (rs : List RoomHolds). BlocksAreOwned z m.arena.bits (all_others z m' rs) (map blocks_of s.states)) (sym (map_set rooms_held s.states seat w)) blocks))
-        (subst (λ (hh : List HeaderHolds). HeadersAreHeld m.headers m.arena.bytes (known (map knowledge_of s.states)) hh) (sym (map_set_same headers_held s.states seat v w here refl)) r.headers)
+        (subst (λ (hh : List HeaderHolds). HeadersAreHeld m.headers m.arena.bytes (known (map knowledge_of s.states)) hh) (sym (map_set_same headers_held s.states seat v w here headers)) r.headers)
         (subst (RoomBundles z m'.rooms m.arena.bytes) (sym (map_set rooms_held s.states seat w)) bundles)
-        (keys_framed z m m' s.states seat v w here (keys_now z s r) (λ F. ap (λ (rs : List RoomHolds). all_of z m'.rooms (content m.arena.bytes) rs F) (map_set rooms_held s.states seat w) ∙ stay F) refl (unnamed_here z s r seat v here) pins)
-        (subst (KeptNumbersStand same_spot (read m')) (sym (map_set_same kept_of s.states seat v w here (ap (λ (a : HeldBlocks). kept_with a v.headers) same)))
+        (keys_idle z m m' s.states seat v w here (keys_now z s r) (λ F. ap (λ (rs : List RoomHolds). all_of z m'.rooms (content m.arena.bytes) rs F) (map_set rooms_held s.states seat w) ∙ stay F) refl knowledge refl headers (λ h _. refl) pins)
+        (subst (KeptNumbersStand same_spot (read m')) (sym (map_set_same kept_of s.states seat v w here (λ i. kept_with (same i) (headers i))))
         (kept_unkept same_spot (read m) (read m') (in_rooms (room_spot x)) y (λ q. read-write m (in_rooms (room_spot x)) q y) (map kept_of s.states) (unkept_by_all (in_rooms (room_spot x)) (times_in_rooms (room_spot x)) s.states) r.kept))
-        (r.passes seat v here)
+        (subst (λ (p : Knowledge × HeaderHolds). HoldsKnown p.0 p.1) (λ i. (sym knowledge i, sym headers i)) (r.passes seat v here))
 
     -- a pin that has found no entries misses no key
     none_missed : (q : Knowledge) (p : PinnedRoom) → p.count ≡ None → KnowsMissed q p
@@ -123,7 +122,7 @@ module _ (z : Sizes) (s : TableState) (seat : ℕ) (v : PassState) (r : Rule z s
     pin_keeps k may = let p = small_pin k in let f : count_of (m.rooms.pin k) + 1 < 2 ^ 28 = let t = few_room_pins z s r k in let c = r.rooms.counted k in omega arith in let u = pin_up (m.rooms.pin k) f p in
         let read_is : m.rooms.pin k ≡ get_or s.words (index z (in_rooms (at_room_pin k))) 0 = memory_read z s.words (in_rooms (at_room_pin k)) may.inside in
         let o : Option PinnedRoom = Some (pinned_at m.rooms k) in let stands = pin_stands z m.rooms (content m.arena.bytes) hs r.rooms seat v.rooms at_rooms k may.inside.0 may.rooms f p in
-        step_rule (pin_room k) may.inside refl (omega arith)
+        step_rule (pin_room k) may.inside refl refl refl (omega arith)
         (subst (λ (i : ℕ). RoomBundles z (write m (in_rooms (at_room_pin k)) ((i + 1) % 2 ^ 64)).rooms m.arena.bytes (set hs seat (record v.rooms { pin = o }))) read_is (pin_bundles k ((m.rooms.pin k + 1) % 2 ^ 64) o u.1 stands))
         (subst (λ (i : ℕ). BlocksAreOwned z m.arena.bits (all_others z (write m (in_rooms (at_room_pin k)) ((i + 1) % 2 ^ 64)) (set hs seat (record v.rooms { pin = o }))) (map blocks_of s.states)) read_is (pin_blocks k ((m.rooms.pin k + 1) % 2 ^ 64) o u.1 stands))
         (λ F. subst (λ (i : ℕ). all_of z (write m (in_rooms (at_room_pin k)) ((i + 1) % 2 ^ 64)).rooms (content m.arena.bytes) (set hs seat (record v.rooms { pin = o })) F ≡ all_of z m.rooms (content m.arena.bytes) hs F) read_is (pin_covers k ((m.rooms.pin k + 1) % 2 ^ 64) o u.1 stands F))
@@ -133,7 +132,7 @@ module _ (z : Sizes) (s : TableState) (seat : ℕ) (v : PassState) (r : Rule z s
     unpin_keeps k may = let p = small_pin k in let some : 0 < count_of (m.rooms.pin k) = let t = total_at (room_pins k) hs seat v.rooms at_rooms in let c = r.rooms.counted k in let one = may.rooms.0 in omega arith in let d = pin_down (m.rooms.pin k) some p in
         let read_is : m.rooms.pin k ≡ get_or s.words (index z (in_rooms (at_room_pin k))) 0 = memory_read z s.words (in_rooms (at_room_pin k)) may.inside in
         let stands = unpin_stands z m.rooms (content m.arena.bytes) hs r.rooms seat v.rooms at_rooms k may.rooms.0 may.rooms.1 p in
-        step_rule (unpin_room k) may.inside refl (omega arith)
+        step_rule (unpin_room k) may.inside refl refl refl (omega arith)
         (subst (λ (i : ℕ). RoomBundles z (write m (in_rooms (at_room_pin k)) ((i + (2 ^ 64 - 1)) % 2 ^ 64)).rooms m.arena.bytes (set hs seat (record v.rooms { pin = None }))) read_is (pin_bundles k ((m.rooms.pin k + (2 ^ 64 - 1)) % 2 ^ 64) None d.1 stands))
         (subst (λ (i : ℕ). BlocksAreOwned z m.arena.bits (all_others z (write m (in_rooms (at_room_pin k)) ((i + (2 ^ 64 - 1)) % 2 ^ 64)) (set hs seat (record v.rooms { pin = None }))) (map blocks_of s.states)) read_is (pin_blocks k ((m.rooms.pin k + (2 ^ 64 - 1)) % 2 ^ 64) None d.1 stands))
         (λ F. subst (λ (i : ℕ). all_of z (write m (in_rooms (at_room_pin k)) ((i + (2 ^ 64 - 1)) % 2 ^ 64)).rooms (content m.arena.bytes) (set hs seat (record v.rooms { pin = None })) F ≡ all_of z m.rooms (content m.arena.bytes) hs F) read_is (pin_covers k ((m.rooms.pin k + (2 ^ 64 - 1)) % 2 ^ 64) None d.1 stands F))

@@ -11,17 +11,18 @@ use Rattle.oak_core.specs.TableState.{TableState}
 use Rattle.oak_core.proofs.KeepsLatches.{latch_keeps, store_keeps, unlatch_keeps}
 use Rattle.oak_core.proofs.KeepsRoomPins.{pin_keeps, unpin_keeps}
 use Rattle.oak_core.proofs.KeepsPublish.{publish_keeps}
+use Rattle.oak_core.proofs.KeepsValues.{set_keeps, unlink_keeps}
 
 -- one clause for each kind
-pub room_keeps : (z : Sizes) (s : TableState) (call seat : ℕ) (v : PassState) → Rule z s → get_elem? s.states seat ≡ some v → v.numbers.spent ≡ false → (x : RoomStep) → MayOnRooms z x v → Rule z (table_after z call (on_rooms x) seat v s)
+pub room_keeps : (z : Sizes) (s : TableState) (call seat : ℕ) (v : PassState) → Rule z s → get_elem? s.states seat ≡ some v → v.numbers.spent ≡ false → (x : RoomStep) → MayOnRooms z call x v → Rule z (table_after z call (on_rooms x) seat v s)
 room_keeps z s call seat v r here going (pin_room k) may = pin_keeps z s seat v r here call going k may
 room_keeps z s call seat v r here going (unpin_room k) may = unpin_keeps z s seat v r here call going k may
 room_keeps z s call seat v r here going (latch_room k) may = latch_keeps z s seat v r here call going k may
 room_keeps z s call seat v r here going (store_entry f k i x) may = store_keeps z s seat v r here call going f k i x may
 room_keeps z s call seat v r here going (publish_entry k x) may = publish_keeps z s seat v r here k x may call going
 room_keeps z s call seat v r here going (unlatch_room k) may = unlatch_keeps z s seat v r here call going k may
-room_keeps z s call seat v r here going (set_value k i old new kind) may = absurd may
-room_keeps z s call seat v r here going (unlink_entry k i x) may = absurd may
+room_keeps z s call seat v r here going (set_value k i old new kind) may = set_keeps z s seat v r here call going k i old new kind may
+room_keeps z s call seat v r here going (unlink_entry k i x) may = unlink_keeps z s seat v r here call going k i x may
 room_keeps z s call seat v r here going (freeze_room k old) may = absurd may
 room_keeps z s call seat v r here going (hold_room k old) may = absurd may
 room_keeps z s call seat v r here going (claim_room k old) may = absurd may

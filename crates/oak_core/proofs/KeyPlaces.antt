@@ -1,29 +1,21 @@
 -- A key word names a block of the class that its length has, so the bytes that stand there are those of a key.
-use Rattle.std.specs.List.{find}
-use Rattle.std.proofs.Common.{◌≡◌, ℕ, zero, suc, ◌+◌, ◌*◌, ◌^◌, ◌<◌, ◌≤◌, ◌&&◌, nat_lt, nat_le, true, false, Bool, cond, List, [], ◌∷◌, ◌++◌, length, get_or, take, sym, refl, subst, arith, Option, Some, None, leb-true, ltb-true, eqb-true}
-use Rattle.std.proofs.lemmas.List.{length-append, length-take, length-take-le, get_or-take, get_or_past}
+use Rattle.std.proofs.Common.{◌≡◌, ℕ, zero, suc, ◌<◌, ◌≤◌, ◌&&◌, nat_lt, nat_le, true, false, Bool, List, [], ◌∷◌, length, get_or, take, sym, refl, subst, arith, Option, Some, None, leb-true, ltb-true, eqb-true}
+use Rattle.std.proofs.lemmas.List.{length-take, length-take-le, get_or-take, get_or_past}
 use mathlib.Core.Logic.{dite}
 use native.Mathlib.Decide.{dec_lt}
-use Rattle.oak_model.specs.Class.{class_number, class_bytes, classes, class_of}
+use Rattle.oak_model.specs.Class.{class_number, class_of}
 use Rattle.oak_model.specs.Counts.{one_if}
-use Rattle.oak_model.specs.WordBytes.{word_bytes, bytes_of}
+use Rattle.oak_model.specs.WordBytes.{bytes_of}
 use Rattle.oak_model.specs.declared.classes.Class.{Class}
 use Rattle.oak_model.specs.declared.limits.TheConstants.{GREATEST_KEY}
 use Rattle.oak_model.proofs.Counting.{test-cases, both_true}
 use Rattle.arena_core.specs.Arena.{block_words}
 use Rattle.arena_core.specs.Place.{IsPlace, class_in, length_in}
+use Rattle.arena_core.proofs.ByteFacts.{length-bytes_of}
+use Rattle.arena_core.proofs.ClassRooms.{place_room}
 use Rattle.chunk_core.specs.KeyWords.{key_length, key_bytes, key_in}
 use Rattle.oak_core.specs.EntryOwners.{is_class, is_key_word}
 use Rattle.oak_core.specs.KeyHistories.{IsKeyOf}
-
--- a class that is found for a length has room for it
-found_fits : (n : ℕ) (c : Class) (cs : List Class) → find (λ d. nat_le n (class_bytes d)) cs ≡ Some c → n ≤ class_bytes c
-found_fits n c [] e = absurd cc
-found_fits n c (d ∷ ds) e = test-cases (nat_le n (class_bytes d)) (λ t. cond t (Some d) (find (λ d. nat_le n (class_bytes d)) ds) ≡ Some c → n ≤ class_bytes c)
-    (λ t f. let g : d ≡ c = cc in subst (λ (k : Class). n ≤ class_bytes k) g (leb-true n (class_bytes d) t)) (λ _ f. found_fits n c ds f) e
-
-place_room : (p : ℕ) → IsPlace p → length_in p ≤ 8 * block_words (class_in p)
-place_room p is = subst (λ (c : ℕ). length_in p ≤ 8 * (2 * 4 ^ c)) (sym is.is_in) (let f = found_fits (length_in p) is.class classes is.fits in let k : ℕ = 4 ^ class_number is.class in let f' : length_in p ≤ 16 * k = f in let g : length_in p ≤ 8 * (2 * k) = omega arith in g)
 
 -- what a key word names
 pub record NamesKey (word : ℕ) : Type 0 where
@@ -31,18 +23,18 @@ pub record NamesKey (word : ℕ) : Type 0 where
   pub few : length_in word ≤ GREATEST_KEY
   pub place : IsPlace word
 
+one_true : (t : Bool) → one_if t ≡ 1 → t ≡ true
+one_true true h = refl
+one_true false h = absurd (omega arith)
+
 pub names_key : (word : ℕ) → is_key_word word ≡ 1 → NamesKey word
-names_key word e = let b = both_true (nat_lt 0 (length_in word)) (nat_le (length_in word) GREATEST_KEY && is_class (class_in word) (class_of (length_in word))) (tested _ e) in
+names_key word e = let b = both_true (nat_lt 0 (length_in word)) (nat_le (length_in word) GREATEST_KEY && is_class (class_in word) (class_of (length_in word))) (one_true _ e) in
     let d = both_true (nat_le (length_in word) GREATEST_KEY) (is_class (class_in word) (class_of (length_in word))) b.1 in record {
       some_byte = ltb-true 0 (length_in word) b.0;
       few = leb-true (length_in word) GREATEST_KEY d.0;
       place = by (class_of (length_in word)) refl d.1;
     }
   where
-    tested : (t : Bool) → one_if t ≡ 1 → t ≡ true
-    tested true h = refl
-    tested false h = absurd (omega arith)
-
     by : (o : Option Class) → class_of (length_in word) ≡ o → is_class (class_in word) o ≡ true → IsPlace word
     by None f t = absurd cc
     by (Some d) f t = record { class = d; is_in = eqb-true (class_in word) (class_number d) t; fits = f }
@@ -51,11 +43,6 @@ pub key_word_few : (word : ℕ) → is_key_word word ≤ 1
 key_word_few word = test-cases (nat_lt 0 (length_in word) && (nat_le (length_in word) GREATEST_KEY && is_class (class_in word) (class_of (length_in word)))) (λ t. one_if t ≤ 1) (λ _. omega arith) (λ _. omega arith)
 
 -- bytes of words
-
-length-bytes_of : (ns : List ℕ) → length (bytes_of ns) ≡ 8 * length ns
-unfolding bytes_of
-length-bytes_of [] = refl
-length-bytes_of (n ∷ ns) = let e = length-append (word_bytes n) (bytes_of ns) in let r = length-bytes_of ns in let x : ℕ = length (bytes_of ns) in let e' : length (word_bytes n ++ bytes_of ns) ≡ 8 + x = e in omega arith
 
 bytes_small : (ns : List ℕ) (i : ℕ) → get_or (bytes_of ns) i 0 < 256
 unfolding bytes_of

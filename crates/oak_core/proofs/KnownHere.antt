@@ -23,7 +23,6 @@ use Rattle.oak_core.proofs.KnownPlaces.{known_place}
 use Rattle.oak_core.proofs.KnownReads.{read_now, missed_now}
 use Rattle.oak_core.proofs.PinsKnown.{KnowsMissed}
 use Rattle.oak_core.specs.Splitting.{Ends}
-use Rattle.oak_core.proofs.UnwrittenKeys.{keys_stand}
 use Rattle.oak_model.specs.Key.{is_key}
 use Rattle.oak_model.specs.KeyNumber.{key_number}
 
@@ -53,4 +52,4 @@ PlacesKnown v = (key : List ℕ) (at r : ℕ) → is_key key ≡ true → KnowsP
 
 pub places_at_end : (z : Sizes) (words : List ℕ) (v : PassState) → Ends z words v → PlacesKnown v
 places_at_end z words v e key at r is knows = ap (λ (b : Bool). place_of (cond b (writes_of (seen_of (key_number key) v.knowledge)) []) at) is
-    ∙ (known_here z (memory z e.table.words) e.table.states (keys_stand z e.table e.rule).legal e.rule.histories e.rule.heard e.seat v e.here (key_number key) at r knows).0
+    ∙ (known_here z (memory z e.table.words) e.table.states e.rule.keys.legal e.rule.histories e.rule.heard e.seat v e.here (key_number key) at r knows).0

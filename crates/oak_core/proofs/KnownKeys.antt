@@ -1,5 +1,6 @@
 -- The key that a pass knows of a header at a generation is one whose history has that life.
 use Rattle.std.proofs.Common.{◌≡◌, ℕ, ◌*◌, ◌<◌, ◌≤◌, cond, Bool, List, [], ◌∷◌, ◌++◌, sym, refl, ap, ◌∙◌, subst, inl, inr, arith, Option, Some, None, eq-eqb, ne_eqb}
+use Rattle.std.proofs.lemmas.Option.{none-some, same_Some}
 use mathlib.Core.Logic.{dite}
 use mathlib.Core.Option.{some}
 use native.Mathlib.Decide.{ℕ_discrete}
@@ -41,31 +42,21 @@ life_home h g v e = let n = first (names_header v) (one_at (header_in v) h) (one
     third : (a b c : ℕ) → c ≤ 1 → a * b * c ≡ 1 → c ≡ 1
     third a b c l e = dite (ℕ_discrete c 0) (λ z. absurd (let y = ap (λ (t : ℕ). a * b * t) z in let q : a * b * 0 ≡ 0 = omega arith in omega arith)) (λ ne. omega arith)
 
-some_is : (a b : List ℕ) → Some a ≡ Some b → a ≡ b
-some_is a b e = ap (λ (o : Option (List ℕ)). or o a) e
-  where
-    or : Option (List ℕ) → List ℕ → List ℕ
-    or None d = d
-    or (Some x) d = x
-
-none_some : (a : List ℕ) → None ≡ Some a → ⊥
-none_some a e = cc
-
 module _ (hist : ℕ → List KeyedWrite) (h g : ℕ) (key : List ℕ) where
   in_loaded : (ls : List KnownLife) → Each (λ (l : KnownLife). (names_header l.home ≡ 1) × (0 < homes_in l.home (hist (key_number l.key))) × IsKeyOf (key_number l.key) l.key) ls → key_in_loaded h g ls ≡ Some key → IsKeyOfLife hist h g key
   unfolding key_in_loaded
-  in_loaded [] p e = absurd (none_some key e)
+  in_loaded [] p e = absurd (none-some key e)
   in_loaded (l ∷ ls) p e = dite (ℕ_discrete (names_life h g l.home) 1)
-      (λ y. let k = some_is l.key key (sym (ap (λ (b : Bool). cond b (Some l.key) (key_in_loaded h g ls)) (eq-eqb (names_life h g l.home) 1 y)) ∙ e) in
+      (λ y. let k = same_Some l.key key (sym (ap (λ (b : Bool). cond b (Some l.key) (key_in_loaded h g ls)) (eq-eqb (names_life h g l.home) 1 y)) ∙ e) in
       subst (IsKeyOfLife hist h g) k (record { key_is = p.0.2; there = subst (λ (v : ℕ). 0 < homes_in v (hist (key_number l.key))) (life_home h g l.home y) p.0.1 }))
       (λ n. in_loaded ls p.1 (sym (ap (λ (b : Bool). cond b (Some l.key) (key_in_loaded h g ls)) (ne_eqb (names_life h g l.home) 1 n)) ∙ e))
 
   -- a write of a log is one of its key's history
   in_log : (l whole : List KeyedWrite) → ((w : KeyedWrite) → Has w l → Has w whole) → ((k : ℕ) → Begins (of_key k whole) (hist k)) → ((k : ℕ) → Each (λ (w : KeyedWrite). IsKeyOf k w.key) (hist k)) → key_in_log h g l ≡ Some key → IsKeyOfLife hist h g key
   unfolding key_in_log
-  in_log [] whole sub b keys e = absurd (none_some key e)
+  in_log [] whole sub b keys e = absurd (none-some key e)
   in_log (w ∷ ws) whole sub b keys e = dite (ℕ_discrete (names_life h g w.home) 1)
-      (λ y. let k = some_is w.key key (sym (ap (λ (t : Bool). cond t (Some w.key) (key_in_log h g ws)) (eq-eqb (names_life h g w.home) 1 y)) ∙ e) in
+      (λ y. let k = same_Some w.key key (sym (ap (λ (t : Bool). cond t (Some w.key) (key_in_log h g ws)) (eq-eqb (names_life h g w.home) 1 y)) ∙ e) in
       let there = in_history (key_number w.key) whole (hist (key_number w.key)) w (b (key_number w.key)) (has_key w whole (sub w (inl refl))) in
       subst (IsKeyOfLife hist h g) k (record {
         key_is = each_has (λ (x : KeyedWrite). IsKeyOf (key_number w.key) x.key) (hist (key_number w.key)) w (keys (key_number w.key)) there;
@@ -88,7 +79,7 @@ module _ (hist : ℕ → List KeyedWrite) (h g : ℕ) (key : List ℕ) where
 
   in_logs : (ls : List (List KeyedWrite)) → ((k : ℕ) → Each (λ (l : List KeyedWrite). Begins (of_key k l) (hist k)) ls) → ((k : ℕ) → Each (λ (w : KeyedWrite). IsKeyOf k w.key) (hist k)) → key_in_logs h g ls ≡ Some key → IsKeyOfLife hist h g key
   unfolding key_in_logs
-  in_logs [] b keys e = absurd (none_some key e)
+  in_logs [] b keys e = absurd (none-some key e)
   in_logs (l ∷ ls) b keys e = go (key_in_log h g l) refl (in_logs ls (λ k. (b k).1) keys) e
     where
       go : (o : Option (List ℕ)) → key_in_log h g l ≡ o → (key_in_logs h g ls ≡ Some key → IsKeyOfLife hist h g key) → first_of o (key_in_logs h g ls) ≡ Some key → IsKeyOfLife hist h g key

@@ -11,6 +11,7 @@ use Rattle.oak_core.specs.KnownPlaces.{KnowsPlace}
 use Rattle.oak_core.specs.Learning.{reach_of, heard_of}
 use Rattle.oak_core.specs.Lessons.{LessonStands, LessonsStand}
 use Rattle.oak_core.specs.PassState.{seen_of}
+use Rattle.oak_core.proofs.Histories.{none_long}
 use Rattle.oak_core.proofs.WritesBelow.{before-cases, before_append, before_whole, none_behind}
 
 -- the place of a number is how many writes are below the next one
@@ -35,13 +36,9 @@ before_before m n (w ∷ ws) l = let r = before_before m n ws l in before-cases 
     (λ high. before-cases m w ws (λ t. before m (before n ws) ≡ t) (λ a. absurd (omega arith)) (λ _. r))
 
 -- where the first part is as long as what is below n, nothing of the rest is below it
-short : {A : Type 0} (h : List A) → length h ≤ 0 → h ≡ []
-short [] l = refl
-short (x ∷ xs) l = absurd (omega arith)
-
 cut_in : (n s : ℕ) (a b : List KeyedWrite) → StampsRise s (writes_of (a ++ b)) → length (before n (a ++ b)) ≤ length a → before n b ≡ []
 unfolding before
-cut_in n s [] b r l = short (before n b) l
+cut_in n s [] b r l = none_long (before n b) l
 cut_in n s (x ∷ xs) b r l = before-cases n x (xs ++ b) (λ t. length t ≤ suc (length xs) → before n b ≡ [])
     (λ low m. cut_in n x.write.stamp xs b r.1 (omega arith))
     (λ high _. cut_in n x.write.stamp xs b r.1 (let e = ap length (none_behind n x.write.stamp (xs ++ b) r.1 high) in omega arith)) l

@@ -32,13 +32,8 @@ use Rattle.oak_core.specs.Learning.{wrote}
 use Rattle.oak_core.specs.PassState.{of_key, seen_of, history}
 use Rattle.oak_core.proofs.HomeWords.{NamesAt}
 use Rattle.oak_core.proofs.KnownLaws.{known_some, known_by}
-use Rattle.oak_core.proofs.Teaching.{of_key-cases, longest_one}
-
--- a part of a log has no more
-of_key_less : (f : KeyedWrite → ℕ) (k : ℕ) (l : List KeyedWrite) → total f (of_key k l) ≤ total f l
-unfolding total of_key
-of_key_less f k [] = omega arith
-of_key_less f k (w ∷ ws) = let t = of_key_less f k ws in of_key-cases k w ws (λ l. total f l ≤ f w + total f ws) (λ _. omega arith) (λ _. omega arith)
+use Rattle.oak_core.proofs.LivesOnce.{key_part}
+use Rattle.oak_core.proofs.Teaching.{longest_one}
 
 some_long : (h g : ℕ) (l : List KeyedWrite) → 0 < lives_in h g l → 0 < length l
 unfolding total
@@ -51,15 +46,19 @@ history_known h g k qs p = let one = longest_one (map (seen_of k) qs) (some_long
     let p1 : 0 < lives_in h g (seen_of k q.0) = subst (λ (l : List KeyedWrite). 0 < lives_in h g l) (sym q.2) p in
     let two = longest_one (map (of_key k) q.0.seen) (some_long h g (seen_of k q.0) p1) in let l = at_unmap (of_key k) q.0.seen two.0 (seen_of k q.0) two.1 in
     let p2 : 0 < lives_in h g (of_key k l.0) = subst (λ (l : List KeyedWrite). 0 < lives_in h g l) (sym l.2) p1 in
-    let a = of_key_less (λ (w : KeyedWrite). names_life h g w.home) k l.0 in let b = total_at (lives_in h g) q.0.seen two.0 l.0 l.1 in
+    let a = key_part (λ (w : KeyedWrite). names_life h g w.home) k l.0 in let b = total_at (lives_in h g) q.0.seen two.0 l.0 l.1 in
     known_some h g qs one.0 q.0 q.1 (omega arith)
 
 module _ (qs : List Knowledge) (i : ℕ) (q : Knowledge) (here : get_elem? qs i ≡ some q) (k : ℕ) (w : KeyedWrite) where
   abbrev pub later : List Knowledge
   later = set qs i (wrote k w qs q)
 
-  knows_now : (h g : ℕ) → knows_life h g (wrote k w qs q) ≡ knows_life h g q + (lives_in h g (history k qs) + names_life h g w.home)
+  pub knows_now : (h g : ℕ) → knows_life h g (wrote k w qs q) ≡ knows_life h g q + (lives_in h g (history k qs) + names_life h g w.home)
   knows_now h g = let a = total_snoc (lives_in h g) q.seen (history k qs ++ w ∷ []) in let b = total_snoc (λ (x : KeyedWrite). names_life h g x.home) (history k qs) w in omega arith
+
+  -- the pass itself knows no less
+  pub knows_wrote : (h g : ℕ) → knows_life h g q ≤ knows_life h g (wrote k w qs q)
+  knows_wrote h g = let n = knows_now h g in omega arith
 
   pub known_before : (h g : ℕ) → 0 < known qs h g → known later h g ≡ 1
   known_before h g p = let t = known_by h g qs p in dite (ℕ_discrete t.0 i)
@@ -107,7 +106,7 @@ module _ (m : HeaderMemory) (bytes : ℕ → List ℕ) (qs : List Knowledge) (hs
   other_generation : (g : ℕ) → own.generation ≢ g → names_life own.header g w.home ≡ 0
   other_generation g ne = names own.header g ∙ (ap (λ (t : ℕ). one_at own.header own.header * t) (one_at-other own.generation g ne) ∙ (let z : one_at own.header own.header * 0 ≡ 0 = omega arith in z))
 
-  named : 0 < names_life own.header own.generation w.home
+  pub named : 0 < names_life own.header own.generation w.home
   named = let n = names own.header own.generation in let x = one_at-same own.header own.header refl in let y = one_at-same own.generation own.generation refl in let p = ap (λ (t : ℕ). t * one_at own.generation own.generation) x in omega arith
 
   pub set_heads : HeadersStand m bytes IsPlace (known (set qs i (wrote k w qs q))) (set hs i b)

@@ -15,7 +15,8 @@ use Rattle.oak_core.specs.KeyStates.{KeyStands}
 use Rattle.oak_core.specs.Lessons.{GoesUp}
 use Rattle.oak_core.specs.Memory.{Memory}
 
-named_or : (v : ℕ) → (names_header v ≡ 0) ⊎ (names_header v ≡ 1)
+-- a value word is a floor or names a header
+pub named_or : (v : ℕ) → (names_header v ≡ 0) ⊎ (names_header v ≡ 1)
 unfolding names_header
 named_or v = one_at-cases (v / 2 ^ 63) 1 (λ (n : ℕ). (n ≡ 0) ⊎ (n ≡ 1)) (λ _. inr refl) (λ _. inl refl)
 

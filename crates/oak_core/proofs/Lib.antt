@@ -22,6 +22,7 @@ pub mod KnownKeys
 pub mod KnownWrites
 pub mod UnnamedHeaders
 pub mod NewLives
+pub mod NamedLives
 pub mod SetValue
 pub mod LockKeys
 pub mod LockedWrites
@@ -59,7 +60,10 @@ pub mod KnowledgeAfter
 pub mod LessonSeats
 pub mod LessonRanges
 pub mod MissedKeys
+pub mod SeenMore
 pub mod TaughtStates
+pub mod KnownTaught
+pub mod RelabelledHeaders
 pub mod KnownPlaces
 pub mod Remembering
 pub mod KnownReads
@@ -68,6 +72,7 @@ pub mod KnownHere
 pub mod TaughtReads
 pub mod CountLessons
 pub mod PublishLessons
+pub mod PublishKeys
 pub mod Found
 pub mod Growing
 pub mod KeptWords
@@ -79,10 +84,18 @@ pub mod RoomBundles
 pub mod KeptWhole
 pub mod EntryBlocks
 pub mod OpeningRooms
+pub mod OpeningKeys
+pub mod KeysAfter
+pub mod KeepsLocks
+pub mod KeepsLockWrites
+pub mod KeepsReturns
+pub mod KeepsHeaderPins
+pub mod KeyedHolds
 pub mod Keeps
 pub mod KeepsGiven
 pub mod KnownInTwo
 pub mod JoinedNumbers
+pub mod SeatBundles
 pub mod TwoSeats
 pub mod Opening
 pub mod OpeningBlocks
@@ -107,6 +120,7 @@ pub mod OwnedUnderLocks
 pub mod WholeRecords
 pub mod WholeHeaders
 pub mod KeepsHeaders
+pub mod RewordedKeys
 pub mod KeepsLocked
 pub mod KeepsNotes
 pub mod KeepsLatches
@@ -128,17 +142,45 @@ pub mod Owing
 pub mod Alone
 pub mod ClosedFulls
 pub mod UsedWords
+pub mod FoundEntries
+pub mod ValueSteps
+pub mod HeldInside
+pub mod UnsetOwed
+pub mod SetOwed
+pub mod UnlinkOwed
+pub mod KeepsValues
 pub mod Frames
 pub mod SamePass
 pub mod AloneLast
 pub mod AloneRuns
-mod UnwrittenHeaders
 mod KeyBundles
 pub mod PlainLoads
+pub mod QuietLoads
+mod LoadedLives
 mod KeepsLoads
 mod KeepsCounts
+mod KeepsValueLoads
+mod KeepsStampLoads
+mod KeepsAllLoads
+mod HeldFields
+mod UnnamedBundles
+mod StoredFields
+mod KeepsFields
 mod KeepsPublish
-mod UnwrittenKeys
 pub mod PublishFacts
 pub mod CallSteps
 pub mod CountTold
+pub mod KeyTold
+pub mod LockTold
+pub mod WriteTold
+pub mod LastLives
+pub mod ValueTold
+pub mod StampTold
+pub mod SetTold
+pub mod HeldRowLaws
+pub mod UnlinkTold
+pub mod TaughtSteps
+pub mod KnownLives
+pub mod StampSteps
+pub mod PinTold
+pub mod RoomPins

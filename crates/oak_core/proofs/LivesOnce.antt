@@ -15,7 +15,7 @@ use Rattle.oak_core.proofs.CallerWrites.{caller-cases}
 use Rattle.oak_core.proofs.Teaching.{of_key-cases}
 
 -- a part of some writes is no more than all
-key_part : (f : KeyedWrite → ℕ) (k : ℕ) (l : List KeyedWrite) → total f (of_key k l) ≤ total f l
+pub key_part : (f : KeyedWrite → ℕ) (k : ℕ) (l : List KeyedWrite) → total f (of_key k l) ≤ total f l
 unfolding total of_key
 key_part f k [] = omega arith
 key_part f k (w ∷ ws) = let t = key_part f k ws in of_key-cases k w ws (λ x. total f x ≤ f w + total f ws) (λ _. omega arith) (λ _. omega arith)

@@ -13,7 +13,6 @@ use Rattle.oak_model.specs.Limits.{Sizes}
 use Rattle.oak_model.proofs.Counting.{one_at-other, total_set}
 use Rattle.oak_model.proofs.Lists.{at_set, at_map, map_set, map_set_same, each_map}
 use Rattle.oak_model.proofs.PutLaws.{put-here, put-else, put-cases}
-use Rattle.oak_model.proofs.RowLaws.{total_le}
 use Rattle.arena_core.specs.Place.{content}
 use Rattle.header_core.specs.HeaderHolds.{in_state, held_state}
 use Rattle.header_core.specs.HeaderRule.{stocked}
@@ -44,12 +43,11 @@ use Rattle.oak_core.specs.Memory.{Memory}
 use Rattle.oak_core.specs.Owners.{HeadersAreHeld}
 use Rattle.oak_core.specs.PassState.{history, headers_held, knowledge_of, rooms_held}
 use Rattle.oak_core.specs.Rule.{HistoriesStand}
-use Rattle.oak_core.proofs.HomeKeys.{known_key}
 use Rattle.oak_core.proofs.HomeWords.{NamesAt}
 use Rattle.oak_core.proofs.KeyFrames.{hold_same, loaded_same}
 use Rattle.oak_core.proofs.KnownKeys.{IsKeyOfLife, known_is}
+use Rattle.oak_core.proofs.NamedLives.{named_by}
 use Rattle.oak_core.proofs.Teaching.{taught_same, taught_stand}
-use Rattle.oak_core.proofs.UnnamedHeaders.{unnamed_le, unnamed_in}
 
 module _ (z : Sizes) (m : Memory) (is_key_word : ℕ → ℕ) (vs : List PassState) (parts : CoversPartition z m.rooms (content m.arena.bytes) is_key_word (map rooms_held vs)) (keys : KeysStand z m vs) (callers : CallersAgree vs) (histories : HistoriesStand (map knowledge_of vs))
     (heads : HeadersAreHeld m.headers m.arena.bytes (known (map knowledge_of vs)) (map headers_held vs))
@@ -112,18 +110,12 @@ module _ (z : Sizes) (m : Memory) (is_key_word : ℕ → ℕ) (vs : List PassSta
   pub lock_histories : HistoriesStand (map knowledge_of vs')
   lock_histories = subst HistoriesStand (sym qs_is) (taught_stand T ls qs histories rise seat v.knowledge q_here)
 
-  -- an entry names the header, that of the known key
-  named : all_of z m.rooms bytes (map rooms_held vs) (each (naming h)) ≡ 1
-  unfolding unnamed_in
-  named = let n = keys.named h in let s = stocked_high (state_of (m.headers.pin h)) (omega arith) (omega arith) in let f = no_fresh in
-      let d = heads.held h DEAD (omega arith) (omega arith) (λ q. absurd (omega arith)) in let o = one_at-other (state_of (m.headers.pin h)) DEAD (λ q. absurd (omega arith)) in
-      let l = total_le (unnamed h) (in_state h DEAD) (map headers_held vs) (λ a. unnamed_le h a.held) in omega arith
-
   life : IsKeyOfLife hist h (generation_of (m.headers.pin h)) key
   life = known_is qs histories keys.legal keys.loaded seat v.knowledge q_here h (generation_of (m.headers.pin h)) key knows
 
-  pub named_by : word (key_number key) ≡ home0 + 1
-  named_by = known_key z m is_key_word vs parts keys callers h (let n = named in omega arith) named_at.names (key_number key) life.there
+  -- the entry of the known key names the header
+  pub lock_named : word (key_number key) ≡ home0 + 1
+  lock_named = named_by z m vs keys heads h live no_fresh is_key_word parts callers (generation_of (m.headers.pin h)) refl named_at.names (key_number key) life.there
 
   pin_else : (j : ℕ) → j ≢ h → m'.headers.pin j ≡ m.headers.pin j
   pin_else j ne = put-else m.headers.pin h x j ne
@@ -146,8 +138,8 @@ module _ (z : Sizes) (m : Memory) (is_key_word : ℕ → ℕ) (vs : List PassSta
 
   -- what the lock keeps
   lock : IsLockOf word hist (record { place = m.headers.place h; stamp = m.headers.stamp h; words = content m.arena.bytes (m.headers.place h) }) new
-  lock = let i = ((keys.states (key_number key)).named home0 named_by named_at.names).live (ap (λ (t : ℕ). state_of (m.headers.pin t)) named_at.header ∙ live) in record {
-    named = named_by;
+  lock = let i = ((keys.states (key_number key)).named home0 lock_named named_at.names).live (ap (λ (t : ℕ). state_of (m.headers.pin t)) named_at.header ∙ live) in record {
+    named = lock_named;
     flag = refl;
     key = life.key_is;
     state = i.0 ∙ ap (shown_by m) named_at.header;

@@ -36,10 +36,10 @@ use Rattle.oak_core.proofs.AloneLast.{alone_last}
 use Rattle.oak_core.proofs.AloneRuns.{is_alone-true}
 use Rattle.oak_core.proofs.HeaderPlaces.{pin_place}
 use Rattle.oak_core.proofs.OpeningBlocks.{arena_zero, opening_blocks, opening_headers}
-use Rattle.oak_core.proofs.OpeningRooms.{opening_rooms, opening_covers, no_owners, no_values}
+use Rattle.oak_core.proofs.OpeningRooms.{opening_rooms, opening_covers, no_owners}
 use Rattle.oak_core.proofs.RoomBundles.{RoomBundles, keeps_none, none_true}
-use Rattle.oak_core.specs.Unwritten.{KnowsNoWrite, HoldsUnnamed}
-use Rattle.oak_core.proofs.LessonSeats.{heard_first}
+use Rattle.oak_core.proofs.KeyBundles.{KeyBundles}
+use Rattle.oak_core.proofs.OpeningKeys.{opening_keys}
 
 either_small : (b : Bool) (x y : ℕ) → x < 2 ^ 64 → y < 2 ^ 64 → cond b x y < 2 ^ 64
 either_small true x y h k = h
@@ -167,6 +167,9 @@ module _ (z : Sizes) (g : ℕ) (is : IsInLimits z) (lt : g < LAST_GENERATION) wh
     kept = record { true_to = every_one _ (kept_of_rooms no_rooms) (none_true (read_room rs)); once = λ p. let e = keeps_none p in omega arith };
   }
 
+  keys_open : KeyBundles z (memory z (opening z g).words) (first ∷ [])
+  keys_open = opening_keys z g (opening z g).words is.chunks_least lt open_words
+
   pub opening_rule : Rule z (opening z g)
   opening_rule = record {
     sizes = is;
@@ -182,12 +185,11 @@ module _ (z : Sizes) (g : ℕ) (is : IsInLimits z) (lt : g < LAST_GENERATION) wh
     alone = every_one (AloneStands (opening z g).words) first (alone_last (opening z g).words bare_state first record { finding = making z g; met = refl; says = λ _. (refl, is_alone-true first (first_alone z g)) });
     rooms = rooms_open.rooms;
     covers = rooms_open.covers;
-    written = record {
-      knowledge = every_one KnowsNoWrite first.knowledge record { seen = tt; loaded = refl; mine = refl };
-      headers = every_one HoldsUnnamed first.headers tt;
-      values = no_values z rs (content (memory z (opening z g).words).arena.bytes) is.chunks_least open_words.room open_words.others;
-    };
-    heard = heard_first z (memory z (opening z g).words) first refl refl refl;
+    keys = keys_open.keys;
+    callers = keys_open.callers;
+    bounds = keys_open.bounds;
+    opened = keys_open.opened;
+    heard = keys_open.heard;
     kept = opening_kept z g is lt;
     kept_in_rooms = rooms_open.kept;
   }

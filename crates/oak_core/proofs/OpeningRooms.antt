@@ -23,7 +23,7 @@ use Rattle.chunk_core.specs.PinnedRooms.{OnRoomPin, IsGoodRoom, RoomPinHolds}
 use Rattle.chunk_core.specs.RoomHolds.{no_rooms}
 use Rattle.chunk_core.specs.RoomRule.{AreTrueRanges, RoomHoldsStand, IsInOrder, RoomsStand}
 use Rattle.chunk_core.specs.Rooms.{RoomMemory, RoomSpot, at_room_pin, at_base, at_count, at_latch, at_low, at_high, read_room, kind_at, room_at}
-use Rattle.chunk_core.specs.Spans.{past, past_high, within}
+use Rattle.chunk_core.specs.Spans.{Span, past, past_high, within}
 use Rattle.chunk_core.specs.ValueWord.{names_header}
 use Rattle.chunk_core.proofs.CoverLaws.{covers_parts}
 use Rattle.chunk_core.proofs.SpanLaws.{past-cases, high-none}
@@ -114,9 +114,13 @@ module _ (z : Sizes) (m : RoomMemory) (content : ℕ → List ℕ) (some_room : 
     bases = one_cover (cover_at m content) (λ c. names_header c.span.base) ∙ (ap names_header (behind (at_base 0) (omega arith)) ∙ no_header);
   }
 
-  -- no entry has a value
-  pub no_values : all_of z m content hs (each (λ s x. names_header x.value)) ≡ 0
-  no_values = one_cover (cover_at m content) (each (λ s x. names_header x.value)) ∙ empty (λ (x : Entry). names_header x.value)
+  -- nothing is added up over entries
+  pub no_entry_sums : (f : Span → Entry → ℕ) → all_of z m content (no_rooms ∷ []) (each f) ≡ 0
+  no_entry_sums f = one_cover (cover_at m content) (each f) ∙ empty (f (span_in m 0))
+
+  -- and the base is not above any number
+  pub no_base_sums : (n : ℕ) → all_of z m content (no_rooms ∷ []) (λ c. c.span.base - n) ≡ 0
+  no_base_sums n = one_cover (cover_at m content) (λ c. c.span.base - n) ∙ (let b = behind (at_base 0) (omega arith) in omega arith)
 
   -- no entry owns a block
   pub no_owners : (names_it : ℕ → ℕ) → owners_in_rooms z m content hs names_it ≡ 0

@@ -51,7 +51,7 @@ times_some (suc a) zero c l = absurd (let z : suc a * 0 * c ≡ 0 = nothing (suc
 times_some (suc a) (suc b) c l = (omega arith, omega arith)
 
 -- what is held dead is buried
-buried_row : (word : ℕ → ℕ) (hist : ℕ → List KeyedWrite) (s : HeldAs) (r : HeldHeader) → held_state s ≡ DEAD → HoldStands word hist s r → IsBurialOf word hist r
+pub buried_row : (word : ℕ → ℕ) (hist : ℕ → List KeyedWrite) (s : HeldAs) (r : HeldHeader) → held_state s ≡ DEAD → HoldStands word hist s r → IsBurialOf word hist r
 buried_row word hist Owned r e p = absurd (let q = e in omega arith)
 buried_row word hist Fresh r e p = absurd (let q = e in omega arith)
 buried_row word hist (Locked at) r e p = absurd (let q = e in omega arith)

@@ -47,7 +47,7 @@ unfolding one_at
 unstocked_end s (inl e) = ap stocked e
 unstocked_end s (inr e) = ap stocked e
 
-renewed_end : (w x : ℕ) → IsRenewed w x → stocked (state_of x) ≡ 0
+pub renewed_end : (w x : ℕ) → IsRenewed w x → stocked (state_of x) ≡ 0
 renewed_end w x (_, _, inl t) = unstocked_end (state_of x) (inl t.1)
 renewed_end w x (_, _, inr t) = unstocked_end (state_of x) (inr t.1)
 
@@ -68,14 +68,17 @@ module _ (z : Sizes) (s : TableState) (seat : ℕ) (v : PassState) (r : Rule z s
       ))
 
   -- a buried one is taken back
-  pub takes_back : (h x : ℕ) → h < z.headers → 0 < in_state h DEAD v.headers → x ≡ renewal (generation_held h v.headers.held)
-      → OwnedAndKept z s seat v r here_is (at_pin h) ((m.headers.pin h + x) % 2 ^ 64) (block_back m.arena.bytes (m.headers.place h) v.blocks) (record v.headers { held = without_header h v.headers.held })
-  takes_back h x inside own is = let n : ℕ = m.headers.pin h in let was = state_is z s seat v r here_is h DEAD (omega arith) (omega arith) own in let small = small_pin z s seat v r here_is h in
+
+  pub renews : (h x : ℕ) → 0 < in_state h DEAD v.headers → x ≡ renewal (generation_held h v.headers.held) → IsRenewed (m.headers.pin h) ((m.headers.pin h + x) % 2 ^ 64)
+  renews h x own is = let n : ℕ = m.headers.pin h in let was = state_is z s seat v r here_is h DEAD (omega arith) (omega arith) own in let small = small_pin z s seat v r here_is h in
       let same : x ≡ renewal (generation_of n) = is ∙ ap renewal (sym (generation_is m.headers (content m.arena.bytes) IsPlace (knows s) hs (stand z s seat v r here_is) seat v.headers h (at_headers z s seat v r here_is) (holds_some h DEAD v.headers own))) in
       let last = (stand z s seat v r here_is).retired h in let o = one_at-other (state_of n) RETIRED (λ e. omega arith) in let off : ¬ (generation_of n ≡ LAST_GENERATION) = λ e. let q = one_at-same (generation_of n) LAST_GENERATION e in omega arith in
-      let bound = generation_small n small in
-      gives_back z s seat v r here_is h ((n + x) % 2 ^ 64) inside (with_block z s seat v r here_is h (omega arith)) (stocked_high (state_of n) (omega arith) (omega arith))
-      (subst (λ (i : ℕ). stocked (state_of ((n + i) % 2 ^ 64)) ≡ 0) (sym same) (renewed_end n ((n + renewal (generation_of n)) % 2 ^ 64) (renewed n was (omega arith) small)))
+      let bound = generation_small n small in subst (λ (i : ℕ). IsRenewed n ((n + i) % 2 ^ 64)) (sym same) (renewed n was (omega arith) small)
+
+  pub takes_back : (h x : ℕ) → h < z.headers → 0 < in_state h DEAD v.headers → x ≡ renewal (generation_held h v.headers.held)
+      → OwnedAndKept z s seat v r here_is (at_pin h) ((m.headers.pin h + x) % 2 ^ 64) (block_back m.arena.bytes (m.headers.place h) v.blocks) (record v.headers { held = without_header h v.headers.held })
+  takes_back h x inside own is = let n : ℕ = m.headers.pin h in let was = state_is z s seat v r here_is h DEAD (omega arith) (omega arith) own in
+      gives_back z s seat v r here_is h ((n + x) % 2 ^ 64) inside (with_block z s seat v r here_is h (omega arith)) (stocked_high (state_of n) (omega arith) (omega arith)) (renewed_end n ((n + x) % 2 ^ 64) (renews h x own is))
 
   -- a locked one is unlocked, or buried
 

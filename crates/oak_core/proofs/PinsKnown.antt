@@ -13,14 +13,14 @@ use Rattle.oak_core.specs.declared.states.PassState.{PassState}
 use Rattle.oak_core.specs.KeyReads.{home_of}
 use Rattle.oak_core.specs.Lessons.{KnowsAbsent, KnowsRemoval, PinsKnow}
 
--- lessons that are added to others: none is lost
+-- what is added to a list: none is lost
 
-pub has_first : (xs ys : List Lesson) (l : Lesson) → Has l xs → Has l (xs ++ ys)
+pub has_first : {A : Type 0} (xs ys : List A) (l : A) → Has l xs → Has l (xs ++ ys)
 has_first [] ys l h = absurd h
 has_first (x ∷ xs) ys l (inl e) = inl e
 has_first (x ∷ xs) ys l (inr h) = inr (has_first xs ys l h)
 
-pub has_later : (xs ys : List Lesson) (l : Lesson) → Has l ys → Has l (xs ++ ys)
+pub has_later : {A : Type 0} (xs ys : List A) (l : A) → Has l ys → Has l (xs ++ ys)
 has_later [] ys l h = h
 has_later (x ∷ xs) ys l h = inr (has_later xs ys l h)
 

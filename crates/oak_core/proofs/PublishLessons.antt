@@ -14,7 +14,7 @@ use Rattle.chunk_core.specs.declared.holds.MovingRange.{MovingRange}
 use Rattle.chunk_core.specs.declared.holds.PinnedRoom.{PinnedRoom}
 use Rattle.chunk_core.specs.declared.holds.RoomHolds.{RoomHolds}
 use Rattle.chunk_core.specs.CoverRule.{CoversPartition}
-use Rattle.chunk_core.specs.CoverSums.{all_of, each, word_for, base_for}
+use Rattle.chunk_core.specs.CoverSums.{all_of, each, word_for, base_for, naming}
 use Rattle.chunk_core.specs.Covers.{Cover, cover_from, span_in, key_at}
 use Rattle.chunk_core.specs.KeyWords.{key_in}
 use Rattle.chunk_core.specs.LinkedEntries.{linked, entries_in}
@@ -24,6 +24,7 @@ use Rattle.chunk_core.specs.RoomStep.{put_room}
 use Rattle.chunk_core.specs.Rooms.{RoomMemory, at_count}
 use Rattle.chunk_core.specs.RoomsAfter.{pin_with, counted_more}
 use Rattle.chunk_core.specs.Spans.{within}
+use Rattle.chunk_core.specs.ValueWord.{names_header}
 use Rattle.chunk_core.proofs.CountLoads.{rows_has}
 use Rattle.chunk_core.proofs.CoverLaws.{moves}
 use Rattle.chunk_core.proofs.EntryNumbers.{count_more}
@@ -79,10 +80,10 @@ module _ (z : Sizes) (m m' : Memory) (is_key_word : ℕ → ℕ) (vs : List Pass
   abbrev hs' : List RoomHolds
   hs' = map rooms_held (set vs seat u)
 
-  change : Change (map rooms_held vs) (map rooms_held (set vs seat u)) (v.rooms ∷ []) (u.rooms ∷ [])
+  pub change : Change (map rooms_held vs) (map rooms_held (set vs seat u)) (v.rooms ∷ []) (u.rooms ∷ [])
   change = change_parts rooms_held (stepped vs seat v u here)
 
-  still : (F : Cover → ℕ) → total (moves F) (u.rooms ∷ []) ≡ total (moves F) (v.rooms ∷ [])
+  pub still : (F : Cover → ℕ) → total (moves F) (u.rooms ∷ []) ≡ total (moves F) (v.rooms ∷ [])
   unfolding total
   still F = ap (λ (gs : List MovingRange). total (total F) (map cover_from gs ∷ [])) moving
 
@@ -105,6 +106,17 @@ module _ (z : Sizes) (m m' : Memory) (is_key_word : ℕ → ℕ) (vs : List Pass
   pub published_base : (k : ℕ) → base_now z m vs k ≤ base_now z m' (set vs seat u) k
   published_base k = let b = adds.base_same z m.rooms blocks is_key_word hs hs' (v.rooms ∷ []) (u.rooms ∷ []) parts change still r holds.inside holds.cover room inside is_key new k in let e = words_now (base_for k) in omega arith
 
+  -- no header comes to be named: the base is a floor
+  pub published_names : (h : ℕ) → sum_now z m' (set vs seat u) (each (naming h)) ≡ sum_now z m vs (each (naming h))
+  published_names h = sym (words_now (each (naming h))) ∙ adds.names_same z m.rooms blocks is_key_word hs hs' (v.rooms ∷ []) (u.rooms ∷ []) parts change still r holds.inside holds.cover room inside is_key new floor h
+
+  pub published_low : names_header (m.rooms.base p.room) ≡ 0
+  published_low = adds.floor_low z m.rooms blocks is_key_word hs hs' (v.rooms ∷ []) (u.rooms ∷ []) parts change still r holds.inside holds.cover room inside is_key new
+
+  -- and no less than that of the key's cover
+  pub published_above : base_now z m vs (key_at (content m.arena.bytes) (m.rooms.key p.room (entries_in (m.rooms.count p.room)))) ≤ m.rooms.base p.room
+  published_above = let b = base_of_room z m.rooms blocks hs is_key_word parts r new_key holds.inside holds.cover inside in omega arith
+
   pub published_history : (k : ℕ) → history_now (set vs seat u) k ≡ history_now vs k
   published_history = history_left z m m' vs seat v u here heard knowledge
 
@@ -123,6 +135,5 @@ module _ (z : Sizes) (m m' : Memory) (is_key_word : ℕ → ℕ) (vs : List Pass
   pub publish_heard : HeardStands z m' (set vs seat u)
   publish_heard = heard_idle z m m' vs seat v u here heard (level_at z m m' vs (set vs seat u) new_key
       (goes_added (base_now z m vs new_key) (base_now z m' (set vs seat u) new_key) (word_now z m vs new_key) (word_now z m' (set vs seat u) new_key) (m.rooms.base p.room) (history_now vs new_key) (history_now (set vs seat u) new_key) published_none published_floor
-      (adds.floor_low z m.rooms blocks is_key_word hs hs' (v.rooms ∷ []) (u.rooms ∷ []) parts change still r holds.inside holds.cover room inside is_key new)
-      (let b = base_of_room z m.rooms blocks hs is_key_word parts r new_key holds.inside holds.cover inside in omega arith) (published_history new_key))
+      published_low published_above (published_history new_key))
       published_other published_base (λ k _. published_history k)) knowledge published_pins

@@ -29,11 +29,11 @@ unfolding last_of total
 last_home v home [] ne e = absurd (ne e)
 last_home v home (x ∷ xs) ne e = dite (ℕ_discrete x.home v) (λ q. let o = one_at-same x.home v q in omega arith) (λ no. let t = last_home v x.home xs no e in omega arith)
 
-begun : (v : ℕ) (s : State) (home : ℕ) (h : List KeyedWrite) → LivesFollow s home h → home ≢ v → last_of (λ (w : KeyedWrite). w.home) home h ≡ v → 0 < total (begins v) h
+pub begun : (v : ℕ) (s : State) (home : ℕ) (h : List KeyedWrite) → LivesFollow s home h → home ≢ v → last_of (λ (w : KeyedWrite). w.home) home h ≡ v → 0 < total (begins v) h
 begun v s home h l ne e = lives_begin v s home h l (λ q. ne (sym q)) (last_home v home h ne e)
 
 -- a first part of writes that follow lives does so
-lives_first : (s : State) (home : ℕ) (a b : List KeyedWrite) → LivesFollow s home (a ++ b) → LivesFollow s home a
+pub lives_first : (s : State) (home : ℕ) (a b : List KeyedWrite) → LivesFollow s home (a ++ b) → LivesFollow s home a
 lives_first s home [] b l = tt
 lives_first s home (x ∷ xs) b l = (l.0, l.1, l.2, lives_first x.write.after x.home xs b l.3)
 

@@ -1,4 +1,4 @@
--- A split and a join keep the points on keys, callers and bounds: what the passes hold and wrote is put together otherwise, and no history changes.
+-- A split and a join keep the points on keys, callers and bounds, and what stands until the first removal: what the passes hold and wrote is put together otherwise, and no history changes.
 use Rattle.std.proofs.Common.{◌≡◌, ◌≢◌, ℕ, ◌+◌, ◌<◌, ◌≤◌, cond, Bool, true, false, List, [], ◌∷◌, ◌++◌, map, length, set, sym, refl, ap, ◌∙◌, subst, arith}
 use mathlib.Core.Option.{some}
 use lib.ListN.{get_elem?}
@@ -19,8 +19,8 @@ use Rattle.oak_core.specs.declared.states.Joined.{Joined}
 use Rattle.oak_core.specs.declared.states.KeyedWrite.{KeyedWrite}
 use Rattle.oak_core.specs.declared.states.KnownLife.{KnownLife}
 use Rattle.oak_core.specs.declared.states.PassState.{PassState}
-use Rattle.oak_core.specs.Bounds.{BasesBound, floor_over, base_over}
-use Rattle.oak_core.specs.Callers.{AreWritesOf, WritesStand, CallersAgree, of_caller, made_by, made_of, begins}
+use Rattle.oak_core.specs.Bounds.{BasesBound, HasOpened, floor_over, base_over}
+use Rattle.oak_core.specs.Callers.{AreWritesOf, WritesStand, CallersAgree, of_caller, made_by, made_of, begins, removes}
 use Rattle.oak_core.specs.KeyHistories.{IsKeyHistory, IsKeyOf, homes_in}
 use Rattle.oak_core.specs.KeyReads.{word_now, base_now, history_now, sum_now, shown_by}
 use Rattle.oak_core.specs.KeyRule.{KeysStand, LoadedStand, OverIsRemoved}
@@ -28,6 +28,7 @@ use Rattle.oak_core.specs.KeyStates.{HoldStands, unnamed}
 use Rattle.oak_core.specs.Memory.{Memory}
 use Rattle.oak_core.specs.PassState.{headers_held, knowledge_of, numbers_of, rooted, number_in, left_state, right_state, both_state, spent_state, of_key}
 use Rattle.oak_core.proofs.BoundWrites.{bases_kept}
+use Rattle.oak_core.proofs.KeyBundles.{opened_kept}
 use Rattle.oak_core.proofs.KeyFrames.{stands_same, hold_same, loaded_same}
 
 -- passes go and come, and no entry and no history changes
@@ -72,6 +73,9 @@ module _ (z : Sizes) (m : Memory) (vs vs' gone fresh : List PassState) (c : Chan
   bounds_moved : BasesBound z m vs → total made_by fresh ≡ total made_by gone → BasesBound z m vs'
   bounds_moved bases made = bases_kept z m m vs vs' bases (let s = c.sums made_by in omega arith) same (let s = sums (each (floor_over (total made_by vs))) in omega arith) (let s = sums (base_over (total made_by vs)) in omega arith)
 
+  opened_moved : HasOpened z m vs → ((f : KeyedWrite → ℕ) → total (made_of f) fresh ≡ total (made_of f) gone) → HasOpened z m vs'
+  opened_moved opened made = opened_kept z m m vs vs' (record { dead = λ h e. e; generations = λ h. refl }) (λ none. let s = c.sums (made_of removes) in let e = made removes in omega arith) opened
+
 -- a split
 module _ (z : Sizes) (m : Memory) (vs : List PassState) (seat : ℕ) (v : PassState) (here : get_elem? vs seat ≡ some v) where
   module _ (sums : (F : Cover → ℕ) → sum_now z m (set vs seat (left_state v) ++ right_state v ∷ []) F ≡ sum_now z m vs F) (same : (k : ℕ) → history_now (set vs seat (left_state v) ++ right_state v ∷ []) k ≡ history_now vs k) where
@@ -92,6 +96,10 @@ module _ (z : Sizes) (m : Memory) (vs : List PassState) (seat : ℕ) (v : PassSt
     pub bounds_split : BasesBound z m vs → BasesBound z m (set vs seat (left_state v) ++ right_state v ∷ [])
     unfolding total
     bounds_split bases = bounds_moved z m vs (set vs seat (left_state v) ++ right_state v ∷ []) (v ∷ []) (left_state v ∷ right_state v ∷ []) apart sums same bases (omega arith)
+
+    pub opened_split : HasOpened z m vs → HasOpened z m (set vs seat (left_state v) ++ right_state v ∷ [])
+    unfolding total
+    opened_split opened = opened_moved z m vs (set vs seat (left_state v) ++ right_state v ∷ []) (v ∷ []) (left_state v ∷ right_state v ∷ []) apart sums same opened (λ f. omega arith)
 
   -- a join
   module _ (other : ℕ) (w : PassState) (there : get_elem? vs other ≡ some w) (ne : other ≢ seat) (going : w.numbers.spent ≡ false) (idle : w.headers ≡ no_headers) (sums : (F : Cover → ℕ) → sum_now z m (set (set vs seat (both_state v w)) other spent_state) F ≡ sum_now z m vs F) (same : (k : ℕ) → history_now (set (set vs seat (both_state v w)) other spent_state) k ≡ history_now vs k) where
@@ -129,3 +137,7 @@ module _ (z : Sizes) (m : Memory) (vs : List PassState) (seat : ℕ) (v : PassSt
     pub bounds_join : BasesBound z m vs → BasesBound z m (set (set vs seat (both_state v w)) other spent_state)
     unfolding total
     bounds_join bases = bounds_moved z m vs (set (set vs seat (both_state v w)) other spent_state) (v ∷ w ∷ []) (both_state v w ∷ spent_state ∷ []) together sums same bases (let l = made_lengths in omega arith)
+
+    pub opened_join : HasOpened z m vs → HasOpened z m (set (set vs seat (both_state v w)) other spent_state)
+    unfolding total
+    opened_join opened = opened_moved z m vs (set (set vs seat (both_state v w)) other spent_state) (v ∷ w ∷ []) (both_state v w ∷ spent_state ∷ []) together sums same opened (λ f. let b = made_both f in omega arith)

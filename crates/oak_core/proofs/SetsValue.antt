@@ -1,5 +1,6 @@
 -- A pass sets its fresh header as the value of an entry that it found: by what the step asks of it, and the points before it, all points on keys, covers, headers, histories, lessons, callers and bounds stand behind it.
-use Rattle.std.proofs.Common.{◌≡◌, ◌≢◌, ℕ, ◌+◌, ◌^◌, ◌<◌, ◌≤◌, cond, Bool, false, List, [], ◌∷◌, ◌++◌, map, set, sym, refl, ap, ◌∙◌, subst, inl, inr, arith, Option, Some, None, eq-eqb, ne_eqb}
+use Rattle.std.proofs.Common.{◌≡◌, ◌≢◌, ℕ, ◌+◌, ◌^◌, ◌<◌, ◌≤◌, cond, Bool, false, List, [], ◌∷◌, ◌++◌, map, set, sym, refl, ap, ◌∙◌, subst, inl, inr, arith, Some, eq-eqb, ne_eqb}
+use Rattle.std.proofs.lemmas.Option.{none-some, same_Some}
 use mathlib.Core.Logic.{dite}
 use mathlib.Core.Option.{some}
 use native.Mathlib.Decide.{ℕ_discrete}
@@ -34,16 +35,14 @@ use Rattle.chunk_core.specs.RoomRule.{RoomsStand}
 use Rattle.chunk_core.specs.RoomStep.{put_room}
 use Rattle.chunk_core.specs.Rooms.{at_value}
 use Rattle.chunk_core.specs.ValueWord.{header_in}
-use Rattle.chunk_core.specs.declared.holds.PinnedRoom.{PinnedRoom}
 use Rattle.chunk_core.specs.declared.holds.RoomHolds.{RoomHolds}
 use Rattle.oak_core.specs.declared.states.Findings.{Findings}
 use Rattle.oak_core.specs.declared.states.KeyedWrite.{KeyedWrite}
 use Rattle.oak_core.specs.declared.states.Knowledge.{Knowledge}
 use Rattle.oak_core.specs.declared.states.PassState.{PassState}
 use Rattle.oak_core.specs.Bounds.{BasesBound}
-use Rattle.oak_core.specs.Callers.{CallersAgree, made_by, made_of, begins}
+use Rattle.oak_core.specs.Callers.{CallersAgree, made_by, made_of, begins, removes}
 use Rattle.oak_core.specs.EntryOwners.{is_key_word}
-use Rattle.oak_core.specs.FoundKeys.{entry_key}
 use Rattle.oak_core.specs.KeyHistories.{IsKeyOf}
 use Rattle.oak_core.specs.KeyReads.{value_in, word_now, history_now, shown_by, home_of}
 use Rattle.oak_core.specs.KeyRule.{KeysStand}
@@ -58,8 +57,8 @@ use Rattle.oak_core.specs.PassState.{rooted, numbers_of, rooms_held, headers_hel
 use Rattle.oak_core.specs.Rule.{HistoriesStand, SpentIsSpent}
 use Rattle.oak_core.proofs.BoundSteps.{bases_set}
 use Rattle.oak_core.proofs.BoundWrites.{floor_le}
-use Rattle.oak_core.proofs.CallerWrites.{callers_wrote, made_one}
-use Rattle.oak_core.proofs.FoundValues.{pin_holds, entry_key_is, linked_once, key_there, is_key_there}
+use Rattle.oak_core.proofs.CallerWrites.{callers_wrote, made_all, made_one}
+use Rattle.oak_core.proofs.FoundEntries.{entry_once, key_of_number, key_stands, room_covers, room_inside}
 use Rattle.oak_core.proofs.HeldTruths.{held_generation, held_names, held_place, held_stamp, held_content}
 use Rattle.oak_core.proofs.HomeWords.{NamesAt}
 use Rattle.oak_core.proofs.NewLives.{none_begun}
@@ -71,20 +70,10 @@ use Rattle.oak_core.proofs.KnownWrites as knows
 -- the record that is looked up
 pub held_row : (h : ℕ) (rs : List HeldHeader) (r : HeldHeader) → held_header h rs ≡ Some r → Has r rs × (r.header ≡ h)
 unfolding held_header
-held_row h [] r e = absurd (none e)
-  where
-    none : None ≡ Some r → ⊥
-    none e = cc
+held_row h [] r e = absurd (none-some r e)
 held_row h (x ∷ xs) r e = dite (ℕ_discrete x.header h)
-    (λ y. let s = same (sym (ap (λ (t : Bool). cond t (Some x) (held_header h xs)) (eq-eqb x.header h y)) ∙ e) in (inl (sym s), ap (λ (t : HeldHeader). t.header) (sym s) ∙ y))
+    (λ y. let s = same_Some x r (sym (ap (λ (t : Bool). cond t (Some x) (held_header h xs)) (eq-eqb x.header h y)) ∙ e) in (inl (sym s), ap (λ (t : HeldHeader). t.header) (sym s) ∙ y))
     (λ n. let t = held_row h xs r (sym (ap (λ (b : Bool). cond b (Some x) (held_header h xs)) (ne_eqb x.header h n)) ∙ e) in (inr t.0, t.1))
-  where
-    same : Some x ≡ Some r → x ≡ r
-    same e = ap (λ (o : Option HeldHeader). or o) e
-      where
-        or : Option HeldHeader → HeldHeader
-        or None = x
-        or (Some y) = y
 
 module _ (z : Sizes) (m : Memory) (vs : List PassState) (rooms : RoomsStand z m.rooms (content m.arena.bytes) (map rooms_held vs)) (parts : CoversPartition z m.rooms (content m.arena.bytes) is_key_word (map rooms_held vs)) (keys : KeysStand z m vs) (callers : CallersAgree vs) (histories : HistoriesStand (map knowledge_of vs))
     (heads : HeadersAreHeld m.headers m.arena.bytes (known (map knowledge_of vs)) (map headers_held vs)) (heard : HeardStands z m vs) (bases : BasesBound z m vs) (roots : (i : ℕ) → total (rooted i) (map numbers_of vs) ≤ 1) (spent : Every SpentIsSpent vs)
@@ -98,9 +87,6 @@ module _ (z : Sizes) (m : Memory) (vs : List PassState) (rooms : RoomsStand z m.
 
   abbrev own : HeldHeader
   own = may.header
-
-  abbrev p : PinnedRoom
-  p = may.pinned
 
   abbrev key : List ℕ
   key = key_bytes may.entry.word may.entry.words
@@ -128,23 +114,20 @@ module _ (z : Sizes) (m : Memory) (vs : List PassState) (rooms : RoomsStand z m.
   has = (held_row (header_in new) v.headers.held own may.held).0
 
   -- the entry
-  entry : entry_key i p.entries ≡ Some key
-  entry = entry_key_is p.count i p.entries may.entry (pin_holds z m vs rooms parts seat v here p may.finds.pin.is may.finds.pin.good).counted may.finds.there
-
-  room_inside : r < z.chunks
-  room_inside = subst (λ (j : ℕ). j < z.chunks) may.finds.pin.room (pin_holds z m vs rooms parts seat v here p may.finds.pin.is may.finds.pin.good).inside
+  inside_there : r < z.chunks
+  inside_there = room_inside z m vs rooms parts seat v here r i may.pinned may.entry may.finds
 
   cover : weight (m.rooms.pin r) ≡ 1
-  cover = subst (λ (j : ℕ). weight (m.rooms.pin j) ≡ 1) may.finds.pin.room (pin_holds z m vs rooms parts seat v here p may.finds.pin.is may.finds.pin.good).cover
+  cover = room_covers z m vs rooms parts seat v here r i may.pinned may.entry may.finds
 
   once : total (λ j. one_at j i) (linked m.rooms r) ≡ 1
-  once = subst (λ (j : ℕ). total (λ l. one_at l i) (linked m.rooms j) ≡ 1) may.finds.pin.room (linked_once z m vs rooms parts seat v here p may.finds.pin.is may.finds.pin.good i key entry)
+  once = entry_once z m vs rooms parts seat v here r i may.pinned may.entry may.finds
 
   key_is : key_number key ≡ k
-  key_is = sym (subst (λ (j : ℕ). key_at bytes (m.rooms.key j i) ≡ key_number key) may.finds.pin.room (key_there z m vs rooms parts seat v here p may.finds.pin.is may.finds.pin.good i key entry))
+  key_is = key_stands z m vs rooms parts seat v here r i may.pinned may.entry may.finds
 
   is_key : IsKeyOf k key
-  is_key = subst (λ (n : ℕ). IsKeyOf n key) key_is (is_key_there z m vs rooms parts seat v here p may.finds.pin.is may.finds.pin.good i key entry)
+  is_key = key_of_number z m vs rooms parts seat v here r i may.pinned may.entry may.finds
 
   -- the header
   live : state_of (m.headers.pin own.header) ≡ LIVE
@@ -165,16 +148,16 @@ module _ (z : Sizes) (m : Memory) (vs : List PassState) (rooms : RoomsStand z m.
   stamp_is = held_stamp m qs (map headers_held vs) heads seat v.headers h_here own has numbers
 
   pub keys_set : KeysStand z (record m { rooms = put_room m.rooms (at_value r i) (home_of may.header.header may.header.generation) }) (set vs seat u)
-  keys_set = sets.set_keys z m is_key_word vs parts keys histories heads seat v here fs r i old room_inside cover once found may.floor small own has may.fresh inside named_at may.next stamp_is w refl refl refl after key_is is_key may.writes
+  keys_set = sets.set_keys z m is_key_word vs parts keys histories heads seat v here fs r i old inside_there cover once found may.floor small own has may.fresh inside named_at may.next stamp_is w refl refl refl after key_is is_key may.writes
 
   pub covers_set : CoversPartition z (put_room m.rooms (at_value r i) (home_of may.header.header may.header.generation)) (content m.arena.bytes) is_key_word (map rooms_held (set vs seat u))
-  covers_set = sets.set_partition z m is_key_word vs parts keys histories heads seat v here fs r i old room_inside cover once found may.floor small own has may.fresh inside named_at may.next stamp_is w refl refl refl after key_is is_key may.writes
+  covers_set = sets.set_partition z m is_key_word vs parts keys histories heads seat v here fs r i old inside_there cover once found may.floor small own has may.fresh inside named_at may.next stamp_is w refl refl refl after key_is is_key may.writes
 
   pub histories_set : HistoriesStand (map knowledge_of (set vs seat u))
-  histories_set = sets.set_histories z m is_key_word vs parts keys histories heads seat v here fs r i old room_inside cover once found may.floor small own has may.fresh inside named_at may.next stamp_is w refl refl refl after key_is is_key may.writes
+  histories_set = sets.set_histories z m is_key_word vs parts keys histories heads seat v here fs r i old inside_there cover once found may.floor small own has may.fresh inside named_at may.next stamp_is w refl refl refl after key_is is_key may.writes
 
   pub heard_set : HeardStands z (record m { rooms = put_room m.rooms (at_value r i) (home_of may.header.header may.header.generation) }) (set vs seat u)
-  heard_set = set_heard z m is_key_word vs parts keys histories heads seat v here fs r i old room_inside cover once found may.floor small own has may.fresh inside named_at may.next stamp_is w refl refl refl after key_is is_key may.writes heard
+  heard_set = set_heard z m is_key_word vs parts keys histories heads seat v here fs r i old inside_there cover once found may.floor small own has may.fresh inside named_at may.next stamp_is w refl refl refl after key_is is_key may.writes heard
 
   pub heads_set : HeadersAreHeld m.headers m.arena.bytes (known (map knowledge_of (set vs seat u))) (map headers_held (set vs seat u))
   heads_set = subst (λ (t : List Knowledge × List HeaderHolds). HeadersStand m.headers bytes IsPlace (known t.0) t.1) (λ j. (sym (map_set knowledge_of vs seat u) j, sym (map_set headers_held vs seat u) j))
@@ -194,6 +177,10 @@ module _ (z : Sizes) (m : Memory) (vs : List PassState) (rooms : RoomsStand z m.
   pub made_set : total made_by (set vs seat u) ≡ total made_by vs + 1
   made_set = made_one vs callers histories roots seat v here going k w key_is u refl refl refl may.new_call.1 may.new_call.0 (λ _ _. begun_by_none)
 
+  -- which removes nothing
+  pub removed_set : total (made_of removes) (set vs seat u) ≡ total (made_of removes) vs
+  removed_set = let a = made_all vs callers histories roots seat v here going k w key_is u refl refl refl may.new_call.1 may.new_call.0 (λ _ _. begun_by_none) removes in omega arith
+
   hist_here : history_now (set vs seat u) k ≡ history_now vs k ++ w ∷ []
   hist_here = ap (history k) (map_set knowledge_of vs seat u) ∙ wrote_here qs histories seat v.knowledge q_here k w key_is
 
@@ -204,8 +191,8 @@ module _ (z : Sizes) (m : Memory) (vs : List PassState) (rooms : RoomsStand z m.
   change = subst (λ (l : List RoomHolds). Change (map rooms_held vs) l (v.rooms ∷ []) (v.rooms ∷ [])) (sym (map_set rooms_held vs seat u)) (stepped (map rooms_held vs) seat v.rooms v.rooms (at_map rooms_held vs seat v here))
 
   pub bounds_set : BasesBound z (record m { rooms = put_room m.rooms (at_value r i) (home_of may.header.header may.header.generation) }) (set vs seat u)
-  bounds_set = bases_set z m is_key_word vs (set vs seat u) parts bases (v.rooms ∷ []) (v.rooms ∷ []) change (λ _. refl) r room_inside cover i (home_of own.header own.generation) once named_at.names made_set k w hist_here hist_else
+  bounds_set = bases_set z m is_key_word vs (set vs seat u) parts bases (v.rooms ∷ []) (v.rooms ∷ []) change (λ _. refl) r inside_there cover i (home_of own.header own.generation) once named_at.names made_set k w hist_here hist_else
       (let l = floor_le z m is_key_word vs parts bases k old was may.floor in let n = may.next in omega arith)
     where
       was : word_now z m vs k ≡ old + 1
-      was = sets.was z m is_key_word vs parts keys histories heads seat v here fs r i old room_inside cover once found may.floor small own has may.fresh inside named_at may.next stamp_is w refl refl refl after key_is is_key may.writes
+      was = sets.was z m is_key_word vs parts keys histories heads seat v here fs r i old inside_there cover once found may.floor small own has may.fresh inside named_at may.next stamp_is w refl refl refl after key_is is_key may.writes

@@ -1,31 +1,26 @@
 -- The load of the stamp word of a pinned header, whose life the pin found, live or dead: the pass learns all that was written of the life's key up to the stamp.
 use Rattle.std.specs.Prelude.{not}
-use Rattle.std.proofs.Common.{◌≡◌, ℕ, ◌+◌, ◌<◌, ◌⊎◌, ◌==◌, ◌&&◌, Bool, true, false, List, [], ◌∷◌, map, set, sym, refl, ap, ◌∙◌, subst, inl, inr, ⊎_elim, arith, Option, Some, eq-eqb}
+use Rattle.std.proofs.Common.{◌≡◌, ℕ, ◌+◌, ◌⊎◌, ◌==◌, ◌&&◌, Bool, true, false, List, [], ◌∷◌, ◌++◌, length, map, set, sym, refl, ap, ◌∙◌, subst, inl, inr, ⊎_elim, Option, Some, eq-eqb}
 use mathlib.Core.Option.{some}
 use lib.ListN.{get_elem?}
 use Rattle.pin_word.specs.PinWord.{generation_of, state_of}
 use Rattle.oak_model.specs.KeyNumber.{key_number}
 use Rattle.oak_model.specs.Limits.{Sizes}
-use Rattle.oak_model.proofs.Counting.{one_at-other, true_both}
+use Rattle.oak_model.proofs.Counting.{true_both}
 use Rattle.oak_model.proofs.Lists.{at_map}
-use Rattle.oak_model.proofs.RowLaws.{total_le}
 use Rattle.arena_core.specs.Place.{content}
-use Rattle.header_core.specs.HeaderHolds.{in_state}
 use Rattle.header_core.specs.HeaderRule.{OnPin, PinHolds, GoodPinHolds, RemovalStands, DeadPinHolds}
 use Rattle.header_core.specs.declared.holds.PinnedHeader.{PinnedHeader}
 use Rattle.header_core.specs.declared.states.TheConstants.{LIVE, DEAD}
-use Rattle.header_core.proofs.StockedStates.{stocked_high}
 use Rattle.chunk_core.specs.CoverRule.{CoversPartition}
-use Rattle.chunk_core.specs.CoverSums.{each, naming, all_of, word_of}
-use Rattle.chunk_core.specs.ValueWord.{names_header}
+use Rattle.chunk_core.specs.CoverSums.{word_of}
 use Rattle.chunk_core.specs.declared.holds.RoomHolds.{RoomHolds}
 use Rattle.oak_core.specs.declared.states.Knowledge.{Knowledge}
 use Rattle.oak_core.specs.declared.states.PassState.{PassState}
 use Rattle.oak_core.specs.Callers.{CallersAgree}
-use Rattle.oak_core.specs.KeyHistories.{IsRemovedAt, homes_in}
+use Rattle.oak_core.specs.KeyHistories.{IsRemovedAt}
 use Rattle.oak_core.specs.KeyReads.{home_of, level_now, history_now}
 use Rattle.oak_core.specs.KeyRule.{KeysStand}
-use Rattle.oak_core.specs.KeyStates.{unnamed}
 use Rattle.oak_core.specs.Known.{known}
 use Rattle.oak_core.specs.Learning.{taught_by, taught_where, lesson_by, of_key_to}
 use Rattle.oak_core.specs.Lessons.{KnowsRemoval, PinsKnow, HeardStands}
@@ -34,15 +29,15 @@ use Rattle.oak_core.specs.Memory.{Memory}
 use Rattle.oak_core.specs.Owners.{HeadersAreHeld}
 use Rattle.oak_core.specs.PassState.{history, knowledge_of, headers_held, rooms_held}
 use Rattle.oak_core.specs.Rule.{HistoriesStand}
-use Rattle.oak_core.specs.StampLoads.{stamp_key, wanted_of, finds_life, shows_stamp, knows_stamp}
-use Rattle.oak_core.proofs.HomeKeys.{known_key}
+use Rattle.oak_core.specs.Sights.{sights_with}
+use Rattle.oak_core.specs.StampLoads.{stamp_key, wanted_of, finds_life, shows_stamp, knows_stamp, sights_stamp}
 use Rattle.oak_core.proofs.HomeWords.{NamesAt}
 use Rattle.oak_core.proofs.KeyLoads.{live_heard, removed_heard}
 use Rattle.oak_core.proofs.KnownHeaders.{none_fresh}
 use Rattle.oak_core.proofs.KnownKeys.{IsKeyOfLife, known_is}
+use Rattle.oak_core.proofs.NamedLives.{named_by}
 use Rattle.oak_core.proofs.PinsKnown.{pins_stay}
 use Rattle.oak_core.proofs.RemovalsKnown.{known_removal, removal_key}
-use Rattle.oak_core.proofs.UnnamedHeaders.{unnamed_le, unnamed_in}
 
 module _ (z : Sizes) (m : Memory) (is_key_word : ℕ → ℕ) (vs : List PassState) (parts : CoversPartition z m.rooms (content m.arena.bytes) is_key_word (map rooms_held vs)) (keys : KeysStand z m vs) (callers : CallersAgree vs) (histories : HistoriesStand (map knowledge_of vs))
     (heads : HeadersAreHeld m.headers m.arena.bytes (known (map knowledge_of vs)) (map headers_held vs)) (heard : HeardStands z m vs) (seat : ℕ) (v : PassState) (here : get_elem? vs seat ≡ some v) (p : PinnedHeader) (is : v.headers.pin ≡ Some p) (wanted : generation_of p.found ≡ p.wanted)
@@ -70,35 +65,33 @@ module _ (z : Sizes) (m : Memory) (is_key_word : ℕ → ℕ) (vs : List PassSta
       either false false (inl e) = absurd cc
       either false false (inr e) = absurd cc
 
+  shown : (state_of p.found ≡ LIVE) ⊎ (state_of p.found ≡ DEAD) → shows_stamp p.header v.headers.pin v.knowledge ≡ true
+  shown o = true_both (finds_life p.header v.headers.pin) (is_known (stamp_key p.header v.headers.pin v.knowledge)) (ap (finds_life p.header) is ∙ test_is o) (ap is_known key_is)
+
   -- the pass learns all that was written of the key up to the stamp
   pub stamp_knowledge : (state_of p.found ≡ LIVE) ⊎ (state_of p.found ≡ DEAD) → (qs : List Knowledge) → knows_stamp p.header n v.headers.pin qs v.knowledge ≡ taught_by (of_key_to key n) qs v.knowledge
-  stamp_knowledge o qs = λ i. taught_where (shown i) (of_key_to (key_or (key_is i)) n) qs v.knowledge
-    where
-      shown : shows_stamp p.header v.headers.pin v.knowledge ≡ true
-      shown = true_both (finds_life p.header v.headers.pin) (is_known (stamp_key p.header v.headers.pin v.knowledge)) (ap (finds_life p.header) is ∙ test_is o) (ap is_known key_is)
+  stamp_knowledge o qs = λ i. taught_where (shown o i) (of_key_to (key_or (key_is i)) n) qs v.knowledge
+
+  pub stamp_sights : (state_of p.found ≡ LIVE) ⊎ (state_of p.found ≡ DEAD) → (call : ℕ) → sights_stamp p.header n call v.headers.pin v.knowledge v.findings ≡ v.findings.sights ++ record { call = call; taught = of_key_to key n; met = length v.findings.met } ∷ []
+  stamp_sights o call = λ i. sights_with (shown o i) call (of_key_to (key_or (key_is i)) n) v.findings
+
+  -- under a good pin what it found is there, and the key's entry names the header
+  module _ (found : state_of p.found ≡ LIVE) where
+    pub good_stamp_holds : PinHolds m.headers (content m.arena.bytes) p
+    good_stamp_holds = subst (OnPin (GoodPinHolds m.headers (content m.arena.bytes))) is (heads.good seat v.headers h_here) (record { live = found; wanted = wanted })
+
+    pub good_stamp_word : word_of z m.rooms (content m.arena.bytes) (map rooms_held vs) (key_number key) ≡ home_of p.header p.wanted + 1
+    good_stamp_word = let g = good_stamp_holds.generation in named_by z m vs keys heads p.header good_stamp_holds.live
+        (none_fresh m.headers m.arena.bytes (map knowledge_of vs) (map headers_held vs) heads seat v.knowledge (at_map knowledge_of vs seat v here) p.header key (ap (λ (t : ℕ). key_known p.header t v.knowledge) g ∙ knows)) is_key_word parts callers p.wanted g named_at.names (key_number key) life.there
 
   module _ (u : PassState) (knowledge : u.knowledge ≡ taught_by (of_key_to key n) (map knowledge_of vs) v.knowledge) (rooms : u.rooms ≡ v.rooms) (pin : u.headers.pin ≡ v.headers.pin) where
     pins : PinsKnow u
     pins = pins_stay v u (ap (λ (a : RoomHolds). a.pin) rooms) pin (lesson_by (of_key_to key n) (map knowledge_of vs) ∷ []) (ap (λ (q : Knowledge). q.heard) knowledge) (heard.pins seat v here)
 
-    -- a good pin: the key's entry names the header
+    -- a good pin
     pub good_stamp_heard : state_of p.found ≡ LIVE → HeardStands z m (set vs seat u)
-    unfolding unnamed_in
     good_stamp_heard found = live_heard z m m refl refl vs keys histories heard seat v u here key n rooms pins (ap (λ (q : Knowledge). q.seen) knowledge) (ap (λ (q : Knowledge). q.heard) knowledge) (home_of p.header p.wanted)
-        word named_at.names (ap (λ (h : ℕ). state_of (m.headers.pin h)) named_at.header ∙ holds.live) (finds ∙ ap m.headers.stamp (sym named_at.header))
-      where
-        holds : PinHolds m.headers (content m.arena.bytes) p
-        holds = subst (OnPin (GoodPinHolds m.headers (content m.arena.bytes))) is (heads.good seat v.headers h_here) (record { live = found; wanted = wanted })
-
-        named : all_of z m.rooms (content m.arena.bytes) (map rooms_held vs) (each (naming p.header)) ≡ 1
-        named = let l = holds.live in let k = keys.named p.header in let t = stocked_high (state_of (m.headers.pin p.header)) (omega arith) (omega arith) in let f = none_fresh m.headers m.arena.bytes (map knowledge_of vs) (map headers_held vs) heads seat v.knowledge (at_map knowledge_of vs seat v here) p.header key (ap (λ (g : ℕ). key_known p.header g v.knowledge) holds.generation ∙ knows) in
-            let d = heads.held p.header DEAD (omega arith) (omega arith) (λ q. absurd (omega arith)) in let o = one_at-other (state_of (m.headers.pin p.header)) DEAD (λ q. absurd (omega arith)) in
-            let w = total_le (unnamed p.header) (in_state p.header DEAD) (map headers_held vs) (λ a. unnamed_le p.header a.held) in omega arith
-
-        word : word_of z m.rooms (content m.arena.bytes) (map rooms_held vs) (key_number key) ≡ home_of p.header p.wanted + 1
-        word = let g = holds.generation in subst (λ (t : ℕ). word_of z m.rooms (content m.arena.bytes) (map rooms_held vs) (key_number key) ≡ home_of p.header t + 1) g
-            (known_key z m is_key_word vs parts keys callers p.header (let w = named in omega arith) (subst (λ (t : ℕ). names_header (home_of p.header t) ≡ 1) (sym g) named_at.names) (key_number key)
-            (subst (λ (t : ℕ). 0 < homes_in (home_of p.header t) (history (key_number key) (map knowledge_of vs))) (sym g) life.there))
+        (good_stamp_word found) named_at.names (ap (λ (h : ℕ). state_of (m.headers.pin h)) named_at.header ∙ (good_stamp_holds found).live) (finds ∙ ap m.headers.stamp (sym named_at.header))
 
     -- a pin that found the header dead knows the removal, whose stamp is there still
     pub dead_stamp_heard : state_of p.found ≡ DEAD → HeardStands z m (set vs seat u)

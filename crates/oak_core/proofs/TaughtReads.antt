@@ -24,7 +24,7 @@ use Rattle.oak_core.proofs.Teaching.{taught_more, taught_much, taught_same, taug
 use Rattle.oak_core.proofs.WritesBelow.{before_whole}
 
 -- of two beginnings of one list the shorter begins the longer
-begins_shorter : {A : Type 0} (a b l : List A) → Begins a l → Begins b l → length a ≤ length b → Begins a b
+pub begins_shorter : {A : Type 0} (a b l : List A) → Begins a l → Begins b l → length a ≤ length b → Begins a b
 begins_shorter a b l f g le = (drop (length a) b, sym (take-append-drop (length a) b) ∙ ap (λ t. t ++ drop (length a) b) (sym first))
   where
     first : a ≡ take (length a) b

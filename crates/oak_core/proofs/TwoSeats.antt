@@ -42,8 +42,7 @@ use Rattle.oak_core.proofs.JoinedNumbers.{same_numbers_joined, more_parents_join
 use Rattle.oak_core.proofs.AloneLast.{alone_joins, alone_fresh}
 use Rattle.oak_core.proofs.RoomBundles.{RoomBundles, rooms_now, sums_moved, bundles_moved}
 use Rattle.oak_core.proofs.KnownInTwo.{both_knows, known_split, known_join}
-use Rattle.oak_core.specs.Unwritten.{KnowsNoWrite, HoldsUnnamed}
-use Rattle.oak_core.proofs.LessonSeats.{sums_divided, sums_joined, heard_split, heard_join}
+use Rattle.oak_core.proofs.SeatBundles.{bundles_split, bundles_join}
 
 -- a pass that holds nothing owns no block
 level : (c b o o' : ℕ) (a : HeldBlocks) → o' ≡ o → total (holds c b) (a ∷ no_blocks ∷ []) + o' ≡ total (holds c b) (a ∷ []) + o
@@ -110,7 +109,7 @@ module _ (z : Sizes) (s : TableState) (seat : ℕ) (v : PassState) (r : Rule z s
     owners_then c b = let e = sums_moved z m.rooms m.arena.bytes rs divided_rooms (v.rooms ∷ []) (v.rooms ∷ no_rooms ∷ []) (change_parts rooms_held apart) (apart_level v.rooms) all_rooms (used_at m.rooms (content m.arena.bytes)) (each (owning (names_block c b))) in omega arith
 
     pub split_keeps : Rule z record { words = s.words; states = set s.states seat left ++ right ∷ [] }
-    split_keeps = record {
+    split_keeps = let b = bundles_split z s seat v r here may in record {
       sizes = r.sizes;
       words = r.words;
       numbers = numbers_frame z m.given (change_parts numbers_of apart) same_numbers more_parents r.numbers;
@@ -123,12 +122,11 @@ module _ (z : Sizes) (s : TableState) (seat : ℕ) (v : PassState) (r : Rule z s
           (λ c b. level c b (all_others z m rs c b) (all_others z m divided_rooms c b) v.blocks (owners_then c b));
       rooms = rooms_then.rooms;
       covers = rooms_then.covers;
-      written = record {
-        knowledge = (change_parts knowledge_of apart).every KnowsNoWrite (let k = r.written.knowledge seat v.knowledge (at_map knowledge_of s.states seat v here) in (k, (record { seen = k.seen; loaded = refl; mine = refl }, tt))) (λ j q _ at. r.written.knowledge j q at);
-        headers = (change_parts headers_held apart).every HoldsUnnamed (r.written.headers seat v.headers (at_map headers_held s.states seat v here), (tt, tt)) (λ j a _ at. r.written.headers j a at);
-        values = sums_divided z m s.states r.histories seat v here _ ∙ r.written.values;
-      };
-      heard = heard_split z m s.states r.histories seat v here r.heard;
+      keys = b.keys;
+      callers = b.callers;
+      bounds = b.bounds;
+      opened = b.opened;
+      heard = b.heard;
       headers = headers_divided m.headers (content m.arena.bytes) IsPlace (known (map knowledge_of s.states)) (known (map knowledge_of (set s.states seat left ++ right ∷ []))) (known_split s.states seat v here)
           r.headers v.headers (change_parts headers_held apart) (seat, at_map headers_held s.states seat v here);
       alone = apart.every (AloneStands s.words) ((λ met f e a. let h = r.alone seat v here met f e a in (h.0, record { first = h.1.first; others = h.1.others })), (alone_fresh s.words right refl, tt)) (λ j u _ at. r.alone j u at);
@@ -169,7 +167,7 @@ module _ (z : Sizes) (s : TableState) (seat : ℕ) (v : PassState) (r : Rule z s
     owners_joined c b = let e = sums_moved z m.rooms m.arena.bytes rs joined_rooms (v.rooms ∷ w.rooms ∷ []) (v.rooms ∷ no_rooms ∷ []) (change_parts rooms_held together) rooms_level all_rooms (used_at m.rooms (content m.arena.bytes)) (each (owning (names_block c b))) in omega arith
 
     pub join_keeps : Rule z record { words = s.words; states = set (set s.states seat both) other spent_state }
-    join_keeps = let av = at_map knowledge_of s.states seat v here in let aw = at_map knowledge_of s.states other w there in record {
+    join_keeps = let b = bundles_join z s seat v r here other w there ne may in let av = at_map knowledge_of s.states seat v here in let aw = at_map knowledge_of s.states other w there in record {
       sizes = r.sizes;
       words = r.words;
       numbers = numbers_frame z m.given (change_parts numbers_of together) (same_numbers_joined v w may) (more_parents_joined v w may) r.numbers;
@@ -189,15 +187,11 @@ module _ (z : Sizes) (s : TableState) (seat : ℕ) (v : PassState) (r : Rule z s
           (λ c b. level-both c b (all_others z m rs c b) (all_others z m joined_rooms c b) v.blocks w.blocks may.idle.blocks (owners_joined c b));
       rooms = rooms_joined.rooms;
       covers = rooms_joined.covers;
-      written = record {
-        knowledge = (change_parts knowledge_of together).every KnowsNoWrite
-            (let k = r.written.knowledge seat v.knowledge av in let l = r.written.knowledge other w.knowledge aw in
-            (record { seen = each_append (λ (h : List KeyedWrite). h ≡ []) v.knowledge.seen w.knowledge.seen k.seen l.seen; loaded = (λ i. k.loaded i ++ l.loaded i); mine = k.mine }, (record { seen = tt; loaded = refl; mine = refl }, tt)))
-            (λ j q _ at. r.written.knowledge j q at);
-        headers = (change_parts headers_held together).every HoldsUnnamed (r.written.headers seat v.headers (at_map headers_held s.states seat v here), (tt, tt)) (λ j a _ at. r.written.headers j a at);
-        values = sums_joined z m s.states r.histories seat v here other w there ne may _ ∙ r.written.values;
-      };
-      heard = heard_join z m s.states r.histories seat v here other w there ne may r.heard;
+      keys = b.keys;
+      callers = b.callers;
+      bounds = b.bounds;
+      opened = b.opened;
+      heard = b.heard;
       headers = headers_joined m.headers (content m.arena.bytes) IsPlace (known (map knowledge_of s.states)) (known (map knowledge_of (set (set s.states seat both) other spent_state))) (known_join s.states seat v here other w there ne)
           r.headers v.headers w.headers (change_parts headers_held together) (seat, at_map headers_held s.states seat v here) may.idle.headers;
       alone = together.every (AloneStands s.words) (alone_joins z s r seat v here going other w both there ne may.going refl, (alone_fresh s.words spent_state refl, tt)) (λ j u _ at. r.alone j u at);

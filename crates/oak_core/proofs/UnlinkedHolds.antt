@@ -1,5 +1,6 @@
 -- What a pass holds of headers once it has unlinked the buried header of a key: that one is named no more, and all others are as they were. And a header that is locked gets the key that its pass knows of it.
 use Rattle.std.proofs.Common.{◌≡◌, ◌≢◌, ℕ, ◌+◌, ◌*◌, ◌==◌, ◌&&◌, not, cond, Bool, true, false, List, [], ◌∷◌, sym, refl, ap, ◌∙◌, subst, arith, eq-eqb, ne_eqb}
+use Rattle.std.proofs.lemmas.Bool.{and_right}
 use mathlib.Core.Logic.{dite}
 use native.Mathlib.Decide.{ℕ_discrete}
 use Rattle.oak_model.specs.Counts.{one_at, one_if, total, Each, Has}
@@ -23,10 +24,6 @@ use Rattle.oak_core.proofs.LocksEnded.{only_row}
 abbrev is_its : List ℕ → HeldHeader → Bool
 is_its key r = (key_number r.key == key_number key) && (held_state r.held_as == DEAD)
 
-no_and : (a : Bool) → (a && false) ≡ false
-no_and true = refl
-no_and false = refl
-
 and_yes : (a : Bool) → (a && true) ≡ a
 and_yes true = refl
 and_yes false = refl
@@ -43,11 +40,11 @@ module _ (key : List ℕ) (own : HeldHeader) (buried : own.held_as ≡ Buried) (
       by : (b : Bool) → r.named ≡ b → (b && not (is_its key r)) ≡ b
       by false e = refl
       by true e = ap not (dite (ℕ_discrete (key_number r.key) (key_number key))
-          (λ k. dite (ℕ_discrete (held_state r.held_as) DEAD) (λ d. absurd (ne (alone d e k))) (λ nd. ap (λ (t : Bool). (key_number r.key == key_number key) && t) (ne_eqb (held_state r.held_as) DEAD nd) ∙ no_and (key_number r.key == key_number key)))
+          (λ k. dite (ℕ_discrete (held_state r.held_as) DEAD) (λ d. absurd (ne (alone d e k))) (λ nd. and_right (key_number r.key == key_number key) (held_state r.held_as == DEAD) (ne_eqb (held_state r.held_as) DEAD nd)))
           (λ nk. ap (λ (t : Bool). t && (held_state r.held_as == DEAD)) (ne_eqb (key_number r.key) (key_number key) nk)))
 
   goes : (r : HeldHeader) → r ≡ own → (r.named && not (is_its key r)) ≡ false
-  goes r e = ap (λ (t : HeldHeader). t.named && not (is_its key t)) e ∙ (ap (λ (t : Bool). own.named && not t) its ∙ no_and own.named)
+  goes r e = ap (λ (t : HeldHeader). t.named && not (is_its key t)) e ∙ and_right own.named (not (is_its key own)) (ap not its)
 
   abbrev count : ℕ → HeldHeader → ℕ
   count h r = one_at r.header h * one_at (held_state r.held_as) DEAD * one_if (not r.named)

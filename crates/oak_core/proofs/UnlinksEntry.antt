@@ -1,5 +1,5 @@
 -- A pass unlinks the header that it buries from the entry that it found: by what the step asks of it, and the points before it, all points on keys, covers, lessons, callers and bounds stand behind it.
-use Rattle.std.proofs.Common.{◌≡◌, ℕ, ◌/◌, ◌^◌, ◌<◌, ◌≤◌, true, List, [], ◌∷◌, map, set, sym, refl, ap, ◌∙◌, subst, inl, inr, arith, Some}
+use Rattle.std.proofs.Common.{◌≡◌, ℕ, ◌/◌, ◌^◌, ◌<◌, ◌≤◌, true, List, [], ◌∷◌, map, set, sym, refl, ap, ◌∙◌, subst, inl, inr, arith}
 use mathlib.Core.Option.{some}
 use lib.ListN.{get_elem?}
 use Rattle.pin_word.specs.PinWord.{state_of}
@@ -14,8 +14,6 @@ use Rattle.oak_model.proofs.MemberLaws.{each_has}
 use Rattle.arena_core.specs.Place.{content, IsPlace}
 use Rattle.header_core.specs.HeaderHolds.{kept_of_headers, held_state}
 use Rattle.header_core.specs.Headers.{read_header}
-use Rattle.header_core.specs.declared.holds.HeldAs.{HeldAs}
-use Rattle.header_core.specs.declared.holds.HeldAs.TheVariants.{Owned, Fresh, Locked, Buried}
 use Rattle.header_core.specs.declared.holds.HeldHeader.{HeldHeader}
 use Rattle.header_core.specs.declared.states.TheConstants.{DEAD}
 use Rattle.header_core.proofs.HeaderFacts.{held_is}
@@ -29,17 +27,14 @@ use Rattle.chunk_core.specs.RoomRule.{RoomsStand}
 use Rattle.chunk_core.specs.RoomStep.{put_room}
 use Rattle.chunk_core.specs.Rooms.{at_value}
 use Rattle.chunk_core.specs.ValueWord.{names_header, header_in}
-use Rattle.chunk_core.specs.declared.holds.PinnedRoom.{PinnedRoom}
 use Rattle.chunk_core.specs.declared.holds.RoomHolds.{RoomHolds}
 use Rattle.chunk_core.proofs.ValueLaws.{word_before}
 use Rattle.oak_core.specs.declared.states.Findings.{Findings}
-use Rattle.oak_core.specs.declared.states.KeyedWrite.{KeyedWrite}
 use Rattle.oak_core.specs.declared.states.Knowledge.{Knowledge}
 use Rattle.oak_core.specs.declared.states.PassState.{PassState}
 use Rattle.oak_core.specs.Bounds.{BasesBound}
 use Rattle.oak_core.specs.Callers.{CallersAgree, made_by}
 use Rattle.oak_core.specs.EntryOwners.{is_key_word}
-use Rattle.oak_core.specs.FoundKeys.{entry_key}
 use Rattle.oak_core.specs.KeyHistories.{stamp_behind}
 use Rattle.oak_core.specs.KeyReads.{word_now, history_now, home_of}
 use Rattle.oak_core.specs.KeyRule.{KeysStand}
@@ -53,9 +48,10 @@ use Rattle.oak_core.specs.Owners.{HeadersAreHeld}
 use Rattle.oak_core.specs.PassState.{rooms_held, headers_held, knowledge_of, history}
 use Rattle.oak_core.proofs.BoundSteps.{bases_unlinked}
 use Rattle.oak_core.proofs.CallersKept.{callers_kept, made_kept}
-use Rattle.oak_core.proofs.FoundValues.{pin_holds, entry_key_is, linked_once, key_there}
+use Rattle.oak_core.proofs.FoundEntries.{entry_once, key_stands, room_covers, room_inside}
 use Rattle.oak_core.proofs.HeldTruths.{held_names, held_only, held_stamp}
 use Rattle.oak_core.proofs.HomeWords.{NamesAt}
+use Rattle.oak_core.proofs.OverLives.{buried_row}
 use Rattle.oak_core.proofs.Removals.{removal_within}
 use Rattle.oak_core.proofs.UnlinkLessons.{unlink_heard}
 use Rattle.oak_core.proofs.UnlinkedHolds.{unlinked_fresh, unlinked_unnamed, unlinked_holds}
@@ -66,15 +62,10 @@ pub names_small : (v : ℕ) → v < 2 ^ 63 → names_header v ≡ 0
 unfolding names_header
 names_small v l = one_at-other (v / 2 ^ 63) 1 (λ e. absurd (omega arith))
 
-each_all : {A : Type 0} (P : A → Type 0) (xs : List A) → ((x : A) → Has x xs → P x) → Each P xs
+-- what holds of each member holds of each
+pub each_all : {A : Type 0} (P : A → Type 0) (xs : List A) → ((x : A) → Has x xs → P x) → Each P xs
 each_all P [] h = tt
 each_all P (x ∷ xs) h = (h x (inl refl), each_all P xs (λ y m. h y (inr m)))
-
-burial_in : (word : ℕ → ℕ) (hist : ℕ → List KeyedWrite) (s : HeldAs) (r : HeldHeader) → held_state s ≡ DEAD → HoldStands word hist s r → IsBurialOf word hist r
-burial_in word hist Owned r e p = absurd (let q = e in omega arith)
-burial_in word hist Fresh r e p = absurd (let q = e in omega arith)
-burial_in word hist (Locked at) r e p = absurd (let q = e in omega arith)
-burial_in word hist Buried r e p = p
 
 module _ (z : Sizes) (m : Memory) (vs : List PassState) (rooms : RoomsStand z m.rooms (content m.arena.bytes) (map rooms_held vs)) (parts : CoversPartition z m.rooms (content m.arena.bytes) is_key_word (map rooms_held vs)) (keys : KeysStand z m vs) (callers : CallersAgree vs)
     (heads : HeadersAreHeld m.headers m.arena.bytes (known (map knowledge_of vs)) (map headers_held vs)) (heard : HeardStands z m vs) (bases : BasesBound z m vs) (few : total made_by vs < 2 ^ 39)
@@ -88,9 +79,6 @@ module _ (z : Sizes) (m : Memory) (vs : List PassState) (rooms : RoomsStand z m.
   abbrev own : HeldHeader
   own = may.header
 
-  abbrev p : PinnedRoom
-  p = may.pinned
-
   abbrev key : List ℕ
   key = key_bytes may.entry.word may.entry.words
 
@@ -101,20 +89,17 @@ module _ (z : Sizes) (m : Memory) (vs : List PassState) (rooms : RoomsStand z m.
   h_here : get_elem? (map headers_held vs) seat ≡ some v.headers
   h_here = at_map headers_held vs seat v here
 
-  entry : entry_key i p.entries ≡ Some key
-  entry = entry_key_is p.count i p.entries may.entry (pin_holds z m vs rooms parts seat v here p may.finds.pin.is may.finds.pin.good).counted may.finds.there
-
-  room_inside : r < z.chunks
-  room_inside = subst (λ (j : ℕ). j < z.chunks) may.finds.pin.room (pin_holds z m vs rooms parts seat v here p may.finds.pin.is may.finds.pin.good).inside
+  inside_there : r < z.chunks
+  inside_there = room_inside z m vs rooms parts seat v here r i may.pinned may.entry may.finds
 
   cover : weight (m.rooms.pin r) ≡ 1
-  cover = subst (λ (j : ℕ). weight (m.rooms.pin j) ≡ 1) may.finds.pin.room (pin_holds z m vs rooms parts seat v here p may.finds.pin.is may.finds.pin.good).cover
+  cover = room_covers z m vs rooms parts seat v here r i may.pinned may.entry may.finds
 
   once : total (λ j. one_at j i) (linked m.rooms r) ≡ 1
-  once = subst (λ (j : ℕ). total (λ l. one_at l i) (linked m.rooms j) ≡ 1) may.finds.pin.room (linked_once z m vs rooms parts seat v here p may.finds.pin.is may.finds.pin.good i key entry)
+  once = entry_once z m vs rooms parts seat v here r i may.pinned may.entry may.finds
 
   key_there_is : key_at bytes (m.rooms.key r i) ≡ key_number key
-  key_there_is = subst (λ (j : ℕ). key_at bytes (m.rooms.key j i) ≡ key_number key) may.finds.pin.room (key_there z m vs rooms parts seat v here p may.finds.pin.is may.finds.pin.good i key entry)
+  key_there_is = sym (key_stands z m vs rooms parts seat v here r i may.pinned may.entry may.finds)
 
   own_key : key_number own.key ≡ key_number key
   unfolding key_in
@@ -124,7 +109,7 @@ module _ (z : Sizes) (m : Memory) (vs : List PassState) (rooms : RoomsStand z m.
   named_of t has = held_names m qs (map headers_held vs) heads seat v.headers h_here t has (lows t has) (small t.header)
 
   burial_of : (t : HeldHeader) → Has t v.headers.held → held_state t.held_as ≡ DEAD → IsBurialOf (word_now z m vs) (history_now vs) t
-  burial_of t has dead = burial_in (word_now z m vs) (history_now vs) t.held_as t dead (each_has (λ (r : HeldHeader). HoldStands (word_now z m vs) (history_now vs) r.held_as r) v.headers.held t (keys.locks seat v.headers h_here) has)
+  burial_of t has dead = buried_row (word_now z m vs) (history_now vs) t.held_as t dead (each_has (λ (r : HeldHeader). HoldStands (word_now z m vs) (history_now vs) r.held_as r) v.headers.held t (keys.locks seat v.headers h_here) has)
 
   burial : IsBurialOf (word_now z m vs) (history_now vs) own
   burial = burial_of own may.held (ap held_state may.buried)
@@ -147,11 +132,11 @@ module _ (z : Sizes) (m : Memory) (vs : List PassState) (rooms : RoomsStand z m.
   one = held_only m qs (map headers_held vs) heads seat v.headers h_here own may.held
 
   pub keys_unlinked : KeysStand z (record m { rooms = put_room m.rooms (at_value r i) may.header.stamp }) (set vs seat u)
-  keys_unlinked = unlinks.unlink_keys z m is_key_word vs parts keys heads small seat v here fs r i room_inside cover once own may.held may.buried may.named (own_key ∙ sym key_there_is) (named_of own may.held) stamp_is low (unlinked key v.headers.held)
+  keys_unlinked = unlinks.unlink_keys z m is_key_word vs parts keys heads small seat v here fs r i inside_there cover once own may.held may.buried may.named (own_key ∙ sym key_there_is) (named_of own may.held) stamp_is low (unlinked key v.headers.held)
       (unlinked_fresh key own may.buried may.named own_key v.headers may.held one alone) (unlinked_unnamed key own may.buried may.named own_key v.headers may.held one alone) (unlinked_holds key own may.buried may.named own_key v.headers may.held one alone)
 
   pub covers_unlinked : CoversPartition z (put_room m.rooms (at_value r i) may.header.stamp) (content m.arena.bytes) is_key_word (map rooms_held (set vs seat u))
-  covers_unlinked = unlinks.unlink_partition z m is_key_word vs parts keys heads small seat v here fs r i room_inside cover once own may.held may.buried may.named (own_key ∙ sym key_there_is) (named_of own may.held) stamp_is low (unlinked key v.headers.held)
+  covers_unlinked = unlinks.unlink_partition z m is_key_word vs parts keys heads small seat v here fs r i inside_there cover once own may.held may.buried may.named (own_key ∙ sym key_there_is) (named_of own may.held) stamp_is low (unlinked key v.headers.held)
       (unlinked_fresh key own may.buried may.named own_key v.headers may.held one alone) (unlinked_unnamed key own may.buried may.named own_key v.headers may.held one alone) (unlinked_holds key own may.buried may.named own_key v.headers may.held one alone)
 
   change : Change (map rooms_held vs) (map rooms_held (set vs seat u)) (v.rooms ∷ []) (v.rooms ∷ [])
@@ -161,7 +146,7 @@ module _ (z : Sizes) (m : Memory) (vs : List PassState) (rooms : RoomsStand z m.
   same k = ap (history k) (map_set_same knowledge_of vs seat v u here refl)
 
   value_is : m.rooms.value r i ≡ home_of own.header own.generation
-  value_is = let w = word_before z m.rooms bytes is_key_word (map rooms_held vs) (map rooms_held (set vs seat u)) (v.rooms ∷ []) (v.rooms ∷ []) parts change (λ _. refl) r i own.stamp room_inside cover once in
+  value_is = let w = word_before z m.rooms bytes is_key_word (map rooms_held vs) (map rooms_held (set vs seat u)) (v.rooms ∷ []) (v.rooms ∷ []) parts change (λ _. refl) r i own.stamp inside_there cover once in
       let b = burial.named may.named in let e = ap (word_now z m vs) (own_key ∙ sym key_there_is) in omega arith
 
   -- the header is dead, so the last stamp of the key is its own
@@ -173,11 +158,11 @@ module _ (z : Sizes) (m : Memory) (vs : List PassState) (rooms : RoomsStand z m.
       is_dead = held_is m.headers bytes IsPlace (known qs) (map headers_held vs) heads seat v.headers own.header DEAD h_here (omega arith) (omega arith) (rows_have own.header DEAD v.headers.held own may.held refl (ap held_state may.buried))
 
   pub heard_unlinked : HeardStands z (record m { rooms = put_room m.rooms (at_value r i) may.header.stamp }) (set vs seat u)
-  heard_unlinked = unlink_heard z m is_key_word vs parts heard seat v u here change (λ _. refl) refl refl refl r i own.stamp room_inside cover once (ap names_header value_is ∙ (named_of own may.held).names) low
+  heard_unlinked = unlink_heard z m is_key_word vs parts heard seat v u here change (λ _. refl) refl refl refl r i own.stamp inside_there cover once (ap names_header value_is ∙ (named_of own may.held).names) low
       (let e = key_there_is ∙ sym own_key in subst (λ (k : ℕ). stamp_behind (history_now vs k) ≤ own.stamp) (sym e) (let l = last_stamp in omega arith))
 
   pub callers_unlinked : CallersAgree (set vs seat u)
   callers_unlinked = callers_kept vs seat v u here refl refl callers same
 
   pub bounds_unlinked : BasesBound z (record m { rooms = put_room m.rooms (at_value r i) may.header.stamp }) (set vs seat u)
-  bounds_unlinked = bases_unlinked z m is_key_word vs (set vs seat u) parts bases (v.rooms ∷ []) (v.rooms ∷ []) change (λ _. refl) r room_inside cover i own.stamp once low (let a = stamp_within in let b = bases.stamps (key_number own.key) in omega arith) (made_kept vs seat v u here refl refl) same
+  bounds_unlinked = bases_unlinked z m is_key_word vs (set vs seat u) parts bases (v.rooms ∷ []) (v.rooms ∷ []) change (λ _. refl) r inside_there cover i own.stamp once low (let a = stamp_within in let b = bases.stamps (key_number own.key) in omega arith) (made_kept vs seat v u here refl refl) same

@@ -36,7 +36,7 @@ use Rattle.oak_core.specs.declared.states.Findings.{Findings}
 use Rattle.oak_core.specs.declared.states.KeyedWrite.{KeyedWrite}
 use Rattle.oak_core.specs.declared.states.Knowledge.{Knowledge}
 use Rattle.oak_core.specs.declared.states.PassState.{PassState}
-use Rattle.oak_core.specs.Bounds.{BasesBound}
+use Rattle.oak_core.specs.Bounds.{BasesBound, HasOpened}
 use Rattle.oak_core.specs.Callers.{CallersAgree, made_by}
 use Rattle.oak_core.specs.EntryOwners.{is_key_word}
 use Rattle.oak_core.specs.KeyHistories.{writes_of}
@@ -54,8 +54,9 @@ use Rattle.oak_core.specs.PassState.{rooted, numbers_of, rooms_held, headers_hel
 use Rattle.oak_core.specs.Rule.{HistoriesStand}
 use Rattle.oak_core.proofs.BoundSteps.{bases_locked}
 use Rattle.oak_core.proofs.CallerWrites.{callers_wrote, made_one}
-use Rattle.oak_core.proofs.HeldTruths.{held_names, held_only, held_place, held_stamp, held_content}
+use Rattle.oak_core.proofs.HeldTruths.{held_names, held_only, held_stamp, held_shown}
 use Rattle.oak_core.proofs.HomeWords.{NamesAt}
+use Rattle.oak_core.proofs.KeyBundles.{KeyBundles}
 use Rattle.oak_core.proofs.KnownWrites.{known_after, known_new}
 use Rattle.oak_core.proofs.LocksEnded.{unlocked_fresh, unlocked_unnamed, unlocked_holds, buried_fresh, buried_unnamed, buried_holds}
 use Rattle.oak_core.proofs.WrittenHistories.{wrote_here, wrote_others, wrote_stand}
@@ -111,9 +112,7 @@ module _ (z : Sizes) (m : Memory) (vs : List PassState) (parts : CoversPartition
 
   shown : Some (value_in own.place own.words) ≡ shown_by m own.header
   unfolding one_at
-  shown = let place = held_place m qs (map headers_held vs) heads seat v.headers h_here own has numbers in
-      let words = held_content m qs (map headers_held vs) heads seat v.headers h_here own has numbers (is_locked ∙ sym (ap held_state locked)) (subst (λ (s : ℕ). 0 < stocked s) (sym (ap held_state locked)) some_block) whole blocks in
-      sym (ap (λ (t : ℕ). Some (value_in t (content m.arena.bytes t))) place ∙ ap (λ (t : List ℕ). Some (value_in own.place t)) words)
+  shown = held_shown m qs (map headers_held vs) heads seat v.headers h_here own has numbers (is_locked ∙ sym (ap held_state locked)) (subst (λ (s : ℕ). 0 < stocked s) (sym (ap held_state locked)) some_block) whole blocks
     where
       some_block : 0 < stocked LOCKED
       some_block = omega arith
@@ -160,6 +159,10 @@ module _ (z : Sizes) (m : Memory) (vs : List PassState) (parts : CoversPartition
 
     pub heard_locked : ((j : ℕ) → StampsRise 0 (writes_of (history_now (set vs seat u) j))) → HeardStands z (record m { headers = put_header m.headers (at_pin own.header) x }) (set vs seat u)
     heard_locked rise = lock_heard z m (record m { headers = put_header m.headers (at_pin own.header) x }) refl refl vs histories heard seat v u here rooms pin w own at lock named_at.names (ap key_number key) (let e = next in omega arith) knowledge rise
+
+    -- so all stands, where that on keys does, and what is said of the opening
+    pub bundles_locked : KeysStand z (record m { headers = put_header m.headers (at_pin own.header) x }) (set vs seat u) → HasOpened z (record m { headers = put_header m.headers (at_pin own.header) x }) (set vs seat u) → KeyBundles z (record m { headers = put_header m.headers (at_pin own.header) x }) (set vs seat u)
+    bundles_locked keys_then opened = record { keys = keys_then; callers = callers_locked; bounds = bounds_locked; opened = opened; heard = heard_locked (λ j. (keys_then.legal j).legal.stamps) }
 
     -- no pass comes to know another header by it
     pub known_locked : (h g : ℕ) → known (map knowledge_of (set vs seat u)) h g ≡ known (map knowledge_of vs) h g

@@ -12,7 +12,7 @@ use Rattle.oak_core.specs.declared.states.Knowledge.{Knowledge}
 use Rattle.oak_core.specs.Learning.{wrote}
 use Rattle.oak_core.specs.PassState.{of_key, seen_of, history}
 use Rattle.oak_core.specs.Rule.{HistoriesStand}
-use Rattle.oak_core.proofs.Histories.{each_of_every, seen_begins}
+use Rattle.oak_core.proofs.Histories.{each_of_every, none_long, seen_begins}
 use Rattle.oak_core.proofs.Teaching.{of_key-cases, longest_one}
 
 pub of_key-append : (k : ℕ) (a b : List KeyedWrite) → of_key k (a ++ b) ≡ of_key k a ++ of_key k b
@@ -42,19 +42,15 @@ of_key-cross j k (w ∷ ws) n = let r = of_key-cross j k ws n in of_key-cases k 
 
 -- a history has the writes of its key alone
 
-short : {A : Type 0} (h : List A) → length h ≤ 0 → h ≡ []
-short [] l = refl
-short (x ∷ xs) l = absurd (omega arith)
-
 own_seen : (k : ℕ) (q : Knowledge) → of_key k (seen_of k q) ≡ seen_of k q
 unfolding of_key
 own_seen k q = dite (dec_lt 0 (length (seen_of k q))) (λ lt. let one = longest_one (map (of_key k) q.seen) lt in let log = at_unmap (of_key k) q.seen one.0 (seen_of k q) one.1 in subst (λ (h : List KeyedWrite). of_key k h ≡ h) log.2 (of_key-twice k log.0))
-    (λ none. let e : seen_of k q ≡ [] = short (seen_of k q) (omega arith) in subst (λ (h : List KeyedWrite). of_key k h ≡ h) (sym e) refl)
+    (λ none. let e : seen_of k q ≡ [] = none_long (seen_of k q) (omega arith) in subst (λ (h : List KeyedWrite). of_key k h ≡ h) (sym e) refl)
 
 pub history_own : (k : ℕ) (qs : List Knowledge) → of_key k (history k qs) ≡ history k qs
 unfolding of_key
 history_own k qs = dite (dec_lt 0 (length (history k qs))) (λ lt. let one = longest_one (map (seen_of k) qs) lt in let q = at_unmap (seen_of k) qs one.0 (history k qs) one.1 in subst (λ (h : List KeyedWrite). of_key k h ≡ h) q.2 (own_seen k q.0))
-    (λ none. let e : history k qs ≡ [] = short (history k qs) (omega arith) in subst (λ (h : List KeyedWrite). of_key k h ≡ h) (sym e) refl)
+    (λ none. let e : history k qs ≡ [] = none_long (history k qs) (omega arith) in subst (λ (h : List KeyedWrite). of_key k h ≡ h) (sym e) refl)
 
 pub history_cross : (j k : ℕ) (qs : List Knowledge) → j ≢ k → of_key j (history k qs) ≡ []
 history_cross j k qs n = ap (of_key j) (sym (history_own k qs)) ∙ of_key-cross j k (history k qs) n
@@ -103,6 +99,10 @@ module _ (qs : List Knowledge) (rule : HistoriesStand qs) (i : ℕ) (q : Knowled
   wrote_more j = dite (dec_lt 0 (length (seen_of j q))) (λ lt. let one = longest_one (map (of_key j) q.seen) lt in let log = at_unmap (of_key j) q.seen one.0 (seen_of j q) one.1 in
       let l = longest_le (map (of_key j) (q.seen ++ H ∷ [])) one.0 (of_key j log.0) (at_map (of_key j) (q.seen ++ H ∷ []) one.0 log.0 (at_longer q.seen (H ∷ []) one.0 log.0 log.1)) in let e = ap length log.2 in omega arith)
       (λ none. omega arith)
+
+  -- of the key as much as there is then
+  pub wrote_seen : length (history k qs ++ w ∷ []) ≤ length (seen_of k (wrote k w qs q))
+  wrote_seen = let l = longest_le (map (of_key k) (q.seen ++ H ∷ [])) (length q.seen) (of_key k H) (at_map (of_key k) (q.seen ++ H ∷ []) (length q.seen) H (at_last q.seen H)) in let e = ap length new_here in omega arith
 
   pub wrote_others : (j : ℕ) → j ≢ k → history j after ≡ history j qs
   wrote_others j n = dite (dec_lt 0 (length (history j qs))) some_there (λ none. history_is j (history j qs) after (all_else j n) i (wrote k w qs q) there (omega arith))

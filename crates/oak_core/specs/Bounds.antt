@@ -3,7 +3,7 @@ use Rattle.std.specs.Prelude.{◌≡◌, ◌≢◌, ℕ, ◌-◌, ◌<◌, ◌�
 use Rattle.pin_word.specs.PinWord.{generation_of, state_of}
 use Rattle.oak_model.specs.Limits.{Sizes}
 use Rattle.oak_model.specs.Counts.{total}
-use Rattle.header_core.specs.declared.states.TheConstants.{DEAD}
+use Rattle.header_core.specs.declared.states.TheConstants.{DEAD, LAST_GENERATION}
 use Rattle.chunk_core.specs.Spans.{Span}
 use Rattle.chunk_core.specs.Covers.{Entry, Cover}
 use Rattle.chunk_core.specs.CoverSums.{each}
@@ -35,3 +35,9 @@ pub record BasesBound (z : Sizes) (m : Memory) (vs : List PassState) : Type 0 wh
 -- while no write removed anything, no header is dead, and each is at the generation g of the opening
 abbrev pub UntilRemoved : Sizes → ℕ → Memory → List PassState → Type 0
 UntilRemoved z g m vs = total (made_of removes) vs ≡ 0 → (h : ℕ) → h < z.headers → (state_of (m.headers.pin h) ≢ DEAD) × (generation_of (m.headers.pin h) ≡ g)
+
+-- there is a generation of the opening, not the last one, for which it stands
+pub record HasOpened (z : Sizes) (m : Memory) (vs : List PassState) : Type 0 where
+  pub generation : ℕ
+  pub early : generation < LAST_GENERATION
+  pub until : UntilRemoved z generation m vs

@@ -3,7 +3,7 @@ use Rattle.std.specs.Prelude.{ℕ, ◌==◌, cond, List, [], ◌∷◌, Option, 
 use Rattle.chunk_core.specs.declared.holds.FoundEntry.{FoundEntry}
 use Rattle.chunk_core.specs.declared.holds.PinnedRoom.{PinnedRoom}
 use Rattle.chunk_core.specs.KeyWords.{key_bytes}
-use Rattle.oak_core.specs.Loading.{is_pinned}
+use Rattle.oak_core.specs.CountTeaching.{is_pinned}
 
 -- the key of the entry with the number
 unfoldable pub entry_key : ℕ → List FoundEntry → Option (List ℕ)

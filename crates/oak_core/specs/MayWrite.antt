@@ -1,11 +1,13 @@
 -- What the steps that write, and the one that unlinks, ask of their pass.
-use Rattle.std.specs.Prelude.{◌≡◌, ◌≢◌, ℕ, ◌+◌, ◌^◌, ◌<◌, true, Some, None}
+use Rattle.std.specs.Prelude.{◌≡◌, ◌≢◌, ℕ, ◌+◌, ◌^◌, ◌<◌, true, false, Some, None}
 use Rattle.oak_model.specs.declared.writes.Kind.{Kind}
 use Rattle.oak_model.specs.Counts.{Each, Has}
 use Rattle.oak_model.specs.History.{IsWriteOn}
 use Rattle.oak_model.specs.KeyNumber.{key_number}
 use Rattle.header_core.specs.declared.holds.AtLock.{AtLock}
-use Rattle.header_core.specs.declared.holds.HeldAs.TheVariants.{Fresh, Buried}
+use Rattle.header_core.specs.declared.holds.HeaderHolds.{HeaderHolds}
+use Rattle.header_core.specs.declared.holds.HeldAs.TheVariants.{Fresh, Locked, Buried}
+use Rattle.header_core.specs.HeaderStep.{HeaderStep, unlock_header, mark_dead, take_back}
 use Rattle.header_core.specs.declared.holds.HeldHeader.{HeldHeader}
 use Rattle.chunk_core.specs.declared.holds.FoundEntry.{FoundEntry}
 use Rattle.chunk_core.specs.declared.holds.PinnedRoom.{PinnedRoom}
@@ -61,3 +63,25 @@ pub record MayUnlink (r i x : ℕ) (v : PassState) : Type 0 where
   pub named : header.named ≡ true
   pub key : key_number header.key ≡ found_key entry
   pub stamp : x ≡ header.stamp
+
+-- the pass has the header locked, as P says
+pub record EndsLock (h : ℕ) (P : AtLock → HeldHeader → Type 0) (a : HeaderHolds) : Type 0 where
+  pub header : HeldHeader
+  pub held : held_header h a.held ≡ Some header
+  pub at : AtLock
+  pub locked : header.held_as ≡ Locked at
+  pub may : P at header
+
+-- the pass buries the header, and no entry names it any more
+pub record IsUnnamed (h : ℕ) (a : HeaderHolds) : Type 0 where
+  pub header : HeldHeader
+  pub held : held_header h a.held ≡ Some header
+  pub buried : header.held_as ≡ Buried
+  pub unnamed : header.named ≡ false
+
+-- a lock is ended by what makes a write of the call, or with nothing changed; a header is taken back once no entry names it
+abbrev pub MayEnd : ℕ → HeaderStep → PassState → Type 0
+MayEnd call (unlock_header h kind) v = EndsLock h (λ at r. MayUnlock call kind at r v) v.headers
+MayEnd call (mark_dead h) v = EndsLock h (λ at r. MayBury call at r v) v.headers
+MayEnd call (take_back h x) v = IsUnnamed h v.headers
+MayEnd call _ v = Unit {0}

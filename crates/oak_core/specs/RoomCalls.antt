@@ -1,8 +1,9 @@
 -- What a word names among the rooms, and what the steps on them tell.
 use Rattle.std.specs.Prelude.{◌≡◌, ℕ, ◌<◌}
+use Rattle.oak_model.specs.declared.writes.Kind.{Kind}
 use Rattle.oak_model.specs.Limits.{Sizes}
 use Rattle.chunk_core.specs.Rooms.{at_room_pin, at_count, at_latch}
-use Rattle.chunk_core.specs.RoomStep.{EntryField, entry_spot, pin_room, unpin_room, latch_room, store_entry, publish_entry, unlatch_room}
+use Rattle.chunk_core.specs.RoomStep.{EntryField, entry_spot, pin_room, unpin_room, latch_room, store_entry, publish_entry, unlatch_room, set_value, unlink_entry}
 use Rattle.oak_core.specs.declared.states.PassState.{PassState}
 use Rattle.oak_core.specs.Memory.{in_rooms, index}
 use Rattle.oak_core.specs.Step.{on_rooms, Told}
@@ -51,3 +52,11 @@ PublishesEntry z call r x v w = (n : ℕ) × Told z call (on_rooms (publish_entr
 -- the latch was given up
 abbrev pub GivesLatch : Sizes → ℕ → ℕ → PassState → PassState → Type 0
 GivesLatch z call r v w = (n : ℕ) × Told z call (on_rooms (unlatch_room r)) v n w
+
+-- the value word was exchanged, where n is the floor `old`
+abbrev pub SetsValueWord : Sizes → ℕ → (r i old new : ℕ) → Kind → PassState → ℕ → PassState → Type 0
+SetsValueWord z call r i old new kind v n w = Told z call (on_rooms (set_value r i old new kind)) v n w
+
+-- the value word became the floor x
+abbrev pub UnlinksEntryWord : Sizes → ℕ → (r i x : ℕ) → PassState → PassState → Type 0
+UnlinksEntryWord z call r i x v w = (n : ℕ) × Told z call (on_rooms (unlink_entry r i x)) v n w

@@ -27,7 +27,9 @@ use Rattle.oak_core.specs.Known.{knows_life, known}
 use Rattle.oak_core.specs.PassState.{blocks_of, headers_held, rooms_held, numbers_of, findings_of, knowledge_of, kept_of, has_number, is_parent, IsAlone, of_key, history, spent_state}
 use Rattle.oak_core.specs.Lack.{FullsStand}
 use Rattle.oak_core.specs.TableState.{TableState}
-use Rattle.oak_core.specs.Unwritten.{NothingIsWritten}
+use Rattle.oak_core.specs.Bounds.{BasesBound, HasOpened}
+use Rattle.oak_core.specs.Callers.{CallersAgree}
+use Rattle.oak_core.specs.KeyRule.{KeysStand}
 use Rattle.oak_core.specs.Lessons.{HeardStands}
 
 -- the words are as many as the layout says, and each is one of 64 bits
@@ -92,8 +94,12 @@ pub record Rule (z : Sizes) (s : TableState) : Type 0 where
   pub headers : HeadersAreHeld (memory z s.words).headers (memory z s.words).arena.bytes (known (map knowledge_of s.states)) (map headers_held s.states)
   pub rooms : RoomsStand z (memory z s.words).rooms (content (memory z s.words).arena.bytes) (map rooms_held s.states)
   pub covers : CoversPartition z (memory z s.words).rooms (content (memory z s.words).arena.bytes) is_key_word (map rooms_held s.states)
-  -- no value is written so far, and of what the passes were taught each key has just that up to the number
-  pub written : NothingIsWritten z (memory z s.words) s.states
+  -- the state of each key, who wrote, how great stamps become, and what stands until the first removal
+  pub keys : KeysStand z (memory z s.words) s.states
+  pub callers : CallersAgree s.states
+  pub bounds : BasesBound z (memory z s.words) s.states
+  pub opened : HasOpened z (memory z s.words) s.states
+  -- of what the passes were taught each key has just that up to the number
   pub heard : HeardStands z (memory z s.words) s.states
   pub passes : Every PassStands s.states
   pub alone : Every (AloneStands s.words) s.states

@@ -6,6 +6,7 @@ use lib.ListN.{get_elem?}
 use Rattle.pin_word.specs.PinWord.{generation_of}
 use Rattle.oak_model.specs.declared.classes.Class.{Class}
 use Rattle.oak_model.specs.declared.replies.Lack.{Lack}
+use Rattle.oak_model.specs.declared.writes.Kind.{Kind}
 use Rattle.oak_model.specs.Class.{class_number}
 use Rattle.oak_model.specs.Limits.{Sizes}
 use Rattle.oak_core.specs.declared.states.Numbers.{Numbers}
@@ -23,8 +24,8 @@ use Rattle.header_core.specs.declared.holds.HeaderHolds.{HeaderHolds}
 use Rattle.header_core.specs.HeaderHolds.{in_state, place_held}
 use Rattle.header_core.specs.HeaderStep.{HeaderStep, change_place, open_header, pin_header, release_header, lock_header, take_back, header_spot, header_effect, header_found, MayHeader, headers_after, reworded}
 use Rattle.chunk_core.specs.MayOnRooms.{MayRoom, MayPublish}
-use Rattle.chunk_core.specs.RoomStep.{RoomStep, pin_room, unpin_room, latch_room, store_entry, unlatch_room, room_spot, room_effect, room_found, publish_entry}
-use Rattle.chunk_core.specs.Rooms.{IsInRooms, at_count}
+use Rattle.chunk_core.specs.RoomStep.{RoomStep, pin_room, unpin_room, latch_room, store_entry, unlatch_room, set_value, unlink_entry, room_spot, room_effect, room_found, publish_entry}
+use Rattle.chunk_core.specs.Rooms.{IsInRooms, at_count, at_value}
 use Rattle.chunk_core.specs.RoomsAfter.{rooms_after}
 use Rattle.oak_core.specs.Memory.{Memory, Spot, at_given, in_arena, in_headers, in_rooms, index, IsInside, memory}
 use Rattle.oak_core.specs.Finding.{finding, leaving, noted, Shows}
@@ -34,6 +35,10 @@ use Rattle.oak_core.specs.TableState.{TableState}
 use Rattle.oak_core.specs.Rule.{Rule}
 use Rattle.chunk_core.specs.LinkedEntries.{entries_in}
 use Rattle.oak_core.specs.EntryOwners.{is_key_word}
+use Rattle.oak_core.specs.HeaderTeaching.{knows_by_header, sights_by_header, gones_by_header}
+use Rattle.oak_core.specs.KeyedHeaders.{headers_keyed}
+use Rattle.oak_core.specs.MayWrite.{MaySet, MayUnlink, MayEnd}
+use Rattle.oak_core.specs.RoomTeaching.{knows_by_room, headers_by_room}
 use Rattle.oak_core.specs.Loading.{knows_by_load, sights_by_load, rooms_by_load}
 use Rattle.oak_core.specs.PassState.{knowledge_of}
 
@@ -126,15 +131,27 @@ pub record MayPublishEntry (z : Sizes) (r x : ℕ) (v : PassState) : Type 0 wher
   pub rooms : MayPublish z is_key_word r x words v.rooms
   pub block : HoldsKey z rooms.latch.entry.word words v.blocks
 
--- a pass pins a room, takes its latch, stores to the entry past the count, publishes that, gives the latch up, and undoes its pin; the other kinds none makes yet
-abbrev pub MayOnRooms : Sizes → RoomStep → PassState → Type 0
-MayOnRooms z (pin_room r) v = MayOnRoom z (pin_room r) v
-MayOnRooms z (unpin_room r) v = MayOnRoom z (unpin_room r) v
-MayOnRooms z (latch_room r) v = MayOnRoom z (latch_room r) v
-MayOnRooms z (store_entry f r i x) v = MayOnRoom z (store_entry f r i x) v
-MayOnRooms z (publish_entry r x) v = MayPublishEntry z r x v
-MayOnRooms z (unlatch_room r) v = MayOnRoom z (unlatch_room r) v
-MayOnRooms z _ v = ⊥
+-- a fresh header may be set as the value of an entry
+pub record MaySetValue (z : Sizes) (call r i old new : ℕ) (kind : Kind) (v : PassState) : Type 0 where
+  pub inside : IsInRooms z (at_value r i)
+  pub set : MaySet call r i old new kind v
+
+-- the value word of an entry may come to be a floor again
+pub record MayUnlinkEntry (z : Sizes) (r i x : ℕ) (v : PassState) : Type 0 where
+  pub inside : IsInRooms z (at_value r i)
+  pub unlink : MayUnlink r i x v
+
+-- a pass pins a room, takes its latch, stores to the entry past the count, publishes that, gives the latch up, sets and unlinks values, and undoes its pin; the other kinds none makes yet
+abbrev pub MayOnRooms : Sizes → ℕ → RoomStep → PassState → Type 0
+MayOnRooms z call (pin_room r) v = MayOnRoom z (pin_room r) v
+MayOnRooms z call (unpin_room r) v = MayOnRoom z (unpin_room r) v
+MayOnRooms z call (latch_room r) v = MayOnRoom z (latch_room r) v
+MayOnRooms z call (store_entry f r i x) v = MayOnRoom z (store_entry f r i x) v
+MayOnRooms z call (publish_entry r x) v = MayPublishEntry z r x v
+MayOnRooms z call (unlatch_room r) v = MayOnRoom z (unlatch_room r) v
+MayOnRooms z call (set_value r i old new kind) v = MaySetValue z call r i old new kind v
+MayOnRooms z call (unlink_entry r i x) v = MayUnlinkEntry z r i x v
+MayOnRooms z call _ v = ⊥
 
 -- the pass has the header locked, and the block is the header's
 pub record LocksBlock (h : ℕ) (c : Class) (b : ℕ) (a : HeaderHolds) : Type 0 where
@@ -153,8 +170,8 @@ abbrev pub May : Sizes → ℕ → Step → PassState → Type 0
 May z call (load p) v = IsInside z p
 May z call (give_number k) v = MayGive z k v
 May z call (on_arena a) v = MayArena z a v.blocks
-May z call (on_headers x) v = MayOnHeaders z x v
-May z call (on_rooms x) v = MayOnRooms z x v
+May z call (on_headers x) v = MayOnHeaders z x v × MayEnd call x v
+May z call (on_rooms x) v = MayOnRooms z call x v
 May z call (store_locked h c b k x) v = MayStoreLocked h c b k x v.headers
 May z call (note_full lack began) v = Lacks z call lack began (length v.findings.met) v.findings
 
@@ -208,10 +225,20 @@ state_after z call (on_arena a) s v =
     record (noted (finding z call (in_arena (arena_spot a)) (arena_found a n) (arena_effect a n) s.words v) v) { blocks = blocks_after (memory z s.words).arena.bytes a n v.blocks }
 state_after z call (on_headers x) s v =
     let n = found z (on_headers x) s in let m = memory z s.words in
-    record (noted (finding z call (in_headers (header_spot x)) (header_found x n) (header_effect x n) s.words v) v) { blocks = blocks_with x m v.blocks; headers = headers_after m.headers (content m.arena.bytes) x v.headers }
+    record v {
+      findings = record v.findings { met = v.findings.met ++ finding z call (in_headers (header_spot x)) (header_found x n) (header_effect x n) s.words v ∷ []; sights = sights_by_header call x m (map knowledge_of s.states) v; gones = gones_by_header call x m v };
+      knowledge = knows_by_header call x m (map knowledge_of s.states) v;
+      blocks = blocks_with x m v.blocks;
+      headers = headers_keyed m.headers x v.knowledge (headers_after m.headers (content m.arena.bytes) x v.headers);
+    }
 state_after z call (on_rooms x) s v =
     let n = found z (on_rooms x) s in let m = memory z s.words in
-    record (noted (finding z call (in_rooms (room_spot x)) (room_found x n) (room_effect x n) s.words v) v) { blocks = blocks_by_room x m v.blocks; rooms = rooms_after z m.rooms (content m.arena.bytes) x v.rooms }
+    record (noted (finding z call (in_rooms (room_spot x)) (room_found x n) (room_effect x n) s.words v) v) {
+      knowledge = knows_by_room call x m (map knowledge_of s.states) v;
+      blocks = blocks_by_room x m v.blocks;
+      headers = headers_by_room x m v;
+      rooms = rooms_after z m.rooms (content m.arena.bytes) x v.rooms;
+    }
 state_after z call (store_locked h c b k x) s v = record (noted (finding z call (in_arena (at_bytes (class_number c) b k)) None x s.words v) v) { headers = record v.headers { held = reworded h k x v.headers.held } }
 state_after z call (note_full lack began) s v = let n = found z (note_full lack began) s in full_state call lack (finding z call at_given (Some n) n s.words v) v
 

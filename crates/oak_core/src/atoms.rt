@@ -161,3 +161,22 @@ pub(crate) fn exchange_said<T: Said>(
         .shared
         .compare_exchange::<Says<T>>(&mut pass.seat, word, old, new)
 }
+
+/// Exchanges as [`exchange_said`] does; what it tells may name the kind of the write that the step may be.
+pub(crate) fn exchange_of_kind<T: Said>(
+    table: &OakTable,
+    pass: &mut Pass,
+    word: usize,
+    old: u64,
+    new: u64,
+    kind: Kind,
+) -> u64
+    requires own { IsPassOf table.now pass.old }
+    requires inside { word < table.now.table.shared.table_id.words }
+    requires rule { Allows (Holds (key table.now)) table.now.table.shared.table_id.slots pass.old.seat.id pass.old.seat.me word (λ n. either (n == old) new n) (λ n m. T.told n m.0 × KeepsSeat pass.old.seat.me m) }
+    ensures own { Stays pass.old pass.new }
+    ensures told { T.told result (state pass.new) }
+{
+    let _ = kind;
+    exchange_said::<T>(table, pass, word, old, new)
+}

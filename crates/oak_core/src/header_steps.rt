@@ -4,6 +4,7 @@ ghost use Rattle.header_core.specs.declared.holds.HeldAs.{HeldAs};
 ghost use Rattle.pin_word.specs.PinWord.{STATE};
 ghost use Rattle.header_core.specs.HeaderStep.{open_header, pin_header, unpin_header, release_header, lock_header, unlock_header, mark_dead, take_back};
 ghost use Rattle.oak_core.specs.HeaderCalls.{HeaderField, field_step, NamesPin, NamesClaim, NamesField, NamesRelease, NamesLock, Claims, StoresField, Opens, Pins, Unpins, Releases, Locks, Unlocks, MarksDead, TakesBack};
+ghost use Rattle.oak_core.specs.MayWrite.{MayEnd};
 ghost use Rattle.oak_core.specs.Step.{MayOnHeaders};
 ghost use Rattle.oak_core.specs.Passes.{IsPassOf, Stays, state, key, call_of};
 
@@ -98,22 +99,23 @@ pub fn lock_header(table: &OakTable, pass: &mut Pass, word: u32, old: u64, new: 
     exchange_said::<Brand>(table, pass, pin_word, old, new)
 }
 
-/// Unlocks a header that the pass has locked: `word` is its pin word, and `operand` one state. Where it
-/// was changed under the lock, this is a write of the kind.
+/// Unlocks a header that the pass has locked: `word` is its pin word, and `operand` one state. Where its
+/// stamp was raised under the lock, this is a write of the kind, and the bytes that stand in its block
+/// are those that a call of the kind makes of those at the lock. Else all of it is as it was at the lock.
 pub fn unlock_header(table: &OakTable, pass: &mut Pass, word: u32, operand: u64, kind: Kind) -> u64
     requires own { IsPassOf table.now pass.old }
-    requires names { (h : ℕ) × NamesPin (key table.now) h word × (operand ≡ STATE) × MayOnHeaders (key table.now) (unlock_header h kind) (state pass.old) }
+    requires names { (h : ℕ) × NamesPin (key table.now) h word × (operand ≡ STATE) × MayOnHeaders (key table.now) (unlock_header h kind) (state pass.old) × MayEnd (call_of pass.old) (unlock_header h kind) (state pass.old) }
     ensures own { Stays pass.old pass.new }
     ensures told { (h : ℕ) → NamesPin (key table.now) h word → Unlocks (key table.now) (call_of pass.old) h kind (state pass.old) result (state pass.new) }
 {
     sub_of_kind::<Brand>(table, pass, word as usize, operand, kind)
 }
 
-/// Marks a header dead that the pass has locked: `word` is its pin word, and `operand` one state. The
-/// pass buries the header then.
+/// Marks a header dead that the pass has locked, and whose stamp it raised by one: `word` is its pin
+/// word, and `operand` one state. This is the removal. The pass buries the header then.
 pub fn mark_dead(table: &OakTable, pass: &mut Pass, word: u32, operand: u64) -> u64
     requires own { IsPassOf table.now pass.old }
-    requires names { (h : ℕ) × NamesPin (key table.now) h word × (operand ≡ STATE) × MayOnHeaders (key table.now) (mark_dead h) (state pass.old) }
+    requires names { (h : ℕ) × NamesPin (key table.now) h word × (operand ≡ STATE) × MayOnHeaders (key table.now) (mark_dead h) (state pass.old) × MayEnd (call_of pass.old) (mark_dead h) (state pass.old) }
     ensures own { Stays pass.old pass.new }
     ensures told { (h : ℕ) → NamesPin (key table.now) h word → MarksDead (key table.now) (call_of pass.old) h (state pass.old) result (state pass.new) }
 {
@@ -121,11 +123,11 @@ pub fn mark_dead(table: &OakTable, pass: &mut Pass, word: u32, operand: u64) -> 
     add_said::<Brand>(table, pass, pin_word, operand)
 }
 
-/// Takes a header back that the pass buries: `word` is its pin word, and `operand` what makes it free at
+/// Takes a header back that the pass buries, and that no entry names any more: `word` is its pin word, and `operand` what makes it free at
 /// the next generation, or retired where that is the last. The pass holds its block again.
 pub fn take_back(table: &OakTable, pass: &mut Pass, word: u32, operand: u64) -> u64
     requires own { IsPassOf table.now pass.old }
-    requires names { (h : ℕ) × NamesPin (key table.now) h word × MayOnHeaders (key table.now) (take_back h operand) (state pass.old) }
+    requires names { (h : ℕ) × NamesPin (key table.now) h word × MayOnHeaders (key table.now) (take_back h operand) (state pass.old) × MayEnd (call_of pass.old) (take_back h operand) (state pass.old) }
     ensures own { Stays pass.old pass.new }
     ensures told { (h : ℕ) → NamesPin (key table.now) h word → TakesBack (key table.now) (call_of pass.old) h operand (state pass.old) result (state pass.new) }
 {

@@ -1,19 +1,20 @@
 //! The steps on the words of the rooms, which callers find in [`crate::steps`].
 ghost use Rattle.std.specs.Prelude.{◌≡◌, ℕ};
-ghost use Rattle.chunk_core.specs.RoomStep.{EntryField, pin_room, unpin_room, latch_room, store_entry, publish_entry, unlatch_room};
-ghost use Rattle.oak_core.specs.RoomCalls.{NamesRoomPin, NamesLatch, NamesEntryWord, NamesCount, PinsRoomWord, UnpinsRoomWord, TakesLatch, StoresEntry, PublishesEntry, GivesLatch};
+ghost use Rattle.chunk_core.specs.RoomStep.{EntryField, of_value, pin_room, unpin_room, latch_room, store_entry, publish_entry, unlatch_room, set_value, unlink_entry};
+ghost use Rattle.oak_core.specs.RoomCalls.{NamesRoomPin, NamesLatch, NamesEntryWord, NamesCount, PinsRoomWord, UnpinsRoomWord, TakesLatch, StoresEntry, PublishesEntry, GivesLatch, SetsValueWord, UnlinksEntryWord};
 ghost use Rattle.oak_core.specs.Step.{MayOnRooms};
 ghost use Rattle.oak_core.specs.Passes.{IsPassOf, Stays, state, key, call_of};
 
-use crate::atoms::{add_said, exchange_said, store_said, sub_said};
+use crate::atoms::{add_said, exchange_of_kind, exchange_said, store_said, sub_said};
 use crate::table::{OakTable, Pass};
+use oak_model::Kind;
 use std::marker::Brand;
 
 /// Pins a room, and sees its base and its bounds: `word` is its pin word, and `operand` one pin. A pass
 /// has one pin on a room at most.
 pub fn pin_room(table: &OakTable, pass: &mut Pass, word: u32, operand: u64) -> u64
     requires own { IsPassOf table.now pass.old }
-    requires names { (r : ℕ) × NamesRoomPin (key table.now) r word × (operand ≡ 1) × MayOnRooms (key table.now) (pin_room r) (state pass.old) }
+    requires names { (r : ℕ) × NamesRoomPin (key table.now) r word × (operand ≡ 1) × MayOnRooms (key table.now) (call_of pass.old) (pin_room r) (state pass.old) }
     ensures own { Stays pass.old pass.new }
     ensures told { (r : ℕ) → NamesRoomPin (key table.now) r word → PinsRoomWord (key table.now) (call_of pass.old) r (state pass.old) result (state pass.new) }
 {
@@ -24,7 +25,7 @@ pub fn pin_room(table: &OakTable, pass: &mut Pass, word: u32, operand: u64) -> u
 /// `operand` one pin.
 pub fn unpin_room(table: &OakTable, pass: &mut Pass, word: u32, operand: u64) -> u64
     requires own { IsPassOf table.now pass.old }
-    requires names { (r : ℕ) × NamesRoomPin (key table.now) r word × (operand ≡ 1) × MayOnRooms (key table.now) (unpin_room r) (state pass.old) }
+    requires names { (r : ℕ) × NamesRoomPin (key table.now) r word × (operand ≡ 1) × MayOnRooms (key table.now) (call_of pass.old) (unpin_room r) (state pass.old) }
     ensures own { Stays pass.old pass.new }
     ensures told { (r : ℕ) → NamesRoomPin (key table.now) r word → UnpinsRoomWord (key table.now) (call_of pass.old) r (state pass.old) result (state pass.new) }
 {
@@ -35,7 +36,7 @@ pub fn unpin_room(table: &OakTable, pass: &mut Pass, word: u32, operand: u64) ->
 /// word, `old` 0 and `new` 1. The pass has the latch where 0 was found. A pass has one latch at most.
 pub fn latch(table: &OakTable, pass: &mut Pass, word: u32, old: u64, new: u64) -> u64
     requires own { IsPassOf table.now pass.old }
-    requires names { (r : ℕ) × NamesLatch (key table.now) r word × (old ≡ 0) × (new ≡ 1) × MayOnRooms (key table.now) (latch_room r) (state pass.old) }
+    requires names { (r : ℕ) × NamesLatch (key table.now) r word × (old ≡ 0) × (new ≡ 1) × MayOnRooms (key table.now) (call_of pass.old) (latch_room r) (state pass.old) }
     ensures own { Stays pass.old pass.new }
     ensures told { (r : ℕ) → NamesLatch (key table.now) r word → TakesLatch (key table.now) (call_of pass.old) r (state pass.old) result (state pass.new) }
 {
@@ -45,7 +46,7 @@ pub fn latch(table: &OakTable, pass: &mut Pass, word: u32, old: u64, new: u64) -
 /// Stores a number to `word`, a word of the entry past the count of a room whose latch the pass has.
 pub fn store_entry(table: &OakTable, pass: &mut Pass, word: u32, value: u64)
     requires own { IsPassOf table.now pass.old }
-    requires names { (f : EntryField) × (r : ℕ) × (i : ℕ) × NamesEntryWord (key table.now) f r i word × MayOnRooms (key table.now) (store_entry f r i value) (state pass.old) }
+    requires names { (f : EntryField) × (r : ℕ) × (i : ℕ) × NamesEntryWord (key table.now) f r i word × MayOnRooms (key table.now) (call_of pass.old) (store_entry f r i value) (state pass.old) }
     ensures own { Stays pass.old pass.new }
     ensures told { (f : EntryField) (r i : ℕ) → NamesEntryWord (key table.now) f r i word → StoresEntry (key table.now) (call_of pass.old) f r i value (state pass.old) (state pass.new) }
 {
@@ -58,7 +59,7 @@ pub fn store_entry(table: &OakTable, pass: &mut Pass, word: u32, value: u64)
 /// the room's base, its floor. The block is the entry's from then on.
 pub fn publish_entry(table: &OakTable, pass: &mut Pass, word: u32, value: u64)
     requires own { IsPassOf table.now pass.old }
-    requires names { (r : ℕ) × NamesCount (key table.now) r word × MayOnRooms (key table.now) (publish_entry r value) (state pass.old) }
+    requires names { (r : ℕ) × NamesCount (key table.now) r word × MayOnRooms (key table.now) (call_of pass.old) (publish_entry r value) (state pass.old) }
     ensures own { Stays pass.old pass.new }
     ensures told { (r : ℕ) → NamesCount (key table.now) r word → PublishesEntry (key table.now) (call_of pass.old) r value (state pass.old) (state pass.new) }
 {
@@ -69,9 +70,40 @@ pub fn publish_entry(table: &OakTable, pass: &mut Pass, word: u32, value: u64)
 /// the entry past the count is lost to it, unless the entry was published.
 pub fn unlatch(table: &OakTable, pass: &mut Pass, word: u32, value: u64)
     requires own { IsPassOf table.now pass.old }
-    requires names { (r : ℕ) × NamesLatch (key table.now) r word × (value ≡ 0) × MayOnRooms (key table.now) (unlatch_room r) (state pass.old) }
+    requires names { (r : ℕ) × NamesLatch (key table.now) r word × (value ≡ 0) × MayOnRooms (key table.now) (call_of pass.old) (unlatch_room r) (state pass.old) }
     ensures own { Stays pass.old pass.new }
     ensures told { (r : ℕ) → NamesLatch (key table.now) r word → GivesLatch (key table.now) (call_of pass.old) r (state pass.old) (state pass.new) }
 {
     store_said::<Brand>(table, pass, word as usize, value);
+}
+
+/// Sets a header that the pass has fresh as the value of an entry that it found under a good pin, where
+/// the entry has no value: `word` is its value word, `old` the floor that it is, and `new` names the
+/// header. Where `old` was found, this is a write of the kind, and the header is the entry's from then on.
+pub fn set_value(
+    table: &OakTable,
+    pass: &mut Pass,
+    word: u32,
+    old: u64,
+    new: u64,
+    kind: Kind,
+) -> u64
+    requires own { IsPassOf table.now pass.old }
+    requires names { (r : ℕ) × (i : ℕ) × NamesEntryWord (key table.now) of_value r i word × MayOnRooms (key table.now) (call_of pass.old) (set_value r i old new kind) (state pass.old) }
+    ensures own { Stays pass.old pass.new }
+    ensures told { (r i : ℕ) → NamesEntryWord (key table.now) of_value r i word → SetsValueWord (key table.now) (call_of pass.old) r i old new kind (state pass.old) result (state pass.new) }
+{
+    exchange_of_kind::<Brand>(table, pass, word as usize, old, new, kind)
+}
+
+/// Unlinks the header that the pass buries from the entry of its key, which it found under a good pin:
+/// `word` is the entry's value word, and `value` the stamp of the removal, its floor from then on.
+pub fn unlink(table: &OakTable, pass: &mut Pass, word: u32, value: u64)
+    requires own { IsPassOf table.now pass.old }
+    requires names { (r : ℕ) × (i : ℕ) × NamesEntryWord (key table.now) of_value r i word × MayOnRooms (key table.now) (call_of pass.old) (unlink_entry r i value) (state pass.old) }
+    ensures own { Stays pass.old pass.new }
+    ensures told { (r i : ℕ) → NamesEntryWord (key table.now) of_value r i word → UnlinksEntryWord (key table.now) (call_of pass.old) r i value (state pass.old) (state pass.new) }
+{
+    let value_word = word as usize;
+    store_said::<Brand>(table, pass, value_word, value);
 }

@@ -12,7 +12,9 @@ pub use crate::header_steps::{
     claim_header, lock_header, mark_dead, open_header, pin_header, release_header, store_field,
     take_back, unlock_header, unpin_header,
 };
-pub use crate::room_steps::{latch, pin_room, publish_entry, store_entry, unlatch, unpin_room};
+pub use crate::room_steps::{
+    latch, pin_room, publish_entry, set_value, store_entry, unlatch, unlink, unpin_room,
+};
 use crate::table::{OakTable, Pass};
 use std::marker::Brand;
 

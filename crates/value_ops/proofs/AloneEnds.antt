@@ -24,9 +24,9 @@ use Rattle.oak_core.proofs.HeaderStanding.{small_pin}
 use Rattle.oak_core.proofs.Words.{memory_read, memory_set}
 use Rattle.value_ops.specs.AloneLocks.{pin_in, put_pin, put_place, stamp_in, put_stamp, IsLockedIn, IsDeadIn, UnlocksPin, WritesWords, BuriesWords, ChangesWord, RenewsPin}
 use Rattle.value_ops.specs.Claiming.{pin_spot}
-use Rattle.value_ops.specs.UnderLock.{HasLock, HasBuried, next_stamp, StoresNext, WritesOver, GivesUp, Buries, Exchanges, Renews}
+use Rattle.value_ops.specs.UnderLock.{HoldsLock, HasLock, HasBuried, next_stamp, StoresNext, WritesOver, GivesUp, Buries, Exchanges, Renews}
 use Rattle.value_ops.proofs.AloneSteps.{DoesAt, LoadsAt, load_does, header_does}
-use Rattle.value_ops.proofs.ComesFurther.{header_loaded, buried_met}
+use Rattle.value_ops.proofs.ComesFurther.{holds_lock, place_loaded, stamp_loaded, buried_met}
 use Rattle.value_ops.proofs.HeldValues.{state_is, generation_at}
 use Rattle.value_ops.proofs.RenewFacts.{room}
 use Rattle.value_ops.proofs.StampStores.{stored_since, is_stamped}
@@ -58,7 +58,7 @@ module _ (z : Sizes) (words : List ℕ) (v : PassState) (m : Moment z words v) (
   is_now : (state_of (pin_in z h words) ≡ t) × (generation_of (pin_in z h words) ≡ g)
   is_now = (state_is z table m.rule m.seat v m.here h t above low held, generation_at z table m.rule m.seat v m.here h t above low held ∙ generation)
 
-locked_now : (z : Sizes) (words : List ℕ) (v : PassState) → Moment z words v → (h g : ℕ) → HasLock z h g v → IsLockedIn z h g words
+locked_now : (z : Sizes) (words : List ℕ) (v : PassState) → Moment z words v → (h g : ℕ) → HoldsLock z h g v → IsLockedIn z h g words
 locked_now z words v m h g l = is_now z words v m h LOCKED g (omega arith) (omega arith) l.locked l.generation
 
 pin_small : (z : Sizes) (words : List ℕ) (v : PassState) → Moment z words v → (h : ℕ) → pin_in z h words < 2 ^ 64
@@ -94,14 +94,14 @@ record StampsAndEnds (z : Sizes) (h g stamp : ℕ) (f : ℕ → ℕ) (before aft
   pub becomes : after ≡ put_pin z h (f (pin_in z h before)) (put_stamp z h stamp before)
 
 module _ (z : Sizes) (call h g : ℕ) where
-  frees : (kind : Kind) (v : PassState) (n : ℕ) (w : PassState) → HasLock z h g v → Unlocks z call h kind v n w → Runs (Ends z h g (λ k. k - STATE)) v w
+  frees : (kind : Kind) (v : PassState) (n : ℕ) (w : PassState) → HoldsLock z h g v → Unlocks z call h kind v n w → Runs (Ends z h g (λ k. k - STATE)) v w
   frees kind v n w l t = let x = unlock_header h kind in runs_as (DoesAt z (on_headers x) v n) (Ends z h g (λ k. k - STATE)) v w
       (λ a b d. let is = locked_now z a v d.moment h g l in record {
         locked = is;
         becomes = pin_becomes z h l.inside x refl v n a b d ∙ ap (λ (k : ℕ). put_pin z h k a) (less (pin_in z h a) is.0 (pin_small z a v d.moment h));
       }) (header_does z call x v n w t)
 
-  marks : (v : PassState) (n : ℕ) (w : PassState) → HasLock z h g v → MarksDead z call h v n w → Runs (Ends z h g (λ k. k + STATE)) v w
+  marks : (v : PassState) (n : ℕ) (w : PassState) → HoldsLock z h g v → MarksDead z call h v n w → Runs (Ends z h g (λ k. k + STATE)) v w
   marks v n w l t = let x = mark_dead h in runs_as (DoesAt z (on_headers x) v n) (Ends z h g (λ k. k + STATE)) v w
       (λ a b d. let is = locked_now z a v d.moment h g l in record {
         locked = is;
@@ -120,14 +120,14 @@ module _ (z : Sizes) (call h g : ℕ) where
       (load_does z call (index z (in_headers (at_stamp h))) s.number v s.between (in_headers (at_stamp h)) inside refl s.loads) (header_does z call x s.between s.stores.0 u s.stores.1))
 
   -- the lock is the pass's still
-  stamped_lock : (stamp : ℕ) (v u : PassState) → HasLock z h g v → StoresNext z call h stamp v u → HasLock z h g u
-  stamped_lock stamp v u l s = let met = header_loaded z call (index z (in_headers (at_stamp h))) s.number v s.between (at_stamp h) l.inside refl s.loads in
-      (is_stamped z call h g v l stamp u (stored_since z call h g stamp v s.between u l met s.stores.1.may.headers.1 s.stores)).lock
+  stamped_lock : (stamp : ℕ) (v u : PassState) → HasLock z h g v → StoresNext z call h stamp v u → HoldsLock z h g u
+  stamped_lock stamp v u l s = let met = stamp_loaded z call (index z (in_headers (at_stamp h))) s.number v s.between h l.inside refl l.locked s.loads in
+      (is_stamped z call h g v l stamp u (stored_since z call h g stamp v s.between u l met s.stores.1.may.0.headers.1 s.stores)).lock
 
   both : (stamp : ℕ) (f : ℕ → ℕ) (v u w : PassState) → HasLock z h g v → Runs (Stamps z h stamp v) v u → Runs (Ends z h g f) u w → Runs (StampsAndEnds z h g stamp f) v w
   both stamp f v u w l first second = runs_as (Then (Stamps z h stamp v) (Ends z h g f)) (StampsAndEnds z h g stamp f) v w
       (λ a b d. let same : pin_in z h d.0 ≡ pin_in z h a = ap (pin_in z h) d.1.becomes ∙ pin_stays z a v d.1.moment h stamp l.inside in record {
-        locked = locked_now z a v d.1.moment h g l;
+        locked = locked_now z a v d.1.moment h g (holds_lock z h g v l);
         next = d.1.next;
         becomes = d.2.becomes ∙ (λ i. put_pin z h (f (same i)) (d.1.becomes i));
       }) (runs_then (Stamps z h stamp v) (Ends z h g f) v u w first second)
@@ -141,7 +141,7 @@ module _ (z : Sizes) (call h g : ℕ) where
       (both stamp (λ n. n + STATE) v o.stamped w l (stamps stamp v o.stamped l.inside o.stores) (marks o.stamped o.number w (stamped_lock stamp v o.stamped l o.stores) o.told))
 
   pub gives_up_alone : (stamp : ℕ) (v w : PassState) → GivesUp z call h g stamp v w → HasLock z h g v → Runs (UnlocksPin z h g) v w
-  gives_up_alone stamp v w e l = runs_as (Ends z h g (λ n. n - STATE)) (UnlocksPin z h g) v w (λ a b d. record { locked = d.locked; becomes = d.becomes }) (frees Put v e.number w l e.told)
+  gives_up_alone stamp v w e l = runs_as (Ends z h g (λ n. n - STATE)) (UnlocksPin z h g) v w (λ a b d. record { locked = d.locked; becomes = d.becomes }) (frees Put v e.ends.number w (holds_lock z h g v l) e.ends.told)
 
   pub changes_alone : (c : Class) (b len : ℕ) (o : Class) (n : ℕ) (v w : PassState) → h < z.headers → Exchanges z call h c b len o n v w → Runs (ChangesWord z h c b len o n) v w
   changes_alone c b len o n v w inside e = let x = change_place h (place_word (class_number c) b len) in let p = in_headers (at_place h) in let k = place_held h v.headers.held in
@@ -156,7 +156,7 @@ module _ (z : Sizes) (call h g : ℕ) where
 
   pub renews_alone : (stamp : ℕ) (o : Class) (n : ℕ) (v w : PassState) → HasBuried z h g stamp v → Renews z call h g o n v w → Runs (RenewsPin z h g o n) v w
   renews_alone stamp o n v w has e = let x = take_back h (renewal g) in let p = in_headers (at_place h) in let k = place_held h v.headers.held in
-      let met = header_loaded z call (index z p) k v e.between (at_place h) has.inside refl e.loads in
+      let met = place_loaded z call (index z p) k v e.between h has.inside refl e.loads in
       let now = buried_met z call v e.between met h g stamp has in let few = room z call h g stamp v e.between has met e.number w e.told in
       runs_as (Then (LoadsAt z p v k) (DoesAt z (on_headers x) e.between e.number)) (RenewsPin z h g o n) v w
       (λ a b d. let is = is_now z d.0 e.between d.2.moment h DEAD g (omega arith) (omega arith) now.buried now.generation in

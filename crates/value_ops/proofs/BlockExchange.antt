@@ -36,6 +36,7 @@ use Rattle.value_ops.proofs.FillFacts.{fits_class, is_place}
 use Rattle.value_ops.proofs.HeldParts.{changed_generation}
 use Rattle.value_ops.proofs.HeldValues.{place_at, block_at, has_it, block_inside, class_low}
 use Rattle.arena_core.proofs.HeldWords.{held_words}
+use Rattle.value_ops.proofs.LockRows.{lock_row_mapped}
 
 -- who has a block in front holds it
 pub holds_front : (z : Sizes) (c b : ℕ) (o : HeldBlock) (os : List HeldBlock) (a : HeldBlocks) → a.held ≡ o ∷ os → class_number o.class ≡ c → o.number ≡ b → b < blocks z c → HoldsBlock z c b a
@@ -136,4 +137,6 @@ module _ (z : Sizes) (call h g : ℕ) (c : Class) (b len : ℕ) (v u : PassState
       inside = lock.inside;
       locked = subst (λ (y : PassState). 0 < in_state h LOCKED y.headers) (sym came.after) (let k = rows_changed h x ws h LOCKED rs in let l = locked.locked in omega arith);
       generation = ap (generation_held h) (headers_come z call held_then headers_then u w came) ∙ (changed_generation h x ws rs ∙ locked.generation);
+      row = lock_row_mapped (λ (r : HeldHeader). record r { place = cond (r.header == h) x r.place; words = cond (r.header == h) ws r.words }) (λ _. refl) h rs w.headers.held (headers_come z call held_then headers_then u w came) locked.row refl;
+      unstamped = locked.unstamped;
     }

@@ -28,7 +28,7 @@ use Rattle.oak_core.proofs.MetMore.{grown_twice, grown_none, told_of}
 use Rattle.oak_core.proofs.Words.{index_apart, memory_read, header_before}
 use Rattle.value_ops.specs.Claiming.{NoneFree, OwnsPin, pin_spot, FoundPin, FoundUnfree, FoundTwice, Looked, ClaimsHeader}
 use Rattle.value_ops.proofs.ExchangeFacts.{met_word, word_is, hit, missed}
-use Rattle.oak_core.proofs.PlainLoads.{met_in_front, met_at}
+use Rattle.oak_core.proofs.PlainLoads.{met_at}
 
 pub free_word : (n : ℕ) → is_free n ≡ true → IsFreeWord n
 free_word n e = let b = both_true (state_of n == FREE) (count_of n == 0) e in record { state = eqb-true (state_of n) FREE b.0; count = eqb-true (count_of n) 0 b.1 }
@@ -40,9 +40,9 @@ is_free-word n f = true_both (state_of n == FREE) (count_of n == 0) (eq-eqb (sta
 generations_apart : (n k : ℕ) → IsFreeWord n → IsFreeWord k → k ≢ n → generation_of n ≢ generation_of k
 generations_apart n k f g ne e = ne (sym (parts_equal n k e (f.state ∙ sym g.state) (f.count ∙ sym g.count)))
 
--- a load alone finds nothing
-pub loaded : (z : Sizes) (call word n : ℕ) (v w : PassState) → word < rooms_at z → Loads z call word v n w → Looked z call v w (λ k. ⊥)
-loaded z call word n v w front l = record { more = finding z call l.spot (Some n) n l.told.table.words v ∷ []; after = met_in_front z call word n v w front l; looks = ((refl, subst (λ (i : ℕ). i < rooms_at z) (sym l.at) front, refl), tt); found = λ k lk p. absurd p; still = runs_as (λ a b. (n ≡ get_or a (index z l.spot) 0) × (b ≡ a)) (NoneFree z (λ k. ⊥)) v w (λ a b d. (d.1, λ h lh p. absurd p)) (load_runs z call l.spot v n w l.told) }
+-- a load of a pin word alone finds nothing
+pub loaded : (z : Sizes) (call word n h : ℕ) (v w : PassState) → h < z.headers → word ≡ index z (pin_spot h) → Loads z call word v n w → Looked z call v w (λ k. ⊥)
+loaded z call word n h v w inside is l = record { more = finding z call l.spot (Some n) n l.told.table.words v ∷ []; after = met_at z call word n v w (pin_spot h) inside tt is l; looks = ((refl, subst (λ (i : ℕ). i < rooms_at z) (sym (l.at ∙ is)) (header_before z (at_pin h) inside), refl), tt); found = λ k lk p. absurd p; still = runs_as (λ a b. (n ≡ get_or a (index z l.spot) 0) × (b ≡ a)) (NoneFree z (λ k. ⊥)) v w (λ a b d. (d.1, λ h lh p. absurd p)) (load_runs z call l.spot v n w l.told) }
 
 module _ (z : Sizes) (call h : ℕ) (inside : h < z.headers) where
   abbrev Unfree : PassState → List Finding → Type 0

@@ -41,7 +41,7 @@ freed_word Buried n e lt = omega arith
 module _ (z : Sizes) (call h : ℕ) (s : HeldAs) (v : PassState) (n : ℕ) (w : PassState) (t : Releases z call h s v n w) where
   was : state_of n ≡ held_state s
   was = let low = held_low s in ap state_of (sym (pin_found z call (release_header h s) h refl v n w t))
-      ∙ held_is (memory z t.table.words).headers (content (memory z t.table.words).arena.bytes) IsPlace (knows t.table) (map headers_held t.table.states) (stand z t.table t.seat v t.rule t.here) t.seat v.headers h (held_state s) (at_headers z t.table t.seat v t.rule t.here) low.0 low.1 t.may.headers.0
+      ∙ held_is (memory z t.table.words).headers (content (memory z t.table.words).arena.bytes) IsPlace (knows t.table) (map headers_held t.table.states) (stand z t.table t.seat v t.rule t.here) t.seat v.headers h (held_state s) (at_headers z t.table t.seat v t.rule t.here) low.0 low.1 t.may.0.headers.0
 
   pub frees : Runs (FreesPin z h (held_state s)) v w
   frees = pin_changes z call (release_header h s) h refl v n w t (λ k. state_of k ≡ held_state s) (λ k. k - held_state s * STATE) was (freed_word s n was (small z call (release_header h s) h refl v n w t))
@@ -55,7 +55,7 @@ releases_owned z call h v n w t = record {
   told = t;
   freed = freed z call h Owned v n w t;
   more = finding z call (pin_spot h) _ _ t.table.words v ∷ [];
-  calls = ((refl, header_before z (at_pin h) t.may.inside), tt);
+  calls = ((refl, header_before z (at_pin h) t.may.0.inside), tt);
   still = frees z call h Owned v n w t;
   after = t.after;
 }

@@ -6,6 +6,7 @@ pub mod FreedFacts
 pub mod FillFacts
 pub mod FillRuns
 pub mod FillSteps
+pub mod FilledRows
 pub mod WithdrawFacts
 pub mod LackedHeaders
 pub mod OneHeaderLaws
@@ -35,3 +36,11 @@ pub mod AloneEnds
 pub mod AloneWords
 pub mod AloneRewrites
 pub mod StandingPins
+pub mod LockRows
+pub mod LockedLoads
+pub mod LockEndings
+pub mod LockWrites
+pub mod LearnFacts
+pub mod ReadFacts
+pub mod ReadRounds
+pub mod ViewFacts

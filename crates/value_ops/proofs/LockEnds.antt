@@ -65,7 +65,7 @@ module _ (z : Sizes) (call h g stamp : ℕ) (v w : PassState) where
       let one = one_more o.stamped.findings.met w.findings.met (of_step z call (mark_dead h) o.stamped o.number w o.told) (step_met z call (mark_dead h) o.stamped o.number w o.told) in omega arith
 
   pub given_up_met : GivesUp z call h g stamp v w → length w.findings.met ≡ length v.findings.met + 1
-  given_up_met e = one_more v.findings.met w.findings.met (of_step z call (unlock_header h Put) v e.number w e.told) (step_met z call (unlock_header h Put) v e.number w e.told)
+  given_up_met g = let e = g.ends in one_more v.findings.met w.findings.met (of_step z call (unlock_header h Put) v e.number w e.told) (step_met z call (unlock_header h Put) v e.number w e.told)
 
   -- the finding of the step that ended the lock has the words that stand behind it
   pub ended_words : (kind : Kind) (before : PassState) (e : EndsLock z call h g kind stamp before v w) → (f : Finding) × (w.findings.met ≡ before.findings.met ++ f ∷ []) × (f.words ≡ (table_behind z call (unlock_header h kind) before e.number w e.told).words) × (f.word ≡ index z (in_headers (at_pin h)))

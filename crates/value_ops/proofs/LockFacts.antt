@@ -1,33 +1,39 @@
 -- What a try to lock a header tells.
-use Rattle.std.proofs.Common.{◌≡◌, ◌≢◌, ◌⊎◌, ℕ, ◌+◌, ◌<◌, ◌==◌, ◌&&◌, true, false, Bool, cond, [], ◌∷◌, sym, refl, ap, ◌∙◌, subst, inl, inr, ⊎_elim, arith, Some, None, eqb-true, eq-eqb}
+use Rattle.std.proofs.Common.{◌≡◌, ◌≢◌, ◌⊎◌, ℕ, ◌+◌, ◌<◌, ◌==◌, ◌&&◌, true, false, Bool, cond, [], ◌∷◌, sym, refl, ap, ◌∙◌, subst, inl, inr, ⊎_elim, arith, Some, None, eqb-true, eq-eqb, map, ◌++◌, append_assoc}
 use mathlib.Core.Logic.{dite}
 use native.Mathlib.Decide.{ℕ_discrete, dec_lt}
 use Rattle.pin_word.specs.PinWord.{generation_of, state_of, count_of}
 use Rattle.oak_model.specs.Limits.{Sizes}
-use Rattle.oak_model.proofs.Counting.{both_true, test-cases}
+use Rattle.oak_model.proofs.Counting.{both_true, test-cases, total_at}
 use Rattle.arena_core.specs.Place.{content}
 use Rattle.header_core.specs.declared.states.TheConstants.{LIVE, LOCKED, DEAD}
-use Rattle.header_core.specs.declared.holds.HeldHeader.{HeldHeader}
 use Rattle.header_core.specs.Headers.{at_pin}
 use Rattle.header_core.specs.HeaderHolds.{fresh_at}
-use Rattle.header_core.specs.HeaderStep.{IsLiveWord, lock_header, locked_at}
+use Rattle.header_core.specs.HeaderStep.{IsLiveWord, lock_header, locked_at, header_effect}
 use Rattle.oak_core.specs.declared.states.Finding.{Finding}
 use Rattle.oak_core.specs.declared.states.PassState.{PassState}
-use Rattle.oak_core.specs.Finding.{finding, grown, noted, IsOf}
+use Rattle.oak_core.specs.Finding.{finding, grown, IsOf}
 use Rattle.oak_core.specs.HeaderCalls.{Locks}
 use Rattle.oak_core.specs.Known.{knows_life}
 use Rattle.oak_core.specs.Memory.{Memory, rooms_at, index, memory}
 use Rattle.oak_core.specs.Splitting.{Loads}
-use Rattle.oak_core.specs.Step.{on_headers, MayOnHeaders}
-use Rattle.value_ops.specs.Claiming.{pin_spot}
+use Rattle.oak_core.specs.Step.{on_headers, MayOnHeaders, found}
+use Rattle.value_ops.specs.Claiming.{pin_spot, holds_header}
 use Rattle.value_ops.specs.declared.locking.NoLock.TheVariants.{Busy, Dead}
 use Rattle.value_ops.specs.Locking.{LocksHeader, may_lock, IsDeadAt, refusal, LooksOnce, IsBusy, IsNoLock, FindsNoLock}
-use Rattle.value_ops.proofs.ExchangeFacts.{met_word, word_is, hit, missed}
 use Rattle.value_ops.proofs.KnownStates.{IsInUse, known_state, known_free}
 use Rattle.value_ops.proofs.LoadFacts.{found_is}
 use Rattle.oak_core.proofs.Words.{header_before}
 use Rattle.oak_core.proofs.MetMore.{grown_twice, told_of}
 use Rattle.oak_core.proofs.PlainLoads.{met_at}
+use Rattle.value_ops.proofs.ComesFurther.{loads_learn}
+use Rattle.oak_core.proofs.LockTold.{word_found, lock_missed, lock_learns, lock_blocks, lock_rooms, lock_held}
+use Rattle.oak_core.proofs.CallSteps.{learns_both}
+use Rattle.oak_core.specs.LifeKeys.{key_known, key_or}
+use Rattle.oak_core.specs.PassState.{headers_held}
+use Rattle.header_core.proofs.HeldHeaders.{held_in}
+use Rattle.oak_model.specs.Counts.{total}
+use Rattle.oak_model.proofs.Lists.{at_map}
 
 -- what may be locked
 
@@ -102,14 +108,8 @@ module _ (z : Sizes) (call h g : ℕ) (inside : h < z.headers) (word n : ℕ) (v
       abbrev m : Memory
       m = memory z t.table.words
 
-      abbrev front : Memory → HeldHeader
-      front o = locked_at o.headers (content o.arena.bytes) h
-
-      abbrev met_now : Finding
-      met_now = met_word z call h inside n front k t.table.words u
-
       is_word : m.headers.pin h ≡ k
-      is_word = word_is z call h inside n front t.table k u w t.finds t.after
+      is_word = word_found z call h n u k w t
 
       in_use_now : generation_of k ≡ g → IsInUse (state_of k)
       in_use_now e = subst (λ (i : ℕ). IsInUse (state_of i)) is_word (known_state z t.table t.rule t.seat u t.here h g (ap generation_of is_word ∙ e) (let s = still_known in let known_now : 0 < fresh_at h g u.headers + knows_life h g u.knowledge = omega arith in known_now))
@@ -120,6 +120,9 @@ module _ (z : Sizes) (call h g : ℕ) (inside : h < z.headers) (word n : ℕ) (v
           (λ _ yes. let a = live_word k g yes in let b = live_word n g is_so in absurd (ne (one_word k n (a.0.state ∙ sym b.0.state) (a.0.count ∙ sym b.0.count) (a.1 ∙ sym b.1))))
           (λ _ _. refl) refl
 
+      abbrev met_now : Finding
+      met_now = finding z call (pin_spot h) (Some k) k t.table.words u
+
       -- the exchange found another word
       pub refused_second : k ≢ n → FindsNoLock z call h g (refusal k g) v w
       refused_second ne = record {
@@ -129,7 +132,7 @@ module _ (z : Sizes) (call h g : ℕ) (inside : h < z.headers) (word n : ℕ) (v
         cause = is_cause k g (busy_word k g (not_lockable ne) in_use_now);
         more = f ∷ met_now ∷ [];
         calls = (loaded_of, ((refl, header_before z (at_pin h) inside), tt));
-        after = missed z call h inside n front t.table k u w t.finds t.after ne ∙ (ap (grown (met_now ∷ [])) now_met ∙ grown_twice v (f ∷ []) (met_now ∷ []));
+        after = lock_missed z call h n u k w t ne ∙ (ap (grown (met_now ∷ [])) now_met ∙ grown_twice v (f ∷ []) (met_now ∷ []));
       }
 
       -- it found the same one, and the pass has the header locked
@@ -140,8 +143,17 @@ module _ (z : Sizes) (call h g : ℕ) (inside : h < z.headers) (word n : ℕ) (v
         abbrev told_hit : Locks z call h n u n w
         told_hit = record { table = t.table; seat = t.seat; rule = t.rule; here = t.here; going = t.going; may = t.may; finds = t.finds ∙ same; after = t.after }
 
-        abbrev with_lock : PassState → PassState
-        with_lock y = record (noted met_now y) { headers = record y.headers { held = front m ∷ y.headers.held } }
+        abbrev met_hit : Finding
+        met_hit = let i = found z (on_headers (lock_header h n)) t.table in finding z call (pin_spot h) (Some i) (header_effect (lock_header h n) i) t.table.words u
+
+        unheld : total (holds_header h) (map headers_held t.table.states) ≡ 0
+        unheld = let live = live_word n g is_so in known_free z t.table t.rule t.seat u t.here h g (ap generation_of is_seen ∙ live.1) still_known (ap state_of is_seen ∙ live.0.state)
+
+        none_held : held_in h u.headers.held ≡ 0
+        none_held = let e = unheld in let a = total_at (holds_header h) (map headers_held t.table.states) t.seat u.headers (at_map headers_held t.table.states t.seat u t.here) in omega arith
+
+        loaded_state : (P : PassState → Type 0) → P (grown (f ∷ []) v) → P u
+        loaded_state P p = subst P (sym now_met) p
 
         pub locks : LocksHeader z call h g v w
         locks = let live = live_word n g is_so in record {
@@ -151,10 +163,14 @@ module _ (z : Sizes) (call h g : ℕ) (inside : h < z.headers) (word n : ℕ) (v
           live = live.0;
           generation = live.1;
           told = told_of z call (on_headers (lock_header h n)) u (grown (f ∷ []) v) now_met n w told_hit;
-          unheld = known_free z t.table t.rule t.seat u t.here h g (ap generation_of is_seen ∙ live.1) still_known (ap state_of is_seen ∙ live.0.state);
+          unheld = unheld;
           unpinned = t.rule.headers.counted h ∙ (ap count_of is_seen ∙ live.0.count);
-          more = f ∷ met_now ∷ [];
+          more = f ∷ met_hit ∷ [];
           calls = (loaded_of, ((refl, header_before z (at_pin h) inside), tt));
-          after = hit z call h inside n front t.table k u w t.finds t.after same
-              ∙ (ap with_lock now_met ∙ ap (λ (y : PassState). record y { headers = record v.headers { held = front m ∷ v.headers.held } }) (grown_twice v (f ∷ []) (met_now ∷ [])));
+          met = ap (λ (y : PassState). y.findings.met) t.after ∙ (ap (λ (y : PassState). y.findings.met ++ met_hit ∷ []) now_met ∙ append_assoc v.findings.met (f ∷ []) (met_hit ∷ []));
+          learns = learns_both call v u w (loads_learn call v u f refl now_met) (lock_learns z call h n u k w t);
+          blocks = lock_blocks z call h n u k w t ∙ ap (λ (y : PassState). y.blocks) now_met;
+          rooms = lock_rooms z call h n u k w t ∙ ap (λ (y : PassState). y.rooms) now_met;
+          headers = lock_held z call h n u k w t same none_held
+              ∙ (λ i. record (now_met i).headers { held = record (locked_at m.headers (content m.arena.bytes) h) { key = key_or (key_known h (live.1 i) (now_met i).knowledge) } ∷ (now_met i).headers.held });
         }

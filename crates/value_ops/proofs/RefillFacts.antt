@@ -92,7 +92,7 @@ module _ (z : Sizes) (call h g first : ℕ) (v : PassState) (is : HasWords z h g
     }
 
     locked_by : HasLock z h g w
-    locked_by = lock_comes z h g call v.blocks.held (changed_at h x over rs) v w comes (rows_changed h x over h LOCKED rs) (changed_generation h x over rs) is.lock
+    locked_by = lock_comes z h g call v.blocks.held (λ (r : HeldHeader). record r { place = cond (r.header == h) x r.place; words = cond (r.header == h) over r.words }) (λ _. refl) (λ _. refl) (λ _. refl) v w comes (rows_changed h x over h LOCKED rs) (changed_generation h x over rs) is.lock
 
   module _ (w : PassState) (t : ChangesPlace z call h x u w) where
     abbrev m : Memory

@@ -1,5 +1,5 @@
 -- The words of a locked header's block, while bytes are stored over them word by word.
-use Rattle.std.proofs.Common.{◌≡◌, ℕ, suc, ◌+◌, ◌*◌, ◌/◌, ◌%◌, ◌<◌, ◌≤◌, min, List, ◌++◌, length, get_or, take, drop, sym, ap, ◌∙◌, subst, arith}
+use Rattle.std.proofs.Common.{◌≡◌, ℕ, suc, ◌+◌, ◌*◌, ◌/◌, ◌%◌, ◌<◌, ◌≤◌, min, List, ◌++◌, length, get_or, take, drop, sym, ap, ◌∙◌, subst, arith, ◌==◌, cond, refl}
 use Rattle.std.proofs.lemmas.List.{length-append, length-take, length-drop}
 use Rattle.std.proofs.Math.Nat.{min-eq_left}
 use lib.ListN.{set}
@@ -58,7 +58,7 @@ module _ (z : Sizes) (h g first : ℕ) (v : PassState) (is : HasWords z h g firs
   -- the pass has them still where it only met more, and where it has as many others
 
   pub words_met : (call : ℕ) (w : PassState) → LoadsMore z call v w → HasWords z h g first w
-  words_met call w met = subst (HasWords z h g first) (sym met.after) record { limits = is.limits; lock = record { inside = is.lock.inside; locked = is.lock.locked; generation = is.lock.generation }; block = is.block; first_is = is.first_is }
+  words_met call w met = subst (HasWords z h g first) (sym met.after) record { limits = is.limits; lock = record { inside = is.lock.inside; locked = is.lock.locked; generation = is.lock.generation; row = is.lock.row; unstamped = is.lock.unstamped }; block = is.block; first_is = is.first_is }
 
   pub some_held : 0 < held_in h rs
   some_held = let one = is.block.once in omega arith
@@ -74,7 +74,7 @@ module _ (z : Sizes) (h g first : ℕ) (v : PassState) (is : HasWords z h g firs
     words_now = ap (words_in h) held_now ∙ words_put h us rs some_held
 
     pub lock_now : HasLock z h g w
-    lock_now = lock_comes z h g call v.blocks.held (with_words h us rs) v w c (rows_put h us h LOCKED rs) (generation_put h us rs) is.lock
+    lock_now = lock_comes z h g call v.blocks.held (λ (r : HeldHeader). record r { words = cond (r.header == h) us r.words }) (λ _. refl) (λ _. refl) (λ _. refl) v w c (rows_put h us h LOCKED rs) (generation_put h us rs) is.lock
 
     pub words_still : length us ≡ length ws → HasWords z h g first w
     words_still long = record {

@@ -23,6 +23,8 @@ use Rattle.value_ops.specs.UnderLock.{ComesTo}
 use Rattle.value_ops.proofs.HeldValues.{words_at}
 use Rattle.value_ops.proofs.LoadFacts.{found_is}
 use Rattle.value_ops.proofs.ValueFacts.{bytes_small, spot_from}
+use Rattle.value_ops.proofs.ComesFurther.{loads_at}
+use Rattle.oak_core.specs.Finding.{LoadsMore}
 
 module _ (z : Sizes) (h g first : ℕ) (v : PassState) (is : HasWords z h g first v) where
   abbrev place : ℕ
@@ -49,6 +51,10 @@ module _ (z : Sizes) (h g first : ℕ) (v : PassState) (is : HasWords z h g firs
 
     pub word_before : first + i < rooms_at z
     word_before = let e = word_spot in let l = arena_before z (at_bytes c b i) (class_low, is.block.inside, word_inside) in omega arith
+
+    -- its load only meets more
+    pub word_met : (call n : ℕ) (w : PassState) → Loads z call (first + i) v n w → LoadsMore z call v w
+    word_met call n w l = loads_at z call (first + i) n v w (in_arena (at_bytes c b i)) (class_low, is.block.inside, word_inside) tt (arena_before z (at_bytes c b i) (class_low, is.block.inside, word_inside)) word_spot l
 
     pub word_small : first + i < 2 ^ 32
     word_small = let e = word_spot in let l = bytes_small z is.limits c b i class_low is.block.inside word_inside in omega arith

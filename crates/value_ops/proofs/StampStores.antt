@@ -1,5 +1,5 @@
 -- The stamp of a locked header, loaded, and stored before the lock ends.
-use Rattle.std.proofs.Common.{◌≡◌, ℕ, suc, ◌+◌, ◌-◌, ◌^◌, ◌<◌, ◌≤◌, nat_lt, cond, Bool, min, List, [], ◌∷◌, sym, refl, ap, ◌∙◌, subst, arith}
+use Rattle.std.proofs.Common.{◌≡◌, ℕ, suc, ◌+◌, ◌-◌, ◌^◌, ◌<◌, ◌≤◌, nat_lt, cond, Bool, min, List, [], ◌∷◌, sym, refl, ap, ◌∙◌, subst, arith, ◌==◌}
 use Rattle.std.proofs.lemmas.Bool.{ltb-true, ltb-false}
 use Rattle.oak_model.proofs.Counting.{test-cases}
 use Rattle.oak_model.specs.Limits.{Sizes}
@@ -20,12 +20,13 @@ use Rattle.oak_core.specs.Splitting.{Loads}
 use Rattle.oak_core.proofs.Words.{header_before}
 use Rattle.oak_core.specs.Step.{MayOnHeaders}
 use Rattle.value_ops.specs.HeldValue.{stamp_held, words_in}
-use Rattle.value_ops.specs.UnderLock.{HasBlock, HasLock, next_stamp, ComesTo}
-use Rattle.value_ops.proofs.ComesFurther.{comes_none, comes_as, headers_come, blocks_met, headers_met, comes_since, lock_met}
+use Rattle.value_ops.specs.UnderLock.{HasBlock, HasLock, next_stamp, ComesTo, HoldsLock}
+use Rattle.value_ops.proofs.ComesFurther.{comes_none, comes_as, headers_come, blocks_met, headers_met, comes_since, lock_met, holds_lock}
 use Rattle.value_ops.proofs.FillFacts.{stamped_place}
 use Rattle.value_ops.proofs.HeldParts.{stamped_words, stamped_generation, stamped_here, without_stamped}
 use Rattle.value_ops.proofs.HeldValues.{place_at, stamp_at, is_place, block_inside, words_long, once_at}
 use Rattle.value_ops.proofs.LoadFacts.{found_is}
+use Rattle.value_ops.proofs.LockRows.{lock_row_mapped}
 
 -- what is loaded of a header that the pass has in a state with a block
 module _ (z : Sizes) (call h t word n : ℕ) (v w : PassState) (inside : h < z.headers) (above : 2 ≤ t) (low : t < 5) (held : 0 < in_state h t v.headers) (l : Loads z call word v n w) where
@@ -64,7 +65,7 @@ next_is n small = test-cases (nat_lt n (2 ^ 64 - 1)) (λ (t : Bool). min (n + 1)
 
 -- The pass has the header locked still; the stamp is this one, and place, words and the other headers are as before.
 pub record IsStamped (z : Sizes) (call h g stamp : ℕ) (v w : PassState) : Type 0 where
-  pub lock : HasLock z h g w
+  pub lock : HoldsLock z h g w
   pub comes : ComesTo z call v.blocks.held w.headers.held v w
   pub stamp_is : stamp_held h w.headers.held ≡ stamp
   pub place_is : place_held h w.headers.held ≡ place_held h v.headers.held
@@ -79,6 +80,7 @@ module _ (z : Sizes) (call h g : ℕ) (v : PassState) (lock : HasLock z h g v) w
       inside = lock.inside;
       locked = subst (λ (y : PassState). 0 < in_state h LOCKED y.headers) (sym c.after) (let k = rows_stamped h x h LOCKED rs in let l = lock.locked in omega arith);
       generation = ap (generation_held h) e ∙ (stamped_generation h x rs ∙ lock.generation);
+      row = lock_row_mapped (λ (r : HeldHeader). record r { stamp = cond (r.header == h) x r.stamp }) (λ _. refl) h rs w.headers.held e lock.row refl;
     };
     comes = subst (λ (ks : List HeldHeader). ComesTo z call v.blocks.held ks v w) (sym e) c;
     stamp_is = ap (stamp_held h) e ∙ stamped_here h x rs (holds_some h LOCKED v.headers lock.locked);
@@ -89,4 +91,4 @@ module _ (z : Sizes) (call h g : ℕ) (v : PassState) (lock : HasLock z h g v) w
 
   -- and where none was
   pub as_stamped : IsStamped z call h g (stamp_held h v.headers.held) v v
-  as_stamped = record { lock = lock; comes = comes_none z call v; stamp_is = refl; place_is = refl; words_are = refl; others = refl }
+  as_stamped = record { lock = holds_lock z h g v lock; comes = comes_none z call v; stamp_is = refl; place_is = refl; words_are = refl; others = refl }

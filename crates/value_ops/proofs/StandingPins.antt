@@ -19,6 +19,7 @@ use Rattle.oak_core.specs.Rule.{Rule}
 use Rattle.oak_core.specs.Schedule.{Event, steps, splits, joins, Goes, IsSchedule}
 use Rattle.oak_core.specs.Step.{Step, load, give_number, on_arena, on_headers, on_rooms, store_locked, note_full, May, state_after}
 use Rattle.oak_core.specs.TableState.{TableState}
+use Rattle.oak_core.proofs.RoomPins.{pin_by_room}
 use Rattle.value_ops.specs.Readers.{StandsAt, KeepsBlock, IsUnpin, Undoes}
 use Rattle.value_ops.proofs.LoadFacts.{holds, live_block, block_owned}
 
@@ -41,7 +42,7 @@ header_step z call (store_place h x) s v p may is not_undone = is
 header_step z call (store_stamp h x) s v p may is not_undone = is
 header_step z call (change_place h x) s v p may is not_undone = is
 header_step z call (open_header h) s v p may is not_undone = is
-header_step z call (pin_header h g) s v p may is not_undone = let none = may.headers in cc
+header_step z call (pin_header h g) s v p may is not_undone = let none = may.0.headers in cc
 header_step z call (unpin_header h) s v p may is not_undone = absurd (not_undone tt)
 header_step z call (release_header h t) s v p may is not_undone = is
 header_step z call (lock_header h old) s v p may is not_undone = is
@@ -54,7 +55,7 @@ own_step z call (load q) s v p may is not_undone = is
 own_step z call (give_number k) s v p may is not_undone = is
 own_step z call (on_arena a) s v p may is not_undone = is
 own_step z call (on_headers x) s v p may is not_undone = header_step z call x s v p may is not_undone
-own_step z call (on_rooms x) s v p may is not_undone = is
+own_step z call (on_rooms x) s v p may is not_undone = pin_by_room x (memory z s.words) v ∙ is
 own_step z call (store_locked h c b k x) s v p may is not_undone = is
 own_step z call (note_full lack began) s v p may is not_undone = is
 

@@ -26,7 +26,7 @@ module _ (z : Sizes) (call : ℕ) (x : HeaderStep) (h : ℕ) (is : header_spot x
   table_left = table_behind z call x v n w t
 
   pub inside : h < z.headers
-  inside = subst (λ (q : HeaderSpot). IsInside z (in_headers q)) is t.may.inside
+  inside = subst (λ (q : HeaderSpot). IsInside z (in_headers q)) is t.may.0.inside
 
   pub rule_left : Rule z table_left
   rule_left = rule_keeps z t.table call t.seat v t.rule t.here t.going (on_headers x) t.may
@@ -35,7 +35,7 @@ module _ (z : Sizes) (call : ℕ) (x : HeaderStep) (h : ℕ) (is : header_spot x
   here_left = set_there t.table.states t.seat v (state_after z call (on_headers x) t.table v) t.here ∙ ap some (sym t.after)
 
   pub memory_left : memory z table_left.words ≡ write before (pin_spot h) (header_effect x n)
-  memory_left = memory_set z t.table.words (spot (on_headers x)) (effect (on_headers x) (found z (on_headers x) t.table)) t.rule.words.counted t.may.inside
+  memory_left = memory_set z t.table.words (spot (on_headers x)) (effect (on_headers x) (found z (on_headers x) t.table)) t.rule.words.counted t.may.0.inside
       ∙ (λ i. write before (in_headers (is i)) (header_effect x (t.finds i)))
 
   pub pin_left : (memory z table_left.words).headers.pin h ≡ header_effect x n

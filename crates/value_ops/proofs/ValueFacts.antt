@@ -9,7 +9,7 @@ use Rattle.arena_core.specs.Arena.{at_bytes, block_words, bit_words, byte_words,
 use Rattle.arena_core.specs.Place.{class_in, block_in, length_in}
 use Rattle.arena_core.proofs.ArenaSizes.{few_words}
 use Rattle.oak_core.specs.declared.states.PassState.{PassState}
-use Rattle.oak_core.specs.Memory.{in_arena, index, rooms_at, word_count}
+use Rattle.oak_core.specs.Memory.{Spot, IsInside, in_arena, index, rooms_at, word_count}
 use Rattle.oak_core.specs.Passes.{state, key, call_of}
 use Rattle.oak_core.proofs.ArenaPlaces.{bytes_place, few_bits, few_bytes}
 use Rattle.oak_core.proofs.Words.{index_below, arena_before}
@@ -71,11 +71,17 @@ module _ (r : Reading) (is : IsReading r) where
     pub word_spot : r.block + i ≡ index z (in_arena (at_bytes c b i))
     word_spot = spot_from z c b r.block i is.block_is
 
-    pub word_below : r.block + i < word_count z
-    word_below = let e = word_spot in let l = index_below z (in_arena (at_bytes c b i)) (is.placed.class, is.placed.block, word_inside) in omega arith
+    abbrev pub word_at : Spot
+    word_at = in_arena (at_bytes c b i)
 
-    pub word_in_front : r.block + i < rooms_at z
-    word_in_front = subst (λ (j : ℕ). j < rooms_at z) (sym word_spot) (arena_before z (at_bytes c b i) (is.placed.class, is.placed.block, word_inside))
+    pub word_placed : IsInside z word_at
+    word_placed = (is.placed.class, is.placed.block, word_inside)
+
+    pub word_below : r.block + i < word_count z
+    word_below = let e = word_spot in let l = index_below z word_at word_placed in omega arith
+
+    pub word_in_front : index z word_at < rooms_at z
+    word_in_front = arena_before z (at_bytes c b i) word_placed
 
     pub word_small : r.block + i < 2 ^ 32
     word_small = let e = word_spot in let l = bytes_small z is.limits c b i is.placed.class is.placed.block word_inside in omega arith

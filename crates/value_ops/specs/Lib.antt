@@ -10,3 +10,5 @@ pub mod Recipes
 pub mod UnderLock
 pub mod Rewriting
 pub mod AloneLocks
+pub mod LockHistories
+pub mod Views

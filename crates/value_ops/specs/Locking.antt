@@ -1,5 +1,5 @@
 -- What a lock of a header finds.
-use Rattle.std.specs.Prelude.{◌≡◌, ◌≢◌, ℕ, ◌<◌, ◌⊎◌, ◌==◌, ◌&&◌, cond, Bool, List, ◌∷◌, map, Option, Some, None}
+use Rattle.std.specs.Prelude.{◌≡◌, ◌≢◌, ℕ, ◌<◌, ◌⊎◌, ◌==◌, ◌&&◌, cond, Bool, List, ◌∷◌, map, Option, Some, None, ◌++◌}
 use Rattle.pin_word.specs.PinWord.{generation_of, state_of, count_of}
 use Rattle.oak_model.specs.Counts.{total, Each}
 use Rattle.oak_model.specs.Limits.{Sizes}
@@ -17,8 +17,10 @@ use Rattle.oak_core.specs.Splitting.{Loads}
 use Rattle.value_ops.specs.Claiming.{pin_spot, holds_header}
 use Rattle.value_ops.specs.declared.locking.NoLock.{NoLock}
 use Rattle.value_ops.specs.declared.locking.NoLock.TheVariants.{Busy, Dead}
+use Rattle.oak_core.specs.CallSteps.{Learns}
+use Rattle.oak_core.specs.LifeKeys.{key_known, key_or}
 
--- The step that locked the header, after others that only met more, found it live at the generation and without a pin. No pass held it or had it pinned at that moment. The pass has it locked now, with the place, the stamp and the words of its block that it had then, and else only met more, all in the call and at words in front of the rooms.
+-- The step that locked the header, after others that only met more, found it live at the generation and without a pin. No pass held it or had it pinned at that moment. The pass has it locked now, with the place, the stamp and the words of its block that it had then, and with the key that the pass knew of the life; of rooms and blocks it has what it had, and what it met is all of the call and at words in front of the rooms.
 pub record LocksHeader (z : Sizes) (call h g : ℕ) (v w : PassState) : Type 0 where
   pub inside : h < z.headers
   pub before : List Finding
@@ -30,7 +32,11 @@ pub record LocksHeader (z : Sizes) (call h g : ℕ) (v w : PassState) : Type 0 w
   pub unpinned : total (pins_on h) (map headers_held told.table.states) ≡ 0
   pub more : List Finding
   pub calls : Each (IsOf z call) more
-  pub after : w ≡ record (grown more v) { headers = record v.headers { held = locked_at (memory z told.table.words).headers (content (memory z told.table.words).arena.bytes) h ∷ v.headers.held } }
+  pub met : w.findings.met ≡ v.findings.met ++ more
+  pub learns : Learns call v w
+  pub blocks : w.blocks ≡ v.blocks
+  pub rooms : w.rooms ≡ v.rooms
+  pub headers : w.headers ≡ record v.headers { held = record (locked_at (memory z told.table.words).headers (content (memory z told.table.words).arena.bytes) h) { key = key_or (key_known h g v.knowledge) } ∷ v.headers.held }
 
 -- the word is that of a live header at the generation, without a pin
 abbrev pub may_lock : ℕ → ℕ → Bool

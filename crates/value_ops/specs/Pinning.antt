@@ -1,7 +1,8 @@
 -- What a pin of a header finds.
-use Rattle.std.specs.Prelude.{◌≡◌, ◌≢◌, ℕ, ◌+◌, ◌-◌, ◌<◌, List, Option, Some, None}
+use Rattle.std.specs.Prelude.{◌≡◌, ◌≢◌, ℕ, ◌+◌, ◌-◌, ◌<◌, List, ◌++◌, Option, Some, None}
 use Rattle.pin_word.specs.PinWord.{generation_of, state_of, count_of}
-use Rattle.oak_model.specs.Counts.{Each}
+use Rattle.oak_model.specs.Counts.{Begins, Each}
+use Rattle.oak_model.specs.KeyNumber.{key_number}
 use Rattle.oak_model.specs.Limits.{Sizes}
 use Rattle.arena_core.specs.Place.{content}
 use Rattle.header_core.specs.declared.states.TheConstants.{LIVE, LOCKED, DEAD}
@@ -9,11 +10,17 @@ use Rattle.header_core.specs.declared.holds.PinnedHeader.{PinnedHeader}
 use Rattle.header_core.specs.Headers.{at_stamp}
 use Rattle.header_core.specs.HeaderRule.{IsGood}
 use Rattle.oak_core.specs.declared.states.Finding.{Finding}
+use Rattle.oak_core.specs.declared.states.Knowledge.{Knowledge}
 use Rattle.oak_core.specs.declared.states.PassState.{PassState}
 use Rattle.oak_core.specs.AloneWords.{Runs}
+use Rattle.oak_core.specs.CallSteps.{Learns}
 use Rattle.oak_core.specs.Finding.{grown, IsOf}
 use Rattle.oak_core.specs.HeaderCalls.{Pins, Unpins}
+use Rattle.oak_core.specs.KeyReads.{home_of}
+use Rattle.oak_core.specs.Lessons.{KnowsRemoval}
+use Rattle.oak_core.specs.LifeKeys.{key_known}
 use Rattle.oak_core.specs.Memory.{Memory, in_headers, index, memory}
+use Rattle.oak_core.specs.Sights.{FoundOverSince, SightedSince}
 use Rattle.oak_core.specs.Splitting.{Loads}
 use Rattle.value_ops.specs.Claiming.{ChangesPin}
 use Rattle.value_ops.specs.declared.pinning.BadPin.{BadPin}
@@ -39,6 +46,33 @@ pub record MeetsMore (z : Sizes) (call : ℕ) (v w : PassState) : Type 0 where
   pub more : List Finding
   pub calls : Each (IsOf z call) more
   pub after : w ≡ grown more v
+
+-- the pass knows the life of the header at the generation as one of the key
+abbrev pub KnowsLife : ℕ → ℕ → List ℕ → Knowledge → Type 0
+KnowsLife h g key q = key_known h g q ≡ Some key
+
+-- the later knowledge has all lives that were loaded, and no more of them, and all that was seen and heard
+pub record KnowsMore (q q' : Knowledge) : Type 0 where
+  pub loaded : q'.loaded ≡ q.loaded
+  pub seen : Begins q.seen q'.seen
+  pub heard : Begins q.heard q'.heard
+
+-- The pass met more, all in the call, may have learned, and wrote nothing. It holds what it held.
+pub record OnlyLearns (z : Sizes) (call : ℕ) (v w : PassState) : Type 0 where
+  pub more : List Finding
+  pub calls : Each (IsOf z call) more
+  pub met : w.findings.met ≡ v.findings.met ++ more
+  pub learns : Learns call v w
+  pub knows : KnowsMore v.knowledge w.knowledge
+  pub blocks : w.blocks ≡ v.blocks
+  pub headers : w.headers ≡ v.headers
+  pub rooms : w.rooms ≡ v.rooms
+
+-- The life of the key was found to be over: its removal, with the stamp, stands in what the pass knows, and the stamp was found for the key.
+pub record FindsGone (h g : ℕ) (key : List ℕ) (stamp : ℕ) (v w : PassState) : Type 0 where
+  pub removal : KnowsRemoval (key_number key) (home_of h g) stamp w.knowledge
+  pub over : FoundOverSince (home_of h g) key v.findings w.findings
+  pub sighted : SightedSince (key_number key) stamp v.findings w.findings
 
 abbrev pub WordsStay : List ℕ → List ℕ → Type 0
 WordsStay before after = after ≡ before
@@ -102,7 +136,13 @@ IsStampOf _ n = Unit {0}
 abbrev pub FindsDud : Sizes → ℕ → ℕ → BadPin → List ℕ → List ℕ → Type 0
 FindsDud z h g why before after = (after ≡ before) × IsCause why g ((memory z before).headers.pin h) × IsStampOf why ((memory z before).headers.stamp h)
 
--- The step that pinned the header found a word that is the cause, and another undid the pin. The pass only met these steps, and the load of a dead header's stamp between them.
+-- What the pass learned by the cause: of a locked header nothing, and of a life that is over and whose key it knew, that it was removed, with the stamp that a dead header has.
+abbrev pub LearnsCause : Sizes → ℕ → ℕ → ℕ → BadPin → PassState → PassState → Type 0
+LearnsCause z call h g Locked v w = MeetsMore z call v w
+LearnsCause z call h g (Dead stamp) v w = (key : List ℕ) → KnowsLife h g key v.knowledge → FindsGone h g key stamp v w
+LearnsCause z call h g Other v w = (key : List ℕ) → KnowsLife h g key v.knowledge → (stamp : ℕ) × FindsGone h g key stamp v w
+
+-- The step that pinned the header found a word that is the cause, and another undid the pin. The pass only met these steps, and the load of a dead header's stamp between them, and learned what the cause tells.
 pub record PinsDud (z : Sizes) (call h g : ℕ) (why : BadPin) (v w : PassState) : Type 0 where
   pub number : ℕ
   pub pinned : PassState
@@ -111,6 +151,7 @@ pub record PinsDud (z : Sizes) (call h g : ℕ) (why : BadPin) (v w : PassState)
   pub looked : PassState
   pub looks : LooksUnder z call h why (memory z told.table.words) pinned looked
   pub undone : EndsPin z call h looked w
-  pub meets : MeetsMore z call v w
+  pub only : OnlyLearns z call v w
+  pub learned : LearnsCause z call h g why v w
   -- to a pass that is alone
   pub still : Runs (FindsDud z h g why) v w

@@ -3,6 +3,8 @@ use Rattle.std.specs.Prelude.{◌≡◌, ℕ, ◌*◌, ◌<◌, ◌≤◌, List,
 use Rattle.arena_core.specs.Arena.{at_bytes, block_words, blocks}
 use Rattle.arena_core.specs.Place.{class_in, block_in, length_in}
 use Rattle.oak_model.specs.declared.limits.TheConstants.{CLASSES}
+use Rattle.oak_model.specs.Counts.{Each}
+use Rattle.oak_model.specs.KeyNumber.{key_number}
 use Rattle.oak_model.specs.Limits.{Sizes, IsInLimits}
 use Rattle.oak_model.specs.WordBytes.{bytes_of}
 use Rattle.header_core.specs.declared.holds.PinnedHeader.{PinnedHeader}
@@ -10,11 +12,15 @@ use Rattle.header_core.specs.Headers.{at_place, at_stamp}
 use Rattle.oak_core.specs.Memory.{in_arena, in_headers, index}
 use Rattle.oak_core.specs.Passes.{IsPassOf, Stays, state, key, call_of}
 use Rattle.oak_core.specs.AloneWords.{Runs}
-use Rattle.oak_core.specs.Finding.{LoadsMore}
+use Rattle.oak_core.specs.Finding.{LoadsMore, IsLoadOf}
+use Rattle.oak_core.specs.KeyHistories.{home_behind}
+use Rattle.oak_core.specs.KeyReads.{home_of}
+use Rattle.oak_core.specs.LastReads.{ReadsLast}
+use Rattle.oak_core.specs.PassState.{seen_of}
 use Rattle.oak_core.specs.Splitting.{Loads}
 use Rattle.oak_core.specs.declared.states.PassState.{PassState}
 use Rattle.value_ops.specs.declared.reading.Reading.{Reading}
-use Rattle.value_ops.specs.Pinning.{HasPin, WordsStay}
+use Rattle.value_ops.specs.Pinning.{HasPin, OnlyLearns, WordsStay}
 
 -- the value that the pin found: of the bytes of the block as many as its place says
 abbrev pub value_of : PinnedHeader → List ℕ
@@ -67,6 +73,17 @@ pub record IsReading (r : Reading) : Type 0 where
 pub record OnlyLoads (z : Sizes) (call : ℕ) (v w : PassState) : Type 0 where
   pub loads : LoadsMore z call v w
   pub still : Runs WordsStay v w
+
+-- the pass only made loads of the call, by which it may have learned, and to a pass that is alone the words stay
+pub record LearnsByLoads (z : Sizes) (call : ℕ) (v w : PassState) : Type 0 where
+  pub only : OnlyLearns z call v w
+  pub loads : Each (IsLoadOf z call) only.more
+  pub still : Runs WordsStay v w
+
+-- The key was read: at the place of the stamp, which was found for it and at which all ends that the pass has seen of it, it has these bytes, in the life that the header has at the generation.
+pub record ReadsLife (h g : ℕ) (key : List ℕ) (stamp : ℕ) (bytes : List ℕ) (v w : PassState) : Type 0 where
+  pub last : ReadsLast (key_number key) stamp (Some bytes) v w
+  pub life : home_behind (seen_of (key_number key) w.knowledge) ≡ home_of h g
 
 -- the place word of the header was loaded, and then its stamp word, in which this stamp was found
 pub record FindsStamp (z : Sizes) (call h stamp : ℕ) (v w : PassState) : Type 0 where

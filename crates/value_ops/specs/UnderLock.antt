@@ -1,5 +1,5 @@
 -- What a pass has under its lock, and what the calls there do.
-use Rattle.std.specs.Prelude.{◌≡◌, ℕ, suc, ◌-◌, ◌^◌, ◌<◌, ◌==◌, nat_lt, cond, List, ◌∷◌, ◌++◌, drop, length, map}
+use Rattle.std.specs.Prelude.{◌≡◌, ℕ, Some, suc, ◌-◌, ◌^◌, ◌<◌, ◌==◌, nat_lt, cond, List, ◌∷◌, ◌++◌, drop, length, map}
 use Rattle.oak_model.specs.declared.classes.Class.{Class}
 use Rattle.oak_model.specs.declared.writes.Kind.{Kind}
 use Rattle.oak_model.specs.declared.writes.Kind.TheVariants.{Put}
@@ -11,6 +11,7 @@ use Rattle.arena_core.specs.Arena.{block_words, blocks}
 use Rattle.arena_core.specs.Blocks.{without, words_held}
 use Rattle.arena_core.specs.Place.{IsPlace, place_word, class_in, block_in, content}
 use Rattle.header_core.specs.declared.states.TheConstants.{FREE, LIVE, LOCKED, DEAD, RETIRED, LAST_GENERATION}
+use Rattle.header_core.specs.declared.holds.AtLock.{AtLock}
 use Rattle.header_core.specs.declared.holds.HeldAs.{HeldAs}
 use Rattle.header_core.specs.declared.holds.HeldAs.TheVariants.{Owned, Fresh, Locked, Buried}
 use Rattle.header_core.specs.declared.holds.HeldHeader.{HeldHeader}
@@ -18,10 +19,12 @@ use Rattle.header_core.specs.HeaderHolds.{in_state, place_held, generation_held,
 use Rattle.header_core.specs.HeaderStep.{unlock_header, mark_dead, take_back, renewal, stamped_at, changed_at, buried_at}
 use Rattle.header_core.specs.Headers.{at_place, at_stamp}
 use Rattle.oak_core.specs.declared.states.Finding.{Finding}
+use Rattle.oak_core.specs.declared.states.Knowledge.{Knowledge}
 use Rattle.oak_core.specs.declared.states.PassState.{PassState}
 use Rattle.oak_core.specs.Memory.{Memory, in_headers, index, memory}
 use Rattle.oak_core.specs.Finding.{grown, IsOf}
 use Rattle.oak_core.specs.HeaderCalls.{StoresStamp, ChangesPlace, Unlocks, MarksDead, TakesBack}
+use Rattle.oak_core.specs.MadeWrites.{held_header}
 use Rattle.oak_core.specs.Splitting.{Loads}
 use Rattle.value_ops.specs.Filling.{table_behind, IsLeft}
 use Rattle.value_ops.specs.HeldValue.{stamp_held, words_in, value_held}
@@ -34,11 +37,27 @@ pub record HasBlock (z : Sizes) (h place : ℕ) (rs : List HeldHeader) : Type 0 
   pub whole : length (words_in h rs) ≡ block_words (class_in place)
   pub once : total (λ (r : HeldHeader). one_at r.header h) rs ≡ 1
 
+-- the record of a header that is held locked, and what it had at the lock
+pub record LockRow (h : ℕ) (rs : List HeldHeader) : Type 0 where
+  pub header : HeldHeader
+  pub held : held_header h rs ≡ Some header
+  pub at : AtLock
+  pub locked : header.held_as ≡ Locked at
+
 -- the pass has the header locked, at the generation
+pub record HoldsLock (z : Sizes) (h g : ℕ) (v : PassState) : Type 0 where
+  pub inside : h < z.headers
+  pub locked : 0 < in_state h LOCKED v.headers
+  pub generation : generation_held h v.headers.held ≡ g
+  pub row : LockRow h v.headers.held
+
+-- and its stamp is the one at the lock
 pub record HasLock (z : Sizes) (h g : ℕ) (v : PassState) : Type 0 where
   pub inside : h < z.headers
   pub locked : 0 < in_state h LOCKED v.headers
   pub generation : generation_held h v.headers.held ≡ g
+  pub row : LockRow h v.headers.held
+  pub unstamped : row.header.stamp ≡ row.at.stamp
 
 -- the pass buries the header, at the generation and with the stamp of the removal
 pub record HasBuried (z : Sizes) (h g stamp : ℕ) (v : PassState) : Type 0 where
@@ -74,6 +93,12 @@ pub record ComesTo (z : Sizes) (call : ℕ) (held : List HeldBlock) (headers : L
   pub more : List Finding
   pub calls : Each (IsOf z call) more
   pub after : w ≡ record (grown more v) { blocks = record v.blocks { held = held }; headers = record v.headers { held = headers } }
+
+-- So it is, and knows this.
+pub record EndsTo (z : Sizes) (call : ℕ) (knows : Knowledge) (held : List HeldBlock) (headers : List HeldHeader) (v w : PassState) : Type 0 where
+  pub more : List Finding
+  pub calls : Each (IsOf z call) more
+  pub after : w ≡ record (grown more v) { knowledge = knows; blocks = record v.blocks { held = held }; headers = record v.headers { held = headers } }
 
 -- the bytes were stored in the block of the locked header, word by word, and its value is these bytes
 pub record Rewrites (z : Sizes) (call h : ℕ) (bytes : List ℕ) (v w : PassState) : Type 0 where
@@ -121,7 +146,7 @@ pub record EndsLock (z : Sizes) (call h g : ℕ) (kind : Kind) (stamp : ℕ) (be
   pub told : Unlocks z call h kind before number w
   pub left : IsLeft z h LIVE g number told.seat w (table_behind z call (unlock_header h kind) before number w told)
   pub value : HasValue (memory z (table_behind z call (unlock_header h kind) before number w told).words) h stamp v.headers.held
-  pub comes : ComesTo z call v.blocks.held (without_header h v.headers.held) v w
+  pub comes : EndsTo z call w.knowledge v.blocks.held (without_header h v.headers.held) v w
 
 -- The three steps of a write under the lock: the stamp was loaded, the next one stored, and the header unlocked.
 pub record WritesOver (z : Sizes) (call h g : ℕ) (kind : Kind) (stamp : ℕ) (v w : PassState) : Type 0 where
@@ -129,9 +154,10 @@ pub record WritesOver (z : Sizes) (call h g : ℕ) (kind : Kind) (stamp : ℕ) (
   pub stores : StoresNext z call h stamp v stamped
   pub ends : EndsLock z call h g kind stamp stamped v w
 
--- The one step that unlocked the header without a write.
-abbrev pub GivesUp : (z : Sizes) (call h g stamp : ℕ) (v w : PassState) → Type 0
-GivesUp z call h g stamp v w = EndsLock z call h g Put stamp v v w
+-- The one step that unlocked the header without a write: the pass learned nothing by it.
+pub record GivesUp (z : Sizes) (call h g stamp : ℕ) (v w : PassState) : Type 0 where
+  pub ends : EndsLock z call h g Put stamp v v w
+  pub knowledge : w.knowledge ≡ v.knowledge
 
 -- The three steps of a removal: the stamp was loaded, the next one stored, and the header marked dead. Right after it the header has that stamp, and is dead at its generation and with its pins; the pass buries it.
 pub record Buries (z : Sizes) (call h g stamp : ℕ) (v w : PassState) : Type 0 where
@@ -141,7 +167,7 @@ pub record Buries (z : Sizes) (call h g stamp : ℕ) (v w : PassState) : Type 0 
   pub told : MarksDead z call h stamped number w
   pub left : IsLeft z h DEAD g number told.seat w (table_behind z call (mark_dead h) stamped number w told)
   pub value : HasValue (memory z (table_behind z call (mark_dead h) stamped number w told).words) h stamp v.headers.held
-  pub comes : ComesTo z call v.blocks.held (buried_at h (stamped_at h stamp v.headers.held)) v w
+  pub comes : EndsTo z call w.knowledge v.blocks.held (buried_at h (stamped_at h stamp v.headers.held)) v w
 
 -- the state of a header that is taken back, at the generation that it then has
 abbrev pub state_taken_back : ℕ → ℕ

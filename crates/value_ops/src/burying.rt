@@ -4,6 +4,7 @@ ghost use Rattle.oak_model.specs.Class.{class_number};
 ghost use Rattle.arena_core.specs.Blocks.{HoldsBlock};
 ghost use Rattle.header_core.specs.HeaderStep.{renewal};
 ghost use Rattle.oak_core.specs.AloneWords.{Runs};
+ghost use Rattle.oak_core.specs.MayWrite.{IsUnnamed};
 ghost use Rattle.oak_core.specs.Passes.{IsPassOf, Stays, state, key, call_of};
 ghost use Rattle.value_ops.specs.AloneLocks.{RenewsPin};
 ghost use Rattle.value_ops.specs.UnderLock.{HasBuried, Renews};
@@ -42,10 +43,11 @@ impl Buried {
     }
 
     /// Takes the header back, with a raised generation, and hands back its block, which the pass holds
-    /// again. A header that comes to the last generation is retired, and never free again.
+    /// again. No entry may name the header any more. A header that comes to the last generation is retired, and never free again.
     pub fn take_back(self, table: &OakTable, pass: &mut Pass) -> Block
         requires own { IsPassOf table.now pass.old }
         requires buried { HasBuried (key table.now) self.header self.generation self.stamp (state pass.old) }
+        requires unnamed { IsUnnamed self.header (state pass.old).headers }
         ensures own { Stays pass.old pass.new }
         ensures held { HoldsBlock (key table.now) (class_number result.class) result.number (state pass.new).blocks }
         ensures renewed { Renews (key table.now) (call_of pass.old) self.header self.generation result.class result.number (state pass.old) (state pass.new) }

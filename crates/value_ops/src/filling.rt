@@ -1,9 +1,11 @@
 //! The calls on a header of the pass's own.
-ghost use Rattle.std.specs.Prelude.{◌≡◌, ◌<◌, Some, None};
+ghost use Rattle.std.specs.Prelude.{◌≡◌, ◌<◌, take, Some, None};
 ghost use Rattle.oak_model.specs.Class.{class_number, class_of};
-ghost use Rattle.arena_core.specs.Blocks.{HoldsBlock};
+ghost use Rattle.oak_model.specs.WordBytes.{bytes_of};
+ghost use Rattle.arena_core.specs.Blocks.{HoldsBlock, words_held};
 ghost use Rattle.header_core.specs.declared.states.TheConstants.{OWNED};
 ghost use Rattle.header_core.specs.HeaderHolds.{in_state, IsFreshAt};
+ghost use Rattle.oak_core.specs.HeldRows.{HasFresh};
 ghost use Rattle.oak_core.specs.Passes.{IsPassOf, Stays, state, key, call_of};
 ghost use Rattle.value_ops.specs.Filling.{ReleasesOwned, Fills, Withdraws};
 
@@ -46,6 +48,7 @@ pub fn fill(
     ensures header { result.header ≡ owned.header }
     ensures stamp { result.stamp ≡ stamp }
     ensures fresh { IsFreshAt result.header result.generation (state pass.new).headers }
+    ensures has { HasFresh (key table.now) result.header result.generation stamp (take len (bytes_of (words_held (class_number block.class) block.number (state pass.old).blocks.held))) (state pass.new) }
     ensures filled { Fills (key table.now) (call_of pass.old) owned.header block.class block.number len stamp result.generation (state pass.old) (state pass.new) }
 {
     let Owned { header } = owned;

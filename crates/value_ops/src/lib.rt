@@ -1,4 +1,4 @@
-//! Calls on value headers: claims, fillings, pins and readings, locks, and the recipes of computes.
+//! Calls on value headers: claims, fillings, pins, readings and views, locks, and the recipes of computes.
 #![tactic(auto)]
 
 mod burying;
@@ -15,6 +15,7 @@ mod reading;
 mod reading_tests;
 mod recipes;
 mod rewriting;
+mod views;
 
 pub use burying::Buried;
 pub use claiming::{NoHeader, Owned, claim};
@@ -24,3 +25,4 @@ pub use pinning::{BadPin, HeaderPin, pin_at};
 pub use readers::{a_pin_stands_until_it_is_undone, no_block_changes_under_a_reader};
 pub use reading::Reading;
 pub use recipes::{Recipe, StepRecipe, apply_once};
+pub use views::{NoRead, ValueView, read_view};

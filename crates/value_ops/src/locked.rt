@@ -1,5 +1,6 @@
 //! The calls on a header of which the pass has the lock.
-ghost use Rattle.std.specs.Prelude.{◌≡◌, Some};
+ghost use Rattle.std.specs.Prelude.{◌≡◌, ◌+◌, ℕ, List, true, None, Some};
+ghost use Rattle.oak_model.specs.declared.writes.Kind.TheVariants.{Remove};
 ghost use Rattle.oak_model.specs.declared.classes.Class.{Class};
 ghost use Rattle.oak_model.specs.Class.{class_number, class_of};
 ghost use Rattle.oak_model.specs.Limits.{IsInLimits};
@@ -9,12 +10,16 @@ ghost use Rattle.header_core.specs.HeaderHolds.{place_held};
 ghost use Rattle.header_core.specs.HeaderStep.{stamped_at};
 ghost use Rattle.header_core.specs.Headers.{at_place, at_stamp};
 ghost use Rattle.oak_core.specs.AloneWords.{Runs};
+ghost use Rattle.oak_core.specs.CallWrites.{MakesWrite, Writes};
+ghost use Rattle.oak_core.specs.HeldRows.{BuriesLife};
+ghost use Rattle.oak_core.specs.MayWrite.{IsNewCall};
 ghost use Rattle.oak_core.specs.Memory.{in_headers, index};
 ghost use Rattle.oak_core.specs.Finding.{LoadsMore};
 ghost use Rattle.oak_core.specs.Passes.{IsPassOf, Stays, state, key, call_of};
 ghost use Rattle.oak_core.specs.Splitting.{Loads};
 ghost use Rattle.value_ops.specs.AloneLocks.{FindsWord, FindsClass, ChangesWord, WritesWords, BuriesWords, UnlocksPin};
-ghost use Rattle.value_ops.specs.HeldValue.{stamp_held};
+ghost use Rattle.value_ops.specs.HeldValue.{stamp_held, value_held, value_locked};
+ghost use Rattle.value_ops.specs.LockHistories.{LockOf};
 ghost use Rattle.value_ops.specs.UnderLock.{HasBlock, HasLock, HasBuried, IsUnchanged, next_stamp, ComesTo, LoadsPlace, Exchanges, StoresNext, WritesOver, GivesUp, Buries};
 
 use crate::burying::Buried;
@@ -105,12 +110,17 @@ impl Locked {
     }
 
     /// Unlocks the header, which is the write of this kind: its stamp is one more than the value's was.
-    /// The step that makes the header live is the write, and the answer is its stamp.
+    /// The step that makes the header live is the write, and the answer is its stamp. A call of the kind
+    /// must make the bytes that stand now of those at the lock, and the pass must have made no write in
+    /// its present call.
     pub fn unlock(self, table: &OakTable, pass: &mut Pass, kind: Kind) -> u64
         requires own { IsPassOf table.now pass.old }
         requires locked { HasLock (key table.now) self.header self.generation (state pass.old) }
+        requires new_call { IsNewCall (call_of pass.old) (state pass.old) }
+        requires makes { MakesWrite kind (Some (value_locked self.header (state pass.old).headers.held)) (Some (value_held self.header (state pass.old).headers.held)) }
         ensures own { Stays pass.old pass.new }
-        ensures stamp { result ≡ next_stamp (stamp_held self.header (state pass.old).headers.held) }
+        ensures stamp { result ≡ stamp_held self.header (state pass.old).headers.held + 1 }
+        ensures wrote { (of before : List ℕ) (stamp : ℕ) → LockOf (key table.now) of self.header self.generation before stamp (state pass.old) → Writes (call_of pass.old) of kind (Some before) (Some (value_held self.header (state pass.old).headers.held)) result (state pass.old) (state pass.new) }
         ensures unlocked { WritesOver (key table.now) (call_of pass.old) self.header self.generation kind result (state pass.old) (state pass.new) }
         ensures alone { Runs (WritesWords (key table.now) self.header self.generation result) (state pass.old) (state pass.new) }
     {
@@ -124,14 +134,17 @@ impl Locked {
     }
 
     /// Marks the header dead, which is the removal: its stamp is one more than the value's was. The pass
-    /// buries the header then.
+    /// must have made no write in its present call, and buries the header then.
     pub fn bury(self, table: &OakTable, pass: &mut Pass) -> Buried
         requires own { IsPassOf table.now pass.old }
         requires locked { HasLock (key table.now) self.header self.generation (state pass.old) }
+        requires new_call { IsNewCall (call_of pass.old) (state pass.old) }
         ensures own { Stays pass.old pass.new }
+        ensures wrote { (of before : List ℕ) (stamp : ℕ) → LockOf (key table.now) of self.header self.generation before stamp (state pass.old) → Writes (call_of pass.old) of Remove (Some before) None result.stamp (state pass.old) (state pass.new) }
+        ensures buries { (of before : List ℕ) (stamp : ℕ) → LockOf (key table.now) of self.header self.generation before stamp (state pass.old) → BuriesLife of result.header result.generation result.stamp true (state pass.new) }
         ensures header { (result.header ≡ self.header) × (result.generation ≡ self.generation) }
         ensures has { HasBuried (key table.now) result.header result.generation result.stamp (state pass.new) }
-        ensures stamp { result.stamp ≡ next_stamp (stamp_held self.header (state pass.old).headers.held) }
+        ensures stamp { result.stamp ≡ stamp_held self.header (state pass.old).headers.held + 1 }
         ensures buried { Buries (key table.now) (call_of pass.old) self.header self.generation result.stamp (state pass.old) (state pass.new) }
         ensures alone { Runs (BuriesWords (key table.now) self.header self.generation result.stamp) (state pass.old) (state pass.new) }
     {

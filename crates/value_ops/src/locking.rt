@@ -1,10 +1,12 @@
 //! Locks of headers.
-ghost use Rattle.std.specs.Prelude.{◌≡◌, ◌<◌, IfOk, IfErr};
+ghost use Rattle.std.specs.Prelude.{◌≡◌, ◌<◌, IfOk, IfErr, ℕ, List, Some};
 ghost use Rattle.oak_core.specs.AloneWords.{Runs};
 ghost use Rattle.oak_core.specs.Known.{knows_life};
 ghost use Rattle.oak_core.specs.Passes.{IsPassOf, Stays, state, key, call_of};
 ghost use Rattle.value_ops.specs.AloneLocks.{LocksPin, RefusesPin};
 ghost use Rattle.value_ops.specs.UnderLock.{HasLock, IsUnchanged};
+ghost use Rattle.oak_core.specs.LifeKeys.{key_known};
+ghost use Rattle.value_ops.specs.LockHistories.{LocksKey};
 ghost use Rattle.value_ops.specs.Locking.{LocksHeader, FindsNoLock, may_lock, refusal};
 
 use crate::claiming::STATE;
@@ -63,6 +65,7 @@ pub fn lock(
     ensures own { Stays pass.old pass.new }
     ensures locked { IfOk result (λ l. (l.header ≡ header) × (l.generation ≡ generation) × LocksHeader (key table.now) (call_of pass.old) header generation (state pass.old) (state pass.new)) }
     ensures has { IfOk result (λ l. HasLock (key table.now) l.header l.generation (state pass.new) × IsUnchanged l.header (state pass.new).headers.held) }
+    ensures keys { IfOk result (λ l. (of : List ℕ) → key_known header generation (state pass.old).knowledge ≡ Some of → LocksKey (key table.now) (call_of pass.old) of l.header l.generation (state pass.old) (state pass.new)) }
     ensures alone { IfOk result (λ _. Runs (LocksPin (key table.now) header generation) (state pass.old) (state pass.new)) }
     ensures refused { IfErr result (λ why. FindsNoLock (key table.now) (call_of pass.old) header generation why (state pass.old) (state pass.new)) }
     ensures refused_alone { IfErr result (λ why. Runs (RefusesPin (key table.now) header generation why) (state pass.old) (state pass.new)) }

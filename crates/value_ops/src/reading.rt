@@ -1,10 +1,10 @@
 //! Readings: the bytes of a value under a good pin.
-ghost use Rattle.std.specs.Prelude.{◌≡◌, ◌≢◌, ◌+◌, ◌*◌, ◌<◌, ◌≤◌, ◌++◌, ◌↔◌, IsTrue, MatchBool, length, take, slice_index, slice_range};
+ghost use Rattle.std.specs.Prelude.{◌≡◌, ◌≢◌, ◌+◌, ◌*◌, ◌<◌, ◌≤◌, ◌++◌, ◌↔◌, IsTrue, MatchBool, ℕ, List, length, take, slice_index, slice_range};
 ghost use Rattle.std.specs.Int.{w64, from_be_bytes};
 ghost use Rattle.header_core.specs.declared.holds.PinnedHeader.{PinnedHeader};
 ghost use Rattle.oak_core.specs.Passes.{IsPassOf, Stays, state, key, call_of};
-ghost use Rattle.value_ops.specs.Pinning.{HasPin, EndsPin};
-ghost use Rattle.value_ops.specs.Reading.{IsReading, OnlyLoads, FindsStamp, ReadsOn, value, stamp, header, words_pinned};
+ghost use Rattle.value_ops.specs.Pinning.{HasPin, EndsPin, KnowsLife};
+ghost use Rattle.value_ops.specs.Reading.{IsReading, LearnsByLoads, ReadsLife, FindsStamp, ReadsOn, value, stamp, header, words_pinned};
 ghost use Rattle.arena_core.specs.Words.{bytes_in};
 
 use crate::pinning::{HeaderPin, unpin};
@@ -33,7 +33,8 @@ impl HeaderPin {
         ensures table { result.table ≡ table.entry }
         ensures reading { IsReading result }
         ensures own { Stays pass.old result.pass.now }
-        ensures only { OnlyLoads (key table.now) (call_of pass.old) (state pass.old) (state result.pass.now) }
+        ensures only { LearnsByLoads (key table.now) (call_of pass.old) (state pass.old) (state result.pass.now) }
+        ensures reads { (of : List ℕ) → KnowsLife self.header self.generation of (state pass.old).knowledge → ReadsLife self.header self.generation of (stamp result) (value result) (state pass.old) (state result.pass.now) }
         ensures found { FindsStamp (key table.now) (call_of pass.old) self.header (stamp result) (state pass.old) (state result.pass.now) }
     {
         let HeaderPin {

@@ -8,7 +8,7 @@ ghost use Rattle.header_core.specs.HeaderHolds.{no_headers, in_state, IsFreshAt}
 ghost use Rattle.oak_core.specs.PassState.{HoldsNothing, IsAlone};
 ghost use Rattle.oak_core.specs.Passes.{IsPassOf, Stays, state, key, call_of};
 ghost use Rattle.value_ops.specs.OneHeader.{IsOneHeader, IsOneBlock, KeepsElse};
-ghost use Rattle.value_ops.specs.Pinning.{MeetsMore};
+ghost use Rattle.value_ops.specs.Pinning.{OnlyLearns};
 ghost use Rattle.value_ops.specs.Reading.{IsReading, ReadsOn, value};
 
 use crate::claiming_tests::none_left;
@@ -126,7 +126,7 @@ fn value_is(
     requires fresh { IsFreshAt at.0 at.1 (state pass.old).headers }
     requires unpinned { (state pass.old).headers.pin ≡ None }
     ensures own { Stays pass.old pass.new }
-    ensures meets { MeetsMore (key table.now) (call_of pass.old) (state pass.old) (state pass.new) }
+    ensures learns { OnlyLearns (key table.now) (call_of pass.old) (state pass.old) (state pass.new) }
 {
     let Ok(pin) = pin_at(table, pass, at.0, at.1) else {
         assert!(rt; false);

@@ -9,7 +9,7 @@ ghost use Rattle.header_core.specs.declared.holds.PinnedHeader.{PinnedHeader};
 ghost use Rattle.oak_core.specs.declared.states.PassState.{PassState};
 ghost use Rattle.oak_core.specs.Passes.{IsPassOf, Stays, state, key, call_of};
 ghost use Rattle.value_ops.specs.OneHeader.{IsOneHeader, IsOneBlock, KeepsElse};
-ghost use Rattle.value_ops.specs.Pinning.{HasPin, MeetsMore, with_pin};
+ghost use Rattle.value_ops.specs.Pinning.{HasPin, MeetsMore, OnlyLearns, with_pin};
 ghost use Rattle.value_ops.specs.Reading.{IsReading, OnlyLoads, ReadsOn, value};
 
 use arena_ops::{give, store, take};
@@ -123,7 +123,7 @@ fn read_pinned(pin: HeaderPin, table: &OakTable, pass: &mut Pass, number: u64) -
     requires own { IsPassOf table.now pass.old }
     requires pinned { (p : PinnedHeader) × HasPin (key table.now) pin.header pin.generation p (state pass.old) }
     ensures own { Stays pass.old pass.new }
-    ensures undone { (read : PassState) × OnlyLoads (key table.now) (call_of pass.old) (state pass.old) read × MeetsMore (key table.now) (call_of pass.old) (with_pin None read) (state pass.new) }
+    ensures undone { (first : PassState) × (last : PassState) × OnlyLearns (key table.now) (call_of pass.old) (state pass.old) first × OnlyLoads (key table.now) (call_of pass.old) first last × MeetsMore (key table.now) (call_of pass.old) (with_pin None last) (state pass.new) }
 {
     let mut reading = pin.reading(table, pass);
     let read = read_eight(&mut reading, number);
@@ -138,7 +138,7 @@ fn read_fresh(table: &OakTable, pass: &mut Pass, at: (u32, u32), number: u64) ->
     requires fresh { IsFreshAt at.0 at.1 (state pass.old).headers }
     requires unpinned { (state pass.old).headers.pin ≡ None }
     ensures own { Stays pass.old pass.new }
-    ensures met { MeetsMore (key table.now) (call_of pass.old) (state pass.old) (state pass.new) }
+    ensures learns { OnlyLearns (key table.now) (call_of pass.old) (state pass.old) (state pass.new) }
 {
     match pin_at(table, pass, at.0, at.1) {
         Ok(pin) => read_pinned(pin, table, pass, number),

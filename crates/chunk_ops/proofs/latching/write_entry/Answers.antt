@@ -16,7 +16,7 @@ store_entry-requires-clause-names c = let z : Sizes = key c.args.table.now in le
   c.args.room,
   c.args.entry,
   record { inside = c.requires.pinned.inside; entry = c.requires.inside; word_is = c.key_at-place_at.ensures },
-  may_store z of_key c.args.room c.args.entry c.args.place v (room_pin v) l.0 c.requires.pinned.inside c.requires.inside l.1 l.2 c.ranges.place.fits,
+  may_store z (call_of c.args.pass.now) of_key c.args.room c.args.entry c.args.place v (room_pin v) l.0 c.requires.pinned.inside c.requires.inside l.1 l.2 c.ranges.place.fits,
 )
 
 pub store_entry-requires-2-clause-names : goal.store_entry-requires-2-clause-names
@@ -26,7 +26,7 @@ store_entry-requires-2-clause-names c = let z : Sizes = key c.args.table.now in 
       r,
       i,
       record { inside = c.requires.pinned.inside; entry = c.requires.inside; word_is = c.value_at-value_at.ensures },
-      may_store z of_value r i c.args.value u (room_pin v) (record l.0 { entry = entry_with of_key c.args.place l.0.entry }) c.requires.pinned.inside c.requires.inside
+      may_store z (call_of c.store_entry.new.pass) of_value r i c.args.value u (room_pin v) (record l.0 { entry = entry_with of_key c.args.place l.0.entry }) c.requires.pinned.inside c.requires.inside
           (subst (λ (a : RoomHolds). HasLatch r a (room_pin v) (record l.0 { entry = entry_with of_key c.args.place l.0.entry })) (sym (rooms_stored z (call_of c.args.pass.now) of_key r i c.args.place v u s)) (latch_stored of_key r c.args.place v.rooms (room_pin v) l.0 l.1))
           l.2 c.ranges.value.fits,
     )

@@ -1,15 +1,12 @@
-use Rattle.std.proofs.Common.{rules, ◌≡◌, ◌<◌, ℕ, subst, ◌+◌, true, false, sym, ◌∙◌, arith, eqb-true}
+use Rattle.std.proofs.Common.{rules, ◌≡◌, ◌+◌, true, false, sym, ◌∙◌, arith, eqb-true}
 use Rattle.std.proofs.lemmas.Bool.{eqb-false}
 use Rattle.oak_model.specs.Limits.{Sizes}
 use Rattle.pin_word.specs.PinWord.{STATE}
 use Rattle.header_core.specs.HeaderStep.{claim_header}
-use Rattle.header_core.specs.Headers.{at_pin}
-use Rattle.oak_core.specs.Memory.{rooms_at}
 use Rattle.oak_core.specs.Passes.{state, key, call_of}
 use Rattle.oak_core.specs.Step.{on_headers}
 use Rattle.oak_core.specs.Usage.{is_free}
 use Rattle.oak_core.proofs.HeaderNames.{pin_below}
-use Rattle.oak_core.proofs.Words.{header_before}
 use Rattle.value_ops.proofs.ExchangeFacts.{state_fits}
 use Rattle.value_ops.proofs.ClaimLaws.{claims_behind}
 use Rattle.oak_core.proofs.MetMore.{told_in}
@@ -33,7 +30,7 @@ claim_header-requires-clause-names c = let free : c.is_free.result ≡ true = se
 pub returns-clause-claimed : goal.returns-clause-claimed
 returns-clause-claimed c = λ h names e. let z : Sizes = key c.args.table.now in let call = call_of c.args.pass.now in let n = c.load-seen.result in let v = state c.args.pass.now in let u = state c.load-seen.new.pass in let w = state c.claim_header.new.pass in
     let free = free_word n (sym c.is_free.ensures ∙ c.if-not-is_free.false) in
-    claims_behind z call h v u w (λ k. ⊥) (loaded z call c.args.word n v u (subst (λ (i : ℕ). i < rooms_at z) (sym names.word_is) (header_before z (at_pin h) names.inside)) c.load-seen.ensures.loaded)
+    claims_behind z call h v u w (λ k. ⊥) (loaded z call c.args.word n h v u names.inside names.word_is c.load-seen.ensures.loaded)
     (claims z call h names.inside n c.claim_header.result u w
     (told_in z call (call_of c.load-seen.new.pass) (on_headers (claim_header h n)) u c.claim_header.result w c.load-seen.ensures.own.call
     (c.claim_header.ensures.told h record { inside = names.inside; word_is = names.word_is; unpinned = free; new_is = (λ i. n + STATE) }))

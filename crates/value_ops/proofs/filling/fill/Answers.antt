@@ -11,6 +11,7 @@ use Rattle.oak_core.specs.HeaderCalls.{of_place, of_stamp, StoresPlace, StoresSt
 use Rattle.oak_core.specs.Passes.{state, key, call_of}
 use Rattle.oak_core.specs.Step.{on_headers, MayOnHeaders}
 use Rattle.value_ops.specs.Filling.{Fills}
+use Rattle.value_ops.proofs.FilledRows.{filled_fresh}
 use Rattle.value_ops.proofs.FillSteps.{may_place, may_stamp, may_open, fills, fresh}
 use Rattle.oak_core.proofs.MetMore.{told_in}
 use Rattle.value_ops.proofs.filling.fill.Goals as goal
@@ -42,6 +43,10 @@ returns-clause-filled c = let z : Sizes = key c.args.table.now in let call = cal
     let w = state c.open_header-found.new.pass in let n = c.open_header-found.result in
     let opens : Opens z call h y n w = opens_in z call (call_of c.store_field-2.new.pass) h n y w (c.store_field-2.ensures.own.call ∙ now) (c.open_header-found.ensures.told h record { inside = c.requires.inside; word_is = c.pin_at-word.ensures }) in
     subst (λ (g : ℕ). Fills z call h d b len c.args.stamp g v w) (sym c.generation.ensures) (fills z call h d b len c.args.stamp v c.requires.inside c.requires.owned c.requires.held small c.requires.fits u stores y stamps n w opens)
+
+pub returns-clause-has : goal.returns-clause-has
+returns-clause-has c = filled_fresh (key c.args.table.now) (call_of c.args.pass.now) c.args.owned.header c.args.block.class c.args.block.number c.args.len c.args.stamp c.generation.result (state c.args.pass.now) (state c.open_header-found.new.pass)
+    c.requires.inside c.requires.owned c.requires.fits (returns-clause-filled c)
 
 pub store_field-requires-2-clause-names : goal.store_field-requires-2-clause-names
 store_field-requires-2-clause-names c = let z : Sizes = key c.args.table.now in let call = call_of c.args.pass.now in let h = c.args.owned.header in let d : Class = c.args.block.class in let b = c.args.block.number in let len = c.args.len in

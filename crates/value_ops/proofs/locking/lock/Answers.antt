@@ -14,7 +14,7 @@ use Rattle.value_ops.proofs.ExchangeFacts.{state_fits}
 use Rattle.value_ops.proofs.LockFacts.{live_word, refused_first, may_be_locked, refused_second, locks}
 use Rattle.oak_core.proofs.MetMore.{told_in}
 use Rattle.value_ops.proofs.locking.lock.Goals as goal
-use Rattle.value_ops.proofs.LockedNow.{has_lock, is_unchanged}
+use Rattle.value_ops.proofs.LockedNow.{has_lock, is_unchanged, locks_key}
 
 pub load-seen-requires-clause-inside : goal.load-seen-requires-clause-inside
 load-seen-requires-clause-inside c = pin_below (key c.args.table.now) c.args.header c.pin_at-word.result c.requires.inside c.pin_at-word.ensures
@@ -72,3 +72,7 @@ returns-clause-alone c = let z : Sizes = key c.args.table.now in let call = call
     let t = told_in z call (call_of c.load-seen.new.pass) (on_headers (lock_header h n)) u k w c.load-seen.ensures.own.call
     (c.lock_header-found.ensures.told h record { inside = c.requires.inside; word_is = c.pin_at-word.ensures; unpinned = (live_word n g free).0; new_is = (λ i. n + STATE) }) in
     locks_alone z call h g c.requires.inside c.pin_at-word.result n v u c.pin_at-word.ensures c.load-seen.ensures.loaded k w t c.if-found-seen.false free
+
+pub returns-clause-keys : goal.returns-clause-keys
+returns-clause-keys c = let z : Sizes = key c.args.table.now in let call = call_of c.args.pass.now in let h = c.args.header in let g = c.args.generation in let v = state c.args.pass.now in let w = state c.lock_header-found.new.pass in
+    let l : LocksHeader z call h g v w = (returns-clause-locked c).2 in locks_key z call h g v w l

@@ -1,11 +1,11 @@
-use Rattle.std.proofs.Common.{◌≡◌, ℕ, sym, refl, ◌∙◌, subst, arith, ◌<◌}
+use Rattle.std.proofs.Common.{◌≡◌, ℕ, sym, refl, ◌∙◌, subst, arith}
 use Rattle.oak_model.specs.Limits.{Sizes}
 use Rattle.header_core.specs.Headers.{at_stamp}
 use Rattle.oak_core.specs.declared.states.PassState.{PassState}
 use Rattle.oak_core.specs.HeaderCalls.{NamesPin, Pins}
-use Rattle.oak_core.specs.Memory.{in_headers, rooms_at}
+use Rattle.oak_core.specs.Memory.{in_headers}
 use Rattle.oak_core.specs.Passes.{state, key, call_of}
-use Rattle.oak_core.proofs.Words.{index_below, header_before}
+use Rattle.oak_core.proofs.Words.{index_below}
 use Rattle.value_ops.proofs.PinFacts.{pins_now, pins_later, pinned_live, dead_left, locked_dud, dead_dud, other_dud}
 use Rattle.value_ops.proofs.pinning.pin_at.Goals as goal
 
@@ -32,7 +32,7 @@ load-stamp-requires-clause-inside c = let e = c.stamp_at.ensures in let l = inde
 pub unpin-requires-2-clause-pinned : goal.unpin-requires-2-clause-pinned
 unpin-requires-2-clause-pinned c = let z : Sizes = key c.args.table.now in let call = call_of c.args.pass.now in let h = c.args.header in let g = c.args.generation in let n = c.pin_header-found.result in let v = state c.args.pass.now in let w = state c.pin_header-found.new.pass in
     let t = wanted z call h c.pin_at-word.result c.from.result g n v w c.from.ensures c.pin_header-found.ensures.told record { inside = c.requires.inside; word_is = c.pin_at-word.ensures } in
-    pins_later z call h g n v w t (call_of c.pin_header-found.new.pass) c.stamp_at.result c.load-stamp.result (state c.load-stamp.new.pass) (subst (λ (i : ℕ). i < rooms_at z) (sym c.stamp_at.ensures) (header_before z (at_stamp h) c.requires.inside)) c.load-stamp.ensures.loaded
+    pins_later z call h g n v w t (call_of c.pin_header-found.new.pass) c.stamp_at.result c.load-stamp.result (state c.load-stamp.new.pass) c.load-stamp.ensures.loaded
 
 pub returns-clause-bad : goal.returns-clause-bad
 returns-clause-bad c = let z : Sizes = key c.args.table.now in let call = call_of c.args.pass.now in let h = c.args.header in let g = c.args.generation in let n = c.pin_header-found.result in let v = state c.args.pass.now in let w = state c.pin_header-found.new.pass in

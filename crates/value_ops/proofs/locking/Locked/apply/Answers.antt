@@ -14,6 +14,16 @@ use Rattle.value_ops.proofs.RecipeFacts.{made_long}
 use Rattle.value_ops.proofs.RewriteFacts.{words_found, words_met, value_long, lock_now, rewrites_by}
 use Rattle.value_ops.proofs.locking.Locked.apply.Goals as goal
 
+pub load_value-requires-clause-words : goal.load_value-requires-clause-words
+load_value-requires-clause-words g c = let z : Sizes = key c.args.table.now in let h = c.args.self.now.header in let g' = c.args.self.now.generation in let v = state c.args.pass.now in let o = c.place-place.ensures in
+    words_met z h g' c.bytes_at-first.result v (words_found z h g' v o.limits c.requires.locked c.place-place.result o.place o.block c.class_in.result c.block_in.result c.bytes_at-first.result c.class_in.ensures c.block_in.ensures c.bytes_at-first.ensures)
+    (call_of c.args.pass.now) (state c.place-place.new.pass) o.met
+
+pub store_scratch-requires-clause-words : goal.store_scratch-requires-clause-words
+store_scratch-requires-clause-words g c = let z : Sizes = key c.args.table.now in let h = c.args.self.now.header in let g' = c.args.self.now.generation in let v = state c.args.pass.now in let y = state c.place-place.new.pass in let o = c.place-place.ensures in let first = c.bytes_at-first.result in
+    let is : HasWords z h g' first v = words_found z h g' v o.limits c.requires.locked c.place-place.result o.place o.block c.class_in.result c.block_in.result first c.class_in.ensures c.block_in.ensures c.bytes_at-first.ensures in
+    words_met z h g' first y (words_met z h g' first v is (call_of c.args.pass.now) y o.met) (call_of c.place-place.new.pass) (state c.load_value.new.pass) c.load_value.ensures.met
+
 pub store_scratch-requires-clause-long : goal.store_scratch-requires-clause-long
 store_scratch-requires-clause-long g c = let z : Sizes = key c.args.table.now in let call = call_of c.args.pass.now in let h = c.args.self.now.header in let v = state c.args.pass.now in let y = state c.place-place.new.pass in let u = state c.load_value.new.pass in let o = c.place-place.ensures in
     let is : HasWords z h c.args.self.now.generation c.bytes_at-first.result v = words_found z h c.args.self.now.generation v o.limits c.requires.locked c.place-place.result o.place o.block c.class_in.result c.block_in.result c.bytes_at-first.result c.class_in.ensures c.block_in.ensures c.bytes_at-first.ensures in

@@ -20,7 +20,7 @@ use Rattle.oak_core.proofs.MetMore.{told_in}
 use Rattle.value_ops.proofs.AlonePins.{none_stays}
 use Rattle.value_ops.proofs.AloneRewrites.{refills_alone, keeps_alone}
 use Rattle.value_ops.proofs.RefillFacts.{may_refill, bytes_fit, refills, refills_same, locked_still, locked_same}
-use Rattle.value_ops.proofs.RewriteFacts.{words_found, stored_since}
+use Rattle.value_ops.proofs.RewriteFacts.{words_found, stored_since, words_met}
 use Rattle.value_ops.proofs.locking.Locked.fill.Goals as goal
 
 -- the bytes that were stored, and the place word, in the call
@@ -39,6 +39,11 @@ class_again n place k d e is named class = ap class_number e ∙ (class_number-f
 -- the place word of the block, with another length
 named_by : (place : ℕ) (d : Class) (b n : ℕ) → class_in place ≡ class_number d → block_in place ≡ b → place_word (class_number d) b n ≡ place_word (class_in place) (block_in place) n
 named_by place d b n class block = λ i. place_word (sym class i) (sym block i) n
+
+pub store_bytes-requires-clause-words : goal.store_bytes-requires-clause-words
+store_bytes-requires-clause-words c = let z : Sizes = key c.args.table.now in let h = c.args.self.now.header in let g = c.args.self.now.generation in let v = state c.args.pass.now in let o = c.place-place.ensures in
+    words_met z h g c.bytes_at.result v (words_found z h g v o.limits c.requires.locked c.place-place.result o.place o.block c.class_in-class.result c.block_in-number.result c.bytes_at.result c.class_in-class.ensures c.block_in-number.ensures c.bytes_at.ensures)
+    (call_of c.args.pass.now) (state c.place-place.new.pass) o.met
 
 pub store_field-requires-clause-names : goal.store_field-requires-clause-names
 store_field-requires-clause-names c = let z : Sizes = key c.args.table.now in let call = call_of c.args.pass.now in let h = c.args.self.now.header in let g = c.args.self.now.generation in let bytes : List ℕ = c.args.bytes.now in let d : Class = c.requires.fits.0 in let first = c.bytes_at.result in let b = c.block_in-number.result in

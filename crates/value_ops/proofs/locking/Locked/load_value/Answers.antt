@@ -8,9 +8,12 @@ use Rattle.value_ops.proofs.AlonePins.{both_stay}
 use Rattle.oak_core.specs.Passes.{state, key, call_of, scratch_of}
 use Rattle.value_ops.specs.HeldValue.{words_in}
 use Rattle.value_ops.proofs.ComesFurther.{loads_in, loads_both, headers_met}
-use Rattle.value_ops.proofs.RewriteFacts.{room}
+use Rattle.value_ops.proofs.RewriteFacts.{room, words_met}
 use Rattle.arena_core.proofs.WordLaws.{put_more, refill_whole, word_of_loop}
 use Rattle.value_ops.proofs.locking.Locked.load_value.Goals as goal
+
+pub load_word-word-requires-clause-words : goal.load_word-word-requires-clause-words
+load_word-word-requires-clause-words c = words_met (key c.args.table.now) c.args.self.now.header c.args.self.now.generation c.args.first (state c.args.pass.now) c.requires.words (call_of c.args.pass.now) (state c.loop-i.pass) c.loop-i.invariant.met
 
 pub loop-i-preserved : goal.loop-i-preserved
 loop-i-preserved c = let z : Sizes = key c.args.table.now in let call = call_of c.args.pass.now in let h = c.args.self.now.header in let v = state c.args.pass.now in let u = state c.loop-i.pass in let w = state c.load_word-word.new.pass in let s = c.loop-i.invariant in let o = c.load_word-word.ensures in

@@ -6,7 +6,7 @@ use Rattle.oak_model.specs.Limits.{Sizes}
 use Rattle.oak_core.specs.Splitting.{Loads}
 use Rattle.oak_core.specs.Passes.{state, key, call_of}
 use Rattle.oak_core.proofs.Words.{index_below}
-use Rattle.value_ops.proofs.ComesFurther.{header_loaded}
+use Rattle.value_ops.proofs.ComesFurther.{place_loaded}
 use Rattle.value_ops.proofs.AlonePins.{load_finds}
 use Rattle.value_ops.proofs.StampStores.{held_place, held_block}
 use Rattle.value_ops.proofs.locking.Locked.place.Goals as goal
@@ -24,7 +24,7 @@ returns-clause-block c = let k = c.requires.locked in
     (held_place (key c.args.table.now) (call_of c.args.pass.now) c.args.self.now.header LOCKED c.place_at.result c.load.result (state c.args.pass.now) (state c.load.new.pass) k.inside (omega arith) (omega arith) k.locked c.load.ensures.loaded c.place_at.ensures)
 
 pub returns-clause-met : goal.returns-clause-met
-returns-clause-met c = header_loaded (key c.args.table.now) (call_of c.args.pass.now) c.place_at.result c.load.result (state c.args.pass.now) (state c.load.new.pass) (at_place c.args.self.now.header) c.requires.locked.inside c.place_at.ensures c.load.ensures.loaded
+returns-clause-met c = place_loaded (key c.args.table.now) (call_of c.args.pass.now) c.place_at.result c.load.result (state c.args.pass.now) (state c.load.new.pass) c.args.self.now.header c.requires.locked.inside c.place_at.ensures c.load.ensures.loaded
 
 pub returns-clause-loaded : goal.returns-clause-loaded
 returns-clause-loaded c = let k = c.requires.locked in let h = c.args.self.now.header in let z : Sizes = key c.args.table.now in let call = call_of c.args.pass.now in let v = state c.args.pass.now in let w = state c.load.new.pass in

@@ -1,4 +1,4 @@
-use Rattle.std.proofs.Common.{◌≡◌, ℕ, ◌<◌, sym, refl, ap, ◌∙◌, subst, arith}
+use Rattle.std.proofs.Common.{◌≡◌, ℕ, ◌<◌, List, sym, refl, ap, ◌∙◌, subst, arith}
 use Rattle.oak_model.specs.declared.limits.TheConstants.{CLASSES}
 use Rattle.oak_model.specs.declared.classes.Class.{Class}
 use Rattle.oak_model.specs.Class.{class_number}
@@ -6,16 +6,18 @@ use Rattle.oak_model.specs.Limits.{Sizes}
 use Rattle.arena_core.specs.Arena.{at_bytes, blocks}
 use Rattle.arena_core.specs.Place.{class_in, block_in, length_in, class_from}
 use Rattle.arena_core.proofs.PlaceLaws.{class_number-from}
-use Rattle.header_core.specs.Headers.{HeaderSpot, IsInHeaders, at_place, at_stamp}
-use Rattle.oak_core.specs.Memory.{in_arena, in_headers, index, rooms_at}
+use Rattle.header_core.specs.declared.holds.HeaderHolds.{HeaderHolds}
+use Rattle.header_core.specs.Headers.{at_place, at_stamp}
+use Rattle.oak_core.specs.declared.states.PassState.{PassState}
+use Rattle.oak_core.specs.Memory.{in_arena, in_headers, index}
 use Rattle.oak_core.specs.Passes.{state, key, call_of}
 use Rattle.oak_core.specs.Splitting.{Loads}
-use Rattle.oak_core.proofs.Words.{index_below, header_before}
-use Rattle.value_ops.specs.Reading.{stamp_pinned}
-use Rattle.value_ops.proofs.PinFacts.{pin_stays, loads_one, loads_both, loads_in}
+use Rattle.oak_core.proofs.Words.{index_below}
+use Rattle.value_ops.specs.Reading.{stamp_pinned, value_pinned, ReadsLife}
+use Rattle.value_ops.proofs.LearnFacts.{headers_loaded}
 use Rattle.value_ops.proofs.LoadFacts.{loaded_placed, loaded_long, place_loaded, stamp_loaded}
+use Rattle.value_ops.proofs.ReadFacts.{reading_life, reading_loads, reading_pin, reading_stamp}
 use Rattle.value_ops.proofs.pinning.HeaderPin.reading.Goals as goal
-use Rattle.oak_core.proofs.PlainLoads.{met_at}
 
 pub load-place-requires-clause-inside : goal.load-place-requires-clause-inside
 load-place-requires-clause-inside c = let e = c.place_at.ensures in let l = index_below (key c.args.table.now) (in_headers (at_place c.args.self.header)) c.requires.pinned.1.inside in omega arith
@@ -35,11 +37,11 @@ bytes_at-block-requires-clause-block c = let z : Sizes = key c.args.table.now in
 pub returns-clause-reading : goal.returns-clause-reading
 returns-clause-reading c = let z : Sizes = key c.args.table.now in let v = state c.args.pass.now in let w = state c.load-place.new.pass in let l = c.load-place.ensures.loaded in let p = c.requires.pinned.0 in let h = c.requires.pinned.1 in
     let e = place_loaded z (call_of c.args.pass.now) c.place_at.result c.load-place.result v w l p h.is h.good c.args.self.header h.inside h.header_is c.place_at.ensures in let placed = loaded_placed z (call_of c.args.pass.now) c.place_at.result c.load-place.result v w l p h.is h.good in
-    let k = c.load-stamp.ensures.loaded in let is = pin_stays v w _ (met_at z (call_of c.args.pass.now) c.place_at.result c.load-place.result v w (in_headers (at_place c.args.self.header)) h.inside tt c.place_at.ensures l) ∙ h.is in record {
+    let k = c.load-stamp.ensures.loaded in let is = ap (λ (a : HeaderHolds). a.pin) (headers_loaded z (call_of c.args.pass.now) c.place_at.result c.load-place.result v w l) ∙ h.is in record {
       own = c.load-stamp.ensures.own.table ∙ (c.load-place.ensures.own.table ∙ c.requires.own);
       limits = l.told.rule.sizes;
       pin = p;
-      has = record { inside = h.inside; is = pin_stays w (state c.load-stamp.new.pass) _ (met_at z (call_of c.load-place.new.pass) c.stamp_at.result c.load-stamp.result w (state c.load-stamp.new.pass) (in_headers (at_stamp c.args.self.header)) h.inside tt c.stamp_at.ensures k) ∙ is; header_is = h.header_is; wanted_is = refl; good = h.good };
+      has = record { inside = h.inside; is = ap (λ (a : HeaderHolds). a.pin) (headers_loaded z (call_of c.load-place.new.pass) c.stamp_at.result c.load-stamp.result w (state c.load-stamp.new.pass) k) ∙ is; header_is = h.header_is; wanted_is = refl; good = h.good };
       placed = placed;
       block_is = c.bytes_at-block.ensures ∙ (λ i. index z (in_arena (at_bytes (class_is c.class_in.result c.load-place.result p.place c.class_in.ensures e placed.class i) (c.block_in.ensures i) 0))) ∙ ap (λ (j : ℕ). index z (in_arena (at_bytes (class_in p.place) (block_in j) 0))) e;
       length_is = c.length_in.ensures.is ∙ ap length_in e;
@@ -49,21 +51,32 @@ returns-clause-reading c = let z : Sizes = key c.args.table.now in let v = state
 
 -- the two loads, in the call
 
+placed_at : (z : Sizes) (call h word n : ℕ) (v w : PassState) → word ≡ index z (in_headers (at_place h)) → Loads z call word v n w → Loads z call (index z (in_headers (at_place h))) v n w
+placed_at z call h word n v w e l = subst (λ (i : ℕ). Loads z call i v n w) e l
+
+stamped_at : (z : Sizes) (call now h word n : ℕ) (v w : PassState) → now ≡ call → word ≡ index z (in_headers (at_stamp h)) → Loads z now word v n w → Loads z call (index z (in_headers (at_stamp h))) v n w
+stamped_at z call now h word n v w e is l = subst (λ (i : ℕ × ℕ). Loads z i.0 i.1 v n w) (λ i. (e i, is i)) l
+
 pub returns-clause-only : goal.returns-clause-only
-returns-clause-only c = let z : Sizes = key c.args.table.now in let call = call_of c.args.pass.now in let v = state c.args.pass.now in let w = state c.load-place.new.pass in let x = state c.load-stamp.new.pass in let h = c.requires.pinned.1 in
-    loads_both z call v w x (loads_one z call c.place_at.result c.load-place.result v w (in_front z (at_place c.args.self.header) c.place_at.result h.inside c.place_at.ensures) c.load-place.ensures.loaded)
-    (loads_in z call (call_of c.load-place.new.pass) w x c.load-place.ensures.own.call (loads_one z (call_of c.load-place.new.pass) c.stamp_at.result c.load-stamp.result w x (in_front z (at_stamp c.args.self.header) c.stamp_at.result h.inside c.stamp_at.ensures) c.load-stamp.ensures.loaded))
-  where
-    in_front : (z : Sizes) (q : HeaderSpot) (word : ℕ) → IsInHeaders z q → word ≡ index z (in_headers q) → word < rooms_at z
-    in_front z q word inside e = subst (λ (i : ℕ). i < rooms_at z) (sym e) (header_before z q inside)
+returns-clause-only c = let z : Sizes = key c.args.table.now in let call = call_of c.args.pass.now in let v = state c.args.pass.now in let w = state c.load-place.new.pass in let x = state c.load-stamp.new.pass in let h = c.args.self.header in
+    reading_loads z call h c.args.self.generation c.requires.pinned.0 v c.load-place.result w c.load-stamp.result x c.requires.pinned.1 (placed_at z call h c.place_at.result c.load-place.result v w c.place_at.ensures c.load-place.ensures.loaded)
+    (stamped_at z call (call_of c.load-place.new.pass) h c.stamp_at.result c.load-stamp.result w x c.load-place.ensures.own.call c.stamp_at.ensures c.load-stamp.ensures.loaded)
+
+pub returns-clause-reads : goal.returns-clause-reads
+returns-clause-reads c = λ of knows. let z : Sizes = key c.args.table.now in let call = call_of c.args.pass.now in let v = state c.args.pass.now in let w = state c.load-place.new.pass in let x = state c.load-stamp.new.pass in let h = c.args.self.header in let p = c.requires.pinned.0 in
+    let l = placed_at z call h c.place_at.result c.load-place.result v w c.place_at.ensures c.load-place.ensures.loaded in let k = stamped_at z call (call_of c.load-place.new.pass) h c.stamp_at.result c.load-stamp.result w x c.load-place.ensures.own.call c.stamp_at.ensures c.load-stamp.ensures.loaded in
+    let is = (reading_pin z call h c.args.self.generation p v c.load-place.result w c.load-stamp.result x c.requires.pinned.1 l k).is in
+    let found = reading_stamp z call h c.args.self.generation p v c.load-place.result w c.load-stamp.result x c.requires.pinned.1 l k in
+    subst (λ (t : ℕ × List ℕ). ReadsLife h c.args.self.generation of t.0 t.1 v x) (λ i. ((found ∙ sym (ap stamp_pinned is)) i, sym (ap value_pinned is) i)) (reading_life z call h c.args.self.generation p v c.load-place.result w c.load-stamp.result x c.requires.pinned.1 l k of knows)
 
 pub returns-clause-found : goal.returns-clause-found
-returns-clause-found c = let z : Sizes = key c.args.table.now in let call = call_of c.args.pass.now in let v = state c.args.pass.now in let w = state c.load-place.new.pass in let x = state c.load-stamp.new.pass in let h = c.requires.pinned.1 in let l = c.load-place.ensures.loaded in let k = c.load-stamp.ensures.loaded in
-    let p = c.requires.pinned.0 in let is = pin_stays v w _ (met_at z (call_of c.args.pass.now) c.place_at.result c.load-place.result v w (in_headers (at_place c.args.self.header)) h.inside tt c.place_at.ensures l) ∙ h.is in
-    let stamp_is = stamp_loaded z (call_of c.load-place.new.pass) c.stamp_at.result c.load-stamp.result w x k p is h.good c.args.self.header h.inside h.header_is c.stamp_at.ensures in
+returns-clause-found c = let z : Sizes = key c.args.table.now in let call = call_of c.args.pass.now in let v = state c.args.pass.now in let w = state c.load-place.new.pass in let x = state c.load-stamp.new.pass in let h = c.args.self.header in let p = c.requires.pinned.0 in
+    let l = placed_at z call h c.place_at.result c.load-place.result v w c.place_at.ensures c.load-place.ensures.loaded in let k = stamped_at z call (call_of c.load-place.new.pass) h c.stamp_at.result c.load-stamp.result w x c.load-place.ensures.own.call c.stamp_at.ensures c.load-stamp.ensures.loaded in
+    let is = (reading_pin z call h c.args.self.generation p v c.load-place.result w c.load-stamp.result x c.requires.pinned.1 l k).is in
+    let found = reading_stamp z call h c.args.self.generation p v c.load-place.result w c.load-stamp.result x c.requires.pinned.1 l k in
     record {
       place = c.load-place.result;
       between = w;
-      places = subst (λ (i : ℕ). Loads z call i v c.load-place.result w) c.place_at.ensures l;
-      stamps = subst (λ (i : ℕ × ℕ × ℕ). Loads z i.0 i.1 w i.2 x) (λ i. (c.load-place.ensures.own.call i, c.stamp_at.ensures i, (stamp_is ∙ sym (ap stamp_pinned (pin_stays w x _ (met_at z (call_of c.load-place.new.pass) c.stamp_at.result c.load-stamp.result w x (in_headers (at_stamp c.args.self.header)) h.inside tt c.stamp_at.ensures k) ∙ is))) i)) k;
+      places = l;
+      stamps = subst (λ (n : ℕ). Loads z call (index z (in_headers (at_stamp h))) w n x) (found ∙ sym (ap stamp_pinned is)) k;
     }

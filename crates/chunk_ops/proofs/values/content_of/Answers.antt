@@ -1,6 +1,6 @@
 use Rattle.std.proofs.Common.{arith}
-use Rattle.chunk_ops.proofs.WordLoads.{says_floor, says_value}
-use Rattle.chunk_ops.proofs.loading.content_of.Goals as goal
+use Rattle.chunk_ops.proofs.ContentLoads.{says_floor, says_value}
+use Rattle.chunk_ops.proofs.values.content_of.Goals as goal
 
 pub returns-then-word-lt-NAMES : goal.returns-then-word-lt-NAMES
 returns-then-word-lt-NAMES c = says_floor c.args.word c.if-word-lt-NAMES.true

@@ -1,0 +1,46 @@
+//! What the value words of entries say.
+ghost use Rattle.std.specs.Prelude.{ℕ, List};
+ghost use Rattle.oak_core.specs.AloneWords.{Runs};
+ghost use Rattle.oak_core.specs.Passes.{IsPassOf, Stays, state, key, call_of};
+ghost use Rattle.chunk_ops.specs.Contents.{FindsContent, Says, SaysIn, TellsOf};
+ghost use Rattle.chunk_ops.specs.PinRecords.{HasEntry, HasRoomPin, OnlyLearns};
+
+use crate::entries::{Content, EntryNo};
+use crate::pins::RoomPin;
+use oak_core::{OakTable, Pass, load};
+
+/// What the top bit of a value word adds to it, where it names a header.
+pub(crate) const NAMES: u64 = 1 << 63;
+
+/// What one more in the header adds to a value word.
+pub(crate) const HEADER: u64 = 1 << 32;
+
+/// What a value word says.
+fn content_of(word: u64) -> Content
+    ensures { Says result word }
+{
+    if word < NAMES {
+        return Content::Floor { stamp: word };
+    }
+    Content::Value {
+        header: ((word - NAMES) / HEADER) as u32,
+        generation: (word % HEADER) as u32,
+    }
+}
+
+/// What the value word of an entry says, which is loaded once. By a floor the entry's key was read
+/// absent, up to it; by a header the pass knows that life of the key, past which it has not seen the key
+/// go.
+pub fn content(table: &OakTable, pass: &mut Pass, pin: &RoomPin, entry: EntryNo) -> Content
+    requires own { IsPassOf table.now pass.old }
+    requires pinned { HasRoomPin (key table.now) pin.now.room (state pass.old) }
+    requires entry { (k : List ℕ) × HasEntry pin.now.room entry.0 k (state pass.old) }
+    ensures own { Stays pass.old pass.new }
+    ensures content { FindsContent (key table.now) (call_of pass.old) pin.now.room entry.0 result (state pass.old) (state pass.new) }
+    ensures tells { (k : List ℕ) → HasEntry pin.now.room entry.0 k (state pass.old) → TellsOf result (key table.now) (call_of pass.old) pin.now.room entry.0 k (state pass.old) (state pass.new) }
+    ensures only { OnlyLearns (call_of pass.old) (state pass.old) (state pass.new) }
+    ensures alone { Runs (SaysIn result (key table.now) pin.now.room entry.0) (state pass.old) (state pass.new) }
+{
+    let word = table.value_at(pin.room, entry.0);
+    content_of(load(table, pass, word))
+}
