@@ -1,0 +1,33 @@
+-- What stays of the pass from one call to the next.
+use Rattle.std.proofs.Common.{◌≡◌, ℕ, List, sym, ◌∙◌, subst}
+use Rattle.arena_core.specs.HeldBlocks.{no_blocks}
+use Rattle.header_core.specs.HeaderHolds.{no_headers}
+use Rattle.chunk_core.specs.declared.holds.RoomHolds.{RoomHolds}
+use Rattle.chunk_core.specs.MayOnRooms.{FindsEntry}
+use Rattle.oak_core.specs.declared.states.PassState.{PassState}
+use Rattle.oak_core.specs.CallSteps.{Learns}
+use Rattle.chunk_ops.specs.PinRecords.{HasEntry, pin_or}
+use Rattle.key_rounds.specs.Rounds.{EndsCall, WroteBy, WroteNothing}
+use Rattle.key_rounds.proofs.Calls.{wrote_same}
+
+-- an entry that the pin found
+pub entry_kept : (r i : ℕ) (k : List ℕ) (v w : PassState) → w.rooms ≡ v.rooms → HasEntry r i k v → HasEntry r i k w
+entry_kept r i k v w e h = record { entry = h.entry; finds = subst (λ (a : RoomHolds). FindsEntry r i a (pin_or a.pin) h.entry) (sym e) h.finds; key_is = h.key_is }
+
+-- a call that only learned
+pub learned_ends : (call : ℕ) (v w : PassState) → Learns call v w → w.rooms ≡ v.rooms → w.blocks ≡ no_blocks → w.headers ≡ no_headers → WroteBy call v → EndsCall call v w
+learned_ends call v w l rooms blocks headers wrote = record { numbers = l.all.numbers; rooms = rooms; blocks = blocks; headers = headers; wrote = wrote_same call v w l.all.mine wrote }
+
+-- one that wrote nothing
+pub nothing_ends : (call : ℕ) (v w : PassState) → WroteNothing v w → w.blocks ≡ no_blocks → w.headers ≡ no_headers → WroteBy call v → EndsCall call v w
+nothing_ends call v w n blocks headers wrote = record { numbers = n.numbers; rooms = n.rooms; blocks = blocks; headers = headers; wrote = wrote_same call v w n.mine wrote }
+
+-- one that ended behind steps that wrote nothing
+pub ends_behind : (call : ℕ) (v w x : PassState) → WroteNothing v w → EndsCall call w x → EndsCall call v x
+ends_behind call v w x n e = record { numbers = e.numbers ∙ n.numbers; rooms = e.rooms ∙ n.rooms; blocks = e.blocks; headers = e.headers; wrote = e.wrote }
+
+pub nothing_both : (v w x : PassState) → WroteNothing v w → WroteNothing w x → WroteNothing v x
+nothing_both v w x a b = record { numbers = b.numbers ∙ a.numbers; mine = b.mine ∙ a.mine; rooms = b.rooms ∙ a.rooms }
+
+pub learned_nothing : (call : ℕ) (v w : PassState) → Learns call v w → w.rooms ≡ v.rooms → WroteNothing v w
+learned_nothing call v w l rooms = record { numbers = l.all.numbers; mine = l.all.mine; rooms = rooms }
