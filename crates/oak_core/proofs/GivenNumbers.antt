@@ -12,18 +12,19 @@ use Rattle.oak_model.specs.Counts.{one_at, total, below}
 use Rattle.oak_model.proofs.Changes.{Change, change_level, change_more}
 use Rattle.oak_model.proofs.Counting.{one_at-same, one_at-other, total_set, total_at, total_append, below_at}
 use Rattle.oak_core.specs.declared.states.Numbers.{Numbers}
-use Rattle.oak_core.specs.PassState.{rooted, in_hand, has_number, is_parent}
+use Rattle.oak_core.specs.PassState.{rooted, in_hand, has_number, is_parent, splits_of}
 use Rattle.oak_core.specs.Step.{numbered}
 use Rattle.oak_core.specs.Rule.{NumbersStand}
 
 -- word 0 stays, and those that come have the numbers of those that go
 pub numbers_frame : (z : Sizes) (g : ℕ) {before after gone fresh : List Numbers} (c : Change before after gone fresh) → ((k : ℕ) → total (has_number k) fresh ≡ total (has_number k) gone)
-    → ((k : ℕ) → total (is_parent k) gone ≤ total (is_parent k) fresh) → NumbersStand z g before → NumbersStand z g after
-numbers_frame z g c level more r = record {
+    → ((k : ℕ) → total (is_parent k) gone ≤ total (is_parent k) fresh) → ((k : ℕ) → total (splits_of k) fresh ≡ total (splits_of k) gone) → NumbersStand z g before → NumbersStand z g after
+numbers_frame z g c level more splits r = record {
   owned = λ k. r.owned k ∙ sym (change_level c (has_number k) (level k));
   lowest = r.lowest;
   few = r.few;
   parents = λ k pos set_bit. let p = r.parents k pos set_bit in let m = change_more c (is_parent k) (more k) in omega arith;
+  made = λ k some. let e = change_level c (splits_of k) (splits k) in r.made k (omega arith);
 }
 
 -- the given numbers are the lowest
@@ -88,6 +89,11 @@ module _ (z : Sizes) (g k : ℕ) (ns : List Numbers) (seat : ℕ) (a : Numbers) 
       ap (λ (t : Bool). total (λ (m : ℕ). one_at m k) (cond t (a.made ++ k ∷ []) a.made)) (eq-eqb (bit_at g k) 0 e) ∙ total_append (λ (m : ℕ). one_at m k) a.made (k ∷ []) in
       product_pos (below (λ m. rooted m a) k) (total (λ (m : ℕ). one_at m k) b.made) (omega arith) (let s = just_one in omega arith)
 
+  splits_other : (j : ℕ) → j ≢ k → splits_of j b ≡ splits_of j a
+  unfolding total
+  splits_other j ne = elim (eqb (bit_at g k) 0) as (λ t. total (λ (m : ℕ). one_at m j) (cond t (a.made ++ k ∷ []) a.made) ≡ total (λ (m : ℕ). one_at m j) a.made)
+      [ true ↦ (let t = total_append (λ (m : ℕ). one_at m j) a.made (k ∷ []) in let o = one_at-other k j (λ q. ne (sym q)) in omega arith) | false ↦ refl ]
+
   pub number_given : NumbersStand z x (set ns seat b)
   number_given = record {
     owned = λ j. let t = total_set (has_number j) ns seat a b here in let w = r.owned j in dite (ℕ_discrete j k)
@@ -99,4 +105,6 @@ module _ (z : Sizes) (g k : ℕ) (ns : List Numbers) (seat : ℕ) (a : Numbers) 
         (λ was. let p = r.parents j pos was in let m = parent_more j in omega arith)
         (λ ne. let is_k : j ≡ k = dite (ℕ_discrete j k) (λ q. q) (λ q. absurd (ne (sym (others j q) ∙ e))) in let l = bit_at-lt g j in
         let p : 0 < is_parent j b = subst (λ (n : ℕ). 0 < is_parent n b) (sym is_k) (parent_new (subst (λ (n : ℕ). bit_at g n ≡ 0) is_k (omega arith))) in let u = total_at (is_parent j) ns seat a here in omega arith);
+    made = λ j some. dite (ℕ_discrete j k) (λ q. subst (λ (n : ℕ). bit_at x n ≡ 1) (sym q) set_there)
+        (λ ne. bits_stay j (r.made j (let t = total_set (splits_of j) ns seat a b here in let s = splits_other j ne in omega arith)));
   }

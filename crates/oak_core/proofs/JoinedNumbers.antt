@@ -4,7 +4,7 @@ use Rattle.oak_model.specs.Counts.{one_at, total, below}
 use Rattle.oak_model.proofs.Counting.{total_append, below_add, below_same}
 use Rattle.oak_core.specs.declared.states.Joined.{Joined}
 use Rattle.oak_core.specs.declared.states.PassState.{PassState}
-use Rattle.oak_core.specs.PassState.{rooted, in_hand, has_number, is_parent, joined_from, both_state, spent_state}
+use Rattle.oak_core.specs.PassState.{rooted, in_hand, has_number, is_parent, splits_of, joined_from, both_state, spent_state}
 use Rattle.oak_core.specs.Schedule.{MayJoin}
 
 module _ (v w : PassState) (may : MayJoin w) where
@@ -25,6 +25,11 @@ module _ (v w : PassState) (may : MayJoin w) where
   same_numbers_joined k = let a : in_hand k w.numbers.hand ≡ 0 = ap (in_hand k) may.idle.hand in let b = roots k in
       let x : ℕ = rooted k both.numbers in let p : ℕ = rooted k v.numbers in let q : ℕ = rooted k w.numbers in let hv : ℕ = in_hand k v.numbers.hand in let hw : ℕ = in_hand k w.numbers.hand in
       let b' : x ≡ p + q = b in let a' : hw ≡ 0 = a in let h : (x + hv) + (0 + 0 + 0 + 0) ≡ (p + hv) + ((q + hw) + 0) = omega arith in h
+
+  pub same_splits_joined : (k : ℕ) → total (splits_of k) (both.numbers ∷ spent_state.numbers ∷ []) ≡ total (splits_of k) (v.numbers ∷ w.numbers ∷ [])
+  unfolding total
+  same_splits_joined k = let p : ℕ = splits_of k v.numbers in let q : ℕ = splits_of k w.numbers in let x : ℕ = splits_of k both.numbers in
+      let e : x ≡ p + q = total_append (λ (n : ℕ). one_at n k) v.numbers.made w.numbers.made in let h : x + (0 + 0) ≡ p + (q + 0) = omega arith in h
 
   pub more_parents_joined : (k : ℕ) → total (is_parent k) (v.numbers ∷ w.numbers ∷ []) ≤ total (is_parent k) (both.numbers ∷ spent_state.numbers ∷ [])
   unfolding total

@@ -77,6 +77,7 @@ module _ (z : Sizes) (g : ℕ) (is : IsInLimits z) (lt : g < LAST_GENERATION) wh
     lowest = λ k e. absurd (let o = bit_at-pow_other 0 (suc k) (λ q. omega arith) in omega arith);
     few = λ k le. bit_at-pow_other 0 k (λ q. let p = is.passes_least in omega arith);
     parents = λ k pos e. absurd (let o = bit_at-pow_other 0 k (λ q. omega arith) in omega arith);
+    made = λ k some. absurd (omega arith);
   }
     where
       one_bit : (k : ℕ) → bit_at 1 k ≡ (one_at 0 k + 0 + 0) + 0

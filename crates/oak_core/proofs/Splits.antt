@@ -5,18 +5,19 @@ use Rattle.std.specs.Int.{bit_at, trailing_ones}
 use Rattle.std.proofs.lemmas.Nat.Bits.{bit_at_ones, bit_at-trailing_ones}
 use mathlib.Core.Logic.{dite}
 use native.Mathlib.Decide.{ℕ_discrete, dec_lt}
-use Rattle.oak_model.specs.Counts.{Each}
+use Rattle.oak_model.specs.Counts.{Each, one_at, total}
 use Rattle.oak_model.specs.Limits.{Sizes}
 use Rattle.oak_model.proofs.Lists.{at_map, each_append}
-use Rattle.oak_model.proofs.Counting.{total_at}
+use Rattle.oak_model.proofs.Counting.{one_at-same, total_at}
 use Rattle.oak_core.specs.declared.states.Finding.{Finding}
 use Rattle.oak_core.specs.declared.states.PassState.{PassState}
 use Rattle.oak_core.specs.Memory.{Spot, at_given, index, memory}
 use Rattle.oak_core.specs.Finding.{finding, leaving, grown, noted, Shows}
-use Rattle.oak_core.specs.PassState.{has_number, numbers_of, findings_of, both_state, left_state, right_state}
+use Rattle.oak_core.specs.PassState.{has_number, splits_of, numbers_of, findings_of, both_state, left_state, right_state}
 use Rattle.oak_core.specs.Splitting.{Loads, IsAtGiven, LooksAtGiven, FindsLeast, SplitsOff, FindsAllGiven, SeesLonger}
 use Rattle.oak_core.specs.Step.{give_number, numbered, MayGive, Told}
 use Rattle.oak_core.proofs.Found.{shows_last}
+use Rattle.oak_core.proofs.GivenNumbers.{all_lower}
 use Rattle.oak_core.proofs.MetLists.{at_behind}
 use Rattle.oak_core.proofs.MetMore.{grown_twice, grown_none}
 use Rattle.oak_core.proofs.Histories.{seen_later, seen_first}
@@ -47,6 +48,12 @@ tried_shows call i v w t j lt = let s = t.given (omega arith) in subst (λ (y : 
 -- so the next may be tried
 pub may_give : (z : Sizes) (call i : ℕ) (v w : PassState) → i < z.passes → v.numbers.hand ≡ None → Tried call i v w → MayGive z i w
 may_give z call i v w few hand t = record { few = few; hand = (λ k. (t.after k).numbers.hand) ∙ hand; lower = tried_shows call i v w t }
+
+-- what holds of each number that is counted in the list
+each_of : (P : ℕ → Type 0) (xs : List ℕ) → ((m : ℕ) → 0 < total (λ (x : ℕ). one_at x m) xs → P m) → Each P xs
+unfolding total
+each_of P [] f = tt
+each_of P (x ∷ xs) f = (f x (let o = one_at-same x x refl in omega arith), each_of P xs (λ m some. f m (omega arith)))
 
 -- word 0 is loaded
 module _ (z : Sizes) (call i : ℕ) (v w x : PassState) (n : ℕ) (t : Tried call i v w) (l : Loads z call 0 w n x) where
@@ -82,6 +89,14 @@ module _ (z : Sizes) (call k : ℕ) (v w x : PassState) (n : ℕ) (t : Tried cal
   none_of_own e = let o = told.rule.numbers.owned k in let b : bit_at (memory z told.table.words).given k ≡ 0 = ap (λ (g : ℕ). bit_at g k) given_is ∙ e in
       let a = total_at (has_number k) (map numbers_of told.table.states) told.seat w.numbers (at_map numbers_of told.table.states told.seat w told.here) in
       let same : has_number k w.numbers ≡ has_number k v.numbers = ap (λ (y : PassState). has_number k y.numbers) t.after in omega arith
+
+  -- and is above all that it split off
+  above_made : bit_at n k ≡ 0 → Each (λ (m : ℕ). m < k) v.numbers.made
+  above_made e = each_of (λ (m : ℕ). m < k) v.numbers.made (λ m some. dite (dec_lt m k) (λ l. l) (λ no. absurd (let all : ℕ = total (splits_of m) (map numbers_of told.table.states) in
+      let a = total_at (splits_of m) (map numbers_of told.table.states) told.seat w.numbers (at_map numbers_of told.table.states told.seat w told.here) in
+      let same : splits_of m w.numbers ≡ splits_of m v.numbers = ap (λ (y : PassState). splits_of m y.numbers) t.after in
+      let high : bit_at (memory z told.table.words).given k ≡ 1 = all_lower (memory z told.table.words).given told.rule.numbers.lowest m k (omega arith) (told.rule.numbers.made m (omega arith)) in
+      let b : bit_at (memory z told.table.words).given k ≡ 0 = ap (λ (g : ℕ). bit_at g k) given_is ∙ e in omega arith)))
 
   abbrev met_now : Finding
   met_now = leaving (finding z call at_given (Some n) (bit_or n (2 ^ k)) told.table.words w)
@@ -120,6 +135,7 @@ module _ (z : Sizes) (call k : ℕ) (v w x : PassState) (n : ℕ) (t : Tried cal
       old = is_left ∙ (ap left_state now_in_hand ∙ ap (λ (o : _). record (grown (t.more ++ met_now ∷ []) v) { numbers = record v.numbers { hand = o; made = v.numbers.made ++ k ∷ [] } }) (sym hand));
       new = is_right ∙ ap right_state now_in_hand;
       unowned = none_of_own e;
+      above = above_made e;
       least = shows_last t.more met_now 0 n (λ n. (bit_at n k ≡ 0) × ((j : ℕ) → j < k → bit_at n j ≡ 1)) (first_word z) refl (e, lower_given);
     }
 

@@ -27,7 +27,7 @@ use Rattle.oak_core.specs.declared.states.KeyedWrite.{KeyedWrite}
 use Rattle.oak_core.specs.declared.states.Knowledge.{Knowledge}
 use Rattle.oak_core.specs.declared.states.PassState.{PassState}
 use Rattle.oak_core.specs.Memory.{Memory, same_spot, read, memory}
-use Rattle.oak_core.specs.PassState.{blocks_of, headers_held, rooms_held, numbers_of, findings_of, knowledge_of, kept_of, in_hand, has_number, is_parent, of_key, seen_of, history, number_in, left_state, right_state, joined_from, both_state, spent_state}
+use Rattle.oak_core.specs.PassState.{blocks_of, headers_held, rooms_held, numbers_of, findings_of, knowledge_of, kept_of, in_hand, has_number, is_parent, splits_of, of_key, seen_of, history, number_in, left_state, right_state, joined_from, both_state, spent_state}
 use Rattle.oak_core.specs.TableState.{TableState}
 use Rattle.oak_core.specs.Rule.{AloneStands, FindingsHold, SpentIsSpent, JoinedStand, Rule, PassStands}
 use Rattle.oak_core.specs.EntryOwners.{all_others}
@@ -38,7 +38,7 @@ use Rattle.oak_core.proofs.KeptWords.{kept_with}
 use Rattle.oak_core.proofs.GivenNumbers.{numbers_frame}
 use Rattle.oak_core.proofs.Found.{none_met}
 use Rattle.oak_core.proofs.Histories.{histories_frame, seen_both}
-use Rattle.oak_core.proofs.JoinedNumbers.{same_numbers_joined, more_parents_joined}
+use Rattle.oak_core.proofs.JoinedNumbers.{same_numbers_joined, more_parents_joined, same_splits_joined}
 use Rattle.oak_core.proofs.AloneLast.{alone_joins, alone_fresh}
 use Rattle.oak_core.proofs.RoomBundles.{RoomBundles, rooms_now, sums_moved, bundles_moved}
 use Rattle.oak_core.proofs.KnownInTwo.{both_knows, known_split, known_join}
@@ -92,6 +92,10 @@ module _ (z : Sizes) (s : TableState) (seat : ℕ) (v : PassState) (r : Rule z s
     unfolding total
     more_parents k = let p : ℕ = is_parent k v.numbers in let q : ℕ = is_parent k right.numbers in let h : p + 0 ≤ p + (q + 0) = omega arith in h
 
+    same_splits : (k : ℕ) → total (splits_of k) (left.numbers ∷ right.numbers ∷ []) ≡ total (splits_of k) (v.numbers ∷ [])
+    unfolding total
+    same_splits k = let p : ℕ = splits_of k v.numbers in let h : p + (0 + 0) ≡ p + 0 = omega arith in h
+
     keeps_nothing : kept_of right ≡ []
     unfolding kept_of_blocks kept_of_headers
     keeps_nothing = refl
@@ -112,7 +116,7 @@ module _ (z : Sizes) (s : TableState) (seat : ℕ) (v : PassState) (r : Rule z s
     split_keeps = let b = bundles_split z s seat v r here may in record {
       sizes = r.sizes;
       words = r.words;
-      numbers = numbers_frame z m.given (change_parts numbers_of apart) same_numbers more_parents r.numbers;
+      numbers = numbers_frame z m.given (change_parts numbers_of apart) same_numbers more_parents same_splits r.numbers;
       findings = (change_parts findings_of apart).every (FindingsHold z m.given) (r.findings seat v.findings (at_map findings_of s.states seat v here), (none_met z m.given, tt)) (λ j x _ e. r.findings j x e);
       joined = apart.every (JoinedStand z) (r.joined seat v here, (tt, tt)) (λ j u _ at. r.joined j u at);
       histories = histories_frame (change_parts knowledge_of apart) seat v.knowledge (at_map knowledge_of s.states seat v here) r.histories
@@ -170,7 +174,7 @@ module _ (z : Sizes) (s : TableState) (seat : ℕ) (v : PassState) (r : Rule z s
     join_keeps = let b = bundles_join z s seat v r here other w there ne may in let av = at_map knowledge_of s.states seat v here in let aw = at_map knowledge_of s.states other w there in record {
       sizes = r.sizes;
       words = r.words;
-      numbers = numbers_frame z m.given (change_parts numbers_of together) (same_numbers_joined v w may) (more_parents_joined v w may) r.numbers;
+      numbers = numbers_frame z m.given (change_parts numbers_of together) (same_numbers_joined v w may) (more_parents_joined v w may) (same_splits_joined v w may) r.numbers;
       findings = (change_parts findings_of together).every (FindingsHold z m.given) (r.findings seat v.findings (at_map findings_of s.states seat v here), (none_met z m.given, tt)) (λ j x _ e. r.findings j x e);
       joined = together.every (JoinedStand z)
           (each_append (λ (j : Joined). FullsStand z j.findings) v.numbers.joined (joined_from w ∷ w.numbers.joined) (r.joined seat v here) ((r.findings other w.findings (at_map findings_of s.states other w there)).noted, r.joined other w there), (tt, tt))

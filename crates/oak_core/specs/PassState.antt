@@ -67,6 +67,10 @@ has_number k n = rooted k n + in_hand k n.hand
 abbrev pub is_parent : ℕ → Numbers → ℕ
 is_parent k n = below (λ m. rooted m n) k * total (λ (m : ℕ). one_at m k) n.made
 
+-- how often the pass split the number off
+abbrev pub splits_of : ℕ → Numbers → ℕ
+splits_of k n = total (λ (m : ℕ). one_at m k) n.made
+
 -- 0 and each number that it split off is the pass's own, or that of a pass joined into it
 pub record IsAlone (v : PassState) : Type 0 where
   pub first : 0 < rooted 0 v.numbers

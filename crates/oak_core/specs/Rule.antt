@@ -24,7 +24,7 @@ use Rattle.oak_core.specs.Finding.{Shows}
 use Rattle.oak_core.specs.EntryOwners.{all_others, is_key_word}
 use Rattle.oak_core.specs.Owners.{HeadersAreWhole, HeadersAreHeld}
 use Rattle.oak_core.specs.Known.{knows_life, known}
-use Rattle.oak_core.specs.PassState.{blocks_of, headers_held, rooms_held, numbers_of, findings_of, knowledge_of, kept_of, has_number, is_parent, IsAlone, of_key, history, spent_state}
+use Rattle.oak_core.specs.PassState.{blocks_of, headers_held, rooms_held, numbers_of, findings_of, knowledge_of, kept_of, has_number, is_parent, splits_of, IsAlone, of_key, history, spent_state}
 use Rattle.oak_core.specs.Lack.{FullsStand}
 use Rattle.oak_core.specs.TableState.{TableState}
 use Rattle.oak_core.specs.Bounds.{BasesBound, HasOpened}
@@ -43,6 +43,8 @@ pub record NumbersStand (z : Sizes) (given : ℕ) (ns : List Numbers) : Type 0 w
   pub lowest : (k : ℕ) → bit_at given (suc k) ≡ 1 → bit_at given k ≡ 1
   pub few : (k : ℕ) → z.passes ≤ k → bit_at given k ≡ 0
   pub parents : (k : ℕ) → 0 < k → bit_at given k ≡ 1 → 0 < total (is_parent k) ns
+  -- a number that was split off is given
+  pub made : (k : ℕ) → 0 < total (splits_of k) ns → bit_at given k ≡ 1
 
 -- a number that a pass found given is given
 abbrev pub FoundStays : ℕ → Findings → Type 0

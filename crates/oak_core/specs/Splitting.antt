@@ -40,7 +40,7 @@ pub record FindsLeast (z : Sizes) (call : ℕ) (v : PassState) (k : ℕ) (w : Pa
   pub lower : (j : ℕ) → j < k → bit_at number j ≡ 1
   pub free : k < 64 → bit_at number k ≡ 0
 
--- the new pass x has the number, which was the least that no pass had at its step, so none of v's, and has seen what v has seen; all that was met was met in the call and at word 0
+-- the new pass x has the number, which was the least that no pass had at its step, so none of v's, and above all that v split off before, and has seen what v has seen; all that was met was met in the call and at word 0
 pub record SplitsOff (z : Sizes) (call : ℕ) (v w x : PassState) : Type 0 where
   pub number : ℕ
   pub few : number < z.passes
@@ -49,6 +49,7 @@ pub record SplitsOff (z : Sizes) (call : ℕ) (v w x : PassState) : Type 0 where
   pub old : w ≡ record (grown more v) { numbers = record v.numbers { made = v.numbers.made ++ number ∷ [] } }
   pub new : x ≡ record bare_state { numbers = record bare_state.numbers { number = number }; knowledge = record { seen = v.knowledge.seen; heard = v.knowledge.heard; loaded = []; mine = [] } }
   pub unowned : has_number number v.numbers ≡ 0
+  pub above : Each (λ (m : ℕ). m < number) v.numbers.made
   pub least : Shows more 0 (λ n. (bit_at n number ≡ 0) × ((j : ℕ) → j < number → bit_at n j ≡ 1))
 
 -- all numbers were found given at one step, and all that was met was met in the call and at word 0
