@@ -5,3 +5,5 @@ pub mod SearchLaws
 pub mod BlockFacts
 pub mod StackLaws
 pub mod LackedBlocks
+pub mod PutWords
+pub mod StoredBytes

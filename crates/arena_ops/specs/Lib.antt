@@ -1,3 +1,5 @@
 pub mod Looking
 pub mod Taking
 pub mod Stack
+pub mod PutWords
+pub mod Storing

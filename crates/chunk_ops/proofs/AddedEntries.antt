@@ -33,7 +33,7 @@ use Rattle.chunk_ops.specs.Latching.{with_latch, AddsUnder, GivesRoomLatch, Take
 use Rattle.chunk_ops.specs.PinRecords.{HasEntry, HasRoomPin, RoomPinned, PinKept, UnderPin, OnlyMeets, pin_or, room_pin}
 use Rattle.chunk_ops.proofs.EntrySteps.{add_still}
 use Rattle.chunk_ops.proofs.PinsKept.{kept_unlatched, pinned_latched}
-use Rattle.chunk_ops.specs.KeyBlocks.{given}
+use Rattle.arena_ops.specs.Storing.{given}
 
 -- an absence found in a part of a call, before and behind which the pass learned nothing
 absent_in : (call k at : ℕ) (u v w x : PassState) → Stands call u v → Stands call w x → FoundAbsent call k at v w → FoundAbsent call k at u x
@@ -82,7 +82,7 @@ module _ (z : Sizes) (call r : ℕ) (t u v : PassState) (o : OnlyMeets call t u)
   taken_back none = ap (with_latch None) taken_rooms ∙ ap (λ (q : Option Latch). with_latch q t.rooms) (sym none)
 
 pub latched_since : (z : Sizes) (call r : ℕ) (t u v : PassState) → OnlyMeets call t u → FoundLatched z call r u v → FoundLatched z call r t v
-latched_since z call r t u v o f = record { step = step_since z call (on_rooms (latch_room r)) t u v o.stands.met f.step; taken = f.taken }
+latched_since z call r t u v o f = record { step = step_since z call (on_rooms (latch_room r)) t u v o.stands.met f.step; taken = f.taken; rooms = f.rooms ∙ o.rooms }
 
 -- ---- around what is done under it
 
@@ -152,7 +152,7 @@ given_back z call r i c b k t x y u h g = let rooms : y.rooms ≡ x.rooms = ap (
 -- ---- the key that the call looks for is the one in the block
 
 pub key_looked : (z : Sizes) (c : Class) (b len : ℕ) (k bytes : List ℕ) (v : PassState) → MayAdd z c b len k v → take len bytes ≡ take len (bytes_of (words_held (class_number c) b v.blocks.held)) → k ≡ take len bytes
-key_looked z c b len k bytes v m is = sym m.block.key_is ∙ (ap (λ (n : ℕ). take n (bytes_of (words_held (class_number c) b v.blocks.held))) m.long ∙ sym is)
+key_looked z c b len k bytes v m is = sym m.block.bytes_are ∙ (ap (λ (n : ℕ). take n (bytes_of (words_held (class_number c) b v.blocks.held))) m.long ∙ sym is)
 
 -- the block that it holds is the one of the call
 pub still_held : (z : Sizes) (c : Class) (b : ℕ) (k : List ℕ) (len : ℕ) (t x : PassState) → MayAdd z c b len k t → x.blocks ≡ t.blocks → HoldsBlock z (class_number c) b x.blocks

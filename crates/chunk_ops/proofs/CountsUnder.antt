@@ -30,7 +30,7 @@ use Rattle.chunk_ops.specs.Latching.{with_latch, MayEnter, AddsUnder}
 use Rattle.chunk_ops.specs.PinRecords.{RoomPinned, UnderPin, pin_or, room_pin}
 use Rattle.chunk_ops.proofs.EntrySteps.{add_still}
 use Rattle.chunk_ops.proofs.PinsKept.{kept_unlatched, kept_both, latch_kept}
-use Rattle.chunk_ops.specs.KeyBlocks.{given}
+use Rattle.arena_ops.specs.Storing.{given}
 
 some_same : (a b : ℕ) → Some a ≡ Some b → a ≡ b
 some_same a b e = cc

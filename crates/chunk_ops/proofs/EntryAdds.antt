@@ -63,7 +63,7 @@ module _ (z : Sizes) (r : ℕ) (c : Class) (b len count : ℕ) (key : List ℕ) 
 
   -- the words of its block have the key
   key_there : key_bytes e.latch.entry.word (words_held (class_number c) b v.blocks.held) ≡ key
-  key_there = ap (λ (n : ℕ). take n (bytes_of ws)) (key_length-is e.latch.entry.word ∙ length_is) ∙ e.may.block.key_is
+  key_there = ap (λ (n : ℕ). take n (bytes_of ws)) (key_length-is e.latch.entry.word ∙ length_is) ∙ e.may.block.bytes_are
 
   key_is : key_in e.latch.entry.word (words_held (class_number c) b v.blocks.held) ≡ key_number key
   key_is = key_in-is e.latch.entry.word ws key key_there
@@ -113,9 +113,13 @@ module _ (z : Sizes) (r : ℕ) (c : Class) (b len count : ℕ) (key : List ℕ) 
     rooms_are = ap (λ (y : PassState). y.rooms) t.1.after ∙ ap (λ (o : Option PinnedRoom). record v.rooms { latch = Some (latched_at m.rooms r (count + 1)); pin = counted_more m.rooms bytes (count + 1) o }) e.pinned.pin.is
 
     -- the count of the room is the one that was loaded
-    count_there : m.rooms.count r ≡ count
+    pub count_there : (memory z t.1.table.words).rooms.count r ≡ count
     unfolding may_publish
     count_there = ap m.rooms.count (sym e.pinned.pin.room) ∙ (count_is z t.1.table t.1.seat v t.1.rule t.1.here r (count + 1) may_publish ∙ e.count_is)
+
+    -- and the base is that of the pin
+    pub base_there : (memory z t.1.table.words).rooms.base r ≡ (room_pin v).base
+    base_there = ap m.rooms.base (sym e.pinned.pin.room) ∙ holds.base
 
     word_there : m.rooms.key p.room (entries_in count) ≡ e.latch.entry.word
     unfolding may_publish

@@ -50,7 +50,7 @@ key_in-is word words key e = ap key_number e
 -- the key in such a block is one
 pub one_key : (z : Sizes) (c : Class) (b len : ℕ) (k l : List ℕ) (v : PassState) → MayAdd z c b len k v → MayAdd z c b len l v → k ≡ l
 one_key z c b len k l v m n = let ws : List ℕ = words_held (class_number c) b v.blocks.held in
-    sym m.block.key_is ∙ (ap (λ (j : ℕ). take j (bytes_of ws)) (m.long ∙ sym n.long) ∙ n.block.key_is)
+    sym m.block.bytes_are ∙ (ap (λ (j : ℕ). take j (bytes_of ws)) (m.long ∙ sym n.long) ∙ n.block.bytes_are)
 
 -- an entry as it is found
 

@@ -24,7 +24,7 @@ use Rattle.chunk_ops.specs.Latching.{with_latch, MayEnter, WritesEntry, AddsUnde
 use Rattle.chunk_ops.specs.PinRecords.{RoomPinned, PinKept, OnlyMeets, pin_or, room_pin}
 use Rattle.chunk_ops.proofs.LatchSteps.{latch_stored}
 use Rattle.chunk_ops.proofs.PinsKept.{pinned_latched}
-use Rattle.chunk_ops.specs.KeyBlocks.{HasKeyBlock, given}
+use Rattle.arena_ops.specs.Storing.{HasBytes, given}
 
 pub count_fits : (z : Sizes) (n : ℕ) → IsInLimits z → n < 2 ^ 64 → entries_in n < z.entries → n + 1 < 2 ^ 64
 unfolding entries_in
@@ -35,7 +35,7 @@ pub add_still : (z : Sizes) (c : Class) (b len : ℕ) (key : List ℕ) (v w : Pa
 add_still z c b len key v w blocks span m = record {
   is_key = m.is_key;
   long = m.long;
-  block = let h : HasKeyBlock z c b key v = m.block in record { block = subst (HoldsBlock z (class_number c) b) (sym blocks) h.block; key_is = (λ i. take (length key) (bytes_of (words_held (class_number c) b (blocks i).held))) ∙ h.key_is; fits = h.fits };
+  block = let h : HasBytes z c b key v = m.block in record { block = subst (HoldsBlock z (class_number c) b) (sym blocks) h.block; bytes_are = (λ i. take (length key) (bytes_of (words_held (class_number c) b (blocks i).held))) ∙ h.bytes_are; fits = h.fits };
   covers = subst (CoversKey key) (sym span) m.covers;
 }
 

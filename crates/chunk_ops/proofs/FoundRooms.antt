@@ -1,5 +1,5 @@
 -- Rooms that were tried one behind another.
-use Rattle.std.proofs.Common.{◌≡◌, ◌≢◌, ℕ, ◌+◌, ◌<◌, inl, inr, sym, refl, ap, ◌∙◌, subst, arith, Some, None}
+use Rattle.std.proofs.Common.{◌≡◌, ◌≢◌, ℕ, ◌+◌, ◌<◌, ◌⊎◌, ⊎_elim, inl, inr, sym, refl, ap, ◌∙◌, subst, arith, Some, None}
 use mathlib.Core.Logic.{dite}
 use native.Mathlib.Decide.{dec_lt}
 use Rattle.pin_word.specs.PinWord.{state_of}
@@ -18,15 +18,26 @@ use Rattle.oak_core.proofs.AloneRuns.{runs_as}
 use Rattle.oak_core.proofs.CallSteps.{step_alone, step_since, step_until, stands_both}
 use Rattle.chunk_ops.specs.LoneRooms.{IsOff, IsShut, LoneTry}
 use Rattle.chunk_ops.specs.PinRecords.{HasRoomPin, RoomPinned, OnlyMeets, pin_or, room_pin, with_room_pin}
-use Rattle.chunk_ops.specs.RoomPins.{AddsRoomPin, PinsNow, FoundShut, PinsOpen, FoundOff, Unpins}
+use Rattle.chunk_ops.specs.RoomPins.{AddsRoomPin, HadMoment, PinsNow, FoundShut, PinsOpen, FoundOff, Unpins}
 use Rattle.chunk_ops.proofs.BoundWords.{same_pin}
 use Rattle.chunk_ops.proofs.LoneRoomLaws.{tried_alone}
 use Rattle.chunk_ops.proofs.MeetingCalls.{only_none, stays_then, then_stays, round}
 use Rattle.chunk_ops.proofs.PinSteps.{pin_stands, pin_blocks, pin_headers, pin_rooms, made, pin_on, pin_good, pin_runs, pin_found}
 
+-- before a step the rule held
+had_moment : (z : Sizes) (call r n : ℕ) (v w : PassState) → PinsRoomWord z call r v n w → HadMoment z v
+had_moment z call r n v w t = (t.table.words, record { states = t.table.states; rule = t.rule; seat = t.seat; here = t.here })
+
+-- a try that made no step, or found a moment, and then one that found a moment
+pub had_still : (z : Sizes) (v w : PassState) → (w ≡ v) ⊎ HadMoment z v → HadMoment z w → HadMoment z v
+had_still z v w a m = ⊎_elim (λ (e : w ≡ v). subst (HadMoment z) e m) (λ (h : HadMoment z v). h) a
+
 module _ (z : Sizes) (call r : ℕ) (v w : PassState) (n : PinsNow z call r v w) where
   pub has_pin : HasRoomPin z r w
   has_pin = pin_good z call r n.number v w n.told n.opened
+
+  pub now_begun : HadMoment z v
+  now_begun = had_moment z call r n.number v w n.told
 
   -- which the pass may undo
   pub no_latch_then : (w.rooms.latch ≡ None) × (w.rooms.claim ≡ None)
@@ -44,6 +55,7 @@ module _ (z : Sizes) (call r : ℕ) (v w : PassState) (n : PinsNow z call r v w)
     rooms = only.rooms ∙ (pin_rooms z call r n.number v w n.told ∙ ap (λ (q : PinnedRoom). with_room_pin (Some q) v.rooms) (sym made_is));
     made = same_pin call w x only;
     range = subst (λ (q : PinnedRoom). P (span_of q)) (sym (same_pin call w x only)) p;
+    begun = now_begun;
     still = then_stays (AddsRoomPin z r) v w x (pin_runs z call r n.number v w n.told (λ (k : ℕ). state_of k ≡ OPEN) n.opened) only.still;
   }
     where
@@ -65,6 +77,7 @@ found_shut z call r n v w u t shut b = record {
   step = step_until z call (on_rooms (pin_room r)) v w u b.stands.met (step_alone z call (on_rooms (pin_room r)) v n w t);
   shut = shut;
   only = round z call r v w w u n t (only_none call w) b;
+  begun = had_moment z call r n v w t;
   still = tried_alone z call r n v w w u t (IsShut z r) (only_none call w) b (λ e. shut (ap state_of (sym (pin_found z call r (pin_room r) refl v n w t t.may.inside.0)) ∙ e));
 }
 
@@ -89,8 +102,8 @@ off_since z call r P u v w a f = record { step = step_since z call (on_rooms (pi
 pub off_until : (z : Sizes) (call r : ℕ) (P : Span → Type 0) (v w x : PassState) → OnlyMeets call w x → FoundOff z call r P v w → FoundOff z call r P v x
 off_until z call r P v w x a f = record { step = step_until z call (on_rooms (pin_room r)) v w x a.stands.met f.step; off = f.off }
 
-pub opens_since : (z : Sizes) (call r : ℕ) (P : Span → Type 0) (u v w : PassState) → OnlyMeets call u v → PinsOpen z call r P v w → PinsOpen z call r P u w
-opens_since z call r P u v w a f = record {
+pub opens_since : (z : Sizes) (call r : ℕ) (P : Span → Type 0) (u v w : PassState) → OnlyMeets call u v → HadMoment z u → PinsOpen z call r P v w → PinsOpen z call r P u w
+opens_since z call r P u v w a m f = record {
   step = step_since z call (on_rooms (pin_room r)) u v w a.stands.met f.step;
   opened = f.opened;
   stands = stands_both call u v w a.stands f.stands;
@@ -100,6 +113,7 @@ opens_since z call r P u v w a f = record {
   rooms = f.rooms ∙ ap (with_room_pin (Some (room_pin w))) a.rooms;
   made = f.made;
   range = f.range;
+  begun = m;
   still = stays_then (AddsRoomPin z r) u v w a.still f.still;
 }
 

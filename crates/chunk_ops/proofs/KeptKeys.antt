@@ -15,7 +15,7 @@ use Rattle.chunk_ops.specs.declared.entries.Found.TheVariants.{Entry, Missing}
 use Rattle.chunk_ops.specs.FindsAlone.{HasKeyAt, used_key}
 
 -- what stands at the other words
-number_other : (z : Sizes) (ws : List ℕ) (p : Spot) (x : ℕ) → IsInside z p → (q : Spot) → same_spot q p ≡ false → number_at z (set ws (index z p) x) q ≡ number_at z ws q
+pub number_other : (z : Sizes) (ws : List ℕ) (p : Spot) (x : ℕ) → IsInside z p → (q : Spot) → same_spot q p ≡ false → number_at z (set ws (index z p) x) q ≡ number_at z ws q
 number_other z ws p x h q f = test-cases (is_inside z q) (λ b. is_inside z q ≡ b → number_at z (set ws (index z p) x) q ≡ number_at z ws q)
     (λ i _. number_at-in z (set ws (index z p) x) q i ∙ (get_or-set_other ws (index z p) (index z q) x 0 (λ e. true≢false (sym (ap (λ (r : Spot). same_spot r p) (index_apart z q p (inside_is z q i) h e) ∙ same_spot-self p) ∙ f)) ∙ sym (number_at-in z ws q i)))
     (λ o _. number_at-out z (set ws (index z p) x) q o ∙ sym (number_at-out z ws q o)) refl

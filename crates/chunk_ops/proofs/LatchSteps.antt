@@ -76,7 +76,7 @@ module _ (z : Sizes) (call r : ℕ) (v : PassState) (n : ℕ) (w : PassState) (t
   -- it was taken, and stays so
   pub latch_found : (n == 0) ≡ false → FoundLatched z call r v w × OnlyMeets call v w
   latch_found e = (
-    record { step = step_alone z call (on_rooms (latch_room r)) v n w t; taken = positive n e },
+    record { step = step_alone z call (on_rooms (latch_room r)) v n w t; taken = positive n e; rooms = refl },
     record {
       stands = stands_on z call (latch_room r) v n w t (ap (λ (y : PassState). y.knowledge) t.after);
       blocks = ap (λ (y : PassState). y.blocks) t.after;

@@ -1,5 +1,5 @@
 -- What is done to the words of the table between the taking of a room's latch and its giving up, and around both.
-use Rattle.std.proofs.Common.{◌≡◌, ℕ, ◌<◌, List, get_or, set, sym, refl, ap, ◌∙◌, subst, arith, inl, inr, ⊎_elim}
+use Rattle.std.proofs.Common.{◌≡◌, ℕ, ◌<◌, List, get_or, set, sym, refl, ap, ◌∙◌, subst, arith, inl, inr}
 use Rattle.std.proofs.lemmas.List.{set-set}
 use lib.Seq.{set-get_or}
 use Rattle.oak_model.specs.declared.classes.Class.{Class}
@@ -16,8 +16,9 @@ use Rattle.oak_core.proofs.Words.{memory_read}
 use Rattle.chunk_ops.specs.declared.entries.EntryNo.{EntryNo}
 use Rattle.chunk_ops.specs.declared.entries.Found.{Found}
 use Rattle.chunk_ops.specs.declared.entries.Found.TheVariants.{Entry, Missing}
-use Rattle.chunk_ops.specs.AddsAlone.{TakesLatchIn, GivesLatchIn, AddsIn, CrowdedIn}
+use Rattle.chunk_ops.specs.AddsAlone.{TakesLatchIn, GivesLatchIn, AddsIn, AddsNext, CrowdedIn, put_entry}
 use Rattle.chunk_ops.specs.FindsAlone.{FindsIn, HasKeyAt}
+use Rattle.chunk_ops.proofs.EntryWords.{put_around}
 use Rattle.chunk_ops.proofs.KeptKeys.{IsNoKey, count_set, has_key_same, keys_set, same_back}
 
 module _ (z : Sizes) (r : ℕ) (inside : r < z.chunks) where
@@ -41,11 +42,13 @@ module _ (z : Sizes) (r : ℕ) (inside : r < z.chunks) where
     count_was : (memory z b).rooms.count r ≡ (memory z a).rooms.count r
     count_was = ap (λ (ws : List ℕ). (memory z ws).rooms.count r) t.1 ∙ count_set z r (in_rooms (at_latch r)) 1 a (inside, omega arith) refl
 
+    free : get_or a (index z (in_rooms (at_latch r))) 0 ≡ 0
+    free = sym (memory_read z a (in_rooms (at_latch r)) (inside, omega arith)) ∙ t.0
+
     module _ (c d : List ℕ) (g : GivesLatchIn z r c d) where
       -- where they stayed under the latch, they stay
       back : c ≡ b → d ≡ a
-      back same = let zero_there : get_or a at 0 ≡ 0 = sym (memory_read z a (in_rooms (at_latch r)) (inside, omega arith)) ∙ t.0 in
-          g ∙ (ap (λ (ws : List ℕ). set ws at 0) (same ∙ t.1) ∙ (set-set a at 1 0 ∙ (ap (set a at) (sym zero_there) ∙ set-get_or a at 0)))
+      back same = g ∙ (ap (λ (ws : List ℕ). set ws at 0) (same ∙ t.1) ∙ (set-set a at 1 0 ∙ (ap (set a at) (sym free) ∙ set-get_or a at 0)))
 
       pub found_around : (key : List ℕ) (f : Found) → FindsIn z r key f b c → FindsIn z r key f a d
       found_around key f h = (back h.0, was_so key f h.1)
@@ -53,17 +56,21 @@ module _ (z : Sizes) (r : ℕ) (inside : r < z.chunks) where
       pub crowded_around : (key : List ℕ) → CrowdedIn z r key b c → CrowdedIn z r key a d
       crowded_around key h = (back h.0, ap entries_in (sym count_was) ∙ h.1, was_so key Missing h.2)
 
-      pub adds_around : (i : EntryNo) (key : List ℕ) → AddsIn z r i key b c → AddsIn z r i key a d
-      adds_around i key h = record {
-        was = ⊎_elim (λ (e : HasKeyAt (memory z b) r key (Entry i)). inl (was_so key (Entry i) e))
-            (λ (n : (i.0 ≡ entries_in ((memory z b).rooms.count r)) × (i.0 < z.entries) × HasKeyAt (memory z b) r key Missing). inr (n.0 ∙ ap entries_in count_was, n.1, was_so key Missing n.2)) h.was;
-        now = subst (λ (ws : List ℕ). HasKeyAt (memory z ws) r key (Entry i)) (sym g) (key_latched c 0 key (Entry i) h.now);
+      pub adds_around : (i : EntryNo) (e : Class) (n len : ℕ) (key : List ℕ) → AddsNext z r i e n len key b c → HasKeyAt (memory z c) r key (Entry i) → AddsIn z r i e n len key a d
+      adds_around i e n len key h now = record {
+        was = inr record {
+          next = h.next ∙ ap entries_in count_was;
+          room = h.room;
+          none = was_so key Missing h.none;
+          becomes = g ∙ (ap (λ (ws : List ℕ). set ws at 0) (h.becomes ∙ ap (put_entry z r i.0 e n len) t.1) ∙ put_around z r i.0 inside h.room e n len a free);
+        };
+        now = subst (λ (ws : List ℕ). HasKeyAt (memory z ws) r key (Entry i)) (sym g) (key_latched c 0 key (Entry i) now);
       }
 
 -- a block is given back where an entry of the key was found
-pub given_in : (z : Sizes) (r : ℕ) (i : EntryNo) (key : List ℕ) (c : Class) (b : ℕ) → b < blocks z (class_number c) → (before middle after : List ℕ) → FindsIn z r key (Entry i) before middle → ClearsBit z c b middle after → AddsIn z r i key before after
-given_in z r i key c b lt before middle after f g = record {
-  was = inl f.1;
+pub given_in : (z : Sizes) (r : ℕ) (i : EntryNo) (key : List ℕ) (c : Class) (b len : ℕ) → b < blocks z (class_number c) → (before middle after : List ℕ) → FindsIn z r key (Entry i) before middle → ClearsBit z c b middle after → AddsIn z r i c b len key before after
+given_in z r i key c b len lt before middle after f g = record {
+  was = inl (f.1, subst (λ (ws : List ℕ). ClearsBit z c b ws after) f.0 g);
   now = subst (λ (ws : List ℕ). HasKeyAt (memory z ws) r key (Entry i)) (sym g.1)
       (has_key_same r (memory z middle) (memory z (set middle (index z (bit_spot c b)) _)) (keys_set z r (bit_spot c b) _ middle no_key) (count_set z r (bit_spot c b) _ middle no_key.inside refl) key (Entry i)
       (subst (λ (ws : List ℕ). HasKeyAt (memory z ws) r key (Entry i)) (sym f.0) f.1));

@@ -27,7 +27,7 @@ use Rattle.oak_core.specs.Memory.{Memory, in_rooms, index, memory}
 use Rattle.oak_core.specs.PassState.{rooms_held}
 use Rattle.oak_core.specs.RoomCalls.{PinsRoomWord, UnpinsRoomWord}
 use Rattle.oak_core.specs.Step.{on_rooms, MayOnRooms, Told}
-use Rattle.oak_core.proofs.AloneRuns.{DoesStep, step_runs, runs_as}
+use Rattle.oak_core.proofs.AloneRuns.{DoesStep, moment_after, step_runs, runs_as}
 use Rattle.oak_core.proofs.Words.{memory_read}
 use Rattle.chunk_ops.specs.PinRecords.{PinIsOn, RoomPinned, with_room_pin}
 use Rattle.chunk_ops.specs.RoomPins.{ChangesRoomPin, Unpins}
@@ -162,6 +162,7 @@ module _ (z : Sizes) (call r n : ℕ) (v w : PassState) (t : UnpinsRoomWord z ca
     blocks = ap (λ (y : PassState). y.blocks) t.after;
     headers = ap (λ (y : PassState). y.headers) t.after;
     rooms = ap (λ (y : PassState). y.rooms) t.after;
+    ended = (_, moment_after z call (on_rooms (unpin_room r)) v n w t);
     still = word_changes z call r (unpin_room r) refl v n w t t.may.inside.0 (λ k. 0 < count_of k) (λ k. k - 1) counts (less_is n (small z call r (unpin_room r) refl v n w t t.may.inside.0) counts);
   }
 

@@ -18,14 +18,14 @@ use Rattle.chunk_ops.specs.declared.entries.AddHalt.{AddHalt}
 use Rattle.chunk_ops.specs.declared.entries.AddHalt.TheVariants.{Crowded, Busy}
 use Rattle.chunk_ops.specs.AskedRanges.{CoversKey}
 use Rattle.chunk_ops.specs.Finds.{FoundAbsent}
-use Rattle.chunk_ops.specs.KeyBlocks.{HasKeyBlock, given}
+use Rattle.arena_ops.specs.Storing.{HasBytes, given}
 use Rattle.chunk_ops.specs.PinRecords.{room_pin, HasEntry, KeepsPin}
 
 -- the key may be added: it is one of the pinned room's range, in such a block
 pub record MayAdd (z : Sizes) (c : Class) (b len : ℕ) (key : List ℕ) (v : PassState) : Type 0 where
   pub is_key : IsKey key
   pub long : length key ≡ len
-  pub block : HasKeyBlock z c b key v
+  pub block : HasBytes z c b key v
   pub covers : CoversKey key (span_of (room_pin v))
 
 -- the room has an entry of the key, which the pin has found, and the block is not the pass's any more
@@ -49,10 +49,11 @@ pub record FoundCrowded (z : Sizes) (call r : ℕ) (key : List ℕ) (v w : PassS
   pub none : (e : FoundEntry) → Has e (room_pin w).entries → found_key e ≢ key_number key
   pub absent : FoundAbsent call (key_number key) (room_pin v).base v w
 
--- the latch of the room was found taken
+-- the latch of the room was found taken, by a step at which the pass had of rooms what it had at the call
 pub record FoundLatched (z : Sizes) (call r : ℕ) (v w : PassState) : Type 0 where
   pub step : StepOfCall z call (on_rooms (latch_room r)) v w
   pub taken : 0 < step.number
+  pub rooms : step.from.rooms ≡ v.rooms
 
 abbrev pub NotAddedBy : AddHalt → Sizes → ℕ → ℕ → List ℕ → PassState → PassState → Type 0
 NotAddedBy Crowded z call r key v w = FoundCrowded z call r key v w

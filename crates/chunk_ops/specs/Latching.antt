@@ -19,7 +19,7 @@ use Rattle.chunk_ops.specs.declared.adding.Outcome.{Outcome}
 use Rattle.chunk_ops.specs.declared.adding.Outcome.TheVariants.{Found, Added, Full}
 use Rattle.chunk_ops.specs.Adds.{MayAdd, FoundCrowded}
 use Rattle.chunk_ops.specs.PinRecords.{room_pin, HasRoomPin, HasEntry, PinKept, UnderPin}
-use Rattle.chunk_ops.specs.KeyBlocks.{given}
+use Rattle.arena_ops.specs.Storing.{given}
 
 abbrev pub with_latch : Option Latch → RoomHolds → RoomHolds
 with_latch o a = record a { latch = o }

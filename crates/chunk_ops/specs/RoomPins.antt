@@ -8,7 +8,7 @@ use Rattle.chunk_core.specs.RoomStep.{pin_room}
 use Rattle.chunk_core.specs.Rooms.{at_room_pin}
 use Rattle.chunk_core.specs.Spans.{Span}
 use Rattle.oak_core.specs.declared.states.PassState.{PassState}
-use Rattle.oak_core.specs.AloneWords.{Runs}
+use Rattle.oak_core.specs.AloneWords.{Moment, Runs}
 use Rattle.oak_core.specs.CallSteps.{StepOfCall, Stands}
 use Rattle.oak_core.specs.Memory.{in_rooms, index, memory}
 use Rattle.oak_core.specs.RoomCalls.{PinsRoomWord}
@@ -28,6 +28,10 @@ AddsRoomPin z r = ChangesRoomPin z r (λ n. state_of n ≡ OPEN) (λ n. n + 1)
 abbrev pub DropsRoomPin : Sizes → ℕ → List ℕ → List ℕ → Type 0
 DropsRoomPin z r = ChangesRoomPin z r (λ n. 0 < count_of n) (λ n. n - 1)
 
+-- there was a moment at which the rule held with the pass in this state
+abbrev pub HadMoment : Sizes → PassState → Type 0
+HadMoment z v = (words : List ℕ) × Moment z words v
+
 -- the one step that pinned the room found it open
 pub record PinsNow (z : Sizes) (call r : ℕ) (v w : PassState) : Type 0 where
   pub number : ℕ
@@ -39,6 +43,7 @@ pub record FoundShut (z : Sizes) (call r : ℕ) (v w : PassState) : Type 0 where
   pub step : StepOfCall z call (on_rooms (pin_room r)) v w
   pub shut : state_of step.number ≢ OPEN
   pub only : OnlyMeets call v w
+  pub begun : HadMoment z v
   -- to a pass that is alone
   pub still : Runs (LoneTry z (IsShut z r) v.rooms) v w
 
@@ -53,6 +58,7 @@ pub record PinsOpen (z : Sizes) (call r : ℕ) (P : Span → Type 0) (v w : Pass
   pub rooms : w.rooms ≡ with_room_pin (Some (room_pin w)) v.rooms
   pub made : room_pin w ≡ room_pin step.to
   pub range : P (span_of (room_pin w))
+  pub begun : HadMoment z v
   -- to a pass that is alone
   pub still : Runs (AddsRoomPin z r) v w
 
@@ -71,5 +77,6 @@ pub record Unpins (z : Sizes) (call r : ℕ) (v w : PassState) : Type 0 where
   pub blocks : w.blocks ≡ v.blocks
   pub headers : w.headers ≡ v.headers
   pub rooms : w.rooms ≡ with_room_pin None v.rooms
+  pub ended : HadMoment z w
   -- to a pass that is alone
   pub still : Runs (DropsRoomPin z r) v w

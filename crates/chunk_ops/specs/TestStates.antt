@@ -4,7 +4,7 @@ use Rattle.oak_model.specs.declared.classes.Class.{Class}
 use Rattle.oak_model.specs.Limits.{Sizes}
 use Rattle.oak_core.specs.declared.states.PassState.{PassState}
 use Rattle.oak_core.specs.PassState.{HoldsNothing}
-use Rattle.chunk_ops.specs.KeyBlocks.{HasKeyBlock, given}
+use Rattle.arena_ops.specs.Storing.{HasBytes, given}
 use Rattle.chunk_ops.specs.PinRecords.{HasRoomPin, room_pin, with_room_pin}
 
 -- but for a pin of a room it holds nothing
@@ -22,7 +22,7 @@ but_block c b v = record v { blocks = given c b v.blocks }
 
 -- it has the key in the block, and nothing else that it had not
 pub record HoldsKey (z : Sizes) (c : Class) (b : ℕ) (key : List ℕ) (v w : PassState) : Type 0 where
-  pub has : HasKeyBlock z c b key w
+  pub has : HasBytes z c b key w
   pub numbers : w.numbers ≡ v.numbers
   pub blocks : given c b w.blocks ≡ v.blocks
   pub headers : w.headers ≡ v.headers

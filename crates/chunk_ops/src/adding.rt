@@ -42,7 +42,7 @@ fn add_latched(
     ensures own { Stays pass.old pass.new }
     ensures latched { latches_on pin.now.room (state pass.new).rooms ≡ 1 }
     ensures does { Does result (sizes table.now) (call_of pass.old) pin.now.room block.now.class block.now.number key.now (state pass.old) (state pass.new) }
-    ensures alone { Runs (DoesIn result (sizes table.now) pin.now.room key.now) (state pass.old) (state pass.new) }
+    ensures alone { Runs (DoesIn result (sizes table.now) pin.now.room block.now.class block.now.number key.now) (state pass.old) (state pass.new) }
 {
     let (count, found) = find_counted(table, pass, pin, key);
     if let Some(entry) = found {
@@ -58,7 +58,8 @@ fn add_latched(
 /// and has the block and the room's base as its floor; else the block is given back. `Crowded` comes
 /// only where the room had as many entries as it may and none of the key, `Busy` only where its latch
 /// was found taken; both hand the block back. To a pass that is alone `Crowded` comes exactly where the
-/// room has as many entries as it may and none of the key, and `Busy` never.
+/// room has as many entries as it may and none of the key, and `Busy` never; else no words change but the
+/// word of the block's bit, where the entry was there, or the two words of the next entry and the count.
 pub fn add(
     table: &OakTable,
     pass: &mut Pass,
@@ -75,7 +76,7 @@ pub fn add(
     ensures block { IfErr result (λ n. n.block ≡ key) }
     ensures under { IfErr result (λ n. UnderPin (sizes table.now) (call_of pass.old) pin.now.room (state pass.old) (state pass.new)) }
     ensures not_added { IfErr result (λ n. (k : List ℕ) → MayAdd (sizes table.now) key.class key.number len k (state pass.old) → NotAddedBy n.why (sizes table.now) (call_of pass.old) pin.now.room k (state pass.old) (state pass.new)) }
-    ensures alone { IfOk result (λ i. (k : List ℕ) → MayAdd (sizes table.now) key.class key.number len k (state pass.old) → Runs (AddsIn (sizes table.now) pin.now.room i k) (state pass.old) (state pass.new)) }
+    ensures alone { IfOk result (λ i. (k : List ℕ) → MayAdd (sizes table.now) key.class key.number len k (state pass.old) → Runs (AddsIn (sizes table.now) pin.now.room i key.class key.number len k) (state pass.old) (state pass.new)) }
     ensures alone_not_added { IfErr result (λ n. (k : List ℕ) → MayAdd (sizes table.now) key.class key.number len k (state pass.old) → Runs (NotAddedIn n.why (sizes table.now) pin.now.room k) (state pass.old) (state pass.new)) }
 {
     let bytes = held_bytes(table, pass, &key, len);

@@ -13,9 +13,9 @@ ghost use Rattle.chunk_ops.specs.TestStates.{HoldsAPin, HoldsKey, IsIdleAgain, S
 use crate::tests::no_pin_left;
 use crate::{
     AddHalt, Content, EntryNo, Found, Moved, NotAdded, RoomPin, above, add, base_of, below,
-    content, find, key_byte, key_len, pin_for, pin_last, store_key, unpin,
+    content, find, key_byte, key_len, pin_for, pin_last, unpin,
 };
-use arena_ops::{give, take};
+use arena_ops::{give, store_bytes, take};
 use oak_core::{Block, OakTable, Pass};
 use oak_model::{Class, Hint, Shape};
 use std::alloc::Global;
@@ -36,7 +36,7 @@ fn key_block(rt: &impl Abort, table: &OakTable, pass: &mut Pass, key: &[u8]) -> 
         assert!(rt; false);
         return None;
     };
-    store_key(table, pass, &block, key);
+    store_bytes(table, pass, &block, key);
     Some(block)
 }
 

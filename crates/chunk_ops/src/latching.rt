@@ -7,7 +7,7 @@ ghost use Rattle.chunk_core.specs.RoomRule.{latches_on};
 ghost use Rattle.oak_core.specs.AloneWords.{Runs};
 ghost use Rattle.oak_core.specs.Passes.{IsPassOf, Stays, state, key, call_of};
 ghost use Rattle.chunk_ops.specs.Adds.{FoundLatched, MayAdd};
-ghost use Rattle.chunk_ops.specs.AddsAlone.{TakesLatchIn, GivesLatchIn, WritesEntryIn, LeavesKey};
+ghost use Rattle.chunk_ops.specs.AddsAlone.{TakesLatchIn, GivesLatchIn, WritesEntryIn, EntersIn};
 ghost use Rattle.chunk_ops.specs.Latching.{Never, TakesRoomLatch, GivesRoomLatch, WritesEntry, MayEnter, AddsUnder};
 ghost use Rattle.chunk_ops.specs.PinRecords.{HasRoomPin, OnlyMeets, room_pin};
 
@@ -76,7 +76,7 @@ pub(crate) fn enter(
     ensures own { Stays pass.old pass.new }
     ensures next { result ≡ entries_in count }
     ensures adds { (k : List ℕ) → MayAdd (key table.now) block.now.class block.now.number len k (state pass.old) → AddsUnder (key table.now) (call_of pass.old) pin.now.room result block.now.class block.now.number k (state pass.old) (state pass.new) }
-    ensures alone { (k : List ℕ) → MayAdd (key table.now) block.now.class block.now.number len k (state pass.old) → Runs (LeavesKey (key table.now) pin.now.room (record { 0 = result }) k) (state pass.old) (state pass.new) }
+    ensures alone { (k : List ℕ) → MayAdd (key table.now) block.now.class block.now.number len k (state pass.old) → Runs (EntersIn (key table.now) pin.now.room (record { 0 = result }) block.now.class block.now.number len k) (state pass.old) (state pass.new) }
 {
     let entry = entries_in(count);
     let base = base_of(table, pass, pin);

@@ -31,7 +31,6 @@ mod way;
 pub use adding::add;
 pub use bounds::{high_byte, high_len, low_byte, low_len};
 pub use entries::{AddHalt, Content, EntryNo, Found, NotAdded};
-pub use key_blocks::store_key;
 pub use loading::{base_of, key_byte, key_len};
 pub use pinning::{Moved, pin_for, pin_last};
 pub use pins::{RoomPin, unpin};

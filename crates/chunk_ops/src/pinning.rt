@@ -1,5 +1,5 @@
 //! Rooms are found by their range, and pinned.
-ghost use Rattle.std.specs.Prelude.{◌≡◌, ◌≤◌, ◌<◌, None, IfOk, IfErr, IfSome, IfNone, length};
+ghost use Rattle.std.specs.Prelude.{◌≡◌, ◌≤◌, ◌<◌, ◌⊎◌, None, IfOk, IfErr, IfSome, IfNone, length};
 ghost use Rattle.oak_model.specs.declared.limits.TheConstants.{GREATEST_KEY};
 ghost use Rattle.oak_model.specs.Key.{IsKey};
 ghost use Rattle.oak_core.specs.AloneWords.{Runs};
@@ -7,7 +7,7 @@ ghost use Rattle.oak_core.specs.Passes.{IsPassOf, Stays, state, key as sizes, ca
 ghost use Rattle.chunk_ops.specs.AskedRanges.{CoversKey, IsAskable, IsAsked, IsLastFor, IsKeyOrNone, bytes_in_option};
 ghost use Rattle.chunk_ops.specs.LoneRooms.{IsOff, LoneTry, NeverAlone};
 ghost use Rattle.chunk_ops.specs.PinRecords.{OnlyMeets};
-ghost use Rattle.chunk_ops.specs.RoomPins.{PinsOpen, FoundOff, FoundMoved};
+ghost use Rattle.chunk_ops.specs.RoomPins.{PinsOpen, FoundOff, FoundMoved, HadMoment};
 
 use crate::pins::{RoomPin, pin_open, unpin};
 use crate::ranges::{Asked, is_asked};
@@ -36,6 +36,7 @@ fn try_room(
     ensures pinned { IfSome result (λ p. PinsOpen (sizes table.now) (call_of pass.old) p.room (IsAsked asked key.now) (state pass.old) (state pass.new)) }
     ensures off { IfNone result (FoundOff (sizes table.now) (call_of pass.old) room (IsAsked asked key.now) (state pass.old) (state pass.new)) }
     ensures only { IfNone result (OnlyMeets (call_of pass.old) (state pass.old) (state pass.new)) }
+    ensures begun { IfNone result (HadMoment (sizes table.now) (state pass.old)) }
     ensures alone { IfNone result (Runs (LoneTry (sizes table.now) (IsOff (sizes table.now) room (IsAsked asked key.now)) (state pass.old).rooms) (state pass.old) (state pass.new)) }
 {
     let Some(pin) = pin_open(table, pass, room) else {
@@ -62,6 +63,7 @@ fn try_hint(
     ensures own { Stays pass.old pass.new }
     ensures pinned { IfSome result (λ p. PinsOpen (sizes table.now) (call_of pass.old) p.room (IsAsked asked key.now) (state pass.old) (state pass.new)) }
     ensures only { IfNone result (OnlyMeets (call_of pass.old) (state pass.old) (state pass.new)) }
+    ensures begun { IfNone result ((state pass.new ≡ state pass.old) ⊎ HadMoment (sizes table.now) (state pass.old)) }
 {
     let Some(room) = hint.room else {
         return None;

@@ -1,13 +1,18 @@
 -- What stays of the pass from one call to the next.
-use Rattle.std.proofs.Common.{◌≡◌, ℕ, List, sym, ◌∙◌, subst}
+use Rattle.std.proofs.Common.{◌≡◌, ℕ, List, sym, ap, ◌∙◌, subst}
+use Rattle.oak_model.specs.declared.classes.Class.{Class}
+use Rattle.oak_model.specs.Limits.{Sizes}
 use Rattle.arena_core.specs.HeldBlocks.{no_blocks}
 use Rattle.header_core.specs.HeaderHolds.{no_headers}
 use Rattle.chunk_core.specs.declared.holds.RoomHolds.{RoomHolds}
 use Rattle.chunk_core.specs.MayOnRooms.{FindsEntry}
+use Rattle.oak_core.specs.declared.states.Knowledge.{Knowledge}
 use Rattle.oak_core.specs.declared.states.PassState.{PassState}
 use Rattle.oak_core.specs.CallSteps.{Learns}
-use Rattle.chunk_ops.specs.PinRecords.{HasEntry, pin_or}
-use Rattle.key_rounds.specs.Rounds.{EndsCall, WroteBy, WroteNothing}
+use Rattle.arena_ops.specs.Storing.{StoresBytes}
+use Rattle.arena_ops.specs.Taking.{Gives}
+use Rattle.chunk_ops.specs.PinRecords.{HasEntry, PinKept, UnderPin, pin_or}
+use Rattle.key_rounds.specs.Rounds.{EndsCall, FindsMore, WroteBy, WroteNothing}
 use Rattle.key_rounds.proofs.Calls.{wrote_same}
 
 -- an entry that the pin found
@@ -21,6 +26,14 @@ learned_ends call v w l rooms blocks headers wrote = record { numbers = l.all.nu
 -- one that wrote nothing
 pub nothing_ends : (call : ℕ) (v w : PassState) → WroteNothing v w → w.blocks ≡ no_blocks → w.headers ≡ no_headers → WroteBy call v → EndsCall call v w
 nothing_ends call v w n blocks headers wrote = record { numbers = n.numbers; rooms = n.rooms; blocks = blocks; headers = headers; wrote = wrote_same call v w n.mine wrote }
+
+-- the key of a block was not added, and the block is given back
+pub refused_more : (z : Sizes) (stored_at added_at given_at r : ℕ) (c : Class) (b : ℕ) (key : List ℕ) (d : Class) (n : ℕ) (v u x y w : PassState) → WroteNothing v u → StoresBytes z stored_at c b key u x → UnderPin z added_at r x y → Gives z given_at d n y w → FindsMore z r v w
+refused_more z stored_at added_at given_at r c b key d n v u x y w t s p g = record {
+  numbers = ap (λ (q : PassState). q.numbers) g.after ∙ (p.learns.all.numbers ∙ (s.stands.numbers ∙ t.numbers));
+  mine = ap (λ (q : PassState). q.knowledge.mine) g.after ∙ (p.learns.all.mine ∙ (ap (λ (q : Knowledge). q.mine) s.stands.knowledge ∙ t.mine));
+  pin = subst (λ (a : RoomHolds). PinKept z r v.rooms a) (sym (ap (λ (q : PassState). q.rooms) g.after)) (subst (λ (a : RoomHolds). PinKept z r a y.rooms) (s.rooms ∙ t.rooms) p.pin);
+}
 
 -- one that ended behind steps that wrote nothing
 pub ends_behind : (call : ℕ) (v w x : PassState) → WroteNothing v w → EndsCall call w x → EndsCall call v x

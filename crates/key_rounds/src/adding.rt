@@ -11,8 +11,8 @@ ghost use Rattle.chunk_ops.specs.PinRecords.{HasEntry, HasRoomPin, room_pin};
 ghost use Rattle.key_rounds.specs.Rounds.{FindsMore};
 
 use crate::blocks::take_free;
-use arena_ops::give;
-use chunk_ops::{EntryNo, NotAdded, RoomPin, add, store_key};
+use arena_ops::{give, store_bytes};
+use chunk_ops::{EntryNo, NotAdded, RoomPin, add};
 use oak_core::{OakTable, Pass};
 
 /// An entry of the key, which is added where the room has none. There is none where no block is free, where
@@ -34,7 +34,7 @@ pub fn add_key(table: &OakTable, pass: &mut Pass, pin: &RoomPin, key: &[u8]) -> 
     let Some(block) = take_free(table, pass) else {
         return None;
     };
-    store_key(table, pass, &block, key);
+    store_bytes(table, pass, &block, key);
     match add(table, pass, pin, block, key.len()) {
         Ok(entry) => Some(entry),
         Err(NotAdded { why: _, block }) => {

@@ -1,9 +1,7 @@
 //! The header that an entry names is buried, cleared from the entry, and taken back.
-ghost use Rattle.std.specs.Prelude.{◌≡◌, ◌<◌, ℕ, List, true, Some, None};
-ghost use Rattle.oak_model.specs.declared.writes.Kind.TheVariants.{Remove};
+ghost use Rattle.std.specs.Prelude.{◌≡◌, ◌<◌, ℕ, List, true};
 ghost use Rattle.arena_core.specs.HeldBlocks.{no_blocks};
 ghost use Rattle.header_core.specs.HeaderHolds.{no_headers};
-ghost use Rattle.oak_core.specs.CallWrites.{Writes};
 ghost use Rattle.oak_core.specs.HeldRows.{BuriesLife};
 ghost use Rattle.oak_core.specs.KeyReads.{home_of};
 ghost use Rattle.oak_core.specs.Known.{knows_life};
@@ -12,29 +10,13 @@ ghost use Rattle.oak_core.specs.MayWrite.{IsNewCall, IsUnnamed};
 ghost use Rattle.oak_core.specs.Passes.{IsPassOf, Stays, state, key, call_of};
 ghost use Rattle.chunk_ops.specs.PinRecords.{HasEntry, HasRoomPin};
 ghost use Rattle.chunk_ops.specs.Setting.{Clears};
-ghost use Rattle.value_ops.specs.LockHistories.{LockOf};
-ghost use Rattle.value_ops.specs.UnderLock.{Buries, HasBuried, HasLock};
+ghost use Rattle.value_ops.specs.UnderLock.{HasBuried};
 ghost use Rattle.key_rounds.specs.Rounds.{EndsCall};
 
 use arena_ops::give;
 use chunk_ops::{Content, EntryNo, RoomPin, clear_value, content};
 use oak_core::{OakTable, Pass};
-use value_ops::{Buried, Locked, lock};
-
-/// Buries the header that is locked, and with it the life of its key, which an entry names still.
-fn bury_life(table: &OakTable, pass: &mut Pass, locked: Locked) -> Buried
-    requires own { IsPassOf table.now pass.old }
-    requires locked { HasLock (key table.now) locked.header locked.generation (state pass.old) }
-    requires call { IsNewCall (call_of pass.old) (state pass.old) }
-    ensures own { Stays pass.old pass.new }
-    ensures header { result.header ≡ locked.header }
-    ensures inside { result.header < (key table.now).headers }
-    ensures wrote { (of before : List ℕ) (stamp : ℕ) → LockOf (key table.now) of locked.header locked.generation before stamp (state pass.old) → Writes (call_of pass.old) of Remove (Some before) None result.stamp (state pass.old) (state pass.new) }
-    ensures life { (of before : List ℕ) (stamp : ℕ) → LockOf (key table.now) of locked.header locked.generation before stamp (state pass.old) → BuriesLife of result.header result.generation result.stamp true (state pass.new) }
-    ensures buried { Buries (key table.now) (call_of pass.old) locked.header locked.generation result.stamp (state pass.old) (state pass.new) }
-{
-    locked.bury(table, pass)
-}
+use value_ops::{Buried, lock};
 
 /// Clears the buried header from the entry of its key, so that none names it.
 fn unlink(table: &OakTable, pass: &mut Pass, pin: &RoomPin, entry: EntryNo, buried: &Buried)
@@ -75,7 +57,7 @@ fn remove_at(
     let Ok(locked) = lock(table, pass, header, generation) else {
         return;
     };
-    let buried = bury_life(table, pass, locked);
+    let buried = locked.bury(table, pass);
     unlink(table, pass, pin, entry, &buried);
     let block = buried.take_back(table, pass);
     give(table, pass, block);

@@ -43,6 +43,7 @@ keeps_both u v w a b = record {
   fulls = b.fulls ∙ a.fulls;
   swept = b.swept ∙ a.swept;
   gones = begins_trans u.findings.gones v.findings.gones w.findings.gones a.gones b.gones;
+  loaded = begins_trans u.knowledge.loaded v.knowledge.loaded w.knowledge.loaded a.loaded b.loaded;
   seen = λ k. begins_trans (seen_of k u.knowledge) (seen_of k v.knowledge) (seen_of k w.knowledge) (a.seen k) (b.seen k);
   remembers = λ k at r x. b.remembers k at r (a.remembers k at r x);
 }
@@ -60,6 +61,7 @@ stands_learns call v w s = record {
     fulls = s.fulls;
     swept = s.swept;
     gones = begins_same v.findings.gones w.findings.gones s.gones;
+    loaded = begins_same v.knowledge.loaded w.knowledge.loaded (ap (λ (q : Knowledge). q.loaded) s.knowledge);
     seen = λ k. begins_same (seen_of k v.knowledge) (seen_of k w.knowledge) (ap (seen_of k) s.knowledge);
     remembers = λ k at r x. subst (KnowsPlace k at r) (sym s.knowledge) x;
   };

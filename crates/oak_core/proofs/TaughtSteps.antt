@@ -79,6 +79,7 @@ module _ (z : Sizes) (call : ℕ) (x : Step) (v : PassState) (n : ℕ) (w : Pass
       fulls = fulls;
       swept = swept;
       gones = gones;
+      loaded = begins_same v.knowledge.loaded w.knowledge.loaded (ap (λ (q : Knowledge). q.loaded) knowledge);
       seen = taught_seen;
       remembers = taught_remembers;
     };

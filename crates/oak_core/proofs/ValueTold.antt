@@ -115,6 +115,7 @@ module _ (z : Sizes) (call : ℕ) (v : PassState) (i n : ℕ) (w : PassState) (p
         fulls = ap (λ (y : PassState). y.findings.fulls) t.after;
         swept = ap (λ (y : PassState). y.findings.swept) t.after;
         gones = begins_same v.findings.gones w.findings.gones (ap (λ (y : PassState). y.findings.gones) t.after);
+        loaded = subst (λ (q : Knowledge). Begins v.knowledge.loaded q.loaded) (sym loads) (life ∷ [], refl);
         seen = λ k. subst (λ (q : Knowledge). Begins (seen_of k v.knowledge) (seen_of k q)) (sym loads) (begins_self (seen_of k v.knowledge));
         remembers = remembers_same v.knowledge w.knowledge (ap (λ (q : Knowledge). q.heard) loads);
       };

@@ -35,7 +35,11 @@ use Rattle.oak_core.proofs.TaughtReads.{begins_shorter}
 use Rattle.oak_core.proofs.WrittenHistories.{wrote_here, wrote_others, wrote_more, wrote_seen}
 use Rattle.oak_model.proofs.MemberLaws.{each_has}
 use Rattle.oak_core.specs.declared.states.Numbers.{Numbers}
-use Rattle.oak_core.proofs.CallSteps.{met_both}
+use Rattle.oak_core.proofs.CallSteps.{met_both, begins_same, sights_same, sights_both}
+
+-- what a pass has noted beside what it met is as before
+abbrev pub Notes : PassState → PassState → Type 0
+Notes v w = (w.findings.fulls ≡ v.findings.fulls) × (w.findings.swept ≡ v.findings.swept) × (w.findings.gones ≡ v.findings.gones) × (w.findings.sights ≡ v.findings.sights)
 
 -- The pass v of the table s made the write x, and is w in the table behind it.
 module _ (z : Sizes) (s : TableState) (r : Rule z s) (seat : ℕ) (v : PassState) (here : get_elem? s.states seat ≡ some v) (words : List ℕ) (w : PassState) (behind : Rule z record { words = words; states = set s.states seat w }) (there : get_elem? (set s.states seat w) seat ≡ some w)
@@ -87,14 +91,18 @@ module _ (z : Sizes) (s : TableState) (r : Rule z s) (seat : ℕ) (v : PassState
       subst (λ (p : ℕ × ℕ). KnowsPlace p.0 x.write.stamp p.1 w.knowledge) (λ i. (key i, ap length (sym write_seen) i))
       (wrote_known level (history_now vs') qs w.knowledge x (history k qs) stands has (ap (history_now vs') key ∙ hist_here) rise (stamp_snoc (history k qs) x))
 
-  module _ (call : ℕ) (met : MetMore call v w) (numbers : w.numbers ≡ v.numbers) (fulls : w.findings.fulls ≡ v.findings.fulls) (caller : x.write.caller ≡ v.numbers.number) (call_is : x.write.call ≡ call) where
+  module _ (call : ℕ) (met : MetMore call v w) (numbers : w.numbers ≡ v.numbers) (notes : Notes v w) (caller : x.write.caller ≡ v.numbers.number) (call_is : x.write.call ≡ call) where
     pub writes_of_call : (of : List ℕ) (kind : Kind) (before after : State) (stamp : ℕ) → key_number of ≡ k → state_behind (history k (map knowledge_of s.states)) ≡ before → x.write.after ≡ after → x.write.stamp ≡ stamp → x.write.kind ≡ kind → Writes call of kind before after stamp v w
     writes_of_call of kind before after stamp same state after_is stamp_is kind_is = record {
       met = met;
       seen = write_extends;
       remembers = write_remembers;
       numbers = numbers;
-      fulls = fulls;
+      fulls = notes.0;
+      swept = notes.1;
+      gones = begins_same v.findings.gones w.findings.gones notes.2;
+      sights = sights_same call v w notes.3;
+      loaded = begins_same v.knowledge.loaded w.knowledge.loaded (ap (λ (q : Knowledge). q.loaded) knowledge);
       write = x;
       mine = ap (λ (q : Knowledge). q.mine) knowledge;
       rest = history k qs;
@@ -117,6 +125,10 @@ writes_since call of kind before after stamp u v w s x = record {
   remembers = subst (λ (q : Knowledge). Remembers q w.knowledge) s.knowledge x.remembers;
   numbers = x.numbers ∙ s.numbers;
   fulls = x.fulls ∙ s.fulls;
+  swept = x.swept ∙ s.swept;
+  gones = begins_trans u.findings.gones v.findings.gones w.findings.gones (begins_same u.findings.gones v.findings.gones s.gones) x.gones;
+  sights = sights_both call u v w (sights_same call u v s.sights) x.sights;
+  loaded = subst (λ (q : Knowledge). Begins q.loaded w.knowledge.loaded) s.knowledge x.loaded;
   write = x.write;
   mine = x.mine ∙ ap (λ (q : Knowledge). q.mine ++ x.write ∷ []) s.knowledge;
   rest = x.rest;

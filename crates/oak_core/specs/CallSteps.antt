@@ -31,6 +31,7 @@ pub record KeepsAll (v w : PassState) : Type 0 where
   pub fulls : w.findings.fulls ≡ v.findings.fulls
   pub swept : w.findings.swept ≡ v.findings.swept
   pub gones : Begins v.findings.gones w.findings.gones
+  pub loaded : Begins v.knowledge.loaded w.knowledge.loaded
   pub seen : Extends v w
   pub remembers : Remembers v.knowledge w.knowledge
 

@@ -8,7 +8,7 @@ use Rattle.oak_model.specs.KeyNumber.{key_number}
 use Rattle.oak_model.specs.State.{State}
 use Rattle.oak_core.specs.declared.states.KeyedWrite.{KeyedWrite}
 use Rattle.oak_core.specs.declared.states.PassState.{PassState}
-use Rattle.oak_core.specs.CallSteps.{MetMore}
+use Rattle.oak_core.specs.CallSteps.{MetMore, SightsMore}
 use Rattle.oak_core.specs.KeyHistories.{state_behind}
 use Rattle.oak_core.specs.KnownPlaces.{KnowsPlace, Remembers}
 use Rattle.oak_core.specs.PassState.{seen_of, Extends}
@@ -27,6 +27,10 @@ pub record Writes (call : ℕ) (key : List ℕ) (kind : Kind) (before after : St
   pub remembers : Remembers v.knowledge w.knowledge
   pub numbers : w.numbers ≡ v.numbers
   pub fulls : w.findings.fulls ≡ v.findings.fulls
+  pub swept : w.findings.swept ≡ v.findings.swept
+  pub gones : Begins v.findings.gones w.findings.gones
+  pub sights : SightsMore call v w
+  pub loaded : Begins v.knowledge.loaded w.knowledge.loaded
   pub write : KeyedWrite
   pub mine : w.knowledge.mine ≡ v.knowledge.mine ++ write ∷ []
   pub rest : List KeyedWrite

@@ -1,7 +1,5 @@
 -- What the calls that rewrite a value under its lock do to the words, where the pass is alone.
-use Rattle.std.proofs.Common.{◌≡◌, ℕ, suc, ◌+◌, ◌*◌, ◌/◌, ◌%◌, ◌<◌, ◌≤◌, min, List, length, take, get_or, set, sym, refl, ap, ◌∙◌, arith}
-use Rattle.std.proofs.lemmas.List.{take_all}
-use Rattle.std.proofs.lemmas.Grind.{div_ceil_times}
+use Rattle.std.proofs.Common.{◌≡◌, ℕ, ◌+◌, ◌*◌, ◌<◌, ◌≤◌, List, length, take, get_or, set, sym, refl, ap, ◌∙◌, arith}
 use Rattle.oak_model.specs.declared.classes.Class.{Class}
 use Rattle.oak_model.specs.declared.recipes.RecipeKind.{RecipeKind}
 use Rattle.oak_model.specs.Limits.{Sizes}
@@ -19,17 +17,18 @@ use Rattle.oak_core.specs.HeaderCalls.{ChangesPlace}
 use Rattle.oak_core.specs.Memory.{in_arena, in_headers, index, memory}
 use Rattle.oak_core.specs.Step.{on_headers, store_locked}
 use Rattle.oak_core.specs.TableState.{TableState}
-use Rattle.oak_core.proofs.AloneRuns.{Then, runs_then, runs_as, runs_none}
+use Rattle.oak_core.proofs.AloneRuns.{Then, runs_then, runs_as}
 use Rattle.oak_core.proofs.Words.{index_apart, memory_read}
 use Rattle.value_ops.specs.Pinning.{WordsStay}
-use Rattle.value_ops.specs.AloneLocks.{place_in, put_place, put_from, first_in, put_bytes, value_in, PutsWord, PutsBytes, AppliesTo, RefillsWords}
+use Rattle.arena_ops.specs.PutWords.{put_from, PutsWord, PutsBytes}
+use Rattle.value_ops.specs.AloneLocks.{place_in, put_place, first_in, put_bytes, value_in, AppliesTo, RefillsWords}
 use Rattle.value_ops.specs.HeldValue.{words_in, value_held}
 use Rattle.oak_model.specs.WordBytes.{bytes_of}
 use Rattle.value_ops.specs.Rewriting.{HasWords}
 use Rattle.value_ops.specs.UnderLock.{HasLock, LoadsPlace}
 use Rattle.arena_core.specs.Words.{words_of}
 use Rattle.value_ops.proofs.AloneSteps.{DoesAt, LoadsAt, load_does, header_does, step_does}
-use Rattle.value_ops.proofs.AloneWords.{put_next, put_elsewhere, put_again}
+use Rattle.arena_ops.proofs.PutWords.{put_elsewhere, put_again}
 use Rattle.value_ops.proofs.HeldValues.{place_at, words_at}
 use Rattle.value_ops.proofs.RewriteSteps.{class_low, word_inside, word_spot}
 use Rattle.arena_core.proofs.WordLaws.{words_long}
@@ -37,26 +36,6 @@ use Rattle.arena_core.proofs.WordLaws.{words_long}
 -- a store to a word of the locked header's block
 pub word_put_alone : (z : Sizes) (call h : ℕ) (d : Class) (b k word x : ℕ) (v w : PassState) → NamesWord z d b k word → Writes z call (of_locked h) d b k x v w → Runs (PutsWord word x) v w
 word_put_alone z call h d b k word x v w is t = runs_as (DoesAt z (store_locked h d b k x) v t.0) (PutsWord word x) v w (λ a e f. f.leaves ∙ ap (λ (i : ℕ). set a i x) (sym is.word_is)) (step_does z call (store_locked h d b k x) v t.0 w tt t.1)
-
--- so many stores, one word behind the other
-abbrev pub PutsSome : ℕ → List ℕ → ℕ → List ℕ → List ℕ → Type 0
-PutsSome first bytes i before after = after ≡ put_from first (take i (words_of bytes)) before
-
-module _ (first : ℕ) (bytes : List ℕ) where
-  pub puts_none : (v : PassState) → Runs (PutsSome first bytes 0) v v
-  puts_none v = runs_none (PutsSome first bytes 0) v (λ a. refl)
-
-  pub puts_more : (i x : ℕ) (u v w : PassState) → 8 * i < length bytes → x ≡ get_or (words_of bytes) i 0 → Runs (PutsSome first bytes i) u v → Runs (PutsWord (first + i) x) v w → Runs (PutsSome first bytes (i + 1)) u w
-  puts_more i x u v w lt is f s = let us : List ℕ = words_of bytes in let long = words_long bytes in let inside : i < length us = omega arith in let next : suc i ≡ i + 1 = omega arith in
-      runs_as (Then (PutsSome first bytes i) (PutsWord (first + i) x)) (PutsSome first bytes (i + 1)) u w
-      (λ a b d. d.2 ∙ ((λ j. set (d.1 j) (first + i) (is j)) ∙ (sym (put_next first i us a inside) ∙ ap (λ (k : ℕ). put_from first (take k us) a) next)))
-      (runs_then (PutsSome first bytes i) (PutsWord (first + i) x) u v w f s)
-
-  -- the loop ends after as many words as there are
-  pub puts_all : (i n : ℕ) (u w : PassState) → i ≤ n → n ≤ i → n ≡ length bytes / 8 + min 1 (length bytes % 8) → Runs (PutsSome first bytes i) u w → Runs (PutsBytes first bytes) u w
-  puts_all i n u w le ge e r = let d = div_ceil_times (length bytes) 8 (omega arith) in let k : ℕ = length bytes / 8 + min 1 (length bytes % 8) in let l : length bytes ≤ k * 8 = d.0 in let m : k * 8 < length bytes + 8 = d.1 in let e' : n ≡ k = e in let f = words_long bytes in
-      let us : List ℕ = words_of bytes in let all : length us ≤ i = omega arith in
-      runs_as (PutsSome first bytes i) (PutsBytes first bytes) u w (λ a b d. d ∙ ap (λ (xs : List ℕ). put_from first xs a) (take_all i us all)) r
 
 -- at a moment at which the rule holds, what the pass keeps of a locked header's value is what the words have
 module _ (z : Sizes) (h g : ℕ) (v : PassState) (l : HasLock z h g v) (words : List ℕ) (m : Moment z words v) where

@@ -33,7 +33,6 @@ pub mod LockEnds
 pub mod BlockExchange
 pub mod RenewFacts
 pub mod AloneEnds
-pub mod AloneWords
 pub mod AloneRewrites
 pub mod StandingPins
 pub mod LockRows

@@ -27,7 +27,7 @@ use Rattle.oak_core.specs.Step.{on_headers, Told}
 use Rattle.oak_core.proofs.CallSteps.{step_met}
 use Rattle.oak_core.proofs.KnowledgeAfter.{changed_knowledge, removal_knowledge, unchanged_knowledge}
 use Rattle.oak_core.proofs.SetsValue.{held_row}
-use Rattle.oak_core.proofs.WriteTold.{writes_of_call, writes_since}
+use Rattle.oak_core.proofs.WriteTold.{Notes, writes_of_call, writes_since}
 use Rattle.oak_core.proofs.HeldRowLaws.{row_mapped}
 use Rattle.value_ops.specs.HeldValue.{value_held}
 use Rattle.value_ops.specs.LockHistories.{LockOf}
@@ -60,27 +60,31 @@ module _ (z : Sizes) (call h g x : ℕ) (v u : PassState) (of before : List ℕ)
 
   -- a step on the pin word that makes the write y
   module _ (s : HeaderStep) (is : header_spot s ≡ at_pin h) (n : ℕ) (w : PassState) (t : Told z call (on_headers s) u n w) (y : KeyedWrite) (key : key_number y.key ≡ key_number l.lock.row.header.key) (knowledge : w.knowledge ≡ wrote (key_number l.lock.row.header.key) y (map knowledge_of t.table.states) u.knowledge)
-      (caller : y.write.caller ≡ u.numbers.number) (call_is : y.write.call ≡ call) (stamp_is : y.write.stamp ≡ x) where
+      (caller : y.write.caller ≡ u.numbers.number) (call_is : y.write.call ≡ call) (stamp_is : y.write.stamp ≡ x) (notes : Notes u w) where
     behind : Rule z record { words = (table_left z call s h is u n w t).words; states = set t.table.states t.seat w }
     behind = subst (λ (i : PassState). Rule z record { words = (table_left z call s h is u n w t).words; states = set t.table.states t.seat i }) (sym t.after) (rule_left z call s h is u n w t)
 
     ended : (kind : Kind) (after : State) → y.write.kind ≡ kind → y.write.after ≡ after → Writes call of kind (Some before) after x v w
     ended kind after kind_is after_is = writes_since call of kind (Some before) after x v u w (comes_stands z call v.blocks.held (stamped_at h x v.headers.held) v u comes)
         (writes_of_call z t.table t.rule t.seat u t.here (table_left z call s h is u n w t).words w behind (set_there t.table.states t.seat u w t.here) (key_number l.lock.row.header.key) y key knowledge call (step_met z call (on_headers s) u n w t)
-        (ap (λ (i : PassState). i.numbers) t.after) (ap (λ (i : PassState). i.findings.fulls) t.after) caller call_is of kind (Some before) after x (sym l.key_is)
+        (ap (λ (i : PassState). i.numbers) t.after) notes caller call_is of kind (Some before) after x (sym l.key_is)
         ((lock_is z t.table t.rule t.seat u t.here h own own_held l.lock.row.at l.lock.row.locked).state ∙ ap (λ (b : List ℕ). Some b) (sym (at_lock h v.headers.held l.lock.row) ∙ l.value)) after_is stamp_is kind_is)
 
   -- the header is unlocked
   pub unlock_writes : (kind : Kind) (n : ℕ) (w : PassState) → Unlocks z call h kind u n w → Writes call of kind (Some before) (Some (value_held h v.headers.held)) x v w
   unlock_writes kind n w t = ended (unlock_header h kind) refl n w t (over_write u.numbers.number call kind own) refl
       (ap (λ (i : PassState). i.knowledge) t.after ∙ changed_knowledge call (memory z t.table.words) (map knowledge_of t.table.states) u h own own_held kind l.lock.row.at l.lock.row.locked raised)
-      refl refl refl kind (Some (value_held h v.headers.held)) refl (ap (λ (b : List ℕ). Some b) (sym (now_held h v.headers.held l.lock.row.header l.lock.row.held)))
+      refl refl refl
+      (ap (λ (i : PassState). i.findings.fulls) t.after, ap (λ (i : PassState). i.findings.swept) t.after, ap (λ (i : PassState). i.findings.gones) t.after, ap (λ (i : PassState). i.findings.sights) t.after)
+      kind (Some (value_held h v.headers.held)) refl (ap (λ (b : List ℕ). Some b) (sym (now_held h v.headers.held l.lock.row.header l.lock.row.held)))
 
   -- it is marked dead
   pub removal_writes : (n : ℕ) (w : PassState) → MarksDead z call h u n w → Writes call of Remove (Some before) None x v w
   removal_writes n w t = ended (mark_dead h) refl n w t (removal u.numbers.number call own) refl
       (ap (λ (i : PassState). i.knowledge) t.after ∙ removal_knowledge call (memory z t.table.words) (map knowledge_of t.table.states) u h own own_held)
-      refl refl refl Remove None refl refl
+      refl refl refl
+      (ap (λ (i : PassState). i.findings.fulls) t.after, ap (λ (i : PassState). i.findings.swept) t.after, ap (λ (i : PassState). i.findings.gones) t.after, ap (λ (i : PassState). i.findings.sights) t.after)
+      Remove None refl refl
 
   -- the pass buries it then
   abbrev own_buried : HeldHeader

@@ -27,10 +27,10 @@ use Rattle.value_ops.specs.OneHeader.{IsOneHeader, IsOneBlock, KeepsElse}
 
 -- without its one header it has none, and so without its one block
 
-without_one : (h : ℕ) (a : HeaderHolds) → IsOneHeader h a → record a { held = without_header h a.held } ≡ no_headers
+pub without_one : (h : ℕ) (a : HeaderHolds) → IsOneHeader h a → record a { held = without_header h a.held } ≡ no_headers
 without_one h a o = ap (λ (x : HeaderHolds). record x { held = without_header h x.held }) o.alone ∙ ap (λ (t : Bool). record no_headers { held = cond t [] (o.header ∷ []) }) (eq-eqb o.header.header h o.is)
 
-without_block : (c : Class) (b : ℕ) (a : HeldBlocks) → IsOneBlock c b a → record a { held = without (class_number c) b a.held } ≡ no_blocks
+pub without_block : (c : Class) (b : ℕ) (a : HeldBlocks) → IsOneBlock c b a → record a { held = without (class_number c) b a.held } ≡ no_blocks
 without_block c b a o = ap (λ (x : HeldBlocks). record x { held = without (class_number c) b x.held }) o.alone ∙ ap (λ (t : Bool). record no_blocks { held = cond t [] (o.block ∷ []) }) o.is
 
 pub one_holds : (z : Sizes) (c : Class) (b : ℕ) (a : HeldBlocks) → IsOneBlock c b a → b < blocks z (class_number c) → HoldsBlock z (class_number c) b a

@@ -22,7 +22,8 @@ use Rattle.value_ops.specs.HeldValue.{words_in}
 use Rattle.value_ops.specs.UnderLock.{ComesTo}
 use Rattle.value_ops.proofs.HeldValues.{words_at}
 use Rattle.value_ops.proofs.LoadFacts.{found_is}
-use Rattle.value_ops.proofs.ValueFacts.{bytes_small, spot_from}
+use Rattle.arena_ops.proofs.PutWords.{spot_from}
+use Rattle.value_ops.proofs.ValueFacts.{bytes_small}
 use Rattle.value_ops.proofs.ComesFurther.{loads_at}
 use Rattle.oak_core.specs.Finding.{LoadsMore}
 

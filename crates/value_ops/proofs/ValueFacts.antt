@@ -14,6 +14,7 @@ use Rattle.oak_core.specs.Passes.{state, key, call_of}
 use Rattle.oak_core.proofs.ArenaPlaces.{bytes_place, few_bits, few_bytes}
 use Rattle.oak_core.proofs.Words.{index_below, arena_before}
 use Rattle.oak_core.proofs.SamePass.{stays_both}
+use Rattle.arena_ops.proofs.PutWords.{spot_from}
 use Rattle.value_ops.specs.declared.reading.Reading.{Reading}
 use Rattle.oak_model.specs.WordBytes.{word_bytes, bytes_of}
 use Rattle.value_ops.specs.Reading.{value, value_pinned, words_pinned, IsReading, OnlyLoads, ReadsOn}
@@ -36,11 +37,6 @@ bytes_small z is c b i lc lb li =
     let x : ℕ = b * block_words c + i in let y : ℕ = below (bit_words z) CLASSES in let w : ℕ = below (byte_words z) c in let j : ℕ = index z (in_arena (at_bytes c b i)) in
     let at' : x < 8388608 = at in let bits' : y ≤ CLASSES * 8388608 = bits in let bytes' : w ≤ c * 8388608 = bytes in let e' : 1 + (y + (w + x)) ≡ j = e in
     let res : j < 2 ^ 32 = omega arith in res
-
--- the words of a block lie one behind the other
-pub spot_from : (z : Sizes) (c b first i : ℕ) → first ≡ index z (in_arena (at_bytes c b 0)) → first + i ≡ index z (in_arena (at_bytes c b i))
-spot_from z c b first i is = let x : ℕ = b * block_words c in let y : ℕ = below (bit_words z) CLASSES in let w : ℕ = below (byte_words z) c in
-    let start : 1 + (y + (w + (x + 0))) ≡ index z (in_arena (at_bytes c b 0)) = bytes_place z c b 0 in let at : 1 + (y + (w + (x + i))) ≡ index z (in_arena (at_bytes c b i)) = bytes_place z c b i in omega arith
 
 module _ (r : Reading) (is : IsReading r) where
   abbrev z : Sizes

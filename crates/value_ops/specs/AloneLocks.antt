@@ -1,5 +1,5 @@
 -- What the calls on locks do to the words of the table, where the pass is alone.
-use Rattle.std.specs.Prelude.{◌≡◌, ℕ, suc, ◌+◌, ◌-◌, true, false, List, [], ◌∷◌, length, take, slice_set}
+use Rattle.std.specs.Prelude.{◌≡◌, ℕ, ◌+◌, ◌-◌, true, false, List, length, take, slice_set}
 use Rattle.pin_word.specs.PinWord.{generation_of, state_of, STATE}
 use Rattle.oak_model.specs.declared.classes.Class.{Class}
 use Rattle.oak_model.specs.declared.recipes.RecipeKind.{RecipeKind}
@@ -12,6 +12,7 @@ use Rattle.header_core.specs.declared.states.TheConstants.{LOCKED, DEAD}
 use Rattle.header_core.specs.Headers.{at_pin, at_place, at_stamp}
 use Rattle.header_core.specs.HeaderStep.{renewal}
 use Rattle.oak_core.specs.Memory.{Spot, in_arena, in_headers, index, memory, read}
+use Rattle.arena_ops.specs.PutWords.{put_from}
 use Rattle.value_ops.specs.declared.locking.NoLock.{NoLock}
 use Rattle.value_ops.specs.Claiming.{ChangesPin}
 use Rattle.value_ops.specs.Locking.{may_lock, refusal}
@@ -41,11 +42,6 @@ put_place z h n words = slice_set words (index z (in_headers (at_place h))) n
 abbrev pub put_stamp : Sizes → ℕ → ℕ → List ℕ → List ℕ
 put_stamp z h n words = slice_set words (index z (in_headers (at_stamp h))) n
 
--- the words, with these from number i on
-abbrev pub put_from : ℕ → List ℕ → List ℕ → List ℕ
-put_from i [] words = words
-put_from i (x ∷ xs) words = put_from (suc i) xs (slice_set words i x)
-
 -- the number of the first word of the block that the place word names
 abbrev pub first_in : Sizes → ℕ → List ℕ → ℕ
 first_in z h words = index z (in_arena (at_bytes (class_in (place_in z h words)) (block_in (place_in z h words)) 0))
@@ -73,14 +69,6 @@ FindsWord z p n before after = (n ≡ read (memory z before) p) × (after ≡ be
 -- so they do, and the class is that of the header's block
 abbrev pub FindsClass : Sizes → ℕ → Class → List ℕ → List ℕ → Type 0
 FindsClass z h c before after = (class_number c ≡ class_in (place_in z h before)) × (after ≡ before)
-
--- one word becomes this
-abbrev pub PutsWord : ℕ → ℕ → List ℕ → List ℕ → Type 0
-PutsWord i x before after = after ≡ slice_set before i x
-
--- the words from one on become those in which these bytes stand
-abbrev pub PutsBytes : ℕ → List ℕ → List ℕ → List ℕ → Type 0
-PutsBytes first bytes before after = after ≡ put_from first (words_of bytes) before
 
 -- the header was live at the generation and without a pin, and its pin word is one state further
 abbrev pub LocksPin : Sizes → ℕ → ℕ → List ℕ → List ℕ → Type 0

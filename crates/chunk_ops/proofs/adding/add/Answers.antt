@@ -1,4 +1,4 @@
-use Rattle.std.proofs.Common.{ℕ, List, take, sym, subst, ◌∙◌}
+use Rattle.std.proofs.Common.{◌≡◌, ℕ, List, length, take, sym, ap, subst, ◌∙◌}
 use Rattle.oak_model.specs.Limits.{Sizes}
 use Rattle.oak_core.specs.AloneWords.{Runs}
 use Rattle.oak_core.specs.Passes.{state, key as sizes, call_of}
@@ -76,17 +76,18 @@ pub returns-in-Found-clause-alone : goal.returns-in-Found-clause-alone
 returns-in-Found-clause-alone c k m = let z : Sizes = sizes c.args.table.now in let r = c.args.pin.now.room in let b = c.args.key in
     let t = state c.args.pass.now in let u = state c.held_bytes-bytes.new.pass in let v = state c.take_latch.new.pass in let w = state c.add_latched-outcome.new.pass in let x = state c.give_latch.new.pass in let y = state c.give.new.pass in
     let h = c.held_bytes-bytes.ensures in
-    subst (λ (q : List ℕ). Runs (AddsIn z r (record { 0 = c.in-Found.entry }) q) t y) (sym (key_looked z b.class b.number c.args.len k c.held_bytes-bytes.result t m h.bytes))
+    subst (λ (q : List ℕ). Runs (AddsIn z r (record { 0 = c.in-Found.entry }) b.class b.number c.args.len q) t y) (sym (key_looked z b.class b.number c.args.len k c.held_bytes-bytes.result t m h.bytes))
     (found_alone z r c.requires.pinned.inside t u v w x h.only.still (c.take_latch.ensures.alone_taken c.if-not-take_latch.false) c.give_latch.ensures.alone
-    (record { 0 = c.in-Found.entry }) (take c.args.len c.held_bytes-bytes.result) b.class b.number m.block.block.inside y c.in-Found.ensures.alone c.give.ensures.given.still)
+    (record { 0 = c.in-Found.entry }) (take c.args.len c.held_bytes-bytes.result) b.class b.number c.args.len m.block.block.inside y c.in-Found.ensures.alone c.give.ensures.given.still)
 
 pub returns-in-Added-clause-alone : goal.returns-in-Added-clause-alone
 returns-in-Added-clause-alone c k m = let z : Sizes = sizes c.args.table.now in let r = c.args.pin.now.room in let b = c.args.key in
     let t = state c.args.pass.now in let u = state c.held_bytes-bytes.new.pass in let v = state c.take_latch.new.pass in let w = state c.add_latched-outcome.new.pass in let x = state c.give_latch.new.pass in
     let h = c.held_bytes-bytes.ensures in
-    subst (λ (q : List ℕ). Runs (AddsIn z r (record { 0 = c.in-Added.entry }) q) t x) (sym (key_looked z b.class b.number c.args.len k c.held_bytes-bytes.result t m h.bytes))
+    let q : List ℕ = take c.args.len c.held_bytes-bytes.result in let looked : k ≡ take c.args.len c.held_bytes-bytes.result = key_looked z b.class b.number c.args.len k c.held_bytes-bytes.result t m h.bytes in
+    subst (λ (p : ℕ × List ℕ). Runs (AddsIn z r (record { 0 = c.in-Added.entry }) b.class b.number p.0 p.1) t x) (λ j. ((ap length (sym looked) ∙ m.long) j, sym looked j))
     (adds_alone z r c.requires.pinned.inside t u v w x h.only.still (c.take_latch.ensures.alone_taken c.if-not-take_latch.false) c.give_latch.ensures.alone
-    (record { 0 = c.in-Added.entry }) (take c.args.len c.held_bytes-bytes.result) c.in-Added.ensures.alone)
+    (record { 0 = c.in-Added.entry }) b.class b.number (length q) q c.in-Added.ensures.alone)
 
 pub returns-in-Full-clause-alone_not_added : goal.returns-in-Full-clause-alone_not_added
 returns-in-Full-clause-alone_not_added c k m = let z : Sizes = sizes c.args.table.now in let r = c.args.pin.now.room in let b = c.args.key in

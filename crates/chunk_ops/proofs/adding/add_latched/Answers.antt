@@ -65,5 +65,5 @@ returns-clause-alone c = let z : Sizes = sizes c.args.table.now in let call = ca
     let may = may_enter_here z call r b.class b.number x.0 k v u f.under f.count
     (missing x.1 (FindsMissing z call r k v u) (λ i. FindsKey z call r i k v u) c.in_default.is f.found) l.0 l.1 c.requires.may
     (λ e. c.if-entries_in-entries.false (c.entries_in.ensures ∙ (e ∙ sym c.entries.ensures.is))) in
-    added_alone z r k x.0 c.enter.result v u w (subst (λ (o : Option ℕ). Runs (CountedIn z r k x.0 (as_found o)) v u) c.in_default.is f.alone)
+    added_alone z r b.class b.number (length k) k x.0 c.enter.result v u w (subst (λ (o : Option ℕ). Runs (CountedIn z r k x.0 (as_found o)) v u) c.in_default.is f.alone)
     c.enter.ensures.next (subst (λ (n : ℕ). n < z.entries) (sym c.enter.ensures.next) may.room) (c.enter.ensures.alone k (still_here z call r b.class b.number (length k) k v u f.under c.requires.may))

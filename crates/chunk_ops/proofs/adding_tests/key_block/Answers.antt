@@ -8,7 +8,7 @@ use Rattle.arena_ops.proofs.StackLaws.{stack_more, stack_top}
 use Rattle.oak_core.specs.Passes.{state, key as sizes, call_of}
 use Rattle.chunk_ops.proofs.adding_tests.key_block.Goals as goal
 
-pub store_key-requires-clause-held : goal.store_key-requires-clause-held
-store_key-requires-clause-held g c = let t = c.in-Ok.ensures.taken in let n : ℕ = c.in-Ok.block.number in let v = state c.args.pass.now in let w = state c.take.new.pass in
+pub store_bytes-requires-clause-held : goal.store_bytes-requires-clause-held
+store_bytes-requires-clause-held g c = let t = c.in-Ok.ensures.taken in let n : ℕ = c.in-Ok.block.number in let v = state c.args.pass.now in let w = state c.take.new.pass in
     subst (λ (d : Class). HoldsBlock (sizes c.args.table.now) (class_number d) n w.blocks) (sym t.0)
     (stack_top (sizes c.args.table.now) B16 (λ _. n) 0 w.blocks (stack_more (sizes c.args.table.now) (call_of c.args.pass.now) B16 (λ _. n) 0 v w (ap (λ (a : HeldBlocks). a.held) c.requires.idle.blocks) t.1))

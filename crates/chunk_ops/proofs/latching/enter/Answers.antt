@@ -1,14 +1,14 @@
-use Rattle.std.proofs.Common.{◌≡◌, ℕ, ◌+◌, ◌∙◌, refl, sym, subst, arith}
+use Rattle.std.proofs.Common.{◌≡◌, ℕ, ◌+◌, ◌<◌, ◌∙◌, refl, sym, subst, arith}
 use Rattle.oak_model.specs.Limits.{Sizes}
 use Rattle.chunk_core.specs.LinkedEntries.{entries_in}
 use Rattle.oak_core.specs.AloneWords.{Runs}
 use Rattle.oak_core.specs.Passes.{state, key, call_of}
 use Rattle.oak_core.specs.RoomCalls.{PublishesEntry}
-use Rattle.chunk_ops.specs.AddsAlone.{LeavesKey}
 use Rattle.chunk_ops.specs.Latching.{AddsUnder}
+use Rattle.chunk_ops.specs.PinRecords.{room_pin}
 use Rattle.chunk_ops.proofs.EntryAdds.{may_publish, adds_each}
 use Rattle.chunk_ops.proofs.EntrySteps.{count_fits, may_enter, base_still, adds_behind, may_still}
-use Rattle.chunk_ops.proofs.LoneEntries.{leaves_each, entered}
+use Rattle.chunk_ops.proofs.LoneEntries.{PublishesIn, publishes_each, entered}
 use Rattle.chunk_ops.proofs.latching.enter.Goals as goal
 
 pub overflow_add-count : goal.overflow_add-count
@@ -38,8 +38,11 @@ pub returns-clause-alone : goal.returns-clause-alone
 returns-clause-alone c k may = let z : Sizes = key c.args.table.now in let call = call_of c.args.pass.now in let now = call_of c.base_of-base.new.pass in let v = state c.args.pass.now in let u = state c.base_of-base.new.pass in let w = state c.write_entry.new.pass in let y = state c.publish_entry.new.pass in
     let r = c.args.pin.now.room in let b = c.args.block.now in let m = c.requires.may in let f = c.base_of-base.ensures in let place = c.place_word-place.result in let base = c.base_of-base.result in let x = c.write_entry.ensures.written in
     let told : PublishesEntry z (call_of c.write_entry.new.pass) r (c.args.count + 1) w y = c.publish_entry.ensures.told r record { inside = m.1.pinned.inside; word_is = c.count_at-word.ensures } in
-    subst (λ (i : ℕ). Runs (LeavesKey z r (record { 0 = i }) k) v y) (sym c.entries_in-entry.ensures)
-    (entered z r c.entries_in-entry.result place base (entries_in c.args.count) k v u w y f.only.still c.write_entry.ensures.alone
-    (leaves_each z r b.class b.number c.args.len c.args.count m.0 w (may_enter z r b.class b.number c.args.len c.args.count m.0 call now place base v u w m.1 f.only x)
+    let next : c.entries_in-entry.result ≡ entries_in c.args.count = c.entries_in-entry.ensures in
+    let room : c.entries_in-entry.result < z.entries = subst (λ (i : ℕ). i < z.entries) (sym next) m.1.room in
+    let still : base ≡ (room_pin w).base = base_still z r b.class b.number c.args.len c.args.count m.0 call now place base v u w m.1 f.only x f.base.pinned in
+    entered z r c.entries_in-entry.result m.1.pinned.inside room b.class b.number c.args.len place base c.args.count c.place_word-place.ensures k v u w y f.only.still c.write_entry.ensures.alone
+    (subst (λ (p : ℕ × ℕ). Runs (PublishesIn z r p.0 p.1 c.args.count k) w y) (λ j. (sym next j, sym still j))
+    (publishes_each z r b.class b.number c.args.len c.args.count m.0 w (may_enter z r b.class b.number c.args.len c.args.count m.0 call now place base v u w m.1 f.only x)
     f.base.step.told.rule.sizes c.place_word-place.ensures (base_still z r b.class b.number c.args.len c.args.count m.0 call now place base v u w m.1 f.only x f.base.pinned)
     (call_of c.write_entry.new.pass) y told k (may_still z r b.class b.number c.args.len c.args.count m.0 call now place base v u w m.1 f.only x k may)))

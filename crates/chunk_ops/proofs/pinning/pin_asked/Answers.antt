@@ -1,18 +1,19 @@
-use Rattle.std.proofs.Common.{◌≡◌, ℕ, subst, arith}
+use Rattle.std.proofs.Common.{◌≡◌, ℕ, subst, arith, inr}
 use Rattle.oak_model.specs.Limits.{Sizes}
 use Rattle.oak_core.specs.AloneWords.{Runs}
 use Rattle.oak_core.specs.Passes.{state, key, call_of}
 use Rattle.oak_core.proofs.SamePass.{stays_both}
 use Rattle.chunk_ops.specs.AskedRanges.{IsAsked}
 use Rattle.chunk_ops.specs.LoneRooms.{LoneTries}
-use Rattle.chunk_ops.proofs.FoundRooms.{opens_since, opens_in, off_since, off_in, off_more}
+use Rattle.chunk_ops.proofs.FoundRooms.{had_still, opens_since, opens_in, off_since, off_in, off_more}
 use Rattle.chunk_ops.proofs.LoneRoomLaws.{tries_none, tries_more, never_off}
 use Rattle.chunk_ops.proofs.MeetingCalls.{only_both, only_in}
 use Rattle.chunk_ops.proofs.pinning.pin_asked.Goals as goal
 
 pub returns-in-Some-try_room-clause-pinned : goal.returns-in-Some-try_room-clause-pinned
 returns-in-Some-try_room-clause-pinned c = let z : Sizes = key c.args.table.now in let call = call_of c.args.pass.now in let v = state c.args.pass.now in let i = c.loop-room.invariant in let w = state c.loop-room.pass in let x = state c.try_room.new.pass in let r = c.in-Some-try_room.pin.room in
-    opens_since z call r (IsAsked c.args.asked c.args.key.now) v w x i.only (opens_in z call (call_of c.loop-room.pass) r (IsAsked c.args.asked c.args.key.now) w x i.stays.call c.in-Some-try_room.ensures.pinned)
+    let p = opens_in z call (call_of c.loop-room.pass) r (IsAsked c.args.asked c.args.key.now) w x i.stays.call c.in-Some-try_room.ensures.pinned in
+    opens_since z call r (IsAsked c.args.asked c.args.key.now) v w x i.only (had_still z v w i.begun p.begun) p
 
 pub loop-room-preserved : goal.loop-room-preserved
 loop-room-preserved c = let z : Sizes = key c.args.table.now in let call = call_of c.args.pass.now in let v = state c.args.pass.now in let i = c.loop-room.invariant in let w = state c.loop-room.pass in let x = state c.try_room.new.pass in let k = c.loop-room.room in
@@ -20,6 +21,7 @@ loop-room-preserved c = let z : Sizes = key c.args.table.now in let call = call_
       stays = stays_both i.stays e.own;
       only = only_both call v w x i.only only;
       off = off_more z call k (IsAsked c.args.asked c.args.key.now) v w x only i.off (off_since z call k (IsAsked c.args.asked c.args.key.now) v w x i.only (off_in z call (call_of c.loop-room.pass) k (IsAsked c.args.asked c.args.key.now) w x i.stays.call e.off));
+      begun = inr (had_still z v w i.begun e.begun);
       alone = tries_more z k (IsAsked c.args.asked c.args.key.now) v.rooms w.rooms v w x i.only.rooms i.alone e.alone;
     }
 
@@ -28,6 +30,7 @@ loop-room-init c = let z : Sizes = key c.args.table.now in let v = state c.args.
   stays = e.own;
   only = e.only;
   off = λ r lt. absurd (omega arith);
+  begun = e.begun;
   alone = tries_none z (IsAsked c.args.asked c.args.key.now) v.rooms v w e.only.still;
 }
 

@@ -6,7 +6,7 @@ use Rattle.oak_core.specs.Passes.{state, key, call_of}
 use Rattle.chunk_ops.specs.AskedRanges.{IsAsked}
 use Rattle.chunk_ops.specs.PinRecords.{HasRoomPin, RoomPinned}
 use Rattle.chunk_ops.specs.RoomPins.{PinsOpen, Unpins}
-use Rattle.chunk_ops.proofs.FoundRooms.{has_pin, no_latch_then, pins_asked, off_then, only_then, off_shut, shut_alone, off_alone}
+use Rattle.chunk_ops.proofs.FoundRooms.{has_pin, now_begun, no_latch_then, pins_asked, off_then, only_then, off_shut, shut_alone, off_alone}
 use Rattle.chunk_ops.proofs.MeetingCalls.{only_in}
 use Rattle.chunk_ops.proofs.PinSteps.{unpins_in}
 use Rattle.chunk_ops.proofs.pinning.try_room.Goals as goal
@@ -47,6 +47,9 @@ pub returns-clause-only : goal.returns-clause-only
 returns-clause-only c = let z : Sizes = key c.args.table.now in let call = call_of c.args.pass.now in let o = c.in-Some.ensures.opened in let v = state c.args.pass.now in let w = state c.pin_open.new.pass in let x = state c.is_asked.new.pass in let u = state c.unpin.new.pass in
     only_then z call c.args.room v w o.1 x u (only_in call (call_of c.pin_open.new.pass) w x c.in-Some.ensures.own.call c.if-is_asked.ensures.only)
     (ends z call (call_of c.is_asked.new.pass) c.args.room c.in-Some.pin.room x u (c.if-is_asked.ensures.own.call ∙ c.in-Some.ensures.own.call) o.0 c.unpin.ensures.unpinned)
+
+pub returns-clause-begun : goal.returns-clause-begun
+returns-clause-begun c = now_begun (key c.args.table.now) (call_of c.args.pass.now) c.args.room (state c.args.pass.now) (state c.pin_open.new.pass) c.in-Some.ensures.opened.1
 
 pub returns-in_default-clause-alone : goal.returns-in_default-clause-alone
 returns-in_default-clause-alone c = shut_alone (key c.args.table.now) (call_of c.args.pass.now) c.args.room (IsAsked c.args.asked c.args.key.now) (state c.args.pass.now) (state c.pin_open.new.pass) c.in_default.ensures.shut

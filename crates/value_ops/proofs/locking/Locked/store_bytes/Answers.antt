@@ -1,7 +1,7 @@
 use Rattle.std.proofs.Common.{◌*◌, ◌<◌, length, refl, sym, ◌∙◌}
 use Rattle.oak_model.specs.Limits.{Sizes}
 use Rattle.header_core.specs.HeaderStep.{reworded}
-use Rattle.value_ops.proofs.AloneRewrites.{puts_none, puts_more, puts_all}
+use Rattle.arena_ops.proofs.PutWords.{puts_none, puts_more, puts_all}
 use Rattle.oak_core.specs.Passes.{state, key, call_of}
 use Rattle.oak_core.proofs.SamePass.{stays_both}
 use Rattle.value_ops.proofs.ComesFurther.{comes_in}

@@ -1,5 +1,5 @@
 use Rattle.oak_core.specs.AloneWords.{Runs}
-use Rattle.value_ops.proofs.AloneRewrites.{PutsSome}
+use Rattle.arena_ops.proofs.PutWords.{PutsSome}
 use Rattle.oak_core.specs.Passes.{Stays, state, key, call_of}
 use Rattle.value_ops.proofs.RewriteFacts.{StoredSoFar}
 use Rattle.value_ops.proofs.locking.Locked.store_bytes.Given as goal
