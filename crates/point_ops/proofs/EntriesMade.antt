@@ -1,0 +1,96 @@
+-- An entry that is added for a key, or is not.
+use Rattle.std.proofs.Common.{◌≡◌, ◌≢◌, ℕ, List, length, sym, refl, ap, ◌∙◌, subst, Option, None}
+use Rattle.oak_model.specs.declared.classes.Class.{Class}
+use Rattle.oak_model.specs.Counts.{Has}
+use Rattle.oak_model.specs.Key.{IsKey}
+use Rattle.oak_model.specs.KeyNumber.{key_number}
+use Rattle.oak_model.specs.Limits.{Sizes}
+use Rattle.arena_core.specs.HeldBlocks.{no_blocks}
+use Rattle.chunk_core.specs.declared.holds.FoundEntry.{FoundEntry}
+use Rattle.chunk_core.specs.declared.holds.PinnedRoom.{PinnedRoom}
+use Rattle.chunk_core.specs.declared.holds.RoomHolds.{RoomHolds}
+use Rattle.chunk_core.specs.PinnedRooms.{found_key, span_of}
+use Rattle.oak_core.specs.declared.states.PassState.{PassState}
+use Rattle.oak_core.specs.CallSteps.{Learns, Stands}
+use Rattle.oak_core.proofs.CallSteps.{learns_both, stands_learns}
+use Rattle.arena_ops.specs.Taking.{Gives}
+use Rattle.chunk_ops.specs.declared.entries.AddHalt.{AddHalt}
+use Rattle.chunk_ops.specs.declared.entries.AddHalt.TheVariants as adds
+use Rattle.chunk_ops.specs.Adds.{AddsEntry, FoundCrowded, FoundLatched, MayAdd, NotAddedBy}
+use Rattle.chunk_ops.specs.AskedRanges.{CoversKey}
+use Rattle.chunk_ops.specs.PinRecords.{PinKept, UnderPin, pin_or, room_pin}
+use Rattle.value_ops.specs.OneHeader.{IsOneBlock}
+use Rattle.value_ops.proofs.OneHeaderLaws.{without_block}
+use Rattle.point_ops.specs.Halting.{RoomCrowded, RoomLatched}
+use Rattle.point_ops.specs.Inserts.{AddingHalts, MakesBlock, halt_of}
+use Rattle.point_ops.proofs.Composed.{crowded_in, latched_in}
+use Rattle.point_ops.proofs.PartsMade.{back_stands, back_blocks, back_headers, back_rooms}
+
+-- what the pass has of rooms is told by two calls in a row
+under_since : (z : Sizes) (r : ℕ) (a b d : RoomHolds) → b ≡ a → PinKept z r b d → PinKept z r a d
+under_since z r a b d same k = subst (λ (x : RoomHolds). PinKept z r x d) same k
+
+-- why no entry was added, as a cause of the call that wants one
+crowded_cause : (z : Sizes) (call r : ℕ) (key : List ℕ) (v w : PassState) → FoundCrowded z call r key v w → RoomCrowded z call key v w
+crowded_cause z call r key v w f = record {
+  r = r;
+  step = f.counted.step;
+  full = f.full;
+  none = subst (λ (o : Option PinnedRoom). (e : FoundEntry) → Has e (pin_or o).entries → found_key e ≢ key_number key) f.counted.pin f.none;
+  base = (room_pin v).base;
+  absent = f.absent.absent;
+}
+
+latched_cause : (z : Sizes) (call r : ℕ) (key : List ℕ) (v w : PassState) → CoversKey key (span_of (room_pin v)) → v.rooms.latch ≡ None → FoundLatched z call r v w → RoomLatched z call key v w
+latched_cause z call r key v w covers latch f = record {
+  r = r;
+  step = f.step;
+  taken = f.taken;
+  covers = subst (λ (a : RoomHolds). CoversKey key (span_of (pin_or a.pin))) (sym f.rooms) covers;
+  free = ap (λ (a : RoomHolds). a.latch) f.rooms ∙ latch;
+}
+
+-- ---- a block was made of the key
+
+module _ (z : Sizes) (call r : ℕ) (c : Class) (b : ℕ) (key : List ℕ) (v u w : PassState) (none : v.blocks ≡ no_blocks) (m : MakesBlock z call c b key v u) (at : ℕ) (same : at ≡ call) where
+  made : Learns call v u
+  made = stands_learns call v u m.stands
+
+  -- it may be added to the pinned room
+  pub may_add : IsKey key → CoversKey key (span_of (room_pin v)) → MayAdd z c b (length key) key u
+  may_add is covers = record { is_key = is; long = refl; block = m.has; covers = subst (λ (a : RoomHolds). CoversKey key (span_of (pin_or a.pin))) (sym m.rooms) covers }
+
+  -- and passed to an entry, or not needed
+  pub added_under : (i : ℕ) → AddsEntry z at r i c b key u w → UnderPin z call r v w
+  added_under i a = record {
+    learns = learns_both call v u w made (subst (λ (k : ℕ). Learns k u w) same a.learns);
+    blocks = a.blocks ∙ (without_block c b u.blocks m.one ∙ sym none);
+    headers = a.headers ∙ m.headers;
+    pin = under_since z r v.rooms u.rooms w.rooms m.rooms a.pin;
+  }
+
+  -- or no entry was added, and it is given back
+  module _ (p : UnderPin z at r u w) (later : ℕ) (x : PassState) (follows : later ≡ call) (g : Gives z later c b w x) where
+    here : Learns call u w
+    here = subst (λ (k : ℕ). Learns k u w) same p.learns
+
+    one : IsOneBlock c b w.blocks
+    one = subst (IsOneBlock c b) (sym p.blocks) m.one
+
+    gone : Stands call w x
+    gone = back_stands z call c b w x later follows one g
+
+    back : Learns call w x
+    back = stands_learns call w x gone
+
+    pub unadded_under : UnderPin z call r v x
+    unadded_under = record {
+      learns = learns_both call v u x made (learns_both call u w x here back);
+      blocks = back_blocks z call c b w x later follows one g ∙ sym none;
+      headers = back_headers z call c b w x later follows one g ∙ (p.headers ∙ m.headers);
+      pin = subst (λ (a : RoomHolds). PinKept z r v.rooms a) (sym (back_rooms z call c b w x later follows one g)) (under_since z r v.rooms u.rooms w.rooms m.rooms p.pin);
+    }
+
+    pub unadded_halts : CoversKey key (span_of (room_pin v)) → v.rooms.latch ≡ None → (why : AddHalt) → NotAddedBy why z at r key u w → AddingHalts (halt_of why) z call key v x
+    unadded_halts covers latch adds.Crowded f = crowded_in z call key v u w x made back (crowded_cause z call r key u w (subst (λ (k : ℕ). FoundCrowded z k r key u w) same f))
+    unadded_halts covers latch adds.Busy f = latched_in call v u w x m.stands.met gone.met z key (latched_cause z call r key u w (subst (λ (a : RoomHolds). CoversKey key (span_of (pin_or a.pin))) (sym m.rooms) covers) (ap (λ (a : RoomHolds). a.latch) m.rooms ∙ latch) (subst (λ (k : ℕ). FoundLatched z k r u w) same f))

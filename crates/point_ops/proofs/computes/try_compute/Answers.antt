@@ -1,0 +1,37 @@
+use Rattle.point_ops.proofs.LoneCalls.{pinned_never, room_found}
+use Rattle.std.proofs.Common.{◌∙◌}
+use Rattle.oak_model.specs.declared.cells.CellCall.TheVariants.{Compute}
+use Rattle.oak_core.specs.Passes.{state, key as sizes, call_of}
+use Rattle.chunk_ops.specs.AskedRanges.{CoversKey}
+use Rattle.point_ops.proofs.LoneAnswers.{all_same_alone, all_wrote_alone}
+use Rattle.point_ops.proofs.Outcomes.{ok_map, err_map}
+use Rattle.point_ops.proofs.PinnedCalls.{all_answers, all_halts, all_refuses}
+use Rattle.point_ops.proofs.computes.try_compute.Goals as goal
+
+pub returns-clause-wrote : goal.returns-clause-wrote
+returns-clause-wrote g c = let o = c.args.recipe.now in let k = (goal.Recipe-dyn g (o.vtable, o.value)).told_kind o.value in let n = (goal.Recipe-dyn g (o.vtable, o.value)).told_argument o.value in ok_map _ _ c.compute_pinned-wrote.result (λ y l. all_answers (sizes c.args.table.now) (call_of c.args.pass.now) c.in-Ok.pin.room (CoversKey c.args.key.now) (state c.args.pass.now) (state c.pin_for.new.pass) (state c.compute_pinned-wrote.new.pass) (state c.unpin.new.pass) c.requires.idle c.in-Ok.ensures.pinned
+    _ _ c.pin_for.ensures.own.call (c.compute_pinned-wrote.ensures.own.call ∙ c.pin_for.ensures.own.call) c.compute_pinned-wrote.ensures.held c.unpin.ensures.unpinned y c.args.key.now (Compute k n) l) c.compute_pinned-wrote.ensures.got
+
+pub returns-clause-refused : goal.returns-clause-refused
+returns-clause-refused g c = err_map _ _ c.compute_pinned-wrote.result (λ y l. all_refuses (sizes c.args.table.now) (call_of c.args.pass.now) c.in-Ok.pin.room (CoversKey c.args.key.now) (state c.args.pass.now) (state c.pin_for.new.pass) (state c.compute_pinned-wrote.new.pass) (state c.unpin.new.pass) c.requires.idle c.in-Ok.ensures.pinned
+    _ _ c.pin_for.ensures.own.call (c.compute_pinned-wrote.ensures.own.call ∙ c.pin_for.ensures.own.call) c.compute_pinned-wrote.ensures.held c.unpin.ensures.unpinned l) c.compute_pinned-wrote.ensures.learns
+
+pub returns-clause-halted : goal.returns-clause-halted
+returns-clause-halted g c = let o = c.args.recipe.now in let k = (goal.Recipe-dyn g (o.vtable, o.value)).told_kind o.value in let n = (goal.Recipe-dyn g (o.vtable, o.value)).told_argument o.value in err_map _ _ c.compute_pinned-wrote.result (λ y l. all_halts (sizes c.args.table.now) (call_of c.args.pass.now) c.in-Ok.pin.room (CoversKey c.args.key.now) (state c.args.pass.now) (state c.pin_for.new.pass) (state c.compute_pinned-wrote.new.pass) (state c.unpin.new.pass) c.requires.idle c.in-Ok.ensures.pinned
+    _ _ c.pin_for.ensures.own.call (c.compute_pinned-wrote.ensures.own.call ∙ c.pin_for.ensures.own.call) c.compute_pinned-wrote.ensures.held c.unpin.ensures.unpinned c.args.key.now (Compute k n) y l) c.compute_pinned-wrote.ensures.halted
+
+-- to a pass that is alone
+
+pub returns-clause-alone_reply : goal.returns-clause-alone_reply
+returns-clause-alone_reply g c = let o = c.args.recipe.now in let k = (goal.Recipe-dyn g (o.vtable, o.value)).told_kind o.value in let n = (goal.Recipe-dyn g (o.vtable, o.value)).told_argument o.value in ok_map _ _ c.compute_pinned-wrote.result (λ y l. all_wrote_alone (sizes c.args.table.now) (call_of c.args.pass.now) c.in-Ok.pin.room (CoversKey c.args.key.now) (state c.args.pass.now) (state c.pin_for.new.pass) (state c.compute_pinned-wrote.new.pass) (state c.unpin.new.pass) c.requires.idle c.in-Ok.ensures.pinned
+    _ _ c.pin_for.ensures.own.call (c.compute_pinned-wrote.ensures.own.call ∙ c.pin_for.ensures.own.call) c.unpin.ensures.unpinned c.compute_pinned-wrote.ensures.held y c.args.key.now (Compute k n) l) c.compute_pinned-wrote.ensures.got
+
+pub returns-clause-alone_same : goal.returns-clause-alone_same
+returns-clause-alone_same g c = err_map _ _ c.compute_pinned-wrote.result (λ y l. all_same_alone (sizes c.args.table.now) (call_of c.args.pass.now) c.in-Ok.pin.room (CoversKey c.args.key.now) (state c.args.pass.now) (state c.pin_for.new.pass) (state c.compute_pinned-wrote.new.pass) (state c.unpin.new.pass) c.requires.idle c.in-Ok.ensures.pinned
+    _ _ c.pin_for.ensures.own.call (c.compute_pinned-wrote.ensures.own.call ∙ c.pin_for.ensures.own.call) c.unpin.ensures.unpinned c.compute_pinned-wrote.ensures.held l) c.compute_pinned-wrote.ensures.learns
+
+pub returns-in_default-clause-alone : goal.returns-in_default-clause-alone
+returns-in_default-clause-alone g c = room_found (state c.args.pass.now) (state c.pin_for.new.pass) _ c.requires.idle c.in_default.ensures.alone
+
+pub returns-clause-alone : goal.returns-clause-alone
+returns-clause-alone g c = pinned_never (sizes c.args.table.now) c.in-Ok.pin.room (state c.args.pass.now) (state c.pin_for.new.pass) (state c.compute_pinned-wrote.new.pass) (state c.unpin.new.pass) c.in-Ok.ensures.pinned.still c.unpin.ensures.unpinned.still c.compute_pinned-wrote.result c.compute_pinned-wrote.ensures.alone

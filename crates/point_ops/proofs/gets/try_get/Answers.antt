@@ -1,0 +1,38 @@
+use Rattle.point_ops.proofs.LoneCalls.{pinned_got, room_found}
+use Rattle.std.proofs.Common.{◌∙◌}
+use Rattle.oak_model.specs.declared.cells.CellCall.TheVariants.{Get}
+use Rattle.oak_core.specs.Passes.{state, key as sizes, call_of}
+use Rattle.chunk_ops.specs.AskedRanges.{CoversKey}
+use Rattle.point_ops.proofs.GetLaws.{all_got}
+use Rattle.point_ops.proofs.LoneAnswers.{all_got_alone, all_same_alone}
+use Rattle.point_ops.proofs.Outcomes.{ok_map, err_map}
+use Rattle.point_ops.proofs.PinnedCalls.{all_halts, all_refuses, under_keeps}
+use Rattle.point_ops.proofs.gets.try_get.Goals as goal
+
+pub returns-clause-got : goal.returns-clause-got
+returns-clause-got c = ok_map _ _ c.get_pinned-got.result (λ y l. all_got (sizes c.args.table.now) (call_of c.args.pass.now) c.in-Ok.pin.room (CoversKey c.args.key.now) (state c.args.pass.now) (state c.pin_for.new.pass) (state c.get_pinned-got.new.pass) (state c.unpin.new.pass) c.requires.idle c.in-Ok.ensures.pinned
+    _ _ c.pin_for.ensures.own.call (c.get_pinned-got.ensures.own.call ∙ c.pin_for.ensures.own.call) c.get_pinned-got.ensures.under c.unpin.ensures.unpinned y c.args.key.now l) c.get_pinned-got.ensures.got
+
+pub returns-clause-refused : goal.returns-clause-refused
+returns-clause-refused c = err_map _ _ c.get_pinned-got.result (λ y l. all_refuses (sizes c.args.table.now) (call_of c.args.pass.now) c.in-Ok.pin.room (CoversKey c.args.key.now) (state c.args.pass.now) (state c.pin_for.new.pass) (state c.get_pinned-got.new.pass) (state c.unpin.new.pass) c.requires.idle c.in-Ok.ensures.pinned
+    _ _ c.pin_for.ensures.own.call (c.get_pinned-got.ensures.own.call ∙ c.pin_for.ensures.own.call) (under_keeps (sizes c.args.table.now) _ c.in-Ok.pin.room (state c.pin_for.new.pass) (state c.get_pinned-got.new.pass) c.get_pinned-got.ensures.under) c.unpin.ensures.unpinned c.get_pinned-got.ensures.under.learns) c.get_pinned-got.ensures.halted
+
+pub returns-clause-halted : goal.returns-clause-halted
+returns-clause-halted c = err_map _ _ c.get_pinned-got.result (λ y l. all_halts (sizes c.args.table.now) (call_of c.args.pass.now) c.in-Ok.pin.room (CoversKey c.args.key.now) (state c.args.pass.now) (state c.pin_for.new.pass) (state c.get_pinned-got.new.pass) (state c.unpin.new.pass) c.requires.idle c.in-Ok.ensures.pinned
+    _ _ c.pin_for.ensures.own.call (c.get_pinned-got.ensures.own.call ∙ c.pin_for.ensures.own.call) (under_keeps (sizes c.args.table.now) _ c.in-Ok.pin.room (state c.pin_for.new.pass) (state c.get_pinned-got.new.pass) c.get_pinned-got.ensures.under) c.unpin.ensures.unpinned c.args.key.now Get y l) c.get_pinned-got.ensures.halted
+
+-- to a pass that is alone
+
+pub returns-clause-alone_reply : goal.returns-clause-alone_reply
+returns-clause-alone_reply c = ok_map _ _ c.get_pinned-got.result (λ y l. all_got_alone (sizes c.args.table.now) (call_of c.args.pass.now) c.in-Ok.pin.room (CoversKey c.args.key.now) (state c.args.pass.now) (state c.pin_for.new.pass) (state c.get_pinned-got.new.pass) (state c.unpin.new.pass) c.requires.idle c.in-Ok.ensures.pinned
+    _ _ c.pin_for.ensures.own.call (c.get_pinned-got.ensures.own.call ∙ c.pin_for.ensures.own.call) c.unpin.ensures.unpinned c.get_pinned-got.ensures.under y c.args.key.now l) c.get_pinned-got.ensures.got
+
+pub returns-clause-alone_same : goal.returns-clause-alone_same
+returns-clause-alone_same c = err_map _ _ c.get_pinned-got.result (λ y l. all_same_alone (sizes c.args.table.now) (call_of c.args.pass.now) c.in-Ok.pin.room (CoversKey c.args.key.now) (state c.args.pass.now) (state c.pin_for.new.pass) (state c.get_pinned-got.new.pass) (state c.unpin.new.pass) c.requires.idle c.in-Ok.ensures.pinned
+    _ _ c.pin_for.ensures.own.call (c.get_pinned-got.ensures.own.call ∙ c.pin_for.ensures.own.call) c.unpin.ensures.unpinned (under_keeps (sizes c.args.table.now) _ c.in-Ok.pin.room (state c.pin_for.new.pass) (state c.get_pinned-got.new.pass) c.get_pinned-got.ensures.under) c.get_pinned-got.ensures.under.learns) c.get_pinned-got.ensures.halted
+
+pub returns-in_default-clause-alone : goal.returns-in_default-clause-alone
+returns-in_default-clause-alone c = room_found (state c.args.pass.now) (state c.pin_for.new.pass) _ c.requires.idle c.in_default.ensures.alone
+
+pub returns-clause-alone : goal.returns-clause-alone
+returns-clause-alone c = pinned_got (sizes c.args.table.now) c.in-Ok.pin.room (state c.args.pass.now) (state c.pin_for.new.pass) (state c.get_pinned-got.new.pass) (state c.unpin.new.pass) c.in-Ok.ensures.pinned.has.inside c.in-Ok.ensures.pinned.still c.unpin.ensures.unpinned.still c.get_pinned-got.result c.get_pinned-got.ensures.alone

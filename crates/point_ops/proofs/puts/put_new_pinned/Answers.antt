@@ -1,0 +1,55 @@
+use Rattle.std.proofs.Common.{◌∙◌, refl, sym, subst}
+use Rattle.oak_model.specs.declared.cells.CellCall.TheVariants.{PutNew}
+use Rattle.oak_model.specs.declared.cells.CellReply.TheVariants as replies
+use Rattle.oak_model.specs.declared.writes.Kind.TheVariants as kinds
+use Rattle.oak_core.specs.Passes.{state, key as sizes, call_of}
+use Rattle.point_ops.specs.Halting.{Halts}
+use Rattle.point_ops.specs.declared.halts.Halt.{Halt}
+use Rattle.point_ops.proofs.AnswerLaws.{kept_answer, out_or_dead}
+use Rattle.point_ops.proofs.Outcomes.{ok_map, err_map}
+use Rattle.point_ops.proofs.SpotLaws.{held_under, inserted, learned_held, looked_held, looked_learns, uninserted}
+use Rattle.std.specs.Prelude.{Ok, Err}
+use Rattle.point_ops.proofs.LoneUnderPins.{away_inserts, inserted_keeps, look_keeps}
+use Rattle.point_ops.proofs.puts.put_new_pinned.Goals as goal
+
+pub insert-requires-clause-kind : goal.insert-requires-clause-kind
+insert-requires-clause-kind c = record { ask = PutNew c.args.value.now; kind_is = refl; writes = refl; leaves = refl }
+
+pub returns-in-Ok-clause-held : goal.returns-in-Ok-clause-held
+returns-in-Ok-clause-held c = looked_held (sizes c.args.table.now) (call_of c.args.pass.now) c.args.pin.now.room (state c.args.pass.now) (state c.look_up.new.pass) (state c.insert.new.pass) c.look_up.ensures.under c.insert.ensures.held
+
+pub returns-in-Err-clause-held : goal.returns-in-Err-clause-held
+returns-in-Err-clause-held c = looked_held (sizes c.args.table.now) (call_of c.args.pass.now) c.args.pin.now.room (state c.args.pass.now) (state c.look_up.new.pass) (state c.insert.new.pass) c.look_up.ensures.under c.insert.ensures.held
+
+pub returns-in-Ok-clause-got : goal.returns-in-Ok-clause-got
+returns-in-Ok-clause-got c = inserted (sizes c.args.table.now) (call_of c.args.pass.now) c.args.key.now (state c.args.pass.now) (state c.look_up.new.pass) (state c.insert.new.pass) _ c.look_up.ensures.own.call c.look_up.ensures.under.learns c.args.pin.now.room c.in-Absent.entry c.in-Absent.floor c.in-Absent.ensures.spot c.args.value.now (PutNew c.args.value.now) refl kinds.PutNew replies.New c.in-Ok.at refl refl c.in-Ok.ensures.stamp c.in-Ok.ensures.wrote
+
+pub returns-in-Err-clause-learns : goal.returns-in-Err-clause-learns
+returns-in-Err-clause-learns c = looked_learns (sizes c.args.table.now) (call_of c.args.pass.now) c.args.key.now (state c.args.pass.now) (state c.look_up.new.pass) (state c.insert.new.pass) _ c.look_up.ensures.own.call c.look_up.ensures.under.learns c.in-Err.ensures.learns
+
+pub returns-in-Err-clause-halted : goal.returns-in-Err-clause-halted
+returns-in-Err-clause-halted c = uninserted (sizes c.args.table.now) (call_of c.args.pass.now) c.args.key.now (state c.args.pass.now) (state c.look_up.new.pass) (state c.insert.new.pass) _ c.look_up.ensures.own.call c.look_up.ensures.under.learns c.args.pin.now.room c.in-Absent.entry c.in-Absent.floor c.in-Absent.ensures.spot c.args.value.now (PutNew c.args.value.now) refl tt c.in-Err.ensures.learns c.in-Err.halt c.in-Err.ensures.halted
+
+pub returns-in-Present-clause-held : goal.returns-in-Present-clause-held
+returns-in-Present-clause-held c = held_under (sizes c.args.table.now) (call_of c.args.pass.now) c.args.pin.now.room (state c.args.pass.now) (state c.look_up.new.pass) (state c.keep_life.new.pass) c.look_up.ensures.under (learned_held _ (state c.look_up.new.pass) (state c.keep_life.new.pass) c.keep_life.ensures.only)
+
+pub returns-in-Present-clause-got : goal.returns-in-Present-clause-got
+returns-in-Present-clause-got c = ok_map _ _ c.keep_life.result (λ y x. kept_answer y (sizes c.args.table.now) (call_of c.args.pass.now) c.args.key.now (PutNew c.args.value.now) (state c.args.pass.now) (state c.look_up.new.pass) (state c.keep_life.new.pass) _ c.look_up.ensures.own.call c.look_up.ensures.under.learns (x c.args.value.now c.args.key.now c.in-Present.ensures.spot.life)) c.keep_life.ensures.kept
+
+pub returns-in-Present-clause-learns : goal.returns-in-Present-clause-learns
+returns-in-Present-clause-learns c = err_map _ _ c.keep_life.result (λ why x. looked_learns (sizes c.args.table.now) (call_of c.args.pass.now) c.args.key.now (state c.args.pass.now) (state c.look_up.new.pass) (state c.keep_life.new.pass) _ c.look_up.ensures.own.call c.look_up.ensures.under.learns c.keep_life.ensures.only.learns) c.keep_life.ensures.refused
+
+pub returns-in-Present-clause-halted : goal.returns-in-Present-clause-halted
+returns-in-Present-clause-halted c = err_map _ _ c.keep_life.result (λ why x. subst (λ (y : Halt). Halts y (sizes c.args.table.now) (call_of c.args.pass.now) c.args.key.now (PutNew c.args.value.now) (state c.args.pass.now) (state c.keep_life.new.pass)) (sym x.0) (out_or_dead (sizes c.args.table.now) (call_of c.args.pass.now) c.args.key.now (state c.args.pass.now) (state c.look_up.new.pass) (state c.keep_life.new.pass) _ c.look_up.ensures.own.call c.look_up.ensures.under.learns c.args.pin.now.room c.in-Present.entry.0 c.in-Present.header c.in-Present.generation c.in-Present.ensures.spot (PutNew c.args.value.now) tt c.keep_life.ensures.only.learns.met x.1)) c.keep_life.ensures.refused
+
+pub returns-in-Ok-clause-alone : goal.returns-in-Ok-clause-alone
+returns-in-Ok-clause-alone c = let z = sizes c.args.table.now in let r = c.args.pin.now.room in let v = state c.args.pass.now in let u = state c.look_up.new.pass in let w = state c.insert.new.pass in
+    inserted_keeps z r v w (away_inserts z r c.args.key.now c.args.value.now c.in-Absent.entry c.in-Absent.floor v u w (Ok c.in-Ok.at) c.in-Absent.ensures.alone (c.in-Ok.ensures.alone c.in-Absent.ensures.base))
+
+pub returns-in-Err-clause-alone : goal.returns-in-Err-clause-alone
+returns-in-Err-clause-alone c = let z = sizes c.args.table.now in let r = c.args.pin.now.room in let v = state c.args.pass.now in let u = state c.look_up.new.pass in let w = state c.insert.new.pass in
+    away_inserts z r c.args.key.now c.args.value.now c.in-Absent.entry c.in-Absent.floor v u w (Err c.in-Err.halt) c.in-Absent.ensures.alone (c.in-Err.ensures.alone c.in-Absent.ensures.base)
+
+pub returns-in-Present-clause-alone : goal.returns-in-Present-clause-alone
+returns-in-Present-clause-alone c = look_keeps (sizes c.args.table.now) c.args.pin.now.room c.in-Present.header c.in-Present.generation c.in-Present.entry c.args.key.now c.args.value.now (state c.args.pass.now) (state c.look_up.new.pass) (state c.keep_life.new.pass)
+    c.in-Present.ensures.alone c.in-Present.ensures.spot.has (c.look_up.ensures.under.headers ∙ c.requires.headers) c.keep_life.result c.keep_life.ensures.alone c.keep_life.ensures.alone_refused

@@ -1,0 +1,16 @@
+pub mod FoundWords
+pub mod Replies
+pub mod Needs
+pub mod Halting
+pub mod Parts
+pub mod Lives
+pub mod Spots
+pub mod Gets
+pub mod Inserts
+pub mod Changes
+pub mod Counted
+pub mod TestStates
+pub mod LoneReplies
+pub mod LoneInserts
+pub mod LoneLives
+pub mod LonePuts

@@ -1,0 +1,37 @@
+-- What a look at a life finds that an entry named. v is the state of the pass before it, w the one behind it.
+use Rattle.std.specs.Prelude.{◌≡◌, ℕ, List, None}
+use Rattle.pin_word.specs.PinWord.{state_of}
+use Rattle.oak_model.specs.KeyNumber.{key_number}
+use Rattle.oak_model.specs.Limits.{Sizes}
+use Rattle.header_core.specs.declared.states.TheConstants.{LIVE}
+use Rattle.header_core.specs.Headers.{at_pin}
+use Rattle.oak_core.specs.declared.states.PassState.{PassState}
+use Rattle.oak_core.specs.AloneWords.{Runs}
+use Rattle.oak_core.specs.CallSteps.{Learns}
+use Rattle.oak_core.specs.KeyReads.{home_of}
+use Rattle.oak_core.specs.LastReads.{NotPast, ReadsLast}
+use Rattle.oak_core.specs.Memory.{in_headers}
+use Rattle.value_ops.specs.Pinning.{DropsPin, KnowsLife, KnowsMore}
+use Rattle.value_ops.specs.Reading.{ReadsLife}
+use Rattle.point_ops.specs.FoundWords.{FoundWord}
+use Rattle.point_ops.specs.Halting.{IsDeadAt}
+use Rattle.point_ops.specs.declared.lives.Life.{Life}
+use Rattle.point_ops.specs.declared.lives.Life.TheVariants.{Live, Dead}
+
+-- The stamp was loaded under the good pin of the header, which was undone then. A key of which the pass knew the life was read there.
+pub record ReadsUnder (z : Sizes) (call h g at : ℕ) (v w : PassState) : Type 0 where
+  pub learns : Learns call v w
+  pub knows : KnowsMore v.knowledge w.knowledge
+  pub blocks : w.blocks ≡ v.blocks
+  pub headers : w.headers ≡ record v.headers { pin = None }
+  pub rooms : w.rooms ≡ v.rooms
+  pub reads : (key : List ℕ) → KnowsLife h g key v.knowledge → (bytes : List ℕ) × ReadsLife h g key at bytes v w
+  -- to a pass that is alone
+  pub still : Runs (DropsPin z h) v w
+
+-- The header was found live, with its stamp and its value; or dead, with the stamp of the removal. So a key of which the pass knew the life was read, present or absent.
+abbrev pub LooksAt : Life → Sizes → (call h g : ℕ) → PassState → PassState → Type 0
+LooksAt (Live at) z call h g v w = FoundWord z call (in_headers (at_pin h)) (λ n. state_of n ≡ LIVE) v w
+    × ((key : List ℕ) → KnowsLife h g key v.knowledge → (bytes : List ℕ) × ReadsLife h g key at bytes v w)
+LooksAt (Dead at) z call h g v w = FoundWord z call (in_headers (at_pin h)) (IsDeadAt g) v w
+    × ((key : List ℕ) → KnowsLife h g key v.knowledge → NotPast (key_number key) (home_of h g) v.knowledge → ReadsLast (key_number key) at None v w)

@@ -1,0 +1,23 @@
+//! Why calls that wait for nobody are given up.
+use oak_model::Class;
+use thiserror::Error;
+
+/// Why a call was given up. The map is as before, and so is what the pass holds.
+#[derive(Clone, Copy, Debug, PartialEq, Eq, Error)]
+pub enum Halt {
+    /// Another pass is at work on the key: its header, its room or its entry was found so.
+    #[error("another pass is at work on the key")]
+    Busy,
+    /// No room was found open with the key in its range.
+    #[error("the room was moved")]
+    Moved,
+    /// The room of the key has as many entries as it may, and the key, which is to be inserted, has none.
+    #[error("the room has no entry left")]
+    Crowded,
+    /// No block of the class was found free, and one is needed for the key or for the value.
+    #[error("no block of class {0:?} is free")]
+    NoBlock(Class),
+    /// No header was found free, and the key is to be inserted.
+    #[error("no header is free")]
+    NoHeader,
+}
