@@ -2,7 +2,8 @@
 use oak_model::Class;
 use thiserror::Error;
 
-/// Why a call was given up. The map is as before, and so is what the pass holds.
+/// Why a call was given up. No key's value was changed by it, and the pass holds what it held; an entry that
+/// the call added for the key may stay.
 #[derive(Clone, Copy, Debug, PartialEq, Eq, Error)]
 pub enum Halt {
     /// Another pass is at work on the key: its header, its room or its entry was found so.
