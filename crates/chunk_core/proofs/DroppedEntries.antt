@@ -41,7 +41,7 @@ floor_under word base (x ∷ xs) c (inl e) d = let v = ap (λ (t : Carried). t.v
     (greater-cases x.value (base_with word base xs) (λ t. c.value ≤ t) (λ l. omega arith) (λ l. omega arith))
 floor_under word base (x ∷ xs) c (inr h) d = let r = floor_under word base xs c h d in test-cases (is_dropped word x) (λ t. c.value ≤ cond t (greater x.value (base_with word base xs)) (base_with word base xs)) (λ _. greater-cases x.value (base_with word base xs) (λ t. c.value ≤ t) (λ _. r) (λ l. omega arith)) (λ _. r)
 
-dropped_is : (word : ℕ) (c : Carried) → is_dropped word c ≡ true → (c.word ≡ word) × (names_header c.value ≡ 0)
+pub dropped_is : (word : ℕ) (c : Carried) → is_dropped word c ≡ true → (c.word ≡ word) × (names_header c.value ≡ 0)
 dropped_is word c e = let t = both_true (c.word == word) (names_header c.value == 0) e in (eqb-true c.word word t.0, eqb-true (names_header c.value) 0 t.1)
 
 -- what holds of the base and of the floors holds of the base afterwards
@@ -75,7 +75,8 @@ ranges_stray word [] = omega arith
 ranges_stray word (g ∷ gs) = let t = ranges_stray word gs in let a = range_split (stray (cover_from g).span) word g in
     let same : each stray (cover_from (range_without word g)) ≡ total (stray (cover_from g).span) (map entry_from (range_without word g).carried) = refl in omega arith
 
-ranges_base : (k word : ℕ) (gs : List MovingRange) → total (base_for k) (map cover_from gs) ≤ total (base_for k) (map cover_from (map (range_without word) gs))
+-- and their bases are no lower
+pub ranges_base : (k word : ℕ) (gs : List MovingRange) → total (base_for k) (map cover_from gs) ≤ total (base_for k) (map cover_from (map (range_without word) gs))
 unfolding total
 ranges_base k word [] = omega arith
 ranges_base k word (g ∷ gs) = let t = ranges_base k word gs in let l = times_le (within (cover_from g).span k) g.base (base_with word g.base g.carried) (base_rises word g.base g.carried) in omega arith

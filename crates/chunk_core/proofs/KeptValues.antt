@@ -1,9 +1,7 @@
 -- The value word of an entry in use changes: no point on rooms speaks of it, and no pass keeps it.
 use Rattle.std.proofs.Common.{◌≡◌, ◌≢◌, ℕ, ◌<◌, ◌==◌, ◌&&◌, Bool, List, ◌++◌, map, refl, ap, ◌∙◌, arith, Option, Some, None, ne_eqb}
 use mathlib.Core.Logic.{dite}
-use mathlib.Core.Option.{some}
 use native.Mathlib.Decide.{ℕ_discrete}
-use lib.ListN.{get_elem?}
 use Rattle.oak_model.specs.Counts.{one_if, total}
 use Rattle.oak_model.specs.Kept.{AreTrueTo, KeptNumbersStand, keeps}
 use Rattle.oak_model.specs.Limits.{Sizes}

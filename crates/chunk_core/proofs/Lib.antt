@@ -21,6 +21,7 @@ pub mod RoomKinds
 pub mod OpenRoom
 pub mod RetireRoom
 pub mod DroppedEntries
+pub mod DroppedSums
 pub mod CountLoads
 pub mod PastCounts
 pub mod Publish
@@ -30,3 +31,8 @@ pub mod KeptLatches
 pub mod KeptRoomWords
 pub mod KeptValues
 pub mod UnkeptRooms
+pub mod KeptCopies
+pub mod KeptHeldRooms
+pub mod FewerKeptRooms
+pub mod StoredCopies
+pub mod StoredKeptRooms

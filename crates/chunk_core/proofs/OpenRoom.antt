@@ -58,7 +58,8 @@ true_left content w (g ∷ gs) h = test-cases (takes w g) (λ t. AreTrueRanges c
     (λ _. (each_filter (λ c. not (is_upper w c)) (λ (c : Carried). content c.word ≡ c.words) g.carried h.0, h.1)))
     (λ _. (h.0, true_left content w gs h.1))
 
-just_one : (F : Cover → ℕ) (c : Cover) → F c ≡ 0 → total F (c ∷ []) ≡ 0
+-- what is nothing of a cover is nothing over that cover alone
+pub just_one : (F : Cover → ℕ) (c : Cover) → F c ≡ 0 → total F (c ∷ []) ≡ 0
 unfolding total
 just_one F c e = omega arith
 
@@ -109,7 +110,7 @@ module _ (z : Sizes) (m : RoomMemory) (content : ℕ → List ℕ) (is_key_word 
       ∙ (may.entries (λ word value. f (record { word = word; value = value; key = key_at content word })) ∙ (total_true content f (is_upper w) g.carried true_words ∙ sym (total_map entry_from f (upper_of w g))))))
 
   -- what is nothing over all covers is nothing of the range
-  of_range : (F : Cover → ℕ) → all_of z m content hs F ≡ 0 → F (cover_from g) ≡ 0
+  pub of_range : (F : Cover → ℕ) → all_of z m content hs F ≡ 0 → F (cover_from g) ≡ 0
   of_range F e = let l = range_le z.chunks m.pin (cover_at m content) hs F seat a here may.place g may.there in omega arith
 
   no_stray : each stray (cover_from g) ≡ 0

@@ -38,7 +38,8 @@ parted_same gs = record { spans = λ _. refl; entries = λ _. refl; inside = λ 
 -- what it leaves of the covers
 module _ (z : Sizes) (m m' : RoomMemory) (content : ℕ → List ℕ) (is_key_word : ℕ → ℕ) (hs hs' : List RoomHolds) (gs gs' : List Cover) (parted : Parted gs gs')
     (step : (F : Cover → ℕ) → all_of z m' content hs' F + total F gs ≡ all_of z m content hs F + total F gs') where
-  entries_still : (f : Entry → ℕ) → all_of z m' content hs' (each (λ _ x. f x)) ≡ all_of z m content hs (each (λ _ x. f x))
+  -- nothing that is added up over entries changes
+  pub entries_still : (f : Entry → ℕ) → all_of z m' content hs' (each (λ _ x. f x)) ≡ all_of z m content hs (each (λ _ x. f x))
   entries_still f = let s = step (each (λ _ x. f x)) in let e = parted.entries f in omega arith
 
   pub base_more : (k : ℕ) → base_of z m content hs k ≤ base_of z m' content hs' k

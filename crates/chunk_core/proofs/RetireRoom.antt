@@ -124,7 +124,8 @@ module _ (z : Sizes) (m : RoomMemory) (content : ℕ → List ℕ) (is_key_word 
   retire_step F = let s = all_aside z m m' content hs hs' (a ∷ []) (record a { held = without_room r a.held; moving = ranges_joined r a.moving } ∷ []) (stepped hs seat a (record a { held = without_room r a.held; moving = ranges_joined r a.moving }) here) r lr (λ j ne. put-else m.pin r x j ne) (λ j _. refl) (weight_held (m.pin r) was) (ap weight (put-here m.pin r x r refl) ∙ weight_free x now) F in
       let t = left.sums F in omega arith
 
-  gone_none : (F : Cover → ℕ) → all_of z m content hs F ≡ 0 → total F left.gone ≡ 0
+  -- what is nothing over all covers is nothing over the ranges that go
+  pub gone_none : (F : Cover → ℕ) → all_of z m content hs F ≡ 0 → total F left.gone ≡ 0
   gone_none F e = let l = left.less F in let k = ranges_le F in omega arith
 
   pub retire_partition : CoversPartition z m' content is_key_word hs'

@@ -46,7 +46,7 @@ changed_length i f [] = refl
 changed_length zero f (x ∷ xs) = refl
 changed_length (suc i) f (x ∷ xs) = ap suc (changed_length i f xs)
 
-whole_with : (z : Sizes) (p : RoomSpot) (x : ℕ) (w : RoomCopy) → IsWholeCopy z w → IsWholeCopy z (copy_with p x w)
+pub whole_with : (z : Sizes) (p : RoomSpot) (x : ℕ) (w : RoomCopy) → IsWholeCopy z w → IsWholeCopy z (copy_with p x w)
 whole_with z (at_room_pin r) x w h = h
 whole_with z (at_base r) x w h = record { low = h.low; high = h.high; entries = h.entries }
 whole_with z (at_count r) x w h = record { low = h.low; high = h.high; entries = h.entries }
@@ -97,7 +97,7 @@ unlatched z m content hs rule r none = dite (ℕ_discrete (m.latch r) 0) (λ e. 
     some_latch u j at l = on u.pin u.latch (rule.passes j u at).latch (rule.good j u at) l
 
 -- a store changes no pin word, and the latch word of a held room is free before and after
-pin_still : (m : RoomMemory) (p : RoomSpot) (x : ℕ) → IsRoomWord p x → (j : ℕ) → (put_room m p x).pin j ≡ m.pin j
+pub pin_still : (m : RoomMemory) (p : RoomSpot) (x : ℕ) → IsRoomWord p x → (j : ℕ) → (put_room m p x).pin j ≡ m.pin j
 pin_still m (at_room_pin r) x is j = absurd is
 pin_still m (at_base r) x is j = refl
 pin_still m (at_count r) x is j = refl

@@ -100,14 +100,14 @@ loads_in : (z y : Sizes) (first now r q : ℕ) (ms : List Met) (v w : PassState)
 loads_in z y first now r q ms v w e f g l = subst (λ (k : ℕ). LoadsEach z first k ms v w) g (subst (λ (k : ℕ). LoadsEach z k q ms v w) f (subst (λ (x : Sizes). LoadsEach x now q ms v w) e l))
 
 pub meets_nothing : (s : PinnedTable) → MeetsInTable s s []
-meets_nothing s = record { table = refl; same_reference = refl; room = refl; own = record { table = refl; seat = refl; call = refl; scratch = refl }; counted = refl; loads = refl }
+meets_nothing s = record { table = refl; same_reference = refl; room = refl; own = record { table = refl; seat = refl; call = refl; scratch = refl; sorting = refl }; counted = refl; loads = refl }
 
 pub meets_then : (s t u : PinnedTable) (a b : List Met) → MeetsInTable s t a → MeetsInTable t u b → MeetsInTable s u (a ++ b)
 meets_then s t u a b p q = record {
   table = q.table ∙ p.table;
   same_reference = q.same_reference ∙ p.same_reference;
   room = q.room ∙ p.room;
-  own = record { table = q.own.table ∙ p.own.table; seat = q.own.seat ∙ p.own.seat; call = q.own.call ∙ p.own.call; scratch = q.own.scratch ∙ p.own.scratch };
+  own = record { table = q.own.table ∙ p.own.table; seat = q.own.seat ∙ p.own.seat; call = q.own.call ∙ p.own.call; scratch = q.own.scratch ∙ p.own.scratch; sorting = q.own.sorting ∙ p.own.sorting };
   counted = q.counted ∙ (ap (λ (n : ℕ). last_count n b) p.counted ∙ count_both s.count a b);
   loads = loads_both (sizes s.table.now) (call_of s.pass.now) s.room (state s.pass.now) (state t.pass.now) (state u.pass.now) a b p.loads
       (loads_in (sizes s.table.now) (sizes t.table.now) (call_of s.pass.now) (call_of t.pass.now) s.room t.room b (state t.pass.now) (state u.pass.now) (ap (λ x. sizes x.now) p.table) p.own.call p.room q.loads);

@@ -36,4 +36,5 @@ pub use pinning::{Moved, pin_for, pin_last};
 pub use pins::{RoomPin, unpin};
 pub use searching::{above, below, find};
 pub use setting::{clear_value, set_value};
+pub use stored::{KEY_WORDS, StoredKey};
 pub use values::content;

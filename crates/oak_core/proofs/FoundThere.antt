@@ -7,7 +7,7 @@ use Rattle.oak_model.proofs.Lists.{at_longer}
 use Rattle.oak_core.specs.declared.states.Finding.{Finding}
 use Rattle.oak_core.specs.declared.states.PassState.{PassState}
 use Rattle.oak_core.specs.Finding.{finding, had, grown, FoundThere}
-use Rattle.oak_core.specs.Lack.{FoundBehind}
+use Rattle.oak_core.specs.FoundBehind.{FoundBehind}
 use Rattle.oak_core.specs.Memory.{Spot, index}
 use Rattle.oak_core.proofs.MetLists.{at_inside, at_behind}
 use Rattle.oak_core.proofs.MetMore.{grown_met, grown_length}

@@ -1,5 +1,5 @@
 -- A step only adds to what its pass has noted; a split and a join change nothing there, and the joined pass's is kept under its number.
-use Rattle.std.proofs.Common.{◌≡◌, ℕ, [], ◌∷◌, ◌++◌, refl, List, map}
+use Rattle.std.proofs.Common.{◌≡◌, ℕ, [], ◌∷◌, ◌++◌, refl, List, map, length}
 use Rattle.oak_model.specs.Counts.{Begins}
 use Rattle.oak_model.specs.Limits.{Sizes}
 use Rattle.oak_model.proofs.Lists.{begins_self}
@@ -15,7 +15,10 @@ use Rattle.oak_core.specs.declared.states.PassState.{PassState}
 use Rattle.oak_core.specs.Growing.{GrowsTo}
 use Rattle.oak_core.specs.PassState.{knowledge_of, no_findings, left_state, right_state, both_state, joined_from}
 use Rattle.oak_core.specs.Step.{Step, load, give_number, on_arena, on_headers, on_rooms, store_locked, note_full, state_after}
+use Rattle.oak_core.specs.Sweeping.{sweep, swept_by}
 use Rattle.oak_core.specs.TableState.{TableState}
+use Rattle.chunk_core.specs.RoomCopies.{copy_of}
+use Rattle.chunk_core.specs.RoomStep.{RoomStep, pin_room, unpin_room, latch_room, store_entry, publish_entry, unlatch_room, set_value, unlink_entry, freeze_room, hold_room, claim_room, store_room, open_room, retire_room}
 use Rattle.oak_core.specs.Memory.{Memory, memory}
 use Rattle.oak_core.proofs.PlainLoads.{gones_with_grow, sights_grow, sights_with_grow}
 
@@ -58,12 +61,29 @@ header_gones_grow call (unlock_header h kind) m v = begins_self v.findings.gones
 header_gones_grow call (mark_dead h) m v = begins_self v.findings.gones
 header_gones_grow call (take_back h x) m v = begins_self v.findings.gones
 
+-- the ranges swept are only added to
+pub swept_grows : (x : RoomStep) (v : PassState) → Begins v.findings.swept (swept_by x v)
+swept_grows (pin_room r) v = begins_self v.findings.swept
+swept_grows (unpin_room r) v = begins_self v.findings.swept
+swept_grows (latch_room r) v = begins_self v.findings.swept
+swept_grows (store_entry f r i x) v = begins_self v.findings.swept
+swept_grows (publish_entry r x) v = begins_self v.findings.swept
+swept_grows (unlatch_room r) v = begins_self v.findings.swept
+swept_grows (set_value r i old new kind) v = begins_self v.findings.swept
+swept_grows (unlink_entry r i x) v = begins_self v.findings.swept
+swept_grows (freeze_room r old) v = begins_self v.findings.swept
+swept_grows (hold_room r old) v = begins_self v.findings.swept
+swept_grows (claim_room r old) v = begins_self v.findings.swept
+swept_grows (store_room p x) v = begins_self v.findings.swept
+swept_grows (open_room r) v = (sweep (copy_of r v.rooms.held) (length v.findings.met), refl)
+swept_grows (retire_room r) v = begins_self v.findings.swept
+
 pub step_grows : (z : Sizes) (call : ℕ) (x : Step) (s : TableState) (v : PassState) → GrowsTo v.findings (state_after z call x s v).findings
 step_grows z call (load p) s v = record { met = (_, refl); fulls = begins_self v.findings.fulls; swept = begins_self v.findings.swept; sights = sights_grow p call (memory z s.words) v; gones = begins_self v.findings.gones }
 step_grows z call (give_number k) s v = grows_met v.findings _
 step_grows z call (on_arena a) s v = grows_met v.findings _
 step_grows z call (on_headers x) s v = record { met = (_, refl); fulls = begins_self v.findings.fulls; swept = begins_self v.findings.swept; sights = header_sights_grow call x (memory z s.words) (map knowledge_of s.states) v; gones = header_gones_grow call x (memory z s.words) v }
-step_grows z call (on_rooms x) s v = grows_met v.findings _
+step_grows z call (on_rooms x) s v = record { met = (_, refl); fulls = begins_self v.findings.fulls; swept = swept_grows x v; sights = begins_self v.findings.sights; gones = begins_self v.findings.gones }
 step_grows z call (store_locked h c b k x) s v = grows_met v.findings _
 step_grows z call (note_full lack began) s v = grows_noted v.findings _ _
 

@@ -6,9 +6,9 @@ use mathlib.Core.Logic.{dite}
 use native.Mathlib.Decide.{ℕ_discrete}
 use lib.ListN.{get_elem?}
 use Rattle.oak_model.specs.Limits.{Sizes}
-use Rattle.oak_model.specs.Counts.{Every, Each}
+use Rattle.oak_model.specs.Counts.{Begins, Every, Each}
 use Rattle.oak_model.specs.Kept.{KeptNumbersStand}
-use Rattle.oak_model.proofs.Lists.{at_map, map_set, map_set_same}
+use Rattle.oak_model.proofs.Lists.{at_map, begins_self, map_set, map_set_same}
 use Rattle.oak_model.proofs.Changes.{stepped}
 use Rattle.arena_core.specs.Blocks.{BlocksAreOwned}
 use Rattle.header_core.specs.declared.holds.HeaderHolds.{HeaderHolds}
@@ -35,15 +35,15 @@ use Rattle.oak_core.proofs.AloneLast.{alone_steps}
 use Rattle.oak_core.proofs.RoomBundles.{RoomBundles, rooms_now}
 use Rattle.oak_core.proofs.KeyBundles.{KeyBundles}
 
--- the pass met one thing more, and swept and noted no more
+-- the pass met one thing more, and noted no more
 pub record MetOne (f : Finding) (fs gs : Findings) : Type 0 where
   pub met : gs.met ≡ fs.met ++ f ∷ []
-  pub swept : gs.swept ≡ fs.swept
+  pub swept : Begins fs.swept gs.swept
   pub fulls : gs.fulls ≡ fs.fulls
 
 -- without anything else
 pub met_only : (f : Finding) (fs : Findings) → MetOne f fs (record fs { met = fs.met ++ f ∷ [] })
-met_only f fs = record { met = refl; swept = refl; fulls = refl }
+met_only f fs = record { met = refl; swept = begins_self fs.swept; fulls = refl }
 
 pub same_number : (n k : ℕ) → Some n ≡ Some k → n ≡ k
 same_number n k e = cc

@@ -5,7 +5,7 @@ use lib.ListN.{get_elem?}
 use Rattle.pin_word.specs.PinWord.{generation_of}
 use Rattle.oak_model.specs.Limits.{Sizes}
 use Rattle.oak_model.specs.Kept.{KeptNumbersStand}
-use Rattle.oak_model.proofs.Lists.{at_map, map_set}
+use Rattle.oak_model.proofs.Lists.{at_map, begins_self, map_set}
 use Rattle.oak_model.proofs.Counting.{total_at}
 use Rattle.arena_core.specs.Blocks.{BlocksAreOwned}
 use Rattle.arena_core.specs.Place.{IsPlace, content}
@@ -169,7 +169,7 @@ module _ (z : Sizes) (s : TableState) (seat : ℕ) (v : PassState) (r : Rule z s
 
       pub header_keeps_it : Rule z (table_after z call (on_headers x) seat v s)
       header_keeps_it = learning_rule z s call seat v r here going (on_headers x) (finding z call (in_headers (header_spot x)) (header_found x (n x)) (y x) s.words v) may.0.inside
-          (header_fits x v.headers (n x) may.0.headers (r.words.small (index z (in_headers (header_spot x))))) refl refl (record { met = refl; swept = refl; fulls = refl }) refl after.histories
+          (header_fits x v.headers (n x) may.0.headers (r.words.small (index z (in_headers (header_spot x))))) refl refl (record { met = refl; swept = begins_self v.findings.swept; fulls = refl }) refl after.histories
           (of_rooms z s call seat v r here going (w x) refl (λ (rs : List RoomHolds). BlocksAreOwned z m.arena.bits (all_others z (write m (in_headers (header_spot x)) (y x)) rs) (map blocks_of (set s.states seat (w x))))
           (subst (BlocksAreOwned z m.arena.bits (all_others z (write m (in_headers (header_spot x)) (y x)) (map rooms_held s.states))) (sym (map_set blocks_of s.states seat (w x))) holds.owned))
           (subst (λ (p : (ℕ → ℕ → ℕ) × List HeaderHolds). HeadersAreHeld (put_header m.headers (header_spot x) (y x)) m.arena.bytes p.0 p.1) (λ i. ((λ h g. sym (after.known_same h g) i), sym (map_set headers_held s.states seat (w x)) i)) stands)

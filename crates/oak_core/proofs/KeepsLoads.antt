@@ -6,7 +6,7 @@ use lib.Seq.{set-get_or}
 use Rattle.oak_model.specs.Counts.{Every}
 use Rattle.oak_model.specs.Kept.{KeptNumbersStand}
 use Rattle.oak_model.specs.Limits.{Sizes}
-use Rattle.oak_model.proofs.Lists.{at_map, map_set_same}
+use Rattle.oak_model.proofs.Lists.{at_map, begins_self, map_set_same}
 use Rattle.arena_core.specs.Blocks.{BlocksAreOwned}
 use Rattle.chunk_core.specs.declared.holds.RoomHolds.{RoomHolds}
 use Rattle.oak_core.specs.declared.states.Knowledge.{Knowledge}
@@ -59,7 +59,7 @@ module _ (z : Sizes) (s : TableState) (call seat : ℕ) (v : PassState) (r : Rul
         sizes = r.sizes;
         words = r.words;
         numbers = subst (NumbersStand z m.given) (sym (map_set_same numbers_of s.states seat v w here refl)) r.numbers;
-        findings = findings_stay z s call seat v r here going p n w refl (fulls_more z v.findings w.findings (finding z call p (Some n) n s.words v) refl refl refl (r.findings seat v.findings (at_map findings_of s.states seat v here)).noted) inside refl;
+        findings = findings_stay z s call seat v r here going p n w refl (fulls_more z v.findings w.findings (finding z call p (Some n) n s.words v) refl (begins_self v.findings.swept) refl (r.findings seat v.findings (at_map findings_of s.states seat v here)).noted) inside refl;
         joined = joined_stays z s call seat v r here going (load p);
         histories = after.histories;
         spent = spent_stays z s call seat v r here going (load p);

@@ -131,7 +131,8 @@ module _ (z : Sizes) (s : TableState) (seat : ℕ) (v : PassState) (r : Rule z s
     abbrev w : PassState
     w = state_after z call (store_locked h c b k x) s v
 
-    inside_it : IsInside z p
+    -- the word is one of the table's
+    pub inside_it : IsInside z p
     inside_it = (class_below c, (dite (dec_lt b (blocks z n)) (λ l. l) (λ no. let o = r.blocks.inside n b (omega arith) in let counts = owner_counts z m.headers h n b inside in let one = has in absurd (omega arith))), may.word)
 
     stands : HeadersStand m.headers (content (write m p x).arena.bytes) IsPlace (knows s) (set hs seat w.headers)

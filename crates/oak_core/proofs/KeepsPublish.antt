@@ -36,7 +36,7 @@ use Rattle.oak_core.proofs.BlocksWithHeaders.{held_named}
 use Rattle.oak_core.proofs.EntryBlocks.{key_some}
 use Rattle.oak_core.proofs.KeepsRoomPins.{at_rooms}
 use Rattle.oak_core.proofs.KeptInArena.{fewer}
-use Rattle.oak_core.proofs.KeyPlaces.{names_key}
+use Rattle.oak_core.proofs.KeyPlaces.{key_class}
 use Rattle.oak_core.proofs.KeptWords.{times_in_rooms, unkept_by_all, parts_put, still_true, kept_with}
 use Rattle.oak_core.proofs.PublishFacts.{pin_stands, same_room, more_is, key_word, value_word, base_is, few_there, room_left, once_held, is_key_there, inside_there, new_there}
 use Rattle.oak_core.proofs.RoomBundles.{RoomBundles}
@@ -45,7 +45,6 @@ use Rattle.chunk_core.specs.KeptRooms.{kept_of_rooms}
 use Rattle.chunk_core.specs.LinkedEntries.{entries_in}
 use Rattle.chunk_core.specs.PinnedRooms.{RoomPinHolds}
 use Rattle.oak_core.proofs.HeaderSums.{headers_own}
-use Rattle.arena_core.proofs.PlaceLaws.{class_below}
 use Rattle.chunk_core.specs.declared.holds.PinnedRoom.{PinnedRoom}
 use Rattle.header_core.specs.declared.holds.HeaderHolds.{HeaderHolds}
 use Rattle.oak_core.specs.Known.{known}
@@ -55,10 +54,6 @@ use Rattle.oak_core.proofs.HeaderStanding.{number_small}
 use Rattle.oak_core.proofs.PublishKeys.{publish_bundles}
 use Rattle.oak_core.proofs.KeyBundles.{KeyBundles, keys_now}
 use Rattle.oak_core.proofs.CallersKept.{without_hand}
-
--- a key word names one of the classes
-key_class : (word : ℕ) → is_key_word word ≡ 1 → class_in word < 4
-key_class word is = let p = (names_key word is).place in let e = p.is_in in let b = class_below p.class in omega arith
 
 -- a count that has room for one entry more is below the last number
 count_small : (n : ℕ) → n < 2 ^ 64 → entries_in n + 1 < 2 ^ 16 → n + 1 < 2 ^ 64

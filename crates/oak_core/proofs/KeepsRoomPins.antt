@@ -39,8 +39,9 @@ use Rattle.oak_core.specs.Rule.{HoldsKnown, Rule}
 use Rattle.oak_core.specs.Step.{on_rooms, MayOnRoom, state_after, table_after}
 use Rattle.oak_core.specs.TableState.{TableState}
 use Rattle.oak_core.proofs.FewPins.{few_room_pins}
+use Rattle.oak_core.proofs.Growing.{swept_grows}
 use Rattle.oak_core.proofs.HeaderStanding.{number_small}
-use Rattle.oak_core.proofs.Keeps.{met_only, elsewhere_rule}
+use Rattle.oak_core.proofs.Keeps.{elsewhere_rule}
 use Rattle.oak_core.proofs.KeptWords.{times_in_rooms, unkept_by_all, kept_with}
 use Rattle.oak_core.proofs.RoomBundles.{RoomBundles}
 use Rattle.oak_core.proofs.Words.{memory_read, read-write}
@@ -104,7 +105,7 @@ module _ (z : Sizes) (s : TableState) (seat : ℕ) (v : PassState) (r : Rule z s
         w.blocks ≡ v.blocks → w.knowledge ≡ v.knowledge → w.headers ≡ v.headers → room_effect x n < 2 ^ 64 → RoomBundles z m'.rooms m.arena.bytes (set hs seat w.rooms) → BlocksAreOwned z m.arena.bits (all_others z m' (set hs seat w.rooms)) (map blocks_of s.states)
         → ((F : Cover → ℕ) → all_of z m'.rooms (content m.arena.bytes) (set hs seat w.rooms) F ≡ all_of z m.rooms (content m.arena.bytes) hs F) → PinsKnow w → Rule z (table_after z call (on_rooms x) seat v s)
     step_rule x inside same knowledge headers small bundles blocks stay pins = let n : ℕ = get_or s.words (index z (in_rooms (room_spot x))) 0 in let w : PassState = state_after z call (on_rooms x) s v in let y : ℕ = room_effect x n in let m' : Memory = write m (in_rooms (room_spot x)) y in
-        elsewhere_rule z s call seat v r here going (on_rooms x) (finding z call (in_rooms (room_spot x)) (room_found x n) y s.words v) inside small refl refl (met_only _ _) refl knowledge
+        elsewhere_rule z s call seat v r here going (on_rooms x) (finding z call (in_rooms (room_spot x)) (room_found x n) y s.words v) inside small refl refl (record { met = refl; swept = swept_grows x v; fulls = refl }) refl knowledge
         (subst (λ (bs : List HeldBlocks). BlocksAreOwned z m.arena.bits (all_others z m' (map rooms_held (set s.states seat w))) bs) (sym (map_set_same blocks_of s.states seat v w here same))
         (subst (λ (rs : List RoomHolds). BlocksAreOwned z m.arena.bits (all_others z m' rs) (map blocks_of s.states)) (sym (map_set rooms_held s.states seat w)) blocks))
         (subst (λ (hh : List HeaderHolds). HeadersAreHeld m.headers m.arena.bytes (known (map knowledge_of s.states)) hh) (sym (map_set_same headers_held s.states seat v w here headers)) r.headers)

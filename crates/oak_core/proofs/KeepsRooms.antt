@@ -8,6 +8,11 @@ use Rattle.oak_core.specs.declared.states.PassState.{PassState}
 use Rattle.oak_core.specs.Rule.{Rule}
 use Rattle.oak_core.specs.Step.{on_rooms, MayOnRooms, table_after}
 use Rattle.oak_core.specs.TableState.{TableState}
+use Rattle.oak_core.proofs.KeepsFreezes.{freeze_keeps, claim_keeps}
+use Rattle.oak_core.proofs.KeepsHolds.{hold_keeps}
+use Rattle.oak_core.proofs.KeepsOpens.{open_keeps}
+use Rattle.oak_core.proofs.KeepsRetires.{retire_keeps}
+use Rattle.oak_core.proofs.KeepsStores.{store_room_keeps}
 use Rattle.oak_core.proofs.KeepsLatches.{latch_keeps, store_keeps, unlatch_keeps}
 use Rattle.oak_core.proofs.KeepsRoomPins.{pin_keeps, unpin_keeps}
 use Rattle.oak_core.proofs.KeepsPublish.{publish_keeps}
@@ -23,9 +28,9 @@ room_keeps z s call seat v r here going (publish_entry k x) may = publish_keeps 
 room_keeps z s call seat v r here going (unlatch_room k) may = unlatch_keeps z s seat v r here call going k may
 room_keeps z s call seat v r here going (set_value k i old new kind) may = set_keeps z s seat v r here call going k i old new kind may
 room_keeps z s call seat v r here going (unlink_entry k i x) may = unlink_keeps z s seat v r here call going k i x may
-room_keeps z s call seat v r here going (freeze_room k old) may = absurd may
-room_keeps z s call seat v r here going (hold_room k old) may = absurd may
-room_keeps z s call seat v r here going (claim_room k old) may = absurd may
-room_keeps z s call seat v r here going (store_room p x) may = absurd may
-room_keeps z s call seat v r here going (open_room k) may = absurd may
-room_keeps z s call seat v r here going (retire_room k) may = absurd may
+room_keeps z s call seat v r here going (freeze_room k old) may = freeze_keeps z s seat v r here call going k old may
+room_keeps z s call seat v r here going (hold_room k old) may = hold_keeps z s seat v r here call going k old may
+room_keeps z s call seat v r here going (claim_room k old) may = claim_keeps z s seat v r here call going k old may
+room_keeps z s call seat v r here going (store_room p x) may = store_room_keeps z s seat v r here call going p x may
+room_keeps z s call seat v r here going (open_room k) may = open_keeps z s seat v r here call going k may
+room_keeps z s call seat v r here going (retire_room k) may = retire_keeps z s seat v r here call going k may

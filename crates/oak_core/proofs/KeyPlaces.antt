@@ -13,6 +13,7 @@ use Rattle.arena_core.specs.Arena.{block_words}
 use Rattle.arena_core.specs.Place.{IsPlace, class_in, length_in}
 use Rattle.arena_core.proofs.ByteFacts.{length-bytes_of}
 use Rattle.arena_core.proofs.ClassRooms.{place_room}
+use Rattle.arena_core.proofs.PlaceLaws.{class_below}
 use Rattle.chunk_core.specs.KeyWords.{key_length, key_bytes, key_in}
 use Rattle.oak_core.specs.EntryOwners.{is_class, is_key_word}
 use Rattle.oak_core.specs.KeyHistories.{IsKeyOf}
@@ -38,6 +39,10 @@ names_key word e = let b = both_true (nat_lt 0 (length_in word)) (nat_le (length
     by : (o : Option Class) → class_of (length_in word) ≡ o → is_class (class_in word) o ≡ true → IsPlace word
     by None f t = absurd cc
     by (Some d) f t = record { class = d; is_in = eqb-true (class_in word) (class_number d) t; fits = f }
+
+-- it names one of the classes
+pub key_class : (word : ℕ) → is_key_word word ≡ 1 → class_in word < 4
+key_class word is = let p = (names_key word is).place in let e = p.is_in in let b = class_below p.class in omega arith
 
 pub key_word_few : (word : ℕ) → is_key_word word ≤ 1
 key_word_few word = test-cases (nat_lt 0 (length_in word) && (nat_le (length_in word) GREATEST_KEY && is_class (class_in word) (class_of (length_in word)))) (λ t. one_if t ≤ 1) (λ _. omega arith) (λ _. omega arith)

@@ -1,5 +1,5 @@
 -- What a call lacks is shown by what was met, and by all that is met and swept further on.
-use Rattle.std.proofs.Common.{◌≡◌, ℕ, ◌-◌, ◌≤◌, List, [], ◌∷◌, ◌++◌, length, sym, refl, ap, subst, arith, ⊎_elim, inl, inr}
+use Rattle.std.proofs.Common.{◌≡◌, ℕ, ◌-◌, ◌≤◌, List, [], ◌∷◌, ◌++◌, length, sym, refl, ap, subst, arith, ⊎_elim, inl, inr, Some}
 use mathlib.Core.Option.{some}
 use mathlib.Core.Logic.{dite}
 use native.Mathlib.Decide.{dec_lt}
@@ -16,7 +16,9 @@ use Rattle.oak_core.specs.declared.states.Full.{Full}
 use Rattle.oak_core.specs.declared.states.PassState.{PassState}
 use Rattle.oak_core.specs.declared.states.Swept.{Swept}
 use Rattle.oak_core.specs.Finding.{grown}
-use Rattle.oak_core.specs.Lack.{FoundBehind, FoundTaken, FoundRenewed, KeySwept, LackFound, Lacks, Lacked, FullsStand, full_state}
+use Rattle.oak_core.specs.FoundBehind.{FoundBehind}
+use Rattle.oak_core.specs.Lack.{FoundHeld, FoundRenewed, FoundSet, FoundTaken, KeySwept, LackFound, Lacks, Lacked, FullsStand, full_state}
+use Rattle.oak_core.specs.RoomLacks.{FoundWhole}
 use Rattle.oak_core.proofs.MetLists.{at_shorter, from_behind, each_at}
 use Rattle.oak_core.proofs.MetMore.{grown_met, grown_length}
 
@@ -34,11 +36,34 @@ module _ (z : Sizes) (behind ended : ℕ) (met more : List Finding) where
     shows = f.shows;
   }
 
-  lack_longer : (lack : Lack) → LackFound z behind ended met lack → LackFound z behind ended (met ++ more) lack
-  lack_longer (Block c) h = λ b lt. found_longer _ _ (h b lt)
-  lack_longer Header h = λ k lt. ⊎_elim (λ (t : FoundTaken z behind ended met k). inl (found_longer _ _ t))
+  whole_longer : ended ≤ length met → (r k : ℕ) → FoundWhole z behind ended met r k → FoundWhole z behind ended (met ++ more) r k
+  whole_longer le r k w = record {
+    held = w.held;
+    to = w.to;
+    after = w.after;
+    order = w.order;
+    within = w.within;
+    hold = w.hold;
+    there = at_longer met more w.held w.hold w.there;
+    word_is = w.word_is;
+    number = w.number;
+    found_is = w.found_is;
+    frozen = w.frozen;
+    unpinned = w.unpinned;
+    left_is = w.left_is;
+    still = λ i f after before at. w.still i f after before (at_shorter met more i f (let l = w.within in omega arith) at);
+    full = w.full;
+    values = λ i lt. longer_at (w.values i lt);
+  }
+    where
+      longer_at : {from to word : ℕ} {P : ℕ → ℕ → Type 0} → FoundBehind from to met word P → FoundBehind from to (met ++ more) word P
+      longer_at f = record { place = f.place; from = f.from; to = f.to; finding = f.finding; there = at_longer met more f.place f.finding f.there; word_is = f.word_is; number = f.number; found_is = f.found_is; shows = f.shows }
+
+  lack_longer : ended ≤ length met → (lack : Lack) → LackFound z behind ended met lack → LackFound z behind ended (met ++ more) lack
+  lack_longer le (Block c) h = (h.0, λ b lt. ⊎_elim (λ (t : FoundSet z behind ended met c b). inl (found_longer _ _ t)) (λ (t : (h.0 ≡ Some b) × FoundHeld z behind ended met c b). inr (t.0, found_longer _ _ t.1)) (h.1 b lt))
+  lack_longer le Header h = λ k lt. ⊎_elim (λ (t : FoundTaken z behind ended met k). inl (found_longer _ _ t))
       (λ (t : FoundRenewed z behind ended met k). inr (record { one = found_longer _ _ t.one; other = found_longer _ _ t.other; apart = t.apart })) (h k lt)
-  lack_longer Room h = absurd h
+  lack_longer le Room h = (h.0, record { room = h.1.room; inside = h.1.inside; whole = whole_longer le h.1.room h.0 h.1.whole; others = λ r lt ne. found_longer _ _ (h.1.others r lt ne) })
 
 -- it stays so when more is met and swept
 pub lacks_longer : (z : Sizes) (call : ℕ) (lack : Lack) (began ended : ℕ) (fs fs' : Findings) → Begins fs.met fs'.met → Begins fs.swept fs'.swept → Lacks z call lack began ended fs → Lacks z call lack began ended fs'
@@ -56,7 +81,7 @@ lacks_longer z call lack began ended fs fs' m s l = record {
     to = c.to;
     inside = c.inside;
   };
-  found = subst (λ (x : List Finding). LackFound z l.behind ended x lack) (sym m.1) (lack_longer z l.behind ended fs.met m.0 lack l.found);
+  found = subst (λ (x : List Finding). LackFound z l.behind ended x lack) (sym m.1) (lack_longer z l.behind ended fs.met m.0 l.met lack l.found);
 }
 
 each_longer : (z : Sizes) (fs fs' : Findings) → Begins fs.met fs'.met → Begins fs.swept fs'.swept → (ns : List Full) → Each (λ (n : Full). Lacked z n.call n.lack fs) ns → Each (λ (n : Full). Lacked z n.call n.lack fs') ns
@@ -66,9 +91,9 @@ each_longer z fs fs' m s ns h = each_map (λ (n : Full). Lacked z n.call n.lack 
 pub fulls_met : (z : Sizes) (fs fs' : Findings) (f : Finding) → fs' ≡ record fs { met = fs.met ++ f ∷ [] } → FullsStand z fs → FullsStand z fs'
 fulls_met z fs fs' f e h = subst (FullsStand z) (sym e) (each_longer z fs (record fs { met = fs.met ++ f ∷ [] }) (f ∷ [], refl) (begins_self fs.swept) fs.fulls h)
 
--- one more finding, in findings that may have other sights
-pub fulls_more : (z : Sizes) (fs fs' : Findings) (f : Finding) → fs'.met ≡ fs.met ++ f ∷ [] → fs'.swept ≡ fs.swept → fs'.fulls ≡ fs.fulls → FullsStand z fs → FullsStand z fs'
-fulls_more z fs fs' f met swept fulls h = subst (Each (λ (n : Full). Lacked z n.call n.lack fs')) (sym fulls) (each_longer z fs fs' (f ∷ [], met) (subst (Begins fs.swept) (sym swept) (begins_self fs.swept)) fs.fulls h)
+-- one more finding, in findings that may have other sights, and more ranges swept
+pub fulls_more : (z : Sizes) (fs fs' : Findings) (f : Finding) → fs'.met ≡ fs.met ++ f ∷ [] → Begins fs.swept fs'.swept → fs'.fulls ≡ fs.fulls → FullsStand z fs → FullsStand z fs'
+fulls_more z fs fs' f met swept fulls h = subst (Each (λ (n : Full). Lacked z n.call n.lack fs')) (sym fulls) (each_longer z fs fs' (f ∷ [], met) swept fs.fulls h)
 
 -- one more finding, and a call noted that lacks what was found before
 pub fulls_noted : (z : Sizes) (call : ℕ) (lack : Lack) (began : ℕ) (f : Finding) (v : PassState) → Lacks z call lack began (length v.findings.met) v.findings → FullsStand z v.findings → FullsStand z (full_state call lack f v).findings

@@ -125,13 +125,33 @@ pub mod KeepsLocked
 pub mod KeepsNotes
 pub mod KeepsLatches
 pub mod KeepsRoomPins
+pub mod PinExchanges
+mod KeepsFreezes
+mod KeepsHolds
+mod BlocksDropped
+mod StoresBehind
+mod KeepsStores
+mod KeepsOpens
+mod KeepsRetires
+mod PartedKeys
+mod PartedSteps
+mod DroppedBounds
+mod DroppedKeys
 pub mod KeepsRooms
 pub mod EachEvent
+mod Rebalances
+mod HeldAlone
+mod RoomBases
+mod BasesRise
 pub mod Allowed
 pub mod ArenaNames
 pub mod ArenaPlaces
 pub mod HeaderNames
 pub mod RoomNames
+pub mod RebalanceNames
+pub mod ReopenedRoom
+pub mod ReopenedSteps
+pub mod ReopenedPass
 pub mod RoomPlaces
 pub mod FieldNames
 pub mod LockNames
@@ -153,6 +173,7 @@ pub mod Frames
 pub mod SamePass
 pub mod AloneLast
 pub mod AloneRuns
+mod Refills
 mod KeyBundles
 pub mod PlainLoads
 pub mod QuietLoads

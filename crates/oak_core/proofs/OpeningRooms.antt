@@ -35,15 +35,15 @@ low_zero : (ws : List ℕ) → slice_index ws 0 ≡ 0 → low_number ws ≡ 0
 unfolding low_number key_number digits_number
 low_zero ws e = ap (λ (n : ℕ). key_number (take n (bytes_of (drop 1 ws)))) e
 
-high_zero : (ws : List ℕ) → slice_index ws 0 ≡ 0 → high_number ws ≡ 0
+pub high_zero : (ws : List ℕ) → slice_index ws 0 ≡ 0 → high_number ws ≡ 0
 unfolding high_number
 high_zero ws e = ap (λ (n : ℕ). cond (n == 0) 0 (key_number (take (slice_index ws 0 - 1) (bytes_of (drop 1 ws))) + 1)) e
 
-no_entries : entries_in 0 ≡ 0
+pub no_entries : entries_in 0 ≡ 0
 unfolding entries_in
 no_entries = refl
 
-no_prefix : prefix_in 0 ≡ 0
+pub no_prefix : prefix_in 0 ≡ 0
 unfolding prefix_in
 no_prefix = refl
 

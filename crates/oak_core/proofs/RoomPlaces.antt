@@ -2,7 +2,7 @@
 use Rattle.std.proofs.Common.{◌≡◌, ℕ, ◌+◌, ◌*◌, ◌<◌, ap, arith}
 use Rattle.std.proofs.lemmas.Nat.{mul-add-lt}
 use Rattle.oak_model.specs.Limits.{Sizes}
-use Rattle.chunk_core.specs.Rooms.{RoomSpot, at_room_pin, at_base, at_count, at_latch, at_low, at_high, at_key, at_value, at_next, room_at, place_in_room, room_width, room_index}
+use Rattle.chunk_core.specs.Rooms.{RoomSpot, at_room_pin, at_base, at_count, at_latch, at_first, at_low, at_high, at_key, at_value, at_next, room_at, place_in_room, room_width, room_index}
 use Rattle.oak_core.specs.Memory.{in_rooms, rooms_at, word_count, index}
 
 pub room_place : (z : Sizes) (r : ℕ) → rooms_at z + r * room_width z ≡ index z (in_rooms (at_room_pin r))
@@ -30,6 +30,10 @@ module _ (z : Sizes) (r : ℕ) where
   pub latch_behind : index z (in_rooms (at_room_pin r)) + 3 ≡ index z (in_rooms (at_latch r))
   unfolding place_in_room
   latch_behind = behind_pin z (at_latch r)
+
+  pub first_behind : index z (in_rooms (at_room_pin r)) + 4 ≡ index z (in_rooms (at_first r))
+  unfolding place_in_room
+  first_behind = behind_pin z (at_first r)
 
   pub low_behind : (j : ℕ) → index z (in_rooms (at_room_pin r)) + (5 + j) ≡ index z (in_rooms (at_low r j))
   unfolding place_in_room

@@ -32,7 +32,8 @@ use Rattle.oak_core.specs.Rule.{HistoriesStand, PassStands, Rule}
 use Rattle.oak_core.specs.Step.{on_rooms, state_after, table_after}
 use Rattle.oak_core.specs.TableState.{TableState}
 use Rattle.oak_core.proofs.FoundEntries.{entry_low, entry_once, room_covers, room_inside}
-use Rattle.oak_core.proofs.Keeps.{learning_rule, met_only, of_rooms}
+use Rattle.oak_core.proofs.Growing.{swept_grows}
+use Rattle.oak_core.proofs.Keeps.{learning_rule, of_rooms}
 use Rattle.oak_core.proofs.KeptWords.{times_in_rooms, unkept_by_all}
 use Rattle.oak_core.proofs.KeyBundles.{KeyBundles}
 use Rattle.oak_core.proofs.RoomBundles.{RoomBundles}
@@ -108,4 +109,4 @@ module _ (z : Sizes) (s : TableState) (seat : ℕ) (v : PassState) (r : Rule z s
     -- the rule stands then
     pub behind_rule : (x : RoomStep) → IsInRooms z (room_spot x) → Behind (room_spot x) (room_effect x (get_or s.words (index z (in_rooms (room_spot x))) 0)) (state_after z call (on_rooms x) s v) → Rule z (table_after z call (on_rooms x) seat v s)
     behind_rule x inside b = let n : ℕ = get_or s.words (index z (in_rooms (room_spot x))) 0 in
-        learning_rule z s call seat v r here going (on_rooms x) (finding z call (in_rooms (room_spot x)) (room_found x n) (room_effect x n) s.words v) inside b.small refl refl (met_only _ _) refl b.histories b.blocks b.headers b.rooms b.keys b.kept b.pin
+        learning_rule z s call seat v r here going (on_rooms x) (finding z call (in_rooms (room_spot x)) (room_found x n) (room_effect x n) s.words v) inside b.small refl refl (record { met = refl; swept = swept_grows x v; fulls = refl }) refl b.histories b.blocks b.headers b.rooms b.keys b.kept b.pin

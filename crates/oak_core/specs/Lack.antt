@@ -20,6 +20,8 @@ use Rattle.oak_core.specs.declared.states.Full.{Full}
 use Rattle.oak_core.specs.declared.states.PassState.{PassState}
 use Rattle.oak_core.specs.declared.states.Swept.{Swept}
 use Rattle.oak_core.specs.Memory.{in_arena, in_headers, index}
+use Rattle.oak_core.specs.FoundBehind.{FoundBehind}
+use Rattle.oak_core.specs.RoomLacks.{RoomLackFound}
 use Rattle.oak_core.specs.Usage.{is_free}
 
 -- the high bound does not belong to the range, and none is the end of all keys
@@ -40,18 +42,6 @@ pub record KeySwept (began behind : ℕ) (swept : List Swept) (k : List ℕ) : T
   pub to : range.met < behind
   pub inside : InSwept range k
 
--- one of the findings from the place `behind` on and before `ended` is of the word, and its number found has P with what the pass had there
-pub record FoundBehind (behind ended : ℕ) (met : List Finding) (word : ℕ) (P : ℕ → ℕ → Type 0) : Type 0 where
-  pub place : ℕ
-  pub from : behind ≤ place
-  pub to : place < ended
-  pub finding : Finding
-  pub there : get_elem? met place ≡ some finding
-  pub word_is : finding.word ≡ word
-  pub number : ℕ
-  pub found_is : finding.found ≡ Some number
-  pub shows : P number finding.had
-
 -- The bit of the block was found set, and the pass did not hold the block. What a call did itself is no cause, and a call of the map begins with no block held, so the pass must have had nothing of the bit.
 abbrev pub FoundSet : Sizes → ℕ → ℕ → List Finding → Class → ℕ → Type 0
 FoundSet z behind ended met c b = FoundBehind behind ended met (index z (in_arena (at_bits (class_number c) (b / 64)))) (λ n had. (bit_at n (b % 64) ≡ 1) × (bit_at had (b % 64) ≡ 0))
@@ -66,11 +56,19 @@ pub record FoundRenewed (z : Sizes) (behind ended : ℕ) (met : List Finding) (h
   pub other : FoundBehind behind ended met (index z (in_headers (at_pin h))) (λ _ had. had ≡ 0)
   pub apart : generation_of one.number ≢ generation_of other.number
 
--- What is lacking was found with nothing free: each block of the class, or each header. No call may be noted as one that lacks a room so far: that it held the chunk alone, with a value in every entry, is part of that, and no step holds a chunk yet.
+-- the bit was found set, whoever had the block
+abbrev pub FoundHeld : Sizes → ℕ → ℕ → List Finding → Class → ℕ → Type 0
+FoundHeld z behind ended met c b = FoundBehind behind ended met (index z (in_arena (at_bits (class_number c) (b / 64)))) (λ n _. bit_at n (b % 64) ≡ 1)
+
+-- each block of the class was found taken; one of them, the spare one, may be the call's own, which it holds for its value
+abbrev pub BlocksTaken : Sizes → ℕ → ℕ → List Finding → Class → Option ℕ → Type 0
+BlocksTaken z behind ended met c spare = (b : ℕ) → b < blocks z (class_number c) → FoundSet z behind ended met c b ⊎ ((spare ≡ Some b) × FoundHeld z behind ended met c b)
+
+-- What is lacking was found with nothing free: each block of the class, each header, or each room but the one that covers some key, which the pass held with a value in each of its entries. Of which class the spare block may be, and which key it is, the call says that was refused.
 abbrev pub LackFound : Sizes → ℕ → ℕ → List Finding → Lack → Type 0
-LackFound z behind ended met (Block c) = (b : ℕ) → b < blocks z (class_number c) → FoundSet z behind ended met c b
+LackFound z behind ended met (Block c) = (spare : Option ℕ) × BlocksTaken z behind ended met c spare
 LackFound z behind ended met Header = (h : ℕ) → h < z.headers → FoundTaken z behind ended met h ⊎ FoundRenewed z behind ended met h
-LackFound z behind ended met Room = ⊥
+LackFound z behind ended met Room = (k : ℕ) × RoomLackFound z behind ended met k
 
 -- The findings from the place `began` on and before `ended` are the call's. Ranges that it swept before `behind` cover every key, and from there on it found nothing free of what it lacks.
 pub record Lacks (z : Sizes) (call : ℕ) (lack : Lack) (began ended : ℕ) (fs : Findings) : Type 0 where

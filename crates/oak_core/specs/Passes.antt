@@ -1,6 +1,7 @@
 -- What contracts see of a table and of a pass.
 use Rattle.std.specs.Prelude.{◌≡◌, ℕ, List}
 use Rattle.oak_model.specs.Limits.{Sizes}
+use Rattle.oak_core.specs.declared.sorting.SortSlot.{SortSlot}
 use Rattle.oak_core.specs.declared.states.PassState.{PassState}
 use Rattle.oak_core.specs.declared.table.OakTable.{OakTable}
 use Rattle.oak_core.specs.declared.table.Pass.{Pass}
@@ -29,16 +30,21 @@ header_search p = p.header_search
 abbrev pub scratch_of : Pass → List ℕ
 scratch_of p = p.scratch
 
+-- the slots in which it sorts the entries of a room
+abbrev pub slots_of : Pass → List SortSlot
+slots_of p = p.sorting
+
 -- the pass belongs to the table
 abbrev pub IsPassOf : OakTable → Pass → Type 0
 IsPassOf t p = p.seat.table_id ≡ t.table.shared.table_id
 
--- it is the same pass, in the same call, and its scratch is as it was
+-- it is the same pass, in the same call, and its scratch and its slots are as they were
 pub record Stays (p q : Pass) : Type 0 where
   pub table : q.seat.table_id ≡ p.seat.table_id
   pub seat : q.seat.id ≡ p.seat.id
   pub call : q.call ≡ p.call
   pub scratch : q.scratch ≡ p.scratch
+  pub sorting : q.sorting ≡ p.sorting
 
 -- its next searches begin where they would have begun
 pub record SearchesStay (p q : Pass) : Type 0 where
@@ -54,3 +60,4 @@ pub record Turns (p q : Pass) (next : ℕ) : Type 0 where
   pub searches : q.searches ≡ p.searches
   pub header_search : q.header_search ≡ p.header_search
   pub scratch : q.scratch ≡ p.scratch
+  pub sorting : q.sorting ≡ p.sorting

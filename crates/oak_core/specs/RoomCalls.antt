@@ -2,8 +2,8 @@
 use Rattle.std.specs.Prelude.{◌≡◌, ℕ, ◌<◌}
 use Rattle.oak_model.specs.declared.writes.Kind.{Kind}
 use Rattle.oak_model.specs.Limits.{Sizes}
-use Rattle.chunk_core.specs.Rooms.{at_room_pin, at_count, at_latch}
-use Rattle.chunk_core.specs.RoomStep.{EntryField, entry_spot, pin_room, unpin_room, latch_room, store_entry, publish_entry, unlatch_room, set_value, unlink_entry}
+use Rattle.chunk_core.specs.Rooms.{RoomSpot, at_room_pin, at_count, at_latch, IsInRooms}
+use Rattle.chunk_core.specs.RoomStep.{EntryField, entry_spot, pin_room, unpin_room, latch_room, store_entry, publish_entry, unlatch_room, set_value, unlink_entry, freeze_room, hold_room, claim_room, store_room, open_room, retire_room}
 use Rattle.oak_core.specs.declared.states.PassState.{PassState}
 use Rattle.oak_core.specs.Memory.{in_rooms, index}
 use Rattle.oak_core.specs.Step.{on_rooms, Told}
@@ -60,3 +60,32 @@ SetsValueWord z call r i old new kind v n w = Told z call (on_rooms (set_value r
 -- the value word became the floor x
 abbrev pub UnlinksEntryWord : Sizes → ℕ → (r i x : ℕ) → PassState → PassState → Type 0
 UnlinksEntryWord z call r i x v w = (n : ℕ) × Told z call (on_rooms (unlink_entry r i x)) v n w
+
+-- the room became frozen, where its word was the old one
+abbrev pub FreezesRoom : Sizes → ℕ → (r old : ℕ) → PassState → ℕ → PassState → Type 0
+FreezesRoom z call r old v n w = Told z call (on_rooms (freeze_room r old)) v n w
+
+-- the frozen room became held, where its word was the old one
+abbrev pub HoldsRoomWord : Sizes → ℕ → (r old : ℕ) → PassState → ℕ → PassState → Type 0
+HoldsRoomWord z call r old v n w = Told z call (on_rooms (hold_room r old)) v n w
+
+-- the free room became held, where its word was the old one
+abbrev pub ClaimsRoom : Sizes → ℕ → (r old : ℕ) → PassState → ℕ → PassState → Type 0
+ClaimsRoom z call r old v n w = Told z call (on_rooms (claim_room r old)) v n w
+
+-- the word of the rooms
+pub record NamesRoomWord (z : Sizes) (p : RoomSpot) (word : ℕ) : Type 0 where
+  pub inside : IsInRooms z p
+  pub word_is : word ≡ index z (in_rooms p)
+
+-- the word of the held room became x
+abbrev pub StoresRoom : Sizes → ℕ → RoomSpot → (x : ℕ) → PassState → PassState → Type 0
+StoresRoom z call p x v w = (n : ℕ) × Told z call (on_rooms (store_room p x)) v n w
+
+-- the held room became open
+abbrev pub OpensRoom : Sizes → ℕ → ℕ → PassState → ℕ → PassState → Type 0
+OpensRoom z call r v n w = Told z call (on_rooms (open_room r)) v n w
+
+-- the held room became free
+abbrev pub RetiresRoom : Sizes → ℕ → ℕ → PassState → ℕ → PassState → Type 0
+RetiresRoom z call r v n w = Told z call (on_rooms (retire_room r)) v n w

@@ -14,7 +14,7 @@ use Rattle.chunk_core.specs.Covers.{span_in}
 use Rattle.oak_core.specs.declared.states.Finding.{Finding}
 use Rattle.oak_core.specs.Memory.{in_rooms, index, memory}
 use Rattle.oak_core.specs.Usage.{is_free}
-use Rattle.oak_core.specs.Lack.{FoundBehind}
+use Rattle.oak_core.specs.FoundBehind.{FoundBehind}
 
 -- the room was found not free, and the pass had nothing of it
 abbrev pub FoundUsed : Sizes → ℕ → ℕ → List Finding → ℕ → Type 0

@@ -1,5 +1,5 @@
 -- The kinds of atomic step of one pass. A step names its word, what becomes of that word, what the step asks of the pass, and the pass's state after it, which may be read off the whole state of the table.
-use Rattle.std.specs.Prelude.{◌≡◌, ℕ, ◌^◌, ◌<◌, ◌⊎◌, ◌==◌, ◌&&◌, cond, Bool, true, false, List, [], ◌∷◌, map, ◌++◌, length, slice_index, slice_set, Some, None, bit_or}
+use Rattle.std.specs.Prelude.{◌≡◌, ℕ, ◌^◌, ◌<◌, ◌⊎◌, ◌==◌, ◌&&◌, cond, Bool, true, false, nat_lt, List, [], ◌∷◌, map, ◌++◌, length, slice_index, slice_set, Some, None, bit_or}
 use Rattle.std.specs.Int.{bit_at}
 use mathlib.Core.Option.{some}
 use lib.ListN.{get_elem?}
@@ -24,7 +24,9 @@ use Rattle.header_core.specs.declared.holds.HeaderHolds.{HeaderHolds}
 use Rattle.header_core.specs.HeaderHolds.{in_state, place_held}
 use Rattle.header_core.specs.HeaderStep.{HeaderStep, change_place, open_header, pin_header, release_header, lock_header, take_back, header_spot, header_effect, header_found, MayHeader, headers_after, reworded}
 use Rattle.chunk_core.specs.MayOnRooms.{MayRoom, MayPublish}
-use Rattle.chunk_core.specs.RoomStep.{RoomStep, pin_room, unpin_room, latch_room, store_entry, unlatch_room, set_value, unlink_entry, room_spot, room_effect, room_found, publish_entry}
+use Rattle.chunk_core.specs.declared.holds.RoomHolds.{RoomHolds}
+use Rattle.chunk_core.specs.MovingRanges.{drops, word_dropped}
+use Rattle.chunk_core.specs.RoomStep.{RoomStep, publish_entry, set_value, unlink_entry, store_room, room_spot, room_effect, room_found}
 use Rattle.chunk_core.specs.Rooms.{IsInRooms, at_count, at_value}
 use Rattle.chunk_core.specs.RoomsAfter.{rooms_after}
 use Rattle.oak_core.specs.Memory.{Memory, Spot, at_given, in_arena, in_headers, in_rooms, index, IsInside, memory}
@@ -39,6 +41,7 @@ use Rattle.oak_core.specs.HeaderTeaching.{knows_by_header, sights_by_header, gon
 use Rattle.oak_core.specs.KeyedHeaders.{headers_keyed}
 use Rattle.oak_core.specs.MayWrite.{MaySet, MayUnlink, MayEnd}
 use Rattle.oak_core.specs.RoomTeaching.{knows_by_room, headers_by_room}
+use Rattle.oak_core.specs.Sweeping.{swept_by}
 use Rattle.oak_core.specs.Loading.{knows_by_load, sights_by_load, rooms_by_load}
 use Rattle.oak_core.specs.PassState.{knowledge_of}
 
@@ -141,17 +144,12 @@ pub record MayUnlinkEntry (z : Sizes) (r i x : ℕ) (v : PassState) : Type 0 whe
   pub inside : IsInRooms z (at_value r i)
   pub unlink : MayUnlink r i x v
 
--- a pass pins a room, takes its latch, stores to the entry past the count, publishes that, gives the latch up, sets and unlinks values, and undoes its pin; the other kinds none makes yet
+-- what each kind asks of its pass in its present call
 abbrev pub MayOnRooms : Sizes → ℕ → RoomStep → PassState → Type 0
-MayOnRooms z call (pin_room r) v = MayOnRoom z (pin_room r) v
-MayOnRooms z call (unpin_room r) v = MayOnRoom z (unpin_room r) v
-MayOnRooms z call (latch_room r) v = MayOnRoom z (latch_room r) v
-MayOnRooms z call (store_entry f r i x) v = MayOnRoom z (store_entry f r i x) v
 MayOnRooms z call (publish_entry r x) v = MayPublishEntry z r x v
-MayOnRooms z call (unlatch_room r) v = MayOnRoom z (unlatch_room r) v
 MayOnRooms z call (set_value r i old new kind) v = MaySetValue z call r i old new kind v
 MayOnRooms z call (unlink_entry r i x) v = MayUnlinkEntry z r i x v
-MayOnRooms z call _ v = ⊥
+MayOnRooms z call x v = MayOnRoom z x v
 
 -- the pass has the header locked, and the block is the header's
 pub record LocksBlock (h : ℕ) (c : Class) (b : ℕ) (a : HeaderHolds) : Type 0 where
@@ -205,10 +203,15 @@ blocks_with (release_header h s) m a = block_regained s m.arena.bytes (m.headers
 blocks_with (take_back h x) m a = block_back m.arena.bytes (m.headers.place h) a
 blocks_with _ m a = a
 
--- the block of a key passes to the entry that is published
-abbrev pub blocks_by_room : RoomStep → Memory → HeldBlocks → HeldBlocks
-blocks_by_room (publish_entry r x) m a = let word = m.rooms.key r (entries_in (m.rooms.count r)) in record a { held = without (class_in word) (block_in word) a.held }
-blocks_by_room _ m a = a
+-- the block of a carried entry that is dropped with the key word comes to be held
+abbrev pub blocks_dropped : ℕ → Memory → RoomHolds → HeldBlocks → HeldBlocks
+blocks_dropped word m rooms a = cond (nat_lt 0 word && nat_lt 0 (drops word rooms.moving)) (block_back m.arena.bytes word a) a
+
+-- the block of a key passes to the entry that is published, and comes back from one that is dropped
+abbrev pub blocks_by_room : RoomStep → Memory → RoomHolds → HeldBlocks → HeldBlocks
+blocks_by_room (publish_entry r x) m rooms a = let word = m.rooms.key r (entries_in (m.rooms.count r)) in record a { held = without (class_in word) (block_in word) a.held }
+blocks_by_room (store_room p x) m rooms a = blocks_dropped (word_dropped m.rooms p x) m rooms a
+blocks_by_room _ m rooms a = a
 
 -- the state of the pass after the step
 abbrev pub state_after : Sizes → ℕ → Step → TableState → PassState → PassState
@@ -233,9 +236,10 @@ state_after z call (on_headers x) s v =
     }
 state_after z call (on_rooms x) s v =
     let n = found z (on_rooms x) s in let m = memory z s.words in
-    record (noted (finding z call (in_rooms (room_spot x)) (room_found x n) (room_effect x n) s.words v) v) {
+    record v {
+      findings = record v.findings { met = v.findings.met ++ finding z call (in_rooms (room_spot x)) (room_found x n) (room_effect x n) s.words v ∷ []; swept = swept_by x v };
       knowledge = knows_by_room call x m (map knowledge_of s.states) v;
-      blocks = blocks_by_room x m v.blocks;
+      blocks = blocks_by_room x m v.rooms v.blocks;
       headers = headers_by_room x m v;
       rooms = rooms_after z m.rooms (content m.arena.bytes) x v.rooms;
     }

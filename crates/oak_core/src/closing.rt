@@ -59,6 +59,7 @@ impl OakTable {
             seat,
             call: _,
             scratch: _,
+            sorting: _,
             searches: _,
             header_search: _,
         } = pass;

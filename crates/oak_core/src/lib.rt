@@ -12,10 +12,13 @@ pub mod loads;
 pub mod notes;
 mod offsets;
 pub mod passes;
+#[cfg(test)]
+mod rebalance_tests;
 mod room_steps;
 pub mod rooms;
 pub mod schedules;
 pub mod scratch;
+pub mod sorting;
 pub mod states;
 pub mod steps;
 pub mod table;
@@ -30,6 +33,7 @@ pub use fresh::Fresh;
 pub use loads::load;
 pub use passes::SplitFault;
 pub use schedules::every_schedule;
+pub use sorting::{SortSlot, Sorting};
 pub use states::{
     Finding, Findings, Full, Gone, Joined, KeyedNumber, KeyedWrite, Knowledge, KnownLife, Lesson,
     Numbers, PassState, Sight, Swept, Taught,

@@ -13,6 +13,7 @@ use crate::atoms::or_said;
 use crate::layout::{rooms_at, word_count};
 use crate::loads::load;
 use crate::offsets::Offsets;
+use crate::sorting::Sorting;
 use crate::states::PassState;
 use crate::table::{OakTable, Pass};
 use crate::writing::Writing;
@@ -78,6 +79,7 @@ impl OakTable {
         words[0] = 1;
         words[rooms_at(&shape)] = pack(0, OPEN, 0);
         let scratch = Writing::make(alloc)?;
+        let sorting = Sorting::make(alloc)?;
         let (table, seat) = Table::of_words(alloc, words.as_slice(), &shape)?;
         let offsets = Offsets::of(&shape);
         let table = OakTable {
@@ -89,6 +91,7 @@ impl OakTable {
             seat,
             call: 0,
             scratch,
+            sorting,
             searches: [0; CLASSES],
             header_search: 0,
         };
@@ -128,7 +131,7 @@ impl Pass {
     }
 
     /// The part of a split that takes the number in hand.
-    fn cut(&mut self, table: &OakTable, scratch: Writing) -> Pass
+    fn cut(&mut self, table: &OakTable, scratch: Writing, sorting: Sorting) -> Pass
         requires own { IsPassOf table.now self.old }
         requires may { MaySplit (state self.old) }
         ensures own { Stays self.old self.new }
@@ -141,6 +144,7 @@ impl Pass {
             seat,
             call: 0,
             scratch,
+            sorting,
             searches: [0; CLASSES],
             header_search: 0,
         }
@@ -164,12 +168,15 @@ impl Pass {
         let Ok(scratch) = Writing::make(alloc) else {
             return Err(SplitFault::OutOfMemory);
         };
+        let Ok(sorting) = Sorting::make(alloc) else {
+            return Err(SplitFault::OutOfMemory);
+        };
         let passes = table.passes();
         let mut number = self.least_free(table);
         while number < passes {
             let found = self.give_number(table, number);
             if !is_set(found, number) {
-                return Ok(self.cut(table, scratch));
+                return Ok(self.cut(table, scratch, sorting));
             }
             // Another pass took the number meanwhile.
             number = self.least_free(table);
@@ -191,6 +198,7 @@ impl Pass {
             seat,
             call: _,
             scratch: _,
+            sorting: _,
             searches: _,
             header_search: _,
         } = other;

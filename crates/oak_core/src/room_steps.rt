@@ -1,7 +1,10 @@
 //! The steps on the words of the rooms, which callers find in [`crate::steps`].
-ghost use Rattle.std.specs.Prelude.{◌≡◌, ℕ};
-ghost use Rattle.chunk_core.specs.RoomStep.{EntryField, of_value, pin_room, unpin_room, latch_room, store_entry, publish_entry, unlatch_room, set_value, unlink_entry};
-ghost use Rattle.oak_core.specs.RoomCalls.{NamesRoomPin, NamesLatch, NamesEntryWord, NamesCount, PinsRoomWord, UnpinsRoomWord, TakesLatch, StoresEntry, PublishesEntry, GivesLatch, SetsValueWord, UnlinksEntryWord};
+ghost use Rattle.std.specs.Prelude.{◌≡◌, ℕ, ◌+◌, ◌-◌, ◌*◌};
+ghost use Rattle.pin_word.specs.PinWord.{STATE};
+ghost use Rattle.chunk_core.specs.declared.states.TheConstants.{OPEN, HELD};
+ghost use Rattle.chunk_core.specs.Rooms.{RoomSpot};
+ghost use Rattle.chunk_core.specs.RoomStep.{EntryField, of_value, pin_room, unpin_room, latch_room, store_entry, publish_entry, unlatch_room, set_value, unlink_entry, freeze_room, hold_room, claim_room, store_room, open_room, retire_room};
+ghost use Rattle.oak_core.specs.RoomCalls.{NamesRoomPin, NamesLatch, NamesEntryWord, NamesCount, NamesRoomWord, PinsRoomWord, UnpinsRoomWord, TakesLatch, StoresEntry, PublishesEntry, GivesLatch, SetsValueWord, UnlinksEntryWord, FreezesRoom, HoldsRoomWord, ClaimsRoom, StoresRoom, OpensRoom, RetiresRoom};
 ghost use Rattle.oak_core.specs.Step.{MayOnRooms};
 ghost use Rattle.oak_core.specs.Passes.{IsPassOf, Stays, state, key, call_of};
 
@@ -106,4 +109,79 @@ pub fn unlink(table: &OakTable, pass: &mut Pass, word: u32, value: u64)
 {
     let value_word = word as usize;
     store_said::<Brand>(table, pass, value_word, value);
+}
+
+/// Freezes an open room, where its pin word is still `old`: `word` is that word, and `new` is `old` with
+/// one state more. The pass has the room frozen where `old` was found.
+pub fn freeze(table: &OakTable, pass: &mut Pass, word: u32, old: u64, new: u64) -> u64
+    requires own { IsPassOf table.now pass.old }
+    requires names { (r : ℕ) × NamesRoomPin (key table.now) r word × (new ≡ old + STATE) × MayOnRooms (key table.now) (call_of pass.old) (freeze_room r old) (state pass.old) }
+    ensures own { Stays pass.old pass.new }
+    ensures told { (r : ℕ) → NamesRoomPin (key table.now) r word → FreezesRoom (key table.now) (call_of pass.old) r old (state pass.old) result (state pass.new) }
+{
+    let open_word = word as usize;
+    exchange_said::<Brand>(table, pass, open_word, old, new)
+}
+
+/// Comes to hold a room alone that the pass has frozen, and on which no pin stands any more, where its
+/// pin word is still `old`: `word` is that word, and `new` is `old` with one state more. The room's range
+/// moves with the pass where `old` was found.
+pub fn hold_room(table: &OakTable, pass: &mut Pass, word: u32, old: u64, new: u64) -> u64
+    requires own { IsPassOf table.now pass.old }
+    requires names { (r : ℕ) × NamesRoomPin (key table.now) r word × (new ≡ old + STATE) × MayOnRooms (key table.now) (call_of pass.old) (hold_room r old) (state pass.old) }
+    ensures own { Stays pass.old pass.new }
+    ensures told { (r : ℕ) → NamesRoomPin (key table.now) r word → HoldsRoomWord (key table.now) (call_of pass.old) r old (state pass.old) result (state pass.new) }
+{
+    let frozen_word = word as usize;
+    exchange_said::<Brand>(table, pass, frozen_word, old, new)
+}
+
+/// Claims a free room, on which no pin stands, where its pin word is still `old`: `word` is that word,
+/// and `new` is `old` with the state held. The pass holds the room alone where `old` was found.
+pub fn claim_room(table: &OakTable, pass: &mut Pass, word: u32, old: u64, new: u64) -> u64
+    requires own { IsPassOf table.now pass.old }
+    requires names { (r : ℕ) × NamesRoomPin (key table.now) r word × (new ≡ old + HELD * STATE) × MayOnRooms (key table.now) (call_of pass.old) (claim_room r old) (state pass.old) }
+    ensures own { Stays pass.old pass.new }
+    ensures told { (r : ℕ) → NamesRoomPin (key table.now) r word → ClaimsRoom (key table.now) (call_of pass.old) r old (state pass.old) result (state pass.new) }
+{
+    let free_word = word as usize;
+    exchange_said::<Brand>(table, pass, free_word, old, new)
+}
+
+/// Stores a number to `word`, any word but the pin word of a room that the pass holds alone. Where a key
+/// word becomes 0, the carried entry that it named is dropped, if it has no value: the pass holds its
+/// block then.
+pub fn store_room(table: &OakTable, pass: &mut Pass, word: u32, value: u64)
+    requires own { IsPassOf table.now pass.old }
+    requires names { (p : RoomSpot) × NamesRoomWord (key table.now) p word × MayOnRooms (key table.now) (call_of pass.old) (store_room p value) (state pass.old) }
+    ensures own { Stays pass.old pass.new }
+    ensures told { (p : RoomSpot) → NamesRoomWord (key table.now) p word → StoresRoom (key table.now) (call_of pass.old) p value (state pass.old) (state pass.new) }
+{
+    let room_word = word as usize;
+    store_said::<Brand>(table, pass, room_word, value);
+}
+
+/// Opens a room that the pass holds alone, over a range that moves with the pass, or over its upper part:
+/// `word` is the room's pin word, and `operand` what lies between the states held and open. The room has
+/// the range's base, its high bound and its entries, and the pass has them no more.
+pub fn open_room(table: &OakTable, pass: &mut Pass, word: u32, operand: u64) -> u64
+    requires own { IsPassOf table.now pass.old }
+    requires names { (r : ℕ) × NamesRoomPin (key table.now) r word × (operand ≡ (HELD - OPEN) * STATE) × MayOnRooms (key table.now) (call_of pass.old) (open_room r) (state pass.old) }
+    ensures own { Stays pass.old pass.new }
+    ensures told { (r : ℕ) → NamesRoomPin (key table.now) r word → OpensRoom (key table.now) (call_of pass.old) r (state pass.old) result (state pass.new) }
+{
+    let held_word = word as usize;
+    sub_said::<Brand>(table, pass, held_word, operand)
+}
+
+/// Retires a room that the pass holds alone: `word` is its pin word, and `operand` the state held. The
+/// room is free then. The range that came with it, if the pass still has that, joins the one just below.
+pub fn retire_room(table: &OakTable, pass: &mut Pass, word: u32, operand: u64) -> u64
+    requires own { IsPassOf table.now pass.old }
+    requires names { (r : ℕ) × NamesRoomPin (key table.now) r word × (operand ≡ HELD * STATE) × MayOnRooms (key table.now) (call_of pass.old) (retire_room r) (state pass.old) }
+    ensures own { Stays pass.old pass.new }
+    ensures told { (r : ℕ) → NamesRoomPin (key table.now) r word → RetiresRoom (key table.now) (call_of pass.old) r (state pass.old) result (state pass.new) }
+{
+    let retired_word = word as usize;
+    sub_said::<Brand>(table, pass, retired_word, operand)
 }

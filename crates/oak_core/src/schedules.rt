@@ -1,13 +1,27 @@
-ghost use Rattle.std.specs.Prelude.{ℕ, ◌-◌, ◌^◌, ◌<◌, List};
+ghost use Rattle.std.specs.Prelude.{◌≡◌, ℕ, ◌-◌, ◌^◌, ◌<◌, List};
+ghost use Rattle.pin_word.specs.PinWord.{state_of};
 ghost use Rattle.oak_model.specs.Limits.{Sizes, IsInLimits};
+ghost use Rattle.chunk_core.specs.declared.states.TheConstants.{HELD};
+ghost use Rattle.chunk_core.specs.RoomStep.{RoomStep, pin_room};
+ghost use Rattle.oak_core.specs.Memory.{memory};
 ghost use Rattle.oak_core.specs.TableState.{TableState};
+ghost use Rattle.oak_core.specs.Rebalancing.{IsRebalance, KeepsKeys, HoldsNoPin, HasDud, BasesRise};
 ghost use Rattle.oak_core.specs.Rule.{Rule};
-ghost use Rattle.oak_core.specs.Schedule.{Event, IsSchedule, opening};
+ghost use Rattle.oak_core.specs.Schedule.{Event, IsSchedule, Goes, opening, steps};
+ghost use Rattle.oak_core.specs.Step.{on_rooms};
 
 /// A law: the rule holds at every moment of every schedule. Each moment is the end of a schedule, that
 /// of the events so far. It speaks of every shape and of every opening generation below the last one,
 /// and of the schedules from any state that meets the rule.
+///
+/// Where the rule holds, a step of a rebalance changes no key's history, and so no key's state; a room
+/// comes to be held only by a step that finds no pin on it; a pin that finds it held is a dud; and the
+/// base of a key without an entry does not fall.
 pub fn every_schedule()
     ensures from_the_opening { (z : Sizes) → IsInLimits z → (g : ℕ) → g < 2 ^ 32 - 1 → (events : List Event) (s : TableState) → IsSchedule z (opening z g) events s → Rule z s }
     ensures from_any_state { (z : Sizes) (s t : TableState) → Rule z s → (events : List Event) → IsSchedule z s events t → Rule z t }
+    ensures rebalances { (z : Sizes) (s t : TableState) (seat call : ℕ) (x : RoomStep) → IsRebalance x → Goes z (steps seat call (on_rooms x)) s t → KeepsKeys s t }
+    ensures held { (z : Sizes) (s t : TableState) → Rule z s → (e : Event) → Goes z e s t → HoldsNoPin z s t }
+    ensures duds { (z : Sizes) (s t : TableState) (seat call r : ℕ) → Goes z (steps seat call (on_rooms (pin_room r))) s t → state_of ((memory z s.words).rooms.pin r) ≡ HELD → HasDud seat r t }
+    ensures bases { (z : Sizes) (s t : TableState) → Rule z s → (e : Event) → Goes z e s t → BasesRise z s t }
 {}

@@ -1,9 +1,10 @@
-//! The scratch of a pass.
+//! The scratch of a pass, for the bytes of a value and for the entries of a room.
 ghost use Rattle.std.specs.Prelude.{◌≡◌};
 ghost use Rattle.std.specs.Borrow.{sem};
-ghost use Rattle.oak_core.specs.Passes.{scratch_of};
-ghost use Rattle.oak_core.specs.Scratch.{LendsScratch};
+ghost use Rattle.oak_core.specs.Passes.{scratch_of, slots_of};
+ghost use Rattle.oak_core.specs.Scratch.{LendsScratch, LendsSlots};
 
+use crate::sorting::Sorting;
 use crate::table::Pass;
 use crate::writing::Writing;
 
@@ -21,5 +22,20 @@ impl Pass {
         ensures value { result.now ≡ scratch_of self.old }
     {
         &mut self.scratch
+    }
+
+    /// The slots in which the entries of a room are sorted, which are the pass's own.
+    pub fn sorting(&self) -> &Sorting
+        ensures { result.now ≡ slots_of self.now }
+    {
+        &self.sorting
+    }
+
+    /// The slots, to be changed. Nothing else of the pass changes.
+    pub fn sorting_mut(&mut self) -> &mut Sorting
+        ensures* writes_back { sem 𝓛 (LendsSlots self.entry result) }
+        ensures value { result.now ≡ slots_of self.old }
+    {
+        &mut self.sorting
     }
 }

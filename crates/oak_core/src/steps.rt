@@ -13,7 +13,8 @@ pub use crate::header_steps::{
     take_back, unlock_header, unpin_header,
 };
 pub use crate::room_steps::{
-    latch, pin_room, publish_entry, set_value, store_entry, unlatch, unlink, unpin_room,
+    claim_room, freeze, hold_room, latch, open_room, pin_room, publish_entry, retire_room,
+    set_value, store_entry, store_room, unlatch, unlink, unpin_room,
 };
 use crate::table::{OakTable, Pass};
 use std::marker::Brand;

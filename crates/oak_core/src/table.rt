@@ -4,6 +4,7 @@ ghost use Rattle.oak_core.specs.Memory.{word_count};
 ghost use Rattle.oak_core.specs.Offsets.{offsets_of};
 
 use crate::offsets::Offsets;
+use crate::sorting::Sorting;
 use crate::states::PassState;
 use crate::writing::Writing;
 use atomic_table::{Seat, Table, TableRule};
@@ -40,6 +41,7 @@ pub struct Pass {
     pub(crate) seat: Seat<(), PassState>,
     pub(crate) call: u32,
     pub(crate) scratch: Writing,
+    pub(crate) sorting: Sorting,
     pub(crate) searches: [u32; CLASSES],
     pub(crate) header_search: u32,
     ghost idle: { seat.me.1 ≡ [] },

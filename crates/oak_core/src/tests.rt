@@ -8,7 +8,7 @@ ghost use Rattle.oak_core.specs.Scratch.{StaysButScratch};
 ghost use Rattle.oak_core.specs.Splitting.{LooksAtGiven};
 
 use crate::steps::{pin_room, unpin_room};
-use crate::{OakTable, Pass, SplitFault, Writing, load};
+use crate::{OakTable, Pass, SortSlot, SplitFault, Writing, load};
 use chunk_core::OPEN;
 use oak_model::{BadShape, Shape, ShapeField, Usage};
 use pin_word::pack;
@@ -149,6 +149,31 @@ fn a_scratch_of_a_pass(rt: HostRuntime) -> Result<(), Fail> {
     pass.scratch_mut().bytes_mut()[2] = 9;
     let kept = pass.scratch().bytes() == [7, 0, 9].as_slice();
     assert!(rt; kept);
+    table.close(pass);
+    Ok(())
+}
+
+/// A slot with this key word and value word, and no key.
+fn slot(key: u64, value: u64) -> SortSlot {
+    SortSlot {
+        words: [0; 8],
+        length: 0,
+        key,
+        value,
+    }
+}
+
+#[test]
+fn slots_of_a_pass(rt: HostRuntime) -> Result<(), Fail> {
+    let shape = Shape::make(1, 1, 4, 1, [1, 1, 1, 1])?;
+    let (table, mut pass) = OakTable::create(rt.alloc(), &shape)?;
+    pass.sorting_mut().set(0, slot(7, 1));
+    pass.sorting_mut().set(1, slot(5, 3));
+    pass.sorting_mut().set(2, slot(5, 2));
+    pass.sorting_mut().front_mut(3).sort_unstable();
+    assert_eq!(rt; pass.sorting().slots()[0], slot(5, 2));
+    assert_eq!(rt; pass.sorting().slots()[1], slot(5, 3));
+    assert_eq!(rt; pass.sorting().slots()[2], slot(7, 1));
     table.close(pass);
     Ok(())
 }

@@ -10,7 +10,8 @@ use Rattle.oak_model.proofs.Lists.{each_map}
 use Rattle.oak_core.specs.declared.states.Finding.{Finding}
 use Rattle.oak_core.specs.declared.states.PassState.{PassState}
 use Rattle.oak_core.specs.Finding.{had, IsLoadOf}
-use Rattle.oak_core.specs.Lack.{FoundBehind, FoundTaken, FoundRenewed, KeySwept, Lacks}
+use Rattle.oak_core.specs.FoundBehind.{FoundBehind}
+use Rattle.oak_core.specs.Lack.{FoundTaken, FoundRenewed, KeySwept, Lacks}
 use Rattle.oak_core.specs.Memory.{index}
 use Rattle.oak_core.proofs.FoundThere.{found_behind}
 use Rattle.oak_core.proofs.Lacked.{lacks_then}

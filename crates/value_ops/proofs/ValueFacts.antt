@@ -102,4 +102,4 @@ reads_both q r s a b = record {
 }
 
 pub reads_none : (q : Reading) → IsReading q → ReadsOn q q
-reads_none q is = record { reading = is; table = refl; stays = record { table = refl; seat = refl; call = refl; scratch = refl }; only = loads_none (key q.table.now) (call_of q.pass.now) (state q.pass.now) }
+reads_none q is = record { reading = is; table = refl; stays = record { table = refl; seat = refl; call = refl; scratch = refl; sorting = refl }; only = loads_none (key q.table.now) (call_of q.pass.now) (state q.pass.now) }

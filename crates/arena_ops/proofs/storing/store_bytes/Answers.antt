@@ -8,7 +8,7 @@ use Rattle.arena_ops.proofs.storing.store_bytes.Goals as goal
 
 pub loop-i-init : goal.loop-i-init
 loop-i-init c = record {
-  stays = record { table = refl; seat = refl; call = refl; scratch = refl };
+  stays = record { table = refl; seat = refl; call = refl; scratch = refl; sorting = refl };
   stored = none_stored (key c.args.table.now) (call_of c.args.pass.now) c.args.block.now.class c.args.block.now.number c.args.bytes.now (state c.args.pass.now) c.requires.held;
 }
 

@@ -1,15 +1,9 @@
-use Rattle.std.proofs.Common.{rules, refl, sym, ap, ◌∙◌, ◌≡◌, ◌≤◌, ℕ, zero, suc, List, [], ◌∷◌, ◌++◌, length, take, drop, arith, length-take-le, length-append, length-drop}
+use Rattle.std.proofs.Common.{rules, refl, sym, ap, ◌∙◌, ◌≡◌, ◌≤◌, ℕ, List, ◌++◌, length, take, drop, arith, length-take-le, length-append, length-drop}
 use Rattle.std.proofs.lemmas.List.{take-take, take-append-le}
 use Rattle.std.specs.List.{refill}
 use Rattle.std.specs.Vec.{with_items_from}
+use Rattle.oak_core.proofs.Refills.{refill_of_front}
 use Rattle.oak_core.proofs.writing.Writing.bytes_mut.Goals as goal
-
--- what is written over a list counts only up to the cut
-refill_of_front : (w ys : List ℕ) (n : ℕ) → take n (w ++ drop (length w) ys) ≡ refill n (take n ys) w
-refill_of_front [] ys n = sym (take-take n n ys (omega arith))
-refill_of_front (x ∷ w) ys zero = refl
-refill_of_front (x ∷ w) [] (suc n) = refl
-refill_of_front (x ∷ w) (y ∷ ys) (suc n) = ap (λ l. x ∷ l) (refill_of_front w ys n)
 
 pub returns : goal.returns
 returns c =

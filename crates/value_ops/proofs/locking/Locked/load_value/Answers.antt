@@ -24,7 +24,7 @@ loop-i-preserved c = let z : Sizes = key c.args.table.now in let call = call_of 
     let old : c.bytes_mut.result.now ≡ scratch_of c.loop-i.pass = c.bytes_mut.ensures.value ∙ was in let i = c.loop-i.i in let rs = v.headers.held in let same = headers_met z call v u s.met in
     let lt : 8 * i < length_in (place_held h rs) = subst (λ (n : ℕ). 8 * i < n) c.requires.long (word_of_loop c.args.len i c.div_ceil-i-end.result c.loop-i-test.true c.div_ceil-i-end.ensures) in
     record {
-      stays = record { table = o.own.table ∙ s.stays.table; seat = o.own.seat ∙ s.stays.seat; call = o.own.call ∙ s.stays.call; scratch = refl };
+      stays = record { table = o.own.table ∙ s.stays.table; seat = o.own.seat ∙ s.stays.seat; call = o.own.call ∙ s.stays.call; scratch = refl; sorting = o.own.sorting ∙ s.stays.sorting };
       met = loads_both z call v u w s.met (loads_in z call (call_of c.loop-i.pass) u w s.stays.call o.met);
       alone = both_stay v u w s.alone o.alone;
       long = ap length whole ∙ (wide ∙ (ap length was ∙ s.long));

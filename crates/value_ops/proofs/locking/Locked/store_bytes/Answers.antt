@@ -11,7 +11,7 @@ use Rattle.arena_core.proofs.WordLaws.{words_at, word_of_loop}
 
 pub loop-i-init : goal.loop-i-init
 loop-i-init c = let v = state c.args.pass.now in record {
-  stays = record { table = refl; seat = refl; call = refl; scratch = refl };
+  stays = record { table = refl; seat = refl; call = refl; scratch = refl; sorting = refl };
   stored = begins (key c.args.table.now) c.args.self.now.header c.args.self.now.generation c.args.first v c.requires.words c.args.bytes.now c.requires.room (call_of c.args.pass.now);
   alone = puts_none c.args.first c.args.bytes.now v;
 }

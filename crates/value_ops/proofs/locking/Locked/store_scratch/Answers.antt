@@ -12,7 +12,7 @@ use Rattle.arena_core.proofs.WordLaws.{words_at, word_of_loop}
 
 pub loop-i-init : goal.loop-i-init
 loop-i-init c = let z : Sizes = key c.args.table.now in let h = c.args.self.now.header in let g = c.args.self.now.generation in let v = state c.args.pass.now in let bytes = scratch_of c.args.pass.now in let is = c.requires.words in record {
-  stays = record { table = refl; seat = refl; call = refl; scratch = refl };
+  stays = record { table = refl; seat = refl; call = refl; scratch = refl; sorting = refl };
   stored = begins z h g c.args.first v is bytes (as_long_fits z h g c.args.first v is bytes c.requires.long) (call_of c.args.pass.now);
   alone = puts_none c.args.first bytes v;
 }

@@ -1,0 +1,7 @@
+use Rattle.std.proofs.Common.{ℕ}
+use Rattle.oak_core.specs.RoomCalls.{NamesRoomPin, OpensRoom}
+use Rattle.oak_core.specs.Passes.{state, key, call_of}
+use Rattle.oak_core.proofs.room_steps.open_room.Given as goal
+
+abbrev pub ghosts-sub_said : goal.ghosts-sub_said
+ghosts-sub_said a = record { told = λ n w. (r : ℕ) → NamesRoomPin (key a.table.now) r a.word → OpensRoom (key a.table.now) (call_of a.pass.now) r (state a.pass.now) n w }

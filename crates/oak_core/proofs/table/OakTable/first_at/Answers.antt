@@ -1,0 +1,7 @@
+use Rattle.std.proofs.Common.{◌∙◌}
+use Rattle.oak_core.specs.Passes.{key}
+use Rattle.oak_core.proofs.RoomPlaces.{first_behind}
+use Rattle.oak_core.proofs.table.OakTable.first_at.Goals as goal
+
+pub returns : goal.returns
+returns c = c.behind_pin.ensures ∙ first_behind (key c.args.self.now) c.args.room
