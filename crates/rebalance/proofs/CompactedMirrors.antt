@@ -1,0 +1,98 @@
+-- A held room that was compacted has the entries of its range still, without those that were dropped.
+use Rattle.std.proofs.Common.{◌≡◌, ℕ, ◌≤◌, List, map, length, sym, ◌∙◌, ap, refl, subst, arith}
+use Rattle.std.specs.Prelude.{slice_index}
+use Rattle.std.specs.List.Sorted.{IsPermutation}
+use Rattle.std.proofs.lemmas.List.{length-map}
+use Rattle.oak_model.specs.declared.limits.TheConstants.{GREATEST_ENTRIES}
+use Rattle.oak_model.specs.Counts.{rows}
+use Rattle.oak_model.specs.Limits.{Sizes}
+use Rattle.oak_model.proofs.Lists.{rows_length}
+use Rattle.chunk_core.specs.declared.holds.MovingRange.{MovingRange}
+use Rattle.chunk_core.specs.declared.layout.TheConstants.{BOUND_WORDS}
+use Rattle.chunk_core.specs.LinkedEntries.{entries_in}
+use Rattle.chunk_core.specs.RoomReads.{copy_at}
+use Rattle.chunk_core.specs.RoomRule.{AreBounds}
+use Rattle.chunk_core.specs.Rooms.{RoomMemory}
+use Rattle.oak_core.specs.declared.sorting.SortSlot.{SortSlot}
+use Rattle.rebalance.specs.declared.entries.Entry.{Entry}
+use Rattle.rebalance.specs.CarriedKeys.{HaveKeys}
+use Rattle.rebalance.specs.Compacted.{in_use, KeysRise}
+use Rattle.rebalance.specs.DroppedRange.{sum_of, sum_carried, dropped_range, WordsDiffer}
+use Rattle.rebalance.specs.Dropping.{DropsKeys}
+use Rattle.rebalance.specs.Entries.{greatest, kept, dropped}
+use Rattle.rebalance.specs.Filled.{IsFilled, Fills}
+use Rattle.rebalance.specs.Mirrors.{Mirrors, RangeStands}
+use Rattle.rebalance.specs.SlotRanges.{SlotsHave, BoundsAre}
+use Rattle.rebalance.specs.Slots.{entry_of}
+use Rattle.rebalance.proofs.DroppedRange.{parted_sum}
+use Rattle.rebalance.proofs.FilledCopies.{copied_sum, filled_many, filled_prefix, filled_sum, filled_rises, permuted_total, length_total}
+use Rattle.rebalance.proofs.MirroredEntries.{drops, kept_left, all_valued}
+
+-- A room that was filled with the entries of a range mirrors it.
+pub filled_mirrors : (z : Sizes) (m : RoomMemory) (r : ℕ) (xs : List SortSlot) (base : ℕ) (g : MovingRange) (keys : ℕ → List ℕ) → z.entries ≤ GREATEST_ENTRIES → IsFilled r xs base m → length xs ≤ z.entries → base ≡ g.base → BoundsAre m r g → SlotsHave keys xs g → Mirrors z (copy_at z m r) g
+filled_mirrors z m r xs base g keys limit filled few base_is bounds slots = let many = filled_many z m r xs base filled few limit in let prefix = filled_prefix z m r xs base filled few limit in record {
+  base = filled.base_is ∙ base_is;
+  low = bounds.low;
+  high = bounds.high;
+  latch = bounds.latch;
+  few = omega arith;
+  prefix = omega arith;
+  entries = λ f. filled_sum z m r xs base filled few limit f ∙ slots.sums f;
+  bounds = subst (λ (p : List ℕ × List ℕ). AreBounds (slice_index p.0 0) (slice_index p.1 0)) (λ t. (sym bounds.low t, sym bounds.high t)) bounds.fit;
+  sorted = λ i j c d lt l ch dh ci dj. filled_rises z m r xs base filled few limit keys slots.rise i j c d lt (omega arith) (slots.have c ch (slots.valued c ch)) (slots.have d dh (slots.valued d dh)) ci dj;
+}
+
+-- A room that mirrors a range has its bounds.
+pub bounds_of : (z : Sizes) (m : RoomMemory) (r : ℕ) (g : MovingRange) → Mirrors z (copy_at z m r) g → BoundsAre m r g
+bounds_of z m r g mirrors = record {
+  low = mirrors.low;
+  high = mirrors.high;
+  latch = mirrors.latch;
+  fit = subst (λ (p : List ℕ × List ℕ). AreBounds (slice_index p.0 0) (slice_index p.1 0)) (λ t. (mirrors.low t, mirrors.high t)) mirrors.bounds;
+}
+
+-- It has them still where these words are as they were, and so has one with the bounds of another range that has the same.
+pub bounds_still : (m n : RoomMemory) (r : ℕ) (g h : MovingRange) → BoundsAre m r g → n.low r ≡ m.low r → n.high r ≡ m.high r → n.latch r ≡ m.latch r → h.low ≡ g.low → h.high ≡ g.high → BoundsAre n r h
+bounds_still m n r g h b low high latch lows highs = record {
+  low = ap (rows 0 BOUND_WORDS) low ∙ (b.low ∙ sym lows);
+  high = ap (rows 0 BOUND_WORDS) high ∙ (b.high ∙ sym highs);
+  latch = latch ∙ b.latch;
+  fit = subst (λ (p : List ℕ × List ℕ). AreBounds (slice_index p.0 0) (slice_index p.1 0)) (λ t. (sym lows t, sym highs t)) b.fit;
+}
+
+-- A room that mirrors the range g, whose slots have its entries with a value.
+module _ (z : Sizes) (m : RoomMemory) (r : ℕ) (g : MovingRange) (mirrors : Mirrors z (copy_at z m r) g) (stands : RangeStands g) (differ : WordsDiffer g) where
+  -- what is added up over its entries in use
+  pub used_sum : (f : ℕ → ℕ → ℕ) → sum_of f (in_use m r) ≡ sum_carried f g.carried
+  used_sum f = sym (copied_sum z m r f mirrors.few) ∙ mirrors.entries f
+
+  module _ (keys : ℕ → List ℕ) (have : HaveKeys keys g.carried) (xs : List SortSlot) (same : IsPermutation (kept (in_use m r)) (map entry_of xs)) where
+    -- they have what is left of the range
+    pub slots_have : KeysRise keys xs → SlotsHave keys xs (dropped_range (dropped (in_use m r)) g)
+    slots_have rise = record {
+      sums = λ f. permuted_total (λ (e : Entry). f e.place e.value) (kept (in_use m r)) (map entry_of xs) same ∙ kept_left (in_use m r) g stands differ used_sum f;
+      rise = rise;
+      have = λ c h. have c ((drops (in_use m r) g stands differ used_sum).some c h);
+      valued = all_valued (in_use m r) g stands differ used_sum;
+    }
+
+    -- they are no more than the room has
+    pub slots_few : length xs ≤ z.entries
+    slots_few = let a = permuted_total (λ (e : Entry). 1) (kept (in_use m r)) (map entry_of xs) same in let b = length_total (map entry_of xs) in let c = length-map xs entry_of in
+        let d = parted_sum (λ w v. 1) (in_use m r) in let e = length_total (in_use m r) in let l = rows_length 0 (entries_in (m.count r)) (λ (i : ℕ). let y : Entry = record { place = m.key r i; value = m.value r i } in y) in
+        let few = mirrors.few in omega arith
+
+    -- the base that was read is that of what is left
+    pub read_base : (base : ℕ) → base ≡ greatest (m.base r) (dropped (in_use m r)) → base ≡ (dropped_range (dropped (in_use m r)) g).base
+    read_base base is = is ∙ (ap (λ (b : ℕ). greatest b (dropped (in_use m r))) mirrors.base ∙ sym (drops (in_use m r) g stands differ used_sum).base)
+
+    -- and the room has its bounds
+    pub read_bounds : (n : ℕ) (m1 : RoomMemory) → DropsKeys r n m m1 → BoundsAre m1 r (dropped_range (dropped (in_use m r)) g)
+    read_bounds n m1 gone = let d = drops (in_use m r) g stands differ used_sum in
+        bounds_still m m1 r g (dropped_range (dropped (in_use m r)) g) (bounds_of z m r g mirrors) (ap (λ (f : ℕ → ℕ → ℕ). f r) gone.low) (ap (λ (f : ℕ → ℕ → ℕ). f r) gone.high) (ap (λ (f : ℕ → ℕ). f r) gone.latch) d.low d.high
+
+    -- the room is filled with them, in the order of their keys
+    pub compacted_mirrors : (base n : ℕ) (m1 m2 : RoomMemory) → z.entries ≤ GREATEST_ENTRIES → KeysRise keys xs → base ≡ greatest (m.base r) (dropped (in_use m r)) → DropsKeys r n m m1 → Fills r xs base m1 m2 → Mirrors z (copy_at z m2 r) (dropped_range (dropped (in_use m r)) g)
+    compacted_mirrors base n m1 m2 limit rise base_is gone fills = let g1 : MovingRange = dropped_range (dropped (in_use m r)) g in let b = fills.bounds_kept in
+        filled_mirrors z m2 r xs base g1 keys limit fills.filled slots_few (read_base base base_is)
+        (bounds_still m1 m2 r g1 g1 (read_bounds n m1 gone) (ap (λ (f : ℕ → ℕ → ℕ). f r) b.low) (ap (λ (f : ℕ → ℕ → ℕ). f r) b.high) (ap (λ (f : ℕ → ℕ). f r) b.latch) refl refl) (slots_have rise)

@@ -1,0 +1,108 @@
+-- A pass comes to hold a room alone that it has frozen, with the range of the room.
+use Rattle.std.proofs.Common.{◌≡◌, ℕ, ◌<◌, cond, Bool, List, ◌∷◌, map, sym, refl, ap, ◌∙◌, subst, arith, eq-eqb, Some}
+use lib.ListN.{get_elem?}
+use Rattle.pin_word.specs.PinWord.{packed, state_of, count_of, HasNoPin}
+use Rattle.pin_word.proofs.Laws.{state_of-packed, count_of-packed}
+use Rattle.oak_model.specs.Limits.{Sizes}
+use Rattle.oak_model.proofs.Counting.{one_at-same}
+use Rattle.arena_core.specs.Place.{content}
+use Rattle.chunk_core.specs.declared.holds.HeldRoom.{HeldRoom}
+use Rattle.chunk_core.specs.declared.holds.MovingRange.{MovingRange}
+use Rattle.chunk_core.specs.declared.holds.RoomCopy.{RoomCopy}
+use Rattle.chunk_core.specs.declared.holds.RoomHeldAs.TheVariants.{Held}
+use Rattle.chunk_core.specs.declared.holds.RoomHolds.{RoomHolds}
+use Rattle.chunk_core.specs.declared.states.TheConstants.{FROZEN, HELD}
+use Rattle.chunk_core.specs.RoomCopies.{copy_of, without_room}
+use Rattle.chunk_core.specs.RoomReads.{copy_at, moving_at}
+use Rattle.chunk_core.specs.RoomRule.{in_room_state, IsWholeCopy}
+use Rattle.chunk_core.specs.RoomStep.{hold_room}
+use Rattle.chunk_core.proofs.HeldRooms.{room_rows, row_here, without_here}
+use Rattle.chunk_core.proofs.RoomKinds.{whole_copy}
+use Rattle.chunk_core.proofs.Weights.{weight_frozen}
+use Rattle.oak_core.specs.declared.states.PassState.{PassState}
+use Rattle.oak_core.specs.Memory.{Memory, memory}
+use Rattle.oak_core.specs.PassState.{rooms_held}
+use Rattle.oak_core.specs.RoomCalls.{HoldsRoomWord}
+use Rattle.oak_core.specs.Step.{on_rooms}
+use Rattle.oak_core.proofs.AloneRuns.{moment_after}
+use Rattle.oak_core.proofs.CallSteps.{step_alone, step_since}
+use Rattle.chunk_ops.specs.PinRecords.{OnlyMeets}
+use Rattle.chunk_ops.specs.RoomPins.{HadMoment}
+use Rattle.chunk_ops.proofs.PinSteps.{pin_found}
+use Rattle.rebalance.specs.Holding.{HasHeld, Holds, with_moving}
+use Rattle.rebalance.specs.Mirrors.{Mirrors}
+use Rattle.rebalance.proofs.MirroredRooms.{latch_free, mirrors_at}
+use Rattle.rebalance.proofs.RangesStand.{range_stands}
+use Rattle.rebalance.proofs.RoomExchanges.{beside_since, hold_beside, hold_takes}
+
+-- a word of a state and no pin
+packed_bare : (s : ℕ) → s < 16 → HasNoPin s (packed 0 s 0)
+packed_bare s lt = record { state = state_of-packed 0 s 0 lt (omega arith); count = count_of-packed 0 s 0 lt (omega arith) }
+
+-- the first room that the pass has is the one that it holds
+pub copy_first : (r : ℕ) (w : RoomCopy) (hs : List HeldRoom) → copy_of r (record { room = r; held_as = Held w } ∷ hs) ≡ Some w
+unfolding copy_of
+copy_first r w hs = ap (λ (b : Bool). cond b (Some w) (copy_of r hs)) (eq-eqb r r refl)
+
+-- it holds it once
+has_moving : (z : Sizes) (r : ℕ) (w : RoomCopy) (g : MovingRange) (a : RoomHolds) → IsWholeCopy z w → HasHeld z r w (with_moving r w g a)
+unfolding room_rows
+has_moving z r w g a whole = record {
+  held = let h = row_here r r HELD (record { room = r; held_as = Held w }) (without_room r a.held) refl refl in let n = without_here r HELD a.held in let one = one_at-same HELD HELD refl in omega arith;
+  copy = copy_first r w (without_room r a.held);
+  whole = whole;
+}
+
+-- a step of the call that found the frozen room without a pin
+module _ (z : Sizes) (call r old n : ℕ) (u v w : PassState) (only : OnlyMeets call u v) (t : HoldsRoomWord z call r old v n w) (e : n ≡ old) where
+  abbrev m : Memory
+  m = memory z t.table.words
+
+  abbrev copy : RoomCopy
+  copy = copy_at z m.rooms r
+
+  abbrev range : MovingRange
+  range = moving_at m.rooms (content m.arena.bytes) r
+
+  found : m.rooms.pin r ≡ old
+  found = pin_found z call r (hold_room r old) refl v n w t t.may.inside.0 ∙ e
+
+  rooms_are : w.rooms ≡ with_moving r (copy_at z m.rooms r) (moving_at m.rooms (content m.arena.bytes) r) v.rooms
+  rooms_are = hold_takes z call r old n v w t e
+
+  mirrored : Mirrors z (copy_at z m.rooms r) (moving_at m.rooms (content m.arena.bytes) r)
+  mirrored = mirrors_at z m.rooms (content m.arena.bytes) (map rooms_held t.table.states) t.rule.rooms r (weight_frozen (m.rooms.pin r) (ap state_of found ∙ t.may.rooms.0.state))
+      (latch_free z m.rooms (content m.arena.bytes) (map rooms_held t.table.states) t.rule.rooms r (ap count_of found ∙ t.may.rooms.0.count))
+
+  behind : HadMoment z w
+  behind = (_, moment_after z call (on_rooms (hold_room r old)) v n w t)
+
+  pub holds : (c : RoomCopy) × (g : MovingRange) × Holds z call r c g u w
+  holds = (
+    copy,
+    range,
+    record {
+      word = old;
+      step = step_since z call (on_rooms (hold_room r old)) u v w only.stands.met (step_alone z call (on_rooms (hold_room r old)) v n w t);
+      was = e;
+      unpinned = t.may.rooms.0;
+      before = only;
+      last = refl;
+      copy_is = refl;
+      range_is = refl;
+      beside = beside_since call u v w only (hold_beside z call r old n v w t);
+      rooms = rooms_are ∙ ap (with_moving r copy range) only.rooms;
+      has = subst (HasHeld z r copy) (sym rooms_are) (has_moving z r copy range v.rooms (whole_copy z m.rooms r));
+      mirrors = mirrored;
+      stands = range_stands z w behind 0 range (ap (λ (a : RoomHolds). get_elem? a.moving 0) rooms_are);
+      ended = behind;
+    },
+  )
+
+-- a pass that only met more has the room frozen still
+pub frozen_still : (call r : ℕ) (v w : PassState) → OnlyMeets call v w → in_room_state r FROZEN v.rooms ≡ 1 → in_room_state r FROZEN w.rooms ≡ 1
+frozen_still call r v w only e = subst (λ (a : RoomHolds). in_room_state r FROZEN a ≡ 1) (sym only.rooms) e
+
+-- the word that it looks for is that of a room without a pin
+pub bare_word : (s n : ℕ) → s < 16 → n ≡ packed 0 s 0 → HasNoPin s n
+bare_word s n lt e = subst (HasNoPin s) (sym e) (packed_bare s lt)

@@ -1,0 +1,64 @@
+pub mod AwayFromPins
+pub mod LoadedBounds
+pub mod RangeKeys
+pub mod KeyCopies
+pub mod LeastKey
+pub mod HeldMemory
+pub mod StoredMemory
+pub mod RoomWorks
+pub mod RoomStores
+pub mod CarriedEntries
+pub mod KeysDropped
+pub mod AppendLaws
+pub mod BoundLaws
+pub mod DropLaws
+pub mod FillLaws
+pub mod ReadLaws
+pub mod SortLaws
+pub mod CompactedMirrors
+pub mod DroppedRange
+pub mod FilledCopies
+pub mod HeldRoomFacts
+pub mod JoinedRanges
+pub mod MergedMirrors
+pub mod MiddleBounds
+pub mod MirroredEntries
+mod RoomExchanges
+mod RangesStand
+mod MirroredRooms
+mod FrozenRooms
+mod HeldAlone
+mod ClaimedRooms
+mod OpenedRooms
+mod OpensWhole
+mod HeldBeside
+pub mod HeldRows
+pub mod HeldSlots
+pub mod Sorting
+pub mod MomentRanges
+pub mod RebalancedRooms
+pub mod RoomsBeside
+pub mod SlotKeys
+pub mod SplitOpens
+mod SweptKeys
+mod TakenChunks
+mod NeighbourChunks
+mod MergedChunks
+mod JoinedRooms
+mod SettledKeys
+pub mod SweptRooms
+pub mod FrontRooms
+pub mod FrontCompacts
+pub mod TakenRanges
+pub mod FrontRewrites
+pub mod ListedRows
+pub mod ChunkLaws
+pub mod FrontLaws
+pub mod CompactCalls
+pub mod TestLaws
+pub mod FrontReads
+pub mod ReopenedChunks
+pub mod WholeRooms
+pub mod HeldPairs
+pub mod HalvedRooms
+pub mod SplitCalls

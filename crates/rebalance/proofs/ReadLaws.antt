@@ -1,0 +1,106 @@
+-- One entry more was read.
+use Rattle.std.proofs.Common.{◌≡◌, ℕ, zero, suc, ◌+◌, ◌<◌, ◌==◌, ◌/◌, ◌^◌, max, not, Bool, true, false, cond, List, [], ◌∷◌, ◌++◌, map, take, length, get_or, set, sym, ◌∙◌, ap, refl, subst, arith, append-nil, get_or-set_other, get_or-set_same}
+use Rattle.std.proofs.lemmas.List.{take_more_set, map-append}
+use Rattle.std.proofs.lemmas.List.Elements.{filter-append}
+use Rattle.std.proofs.Math.ListN.{length-set}
+use Rattle.std.specs.List.{filter}
+use mathlib.Core.Logic.{dite}
+use native.Mathlib.Decide.{ℕ_discrete}
+use Rattle.oak_model.specs.Counts.{rows}
+use Rattle.oak_model.proofs.Counting.{one_at-cases}
+use Rattle.chunk_core.specs.Rooms.{RoomMemory}
+use Rattle.chunk_core.specs.ValueWord.{names_header}
+use Rattle.chunk_ops.specs.Stored.{IsStored}
+use Rattle.oak_core.specs.declared.sorting.SortSlot.{SortSlot}
+use Rattle.rebalance.specs.declared.entries.Entry.{Entry}
+use Rattle.rebalance.specs.declared.reading.Read.{Read}
+use Rattle.rebalance.specs.Dropping.{DropsKeys}
+use Rattle.rebalance.specs.Entries.{entries, kept, dropped, greatest, has_value, lacks_value}
+use Rattle.rebalance.specs.Read.{HasRead}
+use Rattle.rebalance.specs.Slots.{entry_of, key_of}
+
+rows_snoc : {A : Type 0} (i n : ℕ) (f : ℕ → A) → rows i (n + 1) f ≡ rows i n f ++ f (i + n) ∷ []
+unfolding rows
+rows_snoc i zero f = ap (λ (k : ℕ). f k ∷ []) (let e : i ≡ i + 0 = omega arith in e)
+rows_snoc i (suc n) f = ap (λ (k : ℕ). rows i k f) (let e : suc n + 1 ≡ suc (n + 1) = omega arith in e) ∙ ap (λ (xs : List _). f i ∷ xs) (rows_snoc (suc i) n f ∙ ap (λ (k : ℕ). rows (suc i) n f ++ f k ∷ []) (let e : suc i + n ≡ i + suc n = omega arith in e))
+
+filtered : {A : Type 0} (p : A → Bool) (x : A) (b : Bool) → p x ≡ b → filter p (x ∷ []) ≡ cond b (x ∷ []) []
+filtered p x b e = ap (λ (t : Bool). cond t (x ∷ []) []) e
+
+greatest_more : (b : ℕ) (xs : List Entry) (e : Entry) → greatest b (xs ++ e ∷ []) ≡ max (greatest b xs) e.value
+unfolding greatest
+greatest_more b [] e = omega arith
+greatest_more b (x ∷ xs) e = let h = greatest_more b xs e in omega arith
+
+-- the top bit of the value word is set with a value, and else not
+
+pub has_top : (e : Entry) → has_value e ≡ true → names_header e.value ≡ 1
+unfolding names_header
+has_top e = one_at-cases (e.value / 2 ^ 63) 1 (λ (n : ℕ). (n == 1) ≡ true → n ≡ 1) (λ _ _. refl) (λ _ f. absurd cc)
+
+pub lacks_top : (e : Entry) → has_value e ≡ false → names_header e.value ≡ 0
+unfolding names_header
+lacks_top e = one_at-cases (e.value / 2 ^ 63) 1 (λ (n : ℕ). (n == 1) ≡ false → n ≡ 0) (λ _ f. absurd cc) (λ _ _. refl)
+
+-- the next entry has its words yet
+pub entry_here : (r i : ℕ) (m now : RoomMemory) (e : Entry) → DropsKeys r i m now → e.place ≡ now.key r i → e.value ≡ now.value r i → e ≡ record { place = m.key r i; value = m.value r i }
+entry_here r i m now e h p v = let a : e.place ≡ m.key r i = p ∙ h.others r i (λ _. omega arith) in let b : e.value ≡ m.value r i = v ∙ ap (λ (f : ℕ → ℕ → ℕ). f r i) h.value in λ t. record { place = a t; value = b t }
+
+module _ (m : RoomMemory) (r i : ℕ) (e : Entry) (is : e ≡ record { place = m.key r i; value = m.value r i }) where
+  entries_more : entries m r (i + 1) ≡ entries m r i ++ e ∷ []
+  entries_more = rows_snoc 0 i (λ (k : ℕ). let x : Entry = record { place = m.key r k; value = m.value r k } in x)
+      ∙ ap (λ (x : Entry). entries m r i ++ x ∷ []) (ap (λ (k : ℕ). let x : Entry = record { place = m.key r k; value = m.value r k } in x) (let f : 0 + i ≡ i = omega arith in f) ∙ sym is)
+
+  -- the entries kept and the entries dropped, with one entry more
+
+  pub kept_yes : has_value e ≡ true → kept (entries m r (i + 1)) ≡ kept (entries m r i) ++ e ∷ []
+  kept_yes h = ap kept entries_more ∙ (filter-append has_value (entries m r i) (e ∷ []) ∙ ap (λ (xs : List Entry). kept (entries m r i) ++ xs) (filtered has_value e true h))
+
+  pub kept_no : has_value e ≡ false → kept (entries m r (i + 1)) ≡ kept (entries m r i)
+  kept_no h = ap kept entries_more ∙ (filter-append has_value (entries m r i) (e ∷ []) ∙ (ap (λ (xs : List Entry). kept (entries m r i) ++ xs) (filtered has_value e false h) ∙ append-nil (kept (entries m r i))))
+
+  pub dropped_yes : has_value e ≡ false → dropped (entries m r (i + 1)) ≡ dropped (entries m r i) ++ e ∷ []
+  dropped_yes h = ap dropped entries_more ∙ (filter-append lacks_value (entries m r i) (e ∷ []) ∙ ap (λ (xs : List Entry). dropped (entries m r i) ++ xs) (filtered lacks_value e true (ap not h)))
+
+  pub dropped_no : has_value e ≡ true → dropped (entries m r (i + 1)) ≡ dropped (entries m r i)
+  dropped_no h = ap dropped entries_more ∙ (filter-append lacks_value (entries m r i) (e ∷ []) ∙ (ap (λ (xs : List Entry). dropped (entries m r i) ++ xs) (filtered lacks_value e false (ap not h)) ∙ append-nil (dropped (entries m r i))))
+
+  module _ (keys : ℕ → List ℕ) (b : ℕ) (slots : List SortSlot) (x y : Read) (h : HasRead keys m r b i slots x) where
+    -- the entry came to the next slot
+    pub read_kept : (s : SortSlot) → entry_of s ≡ e → 0 < s.key → IsStored (key_of s) (keys s.key) → has_value e ≡ true → x.kept < length slots → y.kept ≡ x.kept + 1 → y.dropped ≡ x.dropped → y.base ≡ x.base → HasRead keys m r b (i + 1) (set slots x.kept s) y
+    read_kept s f pos t v lt k d o = let many = h.many in let n = length-set slots x.kept s in record {
+      many = omega arith;
+      fits = omega arith;
+      front = ap (λ (n : ℕ). map entry_of (take n (set slots x.kept s))) k ∙ (ap (map entry_of) (take_more_set slots x.kept s lt) ∙ (map-append entry_of (take x.kept slots) (s ∷ []) ∙ ((λ q. h.front q ++ f q ∷ []) ∙ sym (kept_yes v))));
+      named = λ j q l. each (λ (a : SortSlot). 0 < a.key) pos h.named j q (omega arith);
+      stored = λ j q l. each (λ (a : SortSlot). IsStored (key_of a) (keys a.key)) t h.stored j q (omega arith);
+      base = o ∙ (h.base ∙ ap (greatest b) (sym (dropped_no v)));
+    }
+      where
+        each : (P : SortSlot → Type 0) → P s → ((j : ℕ) (d : SortSlot) → j < x.kept → P (get_or slots j d)) → (j : ℕ) (d : SortSlot) → j < x.kept + 1 → P (get_or (set slots x.kept s) j d)
+        each P here others j q l = dite (ℕ_discrete j x.kept)
+            (λ z. subst P (sym (ap (λ (c : ℕ). get_or (set slots x.kept s) c q) z ∙ get_or-set_same slots x.kept s q lt)) here)
+            (λ z. subst P (sym (get_or-set_other slots x.kept j s q z)) (others j q (omega arith)))
+
+    -- the entry was dropped
+    pub read_dropped : has_value e ≡ false → y.kept ≡ x.kept → y.dropped ≡ x.dropped + 1 → y.base ≡ max x.base e.value → HasRead keys m r b (i + 1) slots y
+    read_dropped v k d o = let many = h.many in let sf = h.fits in record {
+      many = omega arith;
+      fits = omega arith;
+      front = ap (λ (n : ℕ). map entry_of (take n slots)) k ∙ (h.front ∙ sym (kept_no v));
+      named = λ j q l. h.named j q (omega arith);
+      stored = λ j q l. h.stored j q (omega arith);
+      base = o ∙ (ap (λ (n : ℕ). max n e.value) h.base ∙ (sym (greatest_more b (dropped (entries m r i)) e) ∙ ap (greatest b) (sym (dropped_yes v))));
+    }
+
+-- before the first entry
+pub read_none : (keys : ℕ → List ℕ) (m : RoomMemory) (r b : ℕ) (slots : List SortSlot) (x : Read) → x.kept ≡ 0 → x.dropped ≡ 0 → x.base ≡ b → HasRead keys m r b 0 slots x
+unfolding greatest rows
+read_none keys m r b slots x k d o = record {
+  many = omega arith;
+  fits = omega arith;
+  front = ap (λ (n : ℕ). map entry_of (take n slots)) k;
+  named = λ j q l. absurd (omega arith);
+  stored = λ j q l. absurd (omega arith);
+  base = o;
+}

@@ -1,0 +1,104 @@
+-- A chunk that a call held, rewrote and opened again.
+use Rattle.std.proofs.Common.{◌≡◌, ℕ, ◌+◌, ◌<◌, List, ◌++◌, length, refl, sym, ap, ◌∙◌, arith, append_assoc}
+use Rattle.oak_model.specs.Key.{AreBytes, IsKey}
+use Rattle.oak_model.specs.KeyNumber.{key_number}
+use Rattle.oak_model.specs.Limits.{Sizes}
+use Rattle.chunk_core.specs.declared.holds.MovingRange.{MovingRange}
+use Rattle.chunk_core.specs.declared.holds.RoomCopy.{RoomCopy}
+use Rattle.chunk_core.specs.KeyWords.{low_number, high_number}
+use Rattle.chunk_core.specs.RoomStep.{hold_room, open_room}
+use Rattle.chunk_core.specs.Spans.{within}
+use Rattle.oak_core.specs.declared.sorting.SortSlot.{SortSlot}
+use Rattle.oak_core.specs.declared.states.PassState.{PassState}
+use Rattle.oak_core.specs.declared.states.Swept.{Swept}
+use Rattle.oak_core.specs.Step.{on_rooms}
+use Rattle.oak_core.proofs.CallSteps.{step_since, step_until}
+use Rattle.oak_core.proofs.MetLists.{at_behind}
+use Rattle.oak_core.specs.RoomLacks.{RoomLackFound}
+use Rattle.rebalance.specs.Calls.{ComesToHold, Compacts, FindsNoRoom, Leaves, Loosens, OpensWith, SweepsKey, copy_span}
+use Rattle.rebalance.specs.Chunks.{CompactsFront, HoldsFor, OpensFront, WorksBeside}
+use Rattle.rebalance.specs.HeldTables.{HoldsOnlyRooms}
+use Rattle.rebalance.proofs.ChunkLaws.{works_both, works_of_rooms}
+use Rattle.rebalance.proofs.SweptRooms.{mirrors_valued}
+
+-- a range that was swept in a later part of a call was swept in the call
+pub sweeps_since : (call : ℕ) (key : List ℕ) (u v w : PassState) → WorksBeside call u v → SweepsKey key v w → SweepsKey key u w
+sweeps_since call key u v w b s = let first : List Swept = b.swept.0 in record {
+  more = first ++ s.more;
+  swept = s.swept ∙ (ap (λ (l : List Swept). l ++ s.more) b.swept.1 ∙ append_assoc u.findings.swept first s.more);
+  place = length first + s.place;
+  range = s.range;
+  there = at_behind first s.more s.place s.range s.there;
+  inside = s.inside;
+}
+
+-- so a room came to be held
+pub holds_until : (z : Sizes) (call r : ℕ) (w : RoomCopy) (u v e : PassState) → WorksBeside call v e → ComesToHold z call r w u v → ComesToHold z call r w u e
+holds_until z call r w u v e b c = record { old = c.old; step = step_until z call (on_rooms (hold_room r c.old)) u v e b.met c.step; found_is = c.found_is; copy_is = c.copy_is }
+
+-- and was opened
+abbrev pub opens_since : (z : Sizes) (call r : ℕ) (w : RoomCopy) (u v e : PassState) → WorksBeside call u v → OpensWith z call r w v e → OpensWith z call r w u e
+opens_since z call r w u v e b o = record { step = step_since z call (on_rooms (open_room r)) u v e b.met o.step; copy_is = o.copy_is }
+
+-- a pass that has of rooms what it had did nothing else
+pub leaves_rooms : (call : ℕ) (v e : PassState) → WorksBeside call v e → e.rooms ≡ v.rooms → Leaves call v e
+leaves_rooms call v e b same = record {
+  met = b.met;
+  numbers = b.numbers;
+  knowledge = b.knowledge;
+  fulls = b.fulls;
+  swept = b.swept;
+  sights = b.sights;
+  gones = b.gones;
+  blocks = b.blocks;
+  headers = b.headers;
+  rooms = same;
+}
+
+-- what it has of rooms, where that is nothing but rooms that it holds
+pub only_rooms : (v s : PassState) → HoldsOnlyRooms v → HoldsOnlyRooms s → record s.rooms { held = v.rooms.held; moving = v.rooms.moving } ≡ v.rooms
+only_rooms v s a b = λ i. record { pin = (b.pin ∙ sym a.pin) i; latch = (b.latch ∙ sym a.latch) i; claim = (b.claim ∙ sym a.claim) i; held = v.rooms.held; moving = v.rooms.moving }
+
+-- a range with the same bounds has the same keys
+pub same_keys : (w x : RoomCopy) (k : ℕ) → x.low ≡ w.low → x.high ≡ w.high → within (copy_span x) k ≡ within (copy_span w) k
+same_keys w x k low high = λ i. within (record { low = low_number (low i); high = high_number (high i); base = 0 }) k
+
+-- The call came to hold the chunk of the key, and between v and t only met more.
+module _ (z : Sizes) (call r : ℕ) (key : List ℕ) (w : RoomCopy) (g : MovingRange) (v0 v : PassState) (only : HoldsOnlyRooms v0) (is : IsKey key) (bytes : AreBytes key) (p : HoldsFor z call key r w g v0 v) (t s e : PassState) (between : WorksBeside call v t)
+    (dropped : ℕ) (xs : List SortSlot) (c : CompactsFront z call r dropped xs w v0.rooms.held v0.rooms.moving t s) (o : OpensFront z call r c.words v0.rooms.held v0.rooms.moving s e) where
+  -- what the call did before it opened the chunk
+  pub worked : WorksBeside call v0 s
+  worked = works_both call v0 t s (works_both call v0 v t p.beside between) (works_of_rooms z call t s c.works)
+
+  -- and since it held it
+  pub since : WorksBeside call v e
+  since = works_both call v s e (works_both call v t s between (works_of_rooms z call t s c.works)) o.beside
+
+  -- it is compacted
+  abbrev pub reopened : Compacts z call key dropped v0 e
+  reopened = record {
+    room = r;
+    held = w;
+    opened = c.words;
+    rewrites = record {
+      holds = holds_until z call r w v0 v e since p.came;
+      inside = p.inside;
+      opens = opens_since z call r c.words v0 s e worked o.opens;
+      low = c.rewritten.low;
+      high = c.rewritten.high;
+      kept = c.rewritten.kept;
+      sorted = c.rewritten.sorted;
+      swept = sweeps_since call key v0 s e worked (o.sweeps (mirrors_valued z c.words c.range c.front.mirrors c.has.valued) key is bytes (same_keys w c.words (key_number key) c.rewritten.low c.rewritten.high ∙ p.inside));
+    };
+    count_is = let a = c.count_is in let b = c.kept_is in omega arith;
+    leaves = leaves_rooms call v0 e (works_both call v0 s e worked o.beside) (o.rooms ∙ only_rooms v0 s only c.front.only);
+  }
+
+  -- with fewer values than a room has entries
+  pub loosened : length xs < z.entries → Loosens z call key v0 e
+  loosened few = record { dropped = dropped; compacts = reopened; fewer = let a = c.kept_is in omega arith }
+
+-- where none was dropped of as many values as a room has entries, and no other room was free
+pub lacks_room : (z : Sizes) (call r : ℕ) (key : List ℕ) (w : RoomCopy) (g : MovingRange) (v0 v : PassState) (only : HoldsOnlyRooms v0) (is : IsKey key) (bytes : AreBytes key) (p : HoldsFor z call key r w g v0 v) (t s e : PassState) (between : WorksBeside call v t)
+    (xs : List SortSlot) (c : CompactsFront z call r 0 xs w v0.rooms.held v0.rooms.moving t s) (o : OpensFront z call r c.words v0.rooms.held v0.rooms.moving s e) → length xs ≡ z.entries → RoomLackFound z (length v0.findings.met) (length e.findings.met) e.findings.met (key_number key) → FindsNoRoom z call key v0 e
+lacks_room z call r key w g v0 v only is bytes p t s e between xs c o all lacks = record { compacts = reopened z call r key w g v0 v only is bytes p t s e between 0 xs c o; full = let k = c.kept_is in omega arith; base = c.base_stays refl; lacks = lacks }

@@ -1,0 +1,37 @@
+-- What the rebalancing calls leave of the tests' pass.
+use Rattle.std.proofs.Common.{◌≡◌, ℕ, ◌≤◌, List, Result, Ok, Err, refl, sym, ap, ◌∙◌, subst}
+use Rattle.std.specs.Prelude.{IfErr}
+use Rattle.oak_model.specs.Counts.{Begins, Each}
+use Rattle.oak_model.specs.Limits.{Sizes}
+use Rattle.oak_model.proofs.Lists.{begins_self}
+use Rattle.oak_core.specs.declared.states.KeyedWrite.{KeyedWrite}
+use Rattle.oak_core.specs.declared.states.Knowledge.{Knowledge}
+use Rattle.oak_core.specs.declared.states.Numbers.{Numbers}
+use Rattle.oak_core.specs.declared.states.PassState.{PassState}
+use Rattle.point_ops.specs.TestStates.{IsReady, IsReadyAgain}
+use Rattle.rebalance.specs.Calls.{Leaves, Loosens, Halves, FindsNoRoom}
+use Rattle.rebalance.specs.declared.answers.Split.{Split}
+use Rattle.rebalance.specs.declared.answers.Split.TheVariants.{Loosened, Halved}
+use Rattle.rebalance.specs.declared.answers.NoRoom.{NoRoom}
+
+-- a pass that is left as it was is ready again
+pub leaves_ready : (call : ℕ) (v w : PassState) → Leaves call v w → IsReady call v → IsReadyAgain call v w
+leaves_ready call v w l y = record {
+  numbers = l.numbers;
+  loaded = subst (λ (q : Knowledge). Begins v.knowledge.loaded q.loaded) (sym l.knowledge) (begins_self v.knowledge.loaded);
+  ready = record {
+    idle = record {
+      hand = ap (λ (n : Numbers). n.hand) l.numbers ∙ y.idle.hand;
+      blocks = l.blocks ∙ y.idle.blocks;
+      headers = l.headers ∙ y.idle.headers;
+      rooms = l.rooms ∙ y.idle.rooms;
+    };
+    wrote = subst (λ (q : Knowledge). Each (λ (x : KeyedWrite). x.write.call ≤ call) q.mine) (sym l.knowledge) y.wrote;
+  };
+}
+
+-- a split, whatever it answers
+pub split_leaves : (o : Result Split NoRoom) (z : Sizes) (call : ℕ) (key : List ℕ) (v w : PassState) → (o ≡ Ok Loosened → Loosens z call key v w) → ((room : ℕ) → o ≡ Ok (Halved room) → Halves z call key room v w) → IfErr o (λ _. FindsNoRoom z call key v w) → Leaves call v w
+split_leaves (Ok Loosened) z call key v w l h n = (l refl).compacts.leaves
+split_leaves (Ok (Halved room)) z call key v w l h n = (h room refl).leaves
+split_leaves (Err e) z call key v w l h n = n.compacts.leaves

@@ -1,0 +1,10 @@
+use Rattle.oak_core.specs.Passes.{Stays, state, call_of}
+use Rattle.rebalance.specs.Chunks.{ComesBack}
+use Rattle.rebalance.proofs.chunks.hold_for.Given as goal
+
+abbrev pub invariant-loop : goal.invariant-loop
+invariant-loop g l = record {
+  next : (goal.iterator-loop g).can_next l.iterator';
+  stays : Stays l.fn.pass l.pass;
+  back : ComesBack (call_of l.fn.pass) (state l.fn.pass) (state l.pass);
+}

@@ -1,0 +1,97 @@
+use Rattle.std.proofs.Common.{ℕ, List, [], Option, take, sym, ap, ◌∙◌, subst, arith}
+use Rattle.oak_model.specs.Key.{IsKey}
+use Rattle.oak_model.specs.Limits.{Sizes}
+use Rattle.oak_core.specs.Passes.{state, key as sizes, call_of, slots_of}
+use Rattle.chunk_ops.proofs.WordParts.{slice_bytes}
+use Rattle.rebalance.specs.Calls.{StaysApart}
+use Rattle.rebalance.specs.Chunks.{OpensFront}
+use Rattle.rebalance.specs.HeldTables.{WorksOnRooms}
+use Rattle.rebalance.specs.Merging.{JoinsPair, SweepsUpTo, TakesChunk}
+use Rattle.rebalance.proofs.MergedChunks.{alone_sweeps, apart_alone, apart_full, apart_of, full_sweeps, merged_chunks, none_of}
+use Rattle.rebalance.proofs.NeighbourChunks.{pair_held}
+use Rattle.rebalance.proofs.TakenChunks.{end_is_key, front_back, front_looked, lone_compacted, lone_front}
+use Rattle.rebalance.proofs.merging.merge_chunk.Goals as goal
+
+pub returns-in_default-clause-apart : goal.returns-in_default-clause-apart
+returns-in_default-clause-apart g c = λ high same. let z : Sizes = sizes c.args.table.now in let call = call_of c.args.pass.now in let key = c.args.key.now in let v = state c.args.pass.now in let a = state c.take_chunk-low.new.pass in let q = state c.high_of.new.pass in
+    let low = c.take_chunk-low.result in let ys = take low.kept (slots_of c.take_chunk-low.new.pass) in let idle = c.requires.idle in let lower = c.take_chunk-low.ensures.takes in let to_a = c.take_chunk-low.ensures.own.call in
+    let works = subst (λ (k : ℕ). WorksOnRooms z k a q) to_a c.high_of.ensures.works in let alone = lone_front z call key low ys v a idle lower in let front = front_looked z call low.room lower.words lower.range [] [] a q alone works c.high_of.ensures.rooms in
+    let u = state c.open_front.new.pass in let end = c.high_of.ensures.high lower.words lower.range [] [] alone ∙ none_of c.high_of.result c.in_default.not-Some in
+    let o = subst (λ (k : ℕ). OpensFront z k low.room lower.words [] [] q u) (c.high_of.ensures.own.call ∙ to_a) (c.open_front.ensures.opens lower.words lower.range [] [] front) in let bytes = slice_bytes key c.type_inv.key in
+    subst (λ (x : Option (List ℕ)). StaysApart z call key v u × SweepsUpTo key x v u) (ap apart_of same) (
+      apart_alone z call key low ys v a idle lower q works front bytes c.requires.key u o end,
+      alone_sweeps z call key low ys v a idle lower q works front bytes c.requires.key u o end,
+    )
+
+pub take_chunk-up-requires-clause-key : goal.take_chunk-up-requires-clause-key
+take_chunk-up-requires-clause-key g c = let z : Sizes = sizes c.args.table.now in let call = call_of c.args.pass.now in let key = c.args.key.now in let v = state c.args.pass.now in let a = state c.take_chunk-low.new.pass in let q = state c.high_of.new.pass in
+    let low = c.take_chunk-low.result in let ys = take low.kept (slots_of c.take_chunk-low.new.pass) in let idle = c.requires.idle in let lower = c.take_chunk-low.ensures.takes in let to_a = c.take_chunk-low.ensures.own.call in
+    let works = subst (λ (k : ℕ). WorksOnRooms z k a q) to_a c.high_of.ensures.works in let alone = lone_front z call key low ys v a idle lower in let front = front_looked z call low.room lower.words lower.range [] [] a q alone works c.high_of.ensures.rooms in
+    let h = c.in-Some.high in let end = c.high_of.ensures.high lower.words lower.range [] [] alone ∙ c.in-Some.is in let to_q = c.high_of.ensures.own.call ∙ to_a in
+    subst (λ (l : List ℕ). IsKey l) (sym c.as_slice.ensures) (end_is_key z call key low ys v a idle lower h end)
+
+pub take_chunk-up-requires-clause-compacted : goal.take_chunk-up-requires-clause-compacted
+take_chunk-up-requires-clause-compacted g c = let z : Sizes = sizes c.args.table.now in let call = call_of c.args.pass.now in let key = c.args.key.now in let v = state c.args.pass.now in let a = state c.take_chunk-low.new.pass in let q = state c.high_of.new.pass in
+    let low = c.take_chunk-low.result in let ys = take low.kept (slots_of c.take_chunk-low.new.pass) in let idle = c.requires.idle in let lower = c.take_chunk-low.ensures.takes in let to_a = c.take_chunk-low.ensures.own.call in
+    let works = subst (λ (k : ℕ). WorksOnRooms z k a q) to_a c.high_of.ensures.works in let alone = lone_front z call key low ys v a idle lower in let front = front_looked z call low.room lower.words lower.range [] [] a q alone works c.high_of.ensures.rooms in
+    lone_compacted z call key low ys v a idle lower q front
+
+pub open_front-requires-then-low-up-2-clause-front : goal.open_front-requires-then-low-up-2-clause-front
+open_front-requires-then-low-up-2-clause-front g c = let z : Sizes = sizes c.args.table.now in let call = call_of c.args.pass.now in let key = c.args.key.now in let v = state c.args.pass.now in let a = state c.take_chunk-low.new.pass in let q = state c.high_of.new.pass in
+    let low = c.take_chunk-low.result in let ys = take low.kept (slots_of c.take_chunk-low.new.pass) in let idle = c.requires.idle in let lower = c.take_chunk-low.ensures.takes in let to_a = c.take_chunk-low.ensures.own.call in
+    let works = subst (λ (k : ℕ). WorksOnRooms z k a q) to_a c.high_of.ensures.works in let alone = lone_front z call key low ys v a idle lower in let front = front_looked z call low.room lower.words lower.range [] [] a q alone works c.high_of.ensures.rooms in
+    let h = c.in-Some.high in let end = c.high_of.ensures.high lower.words lower.range [] [] alone ∙ c.in-Some.is in let to_q = c.high_of.ensures.own.call ∙ to_a in
+    let up = c.take_chunk-up.result in let b = state c.take_chunk-up.new.pass in let xs = take up.kept (slots_of c.take_chunk-up.new.pass) in let to_b = c.take_chunk-up.ensures.own.call ∙ to_q in
+    let upper = subst (λ (k : ℕ). TakesChunk z k h up xs q b) to_q (subst (λ (l : List ℕ). TakesChunk z (call_of c.high_of.new.pass) l up xs q b) c.as_slice.ensures c.take_chunk-up.ensures.takes) in
+    let d = state c.open_front-then-low-up.new.pass in let n = subst (λ (k : ℕ). OpensFront z k up.room upper.words q.rooms.held q.rooms.moving b d) to_b (c.open_front-then-low-up.ensures.opens upper.words upper.range q.rooms.held q.rooms.moving upper.front) in
+    let again = front_back z call low.room up.room lower.words upper.words lower.range upper.range [] [] q b d front upper.front n in
+    (lower.words, lower.range, [], [], again)
+
+pub returns-then-low-up-clause-apart : goal.returns-then-low-up-clause-apart
+returns-then-low-up-clause-apart g c = λ high same. let z : Sizes = sizes c.args.table.now in let call = call_of c.args.pass.now in let key = c.args.key.now in let v = state c.args.pass.now in let a = state c.take_chunk-low.new.pass in let q = state c.high_of.new.pass in
+    let low = c.take_chunk-low.result in let ys = take low.kept (slots_of c.take_chunk-low.new.pass) in let idle = c.requires.idle in let lower = c.take_chunk-low.ensures.takes in let to_a = c.take_chunk-low.ensures.own.call in
+    let works = subst (λ (k : ℕ). WorksOnRooms z k a q) to_a c.high_of.ensures.works in let alone = lone_front z call key low ys v a idle lower in let front = front_looked z call low.room lower.words lower.range [] [] a q alone works c.high_of.ensures.rooms in
+    let h = c.in-Some.high in let end = c.high_of.ensures.high lower.words lower.range [] [] alone ∙ c.in-Some.is in let to_q = c.high_of.ensures.own.call ∙ to_a in
+    let up = c.take_chunk-up.result in let b = state c.take_chunk-up.new.pass in let xs = take up.kept (slots_of c.take_chunk-up.new.pass) in let to_b = c.take_chunk-up.ensures.own.call ∙ to_q in
+    let upper = subst (λ (k : ℕ). TakesChunk z k h up xs q b) to_q (subst (λ (l : List ℕ). TakesChunk z (call_of c.high_of.new.pass) l up xs q b) c.as_slice.ensures c.take_chunk-up.ensures.takes) in
+    let d = state c.open_front-then-low-up.new.pass in let n = subst (λ (k : ℕ). OpensFront z k up.room upper.words q.rooms.held q.rooms.moving b d) to_b (c.open_front-then-low-up.ensures.opens upper.words upper.range q.rooms.held q.rooms.moving upper.front) in
+    let again = front_back z call low.room up.room lower.words upper.words lower.range upper.range [] [] q b d front upper.front n in
+    let u = state c.open_front-then-low-up-2.new.pass in let bytes = slice_bytes key c.type_inv.key in let much = c.if-low-up.true in let is = c.entries.ensures.is in
+    let o = subst (λ (k : ℕ). OpensFront z k low.room lower.words [] [] d u) (c.open_front-then-low-up.ensures.own.call ∙ to_b) (c.open_front-then-low-up-2.ensures.opens lower.words lower.range [] [] again) in
+    subst (λ (x : Option (List ℕ)). StaysApart z call key v u × SweepsUpTo key x v u) (ap apart_of same) (
+      apart_full z call key low ys v a idle lower q works front bytes c.requires.key h end up xs b upper d u n o (omega (arith, much, is)),
+      full_sweeps z call key low ys v a idle lower q works front bytes c.requires.key h end up xs b upper d u n o,
+    )
+
+pub join_above-requires-clause-pair : goal.join_above-requires-clause-pair
+join_above-requires-clause-pair g c = let z : Sizes = sizes c.args.table.now in let call = call_of c.args.pass.now in let key = c.args.key.now in let v = state c.args.pass.now in let a = state c.take_chunk-low.new.pass in let q = state c.high_of.new.pass in
+    let low = c.take_chunk-low.result in let ys = take low.kept (slots_of c.take_chunk-low.new.pass) in let idle = c.requires.idle in let lower = c.take_chunk-low.ensures.takes in let to_a = c.take_chunk-low.ensures.own.call in
+    let works = subst (λ (k : ℕ). WorksOnRooms z k a q) to_a c.high_of.ensures.works in let alone = lone_front z call key low ys v a idle lower in let front = front_looked z call low.room lower.words lower.range [] [] a q alone works c.high_of.ensures.rooms in
+    let h = c.in-Some.high in let end = c.high_of.ensures.high lower.words lower.range [] [] alone ∙ c.in-Some.is in let to_q = c.high_of.ensures.own.call ∙ to_a in
+    let up = c.take_chunk-up.result in let b = state c.take_chunk-up.new.pass in let xs = take up.kept (slots_of c.take_chunk-up.new.pass) in let to_b = c.take_chunk-up.ensures.own.call ∙ to_q in
+    let upper = subst (λ (k : ℕ). TakesChunk z k h up xs q b) to_q (subst (λ (l : List ℕ). TakesChunk z (call_of c.high_of.new.pass) l up xs q b) c.as_slice.ensures c.take_chunk-up.ensures.takes) in
+    let few = c.if-low-up.false in let is = c.entries.ensures.is in pair_held z call key h low up ys xs v a q b lower front upper end (omega (arith, few, is))
+
+pub open_front-requires-2-clause-front : goal.open_front-requires-2-clause-front
+open_front-requires-2-clause-front g c = let z : Sizes = sizes c.args.table.now in let call = call_of c.args.pass.now in let key = c.args.key.now in let v = state c.args.pass.now in let a = state c.take_chunk-low.new.pass in let q = state c.high_of.new.pass in
+    let low = c.take_chunk-low.result in let ys = take low.kept (slots_of c.take_chunk-low.new.pass) in let idle = c.requires.idle in let lower = c.take_chunk-low.ensures.takes in let to_a = c.take_chunk-low.ensures.own.call in
+    let works = subst (λ (k : ℕ). WorksOnRooms z k a q) to_a c.high_of.ensures.works in let alone = lone_front z call key low ys v a idle lower in let front = front_looked z call low.room lower.words lower.range [] [] a q alone works c.high_of.ensures.rooms in
+    let h = c.in-Some.high in let end = c.high_of.ensures.high lower.words lower.range [] [] alone ∙ c.in-Some.is in let to_q = c.high_of.ensures.own.call ∙ to_a in
+    let up = c.take_chunk-up.result in let b = state c.take_chunk-up.new.pass in let xs = take up.kept (slots_of c.take_chunk-up.new.pass) in let to_b = c.take_chunk-up.ensures.own.call ∙ to_q in
+    let upper = subst (λ (k : ℕ). TakesChunk z k h up xs q b) to_q (subst (λ (l : List ℕ). TakesChunk z (call_of c.high_of.new.pass) l up xs q b) c.as_slice.ensures c.take_chunk-up.ensures.takes) in
+    let few = c.if-low-up.false in let is = c.entries.ensures.is in let pair = pair_held z call key h low up ys xs v a q b lower front upper end (omega (arith, few, is)) in let d = state c.join_above.new.pass in
+    let joins = subst (λ (k : ℕ). JoinsPair z k low up lower.range upper.range b d) to_b (c.join_above.ensures.joins pair) in
+    (joins.opened, _, [], [], joins.front)
+
+pub returns-clause-joined : goal.returns-clause-joined
+returns-clause-joined g c = λ _. let z : Sizes = sizes c.args.table.now in let call = call_of c.args.pass.now in let key = c.args.key.now in let v = state c.args.pass.now in let a = state c.take_chunk-low.new.pass in let q = state c.high_of.new.pass in
+    let low = c.take_chunk-low.result in let ys = take low.kept (slots_of c.take_chunk-low.new.pass) in let idle = c.requires.idle in let lower = c.take_chunk-low.ensures.takes in let to_a = c.take_chunk-low.ensures.own.call in
+    let works = subst (λ (k : ℕ). WorksOnRooms z k a q) to_a c.high_of.ensures.works in let alone = lone_front z call key low ys v a idle lower in let front = front_looked z call low.room lower.words lower.range [] [] a q alone works c.high_of.ensures.rooms in
+    let h = c.in-Some.high in let end = c.high_of.ensures.high lower.words lower.range [] [] alone ∙ c.in-Some.is in let to_q = c.high_of.ensures.own.call ∙ to_a in
+    let up = c.take_chunk-up.result in let b = state c.take_chunk-up.new.pass in let xs = take up.kept (slots_of c.take_chunk-up.new.pass) in let to_b = c.take_chunk-up.ensures.own.call ∙ to_q in
+    let upper = subst (λ (k : ℕ). TakesChunk z k h up xs q b) to_q (subst (λ (l : List ℕ). TakesChunk z (call_of c.high_of.new.pass) l up xs q b) c.as_slice.ensures c.take_chunk-up.ensures.takes) in
+    let few = c.if-low-up.false in let is = c.entries.ensures.is in let pair = pair_held z call key h low up ys xs v a q b lower front upper end (omega (arith, few, is)) in let d = state c.join_above.new.pass in
+    let joins = subst (λ (k : ℕ). JoinsPair z k low up lower.range upper.range b d) to_b (c.join_above.ensures.joins pair) in
+    let u = state c.open_front-2.new.pass in let bytes = slice_bytes key c.type_inv.key in
+    let o = subst (λ (k : ℕ). OpensFront z k low.room joins.opened [] [] d u) (c.join_above.ensures.own.call ∙ to_b) (c.open_front-2.ensures.opens joins.opened _ [] [] joins.front) in
+    merged_chunks z call key low ys v a idle lower q works front bytes c.requires.key h end up xs b upper d u joins o (omega (arith, few, is))

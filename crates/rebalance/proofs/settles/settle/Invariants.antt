@@ -1,0 +1,15 @@
+use Rattle.oak_model.specs.Key.{IsKey}
+use Rattle.oak_core.specs.Passes.{state, call_of}
+use Rattle.oak_core.specs.Scratch.{StaysButSlots}
+use Rattle.rebalance.specs.Calls.{Leaves}
+use Rattle.rebalance.specs.Merging.{SweepsBelow}
+use Rattle.rebalance.proofs.settles.settle.Given as goal
+
+abbrev pub invariant-loop : goal.invariant-loop
+invariant-loop g l = record {
+  next : (goal.iterator-loop g).can_next l.iterator';
+  key : IsKey l.from;
+  stays : StaysButSlots l.fn.pass l.pass;
+  leaves : Leaves (call_of l.fn.pass) (state l.fn.pass) (state l.pass);
+  below : SweepsBelow l.from (state l.fn.pass) (state l.pass);
+}

@@ -1,0 +1,163 @@
+-- What the rebalancing calls did and found, and that they leave all else as it was.
+use Rattle.std.specs.Prelude.{◌≡◌, ℕ, ◌+◌, ◌-◌, ◌*◌, ◌/◌, ◌<◌, ◌≤◌, ◌⊎◌, List, ◌++◌, length, Some}
+use mathlib.Core.Option.{some}
+use lib.ListN.{get_elem?}
+use Rattle.oak_model.specs.Counts.{Begins, total}
+use Rattle.oak_model.specs.Key.{IsKey}
+use Rattle.oak_model.specs.KeyNumber.{key_number}
+use Rattle.oak_model.specs.Limits.{Sizes}
+use Rattle.chunk_core.specs.declared.holds.EntryWords.{EntryWords}
+use Rattle.chunk_core.specs.declared.holds.RoomCopy.{RoomCopy}
+use Rattle.chunk_core.specs.KeyWords.{low_number, high_number}
+use Rattle.chunk_core.specs.LinkedEntries.{entries_in, prefix_in}
+use Rattle.chunk_core.specs.RoomCopies.{copy_of, entries_held}
+use Rattle.chunk_core.specs.RoomStep.{hold_room, open_room, retire_room}
+use Rattle.chunk_core.specs.Spans.{Span, within}
+use Rattle.chunk_core.specs.ValueWord.{names_header}
+use Rattle.oak_core.specs.declared.states.PassState.{PassState}
+use Rattle.oak_core.specs.declared.states.Swept.{Swept}
+use Rattle.oak_core.specs.CallSteps.{MetMore, StepOfCall}
+use Rattle.oak_core.specs.Lack.{InSwept}
+use Rattle.oak_core.specs.RoomLacks.{RoomLackFound}
+use Rattle.oak_core.specs.Step.{on_rooms}
+
+-- The pass met more, all of it in the call, and may have swept ranges. It learned and wrote nothing, noted no call, and holds what it held.
+pub record Leaves (call : ℕ) (v w : PassState) : Type 0 where
+  pub met : MetMore call v w
+  pub numbers : w.numbers ≡ v.numbers
+  pub knowledge : w.knowledge ≡ v.knowledge
+  pub fulls : w.findings.fulls ≡ v.findings.fulls
+  pub swept : Begins v.findings.swept w.findings.swept
+  pub sights : w.findings.sights ≡ v.findings.sights
+  pub gones : w.findings.gones ≡ v.findings.gones
+  pub blocks : w.blocks ≡ v.blocks
+  pub headers : w.headers ≡ v.headers
+  pub rooms : w.rooms ≡ v.rooms
+
+-- the pass came to hold the room in the call: the step found it frozen and without a pin, and `copy` is what its words were
+pub record ComesToHold (z : Sizes) (call r : ℕ) (copy : RoomCopy) (v w : PassState) : Type 0 where
+  pub old : ℕ
+  pub step : StepOfCall z call (on_rooms (hold_room r old)) v w
+  pub found_is : step.number ≡ old
+  pub copy_is : copy_of r step.to.rooms.held ≡ Some copy
+
+-- the room was opened in the call, with these words
+pub record OpensWith (z : Sizes) (call r : ℕ) (copy : RoomCopy) (v w : PassState) : Type 0 where
+  pub step : StepOfCall z call (on_rooms (open_room r)) v w
+  pub copy_is : copy_of r step.from.rooms.held ≡ Some copy
+
+-- the range and the base of a room's words
+abbrev pub copy_span : RoomCopy → Span
+copy_span w = record { low = low_number w.low; high = high_number w.high; base = w.base }
+
+-- how many of the linked entries have a value
+abbrev pub values_in : RoomCopy → ℕ
+values_in w = total (λ (e : EntryWords). names_header e.value) (entries_held w)
+
+-- n entries are in use, all of them in the sorted prefix
+pub record IsSorted (n : ℕ) (w : RoomCopy) : Type 0 where
+  pub count : entries_in w.count ≡ n
+  pub prefix : prefix_in w.count ≡ n
+
+-- a range with the key was swept in the call
+pub record SweepsKey (key : List ℕ) (v w : PassState) : Type 0 where
+  pub more : List Swept
+  pub swept : w.findings.swept ≡ v.findings.swept ++ more
+  pub place : ℕ
+  pub range : Swept
+  pub there : get_elem? more place ≡ some range
+  pub inside : InSwept range key
+
+-- The call held the room of the key, whose words were `held`, and opened it with the words `opened`, over the same range: the entries that had a value are its sorted prefix, and nothing is behind it.
+pub record Rewrites (z : Sizes) (call : ℕ) (key : List ℕ) (r : ℕ) (held opened : RoomCopy) (v w : PassState) : Type 0 where
+  pub holds : ComesToHold z call r held v w
+  pub inside : within (copy_span held) (key_number key) ≡ 1
+  pub opens : OpensWith z call r opened v w
+  pub low : opened.low ≡ held.low
+  pub high : opened.high ≡ held.high
+  pub kept : (f : ℕ → ℕ → ℕ) → total (λ (e : EntryWords). f e.word e.value) (entries_held opened) ≡ total (λ (e : EntryWords). names_header e.value * f e.word e.value) (entries_held held)
+  pub sorted : IsSorted (values_in held) opened
+  pub swept : SweepsKey key v w
+
+-- compact: so many entries were dropped, those that had no value while the chunk was held
+pub record Compacts (z : Sizes) (call : ℕ) (key : List ℕ) (dropped : ℕ) (v w : PassState) : Type 0 where
+  pub room : ℕ
+  pub held : RoomCopy
+  pub opened : RoomCopy
+  pub rewrites : Rewrites z call key room held opened v w
+  pub count_is : entries_in held.count ≡ values_in held + dropped
+  pub leaves : Leaves call v w
+
+-- split, where the chunk had fewer entries with a value than a room has entries
+pub record Loosens (z : Sizes) (call : ℕ) (key : List ℕ) (v w : PassState) : Type 0 where
+  pub dropped : ℕ
+  pub compacts : Compacts z call key dropped v w
+  pub fewer : values_in compacts.held < z.entries
+
+-- split, where each entry of the chunk had a value and another room was free: its range was opened as two, the upper one in that room, and before the lower one
+pub record Halves (z : Sizes) (call : ℕ) (key : List ℕ) (upper : ℕ) (v w : PassState) : Type 0 where
+  pub room : ℕ
+  pub held : RoomCopy
+  pub holds : ComesToHold z call room held v w
+  pub inside : within (copy_span held) (key_number key) ≡ 1
+  pub full : values_in held ≡ z.entries
+  pub low_copy : RoomCopy
+  pub high_copy : RoomCopy
+  pub opens_upper : OpensWith z call upper high_copy v w
+  pub opens_lower : OpensWith z call room low_copy v w
+  pub first : length opens_upper.step.from.findings.met < length opens_lower.step.from.findings.met
+  pub cut : high_number low_copy.high ≡ low_number high_copy.low + 1
+  pub low : low_copy.low ≡ held.low
+  pub high : high_copy.high ≡ held.high
+  pub bases : (low_copy.base ≡ held.base) × (high_copy.base ≡ held.base)
+  pub lower : IsSorted (z.entries / 2) low_copy
+  pub higher : IsSorted (z.entries - z.entries / 2) high_copy
+  pub swept : SweepsKey key v w
+  pub leaves : Leaves call v w
+
+-- split, where each entry of the chunk had a value and every other room was found not free in the call: the chunk is opened again with its entries, which are its sorted prefix, and its base
+pub record FindsNoRoom (z : Sizes) (call : ℕ) (key : List ℕ) (v w : PassState) : Type 0 where
+  pub compacts : Compacts z call key 0 v w
+  pub full : values_in compacts.held ≡ z.entries
+  pub base : compacts.opened.base ≡ compacts.held.base
+  pub lacks : RoomLackFound z (length v.findings.met) (length w.findings.met) w.findings.met (key_number key)
+
+-- merge, where the range and the one above it were opened as one
+pub record Merges (z : Sizes) (call : ℕ) (key : List ℕ) (v w : PassState) : Type 0 where
+  pub room : ℕ
+  pub other : ℕ
+  pub held : RoomCopy
+  pub next : RoomCopy
+  pub holds : ComesToHold z call room held v w
+  pub holds_next : ComesToHold z call other next v w
+  pub inside : within (copy_span held) (key_number key) ≡ 1
+  pub above : high_number held.high ≡ low_number next.low + 1
+  pub few : values_in held + values_in next ≤ z.entries / 2
+  pub retires : StepOfCall z call (on_rooms (retire_room other)) v w
+  pub opened : RoomCopy
+  pub opens : OpensWith z call room opened v w
+  pub low : opened.low ≡ held.low
+  pub high : opened.high ≡ next.high
+  pub bases : (held.base ≤ opened.base) × (next.base ≤ opened.base)
+  pub sorted : IsSorted (values_in held + values_in next) opened
+  pub swept : SweepsKey key v w
+  pub leaves : Leaves call v w
+
+-- the chunk, held alone, had a neighbour above, and the two, held alone, had too many entries with a value
+pub record HasMuchAbove (z : Sizes) (call : ℕ) (held : RoomCopy) (v w : PassState) : Type 0 where
+  pub other : ℕ
+  pub next : RoomCopy
+  pub holds : ComesToHold z call other next v w
+  pub above : high_number held.high ≡ low_number next.low + 1
+  pub many : z.entries / 2 < values_in held + values_in next
+
+-- merge, where it has no neighbour above, or too many entries with that
+pub record StaysApart (z : Sizes) (call : ℕ) (key : List ℕ) (v w : PassState) : Type 0 where
+  pub dropped : ℕ
+  pub compacts : Compacts z call key dropped v w
+  pub why : (high_number compacts.held.high ≡ 0) ⊎ HasMuchAbove z call compacts.held v w
+
+-- settle: ranges swept in the call cover every key
+pub record Settles (call : ℕ) (v w : PassState) : Type 0 where
+  pub leaves : Leaves call v w
+  pub covered : (key : List ℕ) → IsKey key → SweepsKey key v w

@@ -1,0 +1,53 @@
+-- A held room whose entries are read and sorted, and what it has before that.
+use Rattle.std.specs.Prelude.{◌≡◌, ◌≢◌, ℕ, ◌+◌, ◌<◌, ◌≤◌, List, map, take, length}
+use Rattle.std.specs.List.{slice_index_or}
+use Rattle.std.specs.List.Sorted.{IsPermutation}
+use Rattle.oak_model.specs.Counts.{one_if, total}
+use Rattle.oak_model.specs.Key.{IsKeyBefore, same_key}
+use Rattle.chunk_core.specs.declared.holds.MovingRange.{MovingRange}
+use Rattle.chunk_core.specs.LinkedEntries.{entries_in}
+use Rattle.chunk_core.specs.Rooms.{RoomMemory}
+use Rattle.chunk_core.specs.ValueWord.{names_header}
+use Rattle.chunk_ops.specs.Stored.{IsStored}
+use Rattle.oak_core.specs.declared.sorting.SortSlot.{SortSlot}
+use Rattle.rebalance.specs.declared.entries.Entry.{Entry}
+use Rattle.rebalance.specs.declared.reading.Read.{Read}
+use Rattle.rebalance.specs.Dropping.{DropsKeys}
+use Rattle.rebalance.specs.Entries.{entries, kept, dropped, greatest}
+use Rattle.rebalance.specs.Filled.{Fills}
+use Rattle.rebalance.specs.HeldRooms.{IsLoose}
+use Rattle.rebalance.specs.Slots.{entry_of, key_of}
+
+-- the entries in use
+abbrev pub in_use : RoomMemory → ℕ → List Entry
+in_use m r = entries m r (entries_in (m.count r))
+
+-- 1 where the entry is of the key
+abbrev pub is_of : (ℕ → List ℕ) → List ℕ → Entry → ℕ
+is_of keys k e = one_if (same_key k (keys e.place))
+
+-- Of the first n entries each with a value names a key, and no two the same; each without a value may be dropped; and no two have one key word.
+pub record IsHeldRoom (names : ℕ → Type 0) (keys : ℕ → List ℕ) (gs : List MovingRange) (m : RoomMemory) (r n : ℕ) : Type 0 where
+  pub named : (i : ℕ) → i < n → names_header (m.value r i) ≡ 1 → names (m.key r i)
+  pub distinct : (k : List ℕ) → total (is_of keys k) (kept (entries m r n)) ≤ 1
+  pub loose : (i : ℕ) → i < n → names_header (m.value r i) ≡ 0 → IsLoose (m.key r i) gs
+  pub apart : (i j : ℕ) → i < j → j < n → m.key r i ≢ m.key r j
+
+-- the keys of the slots' entries strictly rise
+abbrev pub KeysRise : (ℕ → List ℕ) → List SortSlot → Type 0
+KeysRise keys xs = (i j : ℕ) (d : SortSlot) → i < j → j < length xs → IsKeyBefore (keys (slice_index_or xs i d).key) (keys (slice_index_or xs j d).key)
+
+-- The first slots have the entries with a value, in the order of their keys, the others were dropped, and the base is the greatest of the room's and of their floors.
+pub record ReadsSorted (keys : ℕ → List ℕ) (m : RoomMemory) (r : ℕ) (slots : List SortSlot) (x : Read) : Type 0 where
+  pub many : x.kept + x.dropped ≡ entries_in (m.count r)
+  pub fits : x.kept ≤ length slots
+  pub same : IsPermutation (kept (in_use m r)) (map entry_of (take x.kept slots))
+  pub rise : KeysRise keys (take x.kept slots)
+  pub stored : (j : ℕ) (d : SortSlot) → j < x.kept → IsStored (key_of (slice_index_or slots j d)) (keys (slice_index_or slots j d).key)
+  pub base : x.base ≡ greatest (m.base r) (dropped (in_use m r))
+
+-- Of the first n entries of the room those without a value were dropped, and then it was filled with the slots.
+pub record IsCompacted (r n : ℕ) (slots : List SortSlot) (base : ℕ) (m m' : RoomMemory) : Type 0 where
+  pub between : RoomMemory
+  pub drops : DropsKeys r n m between
+  pub fills : Fills r slots base between m'

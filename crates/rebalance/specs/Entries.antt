@@ -1,0 +1,29 @@
+-- The entries of a room, of which some have a value.
+use Rattle.std.specs.Prelude.{ℕ, ◌==◌, max, not, Bool, List, [], ◌∷◌}
+use Rattle.std.specs.List.{filter}
+use Rattle.oak_model.specs.Counts.{rows}
+use Rattle.chunk_core.specs.Rooms.{RoomMemory}
+use Rattle.chunk_core.specs.ValueWord.{names_header}
+use Rattle.rebalance.specs.declared.entries.Entry.{Entry}
+
+-- its first n entries
+abbrev pub entries : RoomMemory → ℕ → ℕ → List Entry
+entries m r n = rows 0 n (λ i. record { place = m.key r i; value = m.value r i })
+
+-- the value word names a header
+abbrev pub has_value : Entry → Bool
+has_value e = names_header e.value == 1
+
+abbrev pub lacks_value : Entry → Bool
+lacks_value e = not (has_value e)
+
+abbrev pub kept : List Entry → List Entry
+kept es = filter has_value es
+
+abbrev pub dropped : List Entry → List Entry
+dropped es = filter lacks_value es
+
+-- the greatest of a number and of the entries' value words
+unfoldable pub greatest : ℕ → List Entry → ℕ
+greatest b [] = b
+greatest b (e ∷ es) = max e.value (greatest b es)

@@ -1,0 +1,16 @@
+//! What a split answers.
+use thiserror::Error;
+
+/// What became of a chunk that was to be split.
+#[derive(Clone, Copy, Debug, PartialEq, Eq)]
+pub enum Split {
+    /// It had fewer entries with a value than a room has entries, so it was only compacted.
+    Loosened,
+    /// Its range was opened as two, the upper one in `room`.
+    Halved { room: u32 },
+}
+
+/// Each other room was found not free, and each entry of the chunk had a value.
+#[derive(Clone, Copy, Debug, PartialEq, Eq, Error)]
+#[error("no room is free")]
+pub struct NoRoom;

@@ -1,0 +1,117 @@
+//! A chunk that a call holds alone: found by a key, compacted, and opened again.
+ghost use Rattle.std.specs.Prelude.{◌≡◌, ℕ, List, IfSome, IfNone, MatchBool, None, true, false};
+ghost use Rattle.oak_model.specs.Key.{IsKey};
+ghost use Rattle.oak_model.specs.KeyNumber.{key_number};
+ghost use Rattle.chunk_core.specs.declared.holds.HeldRoom.{HeldRoom};
+ghost use Rattle.chunk_core.specs.declared.holds.MovingRange.{MovingRange};
+ghost use Rattle.chunk_core.specs.declared.holds.RoomCopy.{RoomCopy};
+ghost use Rattle.chunk_core.specs.Spans.{within};
+ghost use Rattle.oak_core.specs.Passes.{IsPassOf, Stays, state, key as sizes, call_of};
+ghost use Rattle.chunk_ops.specs.PinRecords.{HasRoomPin};
+ghost use Rattle.chunk_ops.specs.Stored.{IsStored};
+ghost use Rattle.rebalance.specs.Calls.{copy_span};
+ghost use Rattle.rebalance.specs.Chunks.{ComesBack, HoldsFor, HoldsFront, HoldsPinned, LosesPinned, OpensFront};
+ghost use Rattle.rebalance.specs.HeldTables.{HoldsOnlyRooms, WorksOnRooms};
+
+use crate::held::HeldTable;
+use crate::holding::{freeze_pinned, hold_frozen, open_held};
+use crate::ranges::has_key;
+use chunk_ops::{RoomPin, StoredKey, pin_for, unpin};
+use oak_core::{OakTable, Pass};
+use oak_model::{GREATEST_ENTRIES, Hint};
+use std::sync::Wait;
+use std::thread;
+
+/// No room is tried before the others.
+const NO_HINT: Hint = Hint { room: None };
+
+/// Freezes the pinned room, undoes the pin and holds the room alone. `false` comes only where another pass
+/// has frozen it; the pin is undone then too. It waits until no pin stands on the room.
+fn hold_pinned<R: Wait>(rt: &R, table: &OakTable, pass: &mut Pass, pin: RoomPin) -> bool
+    requires own { IsPassOf table.now pass.old }
+    requires pinned { HasRoomPin (sizes table.now) pin.room (state pass.old) }
+    requires latch { (state pass.old).rooms.latch ≡ None }
+    requires claim { (state pass.old).rooms.claim ≡ None }
+    ensures own { Stays pass.old pass.new }
+    ensures holds { result ≡ true → (w : RoomCopy) × (g : MovingRange) × HoldsPinned (sizes table.now) (call_of pass.old) pin.room w g (state pass.old) (state pass.new) }
+    ensures loses { result ≡ false → LosesPinned (sizes table.now) (call_of pass.old) pin.room (state pass.old) (state pass.new) }
+{
+    let room = pin.room;
+    if !freeze_pinned(rt, table, pass, &pin) {
+        unpin(table, pass, pin);
+        return false;
+    }
+    unpin(table, pass, pin);
+    hold_frozen(rt, table, pass, room);
+    true
+}
+
+/// Whether the range of the front room has the key.
+fn front_has(table: &OakTable, pass: &mut Pass, room: u32, key: &StoredKey) -> bool
+    requires own { IsPassOf table.now pass.old }
+    requires front { (w : RoomCopy) × (g : MovingRange) × (hs : List HeldRoom) × (gs : List MovingRange) × HoldsFront (sizes table.now) room w g hs gs (state pass.old) }
+    ensures own { Stays pass.old pass.new }
+    ensures works { WorksOnRooms (sizes table.now) (call_of pass.old) (state pass.old) (state pass.new) }
+    ensures rooms { (state pass.new).rooms ≡ (state pass.old).rooms }
+    ensures has { (w : RoomCopy) (g : MovingRange) (hs : List HeldRoom) (gs : List MovingRange) (b : List ℕ) → HoldsFront (sizes table.now) room w g hs gs (state pass.old) → IsStored key.now b → MatchBool result (within (copy_span w) (key_number b) ≡ 1) (within (copy_span w) (key_number b) ≡ 1 → ⊥) }
+{
+    // Reading the slots shows how many there are, before and behind.
+    prove!(pass.sorting().slots().len() == GREATEST_ENTRIES as usize);
+    let has = has_key(&mut HeldTable { table, pass }, room, key);
+    prove!(pass.sorting().slots().len() == GREATEST_ENTRIES as usize);
+    has
+}
+
+/// Opens the front room over all of its range.
+pub(crate) fn open_front(table: &OakTable, pass: &mut Pass, room: u32)
+    requires own { IsPassOf table.now pass.old }
+    requires front { (w : RoomCopy) × (g : MovingRange) × (hs : List HeldRoom) × (gs : List MovingRange) × HoldsFront (sizes table.now) room w g hs gs (state pass.old) }
+    ensures own { Stays pass.old pass.new }
+    ensures opens { (w : RoomCopy) (g : MovingRange) (hs : List HeldRoom) (gs : List MovingRange) → HoldsFront (sizes table.now) room w g hs gs (state pass.old) → OpensFront (sizes table.now) (call_of pass.old) room w hs gs (state pass.old) (state pass.new) }
+{
+    open_held(table, pass, room);
+}
+
+/// Tries to hold the chunk that covers the key. Where another pass has frozen or moved it, the pass has what
+/// it had.
+fn try_hold<R: Wait>(rt: &R, table: &OakTable, pass: &mut Pass, key: &[u8]) -> Option<u32>
+    requires own { IsPassOf table.now pass.old }
+    requires key { IsKey key.now }
+    requires only { HoldsOnlyRooms (state pass.old) }
+    ensures own { Stays pass.old pass.new }
+    ensures holds { IfSome result (λ r. (w : RoomCopy) × (g : MovingRange) × HoldsFor (sizes table.now) (call_of pass.old) key.now r w g (state pass.old) (state pass.new)) }
+    ensures back { IfNone result (ComesBack (call_of pass.old) (state pass.old) (state pass.new)) }
+{
+    let Ok(pin) = pin_for(table, pass, key, NO_HINT) else {
+        return None;
+    };
+    let room = pin.room;
+    if !hold_pinned(rt, table, pass, pin) {
+        return None;
+    }
+    // A room keeps its range from the pin on until it is held, so the answer is yes. What the pass has of
+    // a frozen room does not say so, and the two bounds are compared with the key for that.
+    if front_has(table, pass, room, &StoredKey::of(key)) {
+        return Some(room);
+    }
+    open_front(table, pass, room);
+    None
+}
+
+/// Holds the chunk that covers the key alone, and gives its room. It waits until no pin stands on it, and while other
+/// passes move it. The pass holds nothing but rooms.
+pub(crate) fn hold_for<R: Wait>(rt: &R, table: &OakTable, pass: &mut Pass, key: &[u8]) -> u32
+    requires own { IsPassOf table.now pass.old }
+    requires key { IsKey key.now }
+    requires only { HoldsOnlyRooms (state pass.old) }
+    ensures own { Stays pass.old pass.new }
+    ensures holds { (w : RoomCopy) × (g : MovingRange) × HoldsFor (sizes table.now) (call_of pass.old) key.now result w g (state pass.old) (state pass.new) }
+{
+    for _ in rt.forever() {
+        if let Some(room) = try_hold(rt, table, pass, key) {
+            return room;
+        }
+        thread::yield_now();
+    }
+    unreachable!()
+}

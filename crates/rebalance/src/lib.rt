@@ -1,0 +1,39 @@
+//! Chunks are compacted, split, merged and settled.
+#![tactic(auto)]
+
+mod answers;
+mod bounds;
+mod chunks;
+mod compacting;
+mod compacts;
+mod entries;
+mod filling;
+mod fronts;
+mod halving;
+mod held;
+mod holding;
+mod key_bytes;
+mod merges;
+mod merging;
+#[cfg(test)]
+mod random_tests;
+mod ranges;
+mod reading;
+mod rooms;
+mod settles;
+mod splits;
+mod splitting;
+#[cfg(test)]
+mod test_calls;
+#[cfg(test)]
+mod test_maps;
+#[cfg(test)]
+mod tests;
+#[cfg(test)]
+mod thread_tests;
+
+pub use answers::{NoRoom, Split};
+pub use compacts::compact;
+pub use merges::merge;
+pub use settles::settle;
+pub use splits::split;
