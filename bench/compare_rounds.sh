@@ -9,23 +9,11 @@
 # seven times, in turn, ROUNDS rounds at a time, or 10000000, and has to print the same line. Printed are, of
 # each, the nanoseconds of processor time of a round in the fastest run, and how many times the C++ round that
 # of OakMap is.
-set -u -o pipefail
+. "$(dirname "$(readlink -f "${BASH_SOURCE[0]}")")/common.sh"
+take_number ROUNDS 12 10000000 "$@"
+rounds=$number
 
 RUNS=7
-home=$(dirname "$(dirname "$(readlink -f "${BASH_SOURCE[0]}")")")
-rounds=${1:-10000000}
-room=$(mktemp -d) || exit 1
-trap 'rm -rf "$room"' EXIT
-
-fail() {
-    printf 'compare_rounds.sh: %s\n' "$*" >&2
-    exit 1
-}
-
-if [[ $# -gt 1 || ! $rounds =~ ^[1-9][0-9]{0,11}$ ]]; then
-    printf 'usage: bench/compare_rounds.sh [ROUNDS]\n' >&2
-    exit 2
-fi
 
 # Runs a program, and prints its seconds of processor time.
 seconds_of() {

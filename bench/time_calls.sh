@@ -8,23 +8,11 @@
 # put over it stores the bytes under the header's lock. The program is crates/point_rounds, proved and built by
 # `rt run` there (minutes, where nothing is proved yet). It makes CALLS calls a run, or 5000000, and seven runs
 # of each kind. Printed are the nanoseconds of processor time of a call in the fastest run.
-set -u -o pipefail
+. "$(dirname "$(readlink -f "${BASH_SOURCE[0]}")")/common.sh"
+take_number CALLS 9 5000000 "$@"
+calls=$number
 
 RUNS=7
-home=$(dirname "$(dirname "$(readlink -f "${BASH_SOURCE[0]}")")")
-calls=${1:-5000000}
-room=$(mktemp -d) || exit 1
-trap 'rm -rf "$room"' EXIT
-
-fail() {
-    printf 'time_calls.sh: %s\n' "$*" >&2
-    exit 1
-}
-
-if [[ $# -gt 1 || ! $calls =~ ^[1-9][0-9]{0,8}$ ]]; then
-    printf 'usage: bench/time_calls.sh [CALLS]\n' >&2
-    exit 2
-fi
 
 # The fewest seconds of processor time of a run with so many gets and puts, which has to tell these sums: a get
 # tells 1, the number of the first put, and each put one more than the one before.

@@ -6,23 +6,10 @@
 #
 # STEP is how many kilobytes more each run may use, 64 where it is left out. The script has 4,000 mixed calls.
 # It ends with 0 where each run did as it should, and both ends came.
-set -u -o pipefail
-
-home=$(dirname "$(dirname "$(readlink -f "${BASH_SOURCE[0]}")")")
+. "$(dirname "$(readlink -f "${BASH_SOURCE[0]}")")/common.sh"
+take_number STEP 6 64 "$@"
+step=$number
 program=$home/crates/oakmap_program/out/oakmap_program
-step=${1:-64}
-room=$(mktemp -d) || exit 1
-trap 'rm -rf "$room"' EXIT
-
-fail() {
-    printf 'without_memory.sh: %s\n' "$*" >&2
-    exit 1
-}
-
-if [[ $# -gt 1 || ! $step =~ ^[1-9][0-9]{0,5}$ ]]; then
-    printf 'usage: bench/without_memory.sh [STEP]\n' >&2
-    exit 2
-fi
 
 # Runs the program within so many kilobytes.
 run_within() {
