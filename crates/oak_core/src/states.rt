@@ -51,7 +51,6 @@ pub struct Gone {
 
 /// What the pass met, in order, the calls that it noted as refused, the ranges that it swept, what its
 /// calls were taught, and the lives that they found to be over. No list loses anything, or its order.
-/// No step so far notes a sight or a life that is over.
 pub struct Findings {
     pub met: LinkedList<Finding>,
     pub fulls: LinkedList<Full>,
