@@ -14,5 +14,6 @@ partition_same z m m' content content' is_key_word hs hs' same p = record {
   inside = same _ ∙ p.inside;
   placed = same _ ∙ p.placed;
   begun = same _ ∙ p.begun;
+  keyed = same _ ∙ p.keyed;
   bases = same _ ∙ p.bases;
 }

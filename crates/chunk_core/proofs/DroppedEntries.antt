@@ -13,7 +13,7 @@ use Rattle.oak_model.proofs.Lists.{at_map}
 use Rattle.oak_model.proofs.MemberLaws.{each_at, total_has, has_filter, filter-cases, total_split}
 use Rattle.oak_model.proofs.SumLaws.{times-one, times-none, times_le, total_none}
 use Rattle.chunk_core.specs.CoverRule.{CoversPartition}
-use Rattle.chunk_core.specs.CoverSums.{weight, each, is_in, base_for, stray, naming, names, all_of, word_of, base_of}
+use Rattle.chunk_core.specs.CoverSums.{weight, each, is_in, base_for, stray, naming, names, all_of, word_of, base_of, keyless}
 use Rattle.chunk_core.specs.Covers.{Entry, Cover, cover_at, span_in, key_at, entry_from, cover_from, moving_of}
 use Rattle.chunk_core.specs.KeyWords.{key_in, low_number}
 use Rattle.chunk_core.specs.MovingRanges.{is_dropped, greater, base_with, range_without}
@@ -137,6 +137,7 @@ module _ (z : Sizes) (m m' : RoomMemory) (content : ℕ → List ℕ) (is_key_wo
     inside = let s = step (each stray) in let r = ranges_stray word a.moving in let e = moving_is (each stray) in let i = parts.inside in omega arith;
     placed = let d = with_dropped (λ x. 1 - is_key_word x.word) in let p = parts.placed in omega arith;
     begun = spans_still (λ low high. 1 - within (record { low = low; high = high; base = 0 }) low) ∙ parts.begun;
+    keyed = spans_still (λ low high. keyless (record { low = low; high = high; base = 0 })) ∙ parts.keyed;
     bases = let s = step (λ c. names_header c.span.base) in let l = ranges_le (λ c. names_header c.span.base) in let n = parts.bases in let r = ranges_names word a.moving (omega arith) in let e = moving_is (λ c. names_header c.span.base) in omega arith;
   }
 

@@ -22,7 +22,7 @@ use Rattle.oak_model.proofs.RowLaws.{rows_map}
 use Rattle.oak_model.proofs.SumLaws.{total_in}
 use Rattle.pin_word.specs.PinWord.{state_of, generation_of, count_of}
 use Rattle.chunk_core.specs.CoverRule.{CoversPartition}
-use Rattle.chunk_core.specs.CoverSums.{weight, each, stray, all_of}
+use Rattle.chunk_core.specs.CoverSums.{weight, each, stray, all_of, keyless}
 use Rattle.chunk_core.specs.Covers.{Entry, Cover, cover_at, entry_at, key_at, entry_from, cover_from}
 use Rattle.chunk_core.specs.KeyWords.{key_in, low_number, high_from, high_number}
 use Rattle.chunk_core.specs.LinkedEntries.{linked, entries_in, prefix_in, first_numbers}
@@ -119,14 +119,14 @@ module _ (z : Sizes) (m : RoomMemory) (content : ℕ → List ℕ) (is_key_word 
   pub open_parted : Parted (cover_from g ∷ []) (C ∷ map cover_from (left_of w g))
   open_parted = test-cases (low_number w.low == low_number g.low) (λ t. Parted (cover_from g ∷ []) (C ∷ map cover_from (cond t [] (record g { high = high_from w.low; carried = filter (λ y. not (is_upper w y)) g.carried } ∷ []))))
       (λ e. whole_parted w g C may.takes_it may.base may.under refl refl refl entries no_stray (eqb-true (low_number w.low) (low_number g.low) e))
-      (λ e. upper_parted w g C may.takes_it may.base may.under refl refl refl entries no_stray (lower (eqb-false (low_number w.low) (low_number g.low) e)))
+      (λ e. upper_parted w g C may.takes_it may.base may.under refl refl refl entries no_stray (lower (eqb-false (low_number w.low) (low_number g.low) e)) (may.key (eqb-false (low_number w.low) (low_number g.low) e)))
     where
       lower : low_number w.low ≢ low_number g.low → low_number g.low < low_number w.low
       lower ne = let l = leb-true (low_number g.low) (low_number w.low) (both_true (high_number w.high == high_number g.high) (nat_le (low_number g.low) (low_number w.low)) may.takes_it).1 in omega arith
 
   pub open_partition : CoversPartition z m' content is_key_word hs'
   open_partition = parted_covers z m m' content is_key_word hs hs' (cover_from g ∷ []) (C ∷ map cover_from (left_of w g)) open_parted open_step
-      (just_one (λ (y : Cover). 1 - within y.span y.span.low) (cover_from g) (of_range (λ (y : Cover). 1 - within y.span y.span.low) parts.begun)) (just_one (each stray) (cover_from g) no_stray)
+      (just_one (λ (y : Cover). 1 - within y.span y.span.low) (cover_from g) (of_range (λ (y : Cover). 1 - within y.span y.span.low) parts.begun)) (just_one (λ (y : Cover). keyless y.span) (cover_from g) (of_range (λ (y : Cover). keyless y.span) parts.keyed)) (just_one (each stray) (cover_from g) no_stray)
       (just_one (λ (y : Cover). names_header y.span.base) (cover_from g) (of_range (λ (y : Cover). names_header y.span.base) parts.bases)) parts
 
   -- an entry of the prefix is a carried one

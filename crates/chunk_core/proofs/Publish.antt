@@ -15,7 +15,7 @@ use Rattle.oak_model.proofs.Lists.{each_map}
 use Rattle.oak_model.proofs.PutLaws.{put-here, put-else}
 use Rattle.oak_model.proofs.SumLaws.{times-one, times-none}
 use Rattle.chunk_core.specs.CoverRule.{CoversPartition}
-use Rattle.chunk_core.specs.CoverSums.{weight, each, has_key, word_for, stray, naming, names, all_of, word_of, base_of}
+use Rattle.chunk_core.specs.CoverSums.{weight, each, has_key, word_for, stray, naming, names, all_of, word_of, base_of, keyless}
 use Rattle.chunk_core.specs.Covers.{Entry, Cover, cover_at, span_in, entry_at, key_at}
 use Rattle.chunk_core.specs.LinkedEntries.{linked, first_numbers, entries_in, prefix_in}
 use Rattle.chunk_core.specs.PinnedRooms.{OnRoomPin, IsGoodRoom, RoomPinHolds, EntryStands}
@@ -74,6 +74,7 @@ module _ (z : Sizes) (m : RoomMemory) (content : ℕ → List ℕ) (is_key_word 
     inside = let v = more_all stray in let o = was.inside in let i = inside in omega arith;
     placed = let v = more_all (λ s y. 1 - is_key_word y.word) in let o = was.placed in let i = is_key in omega arith;
     begun = more_span (λ s. 1 - within s s.low) ∙ was.begun;
+    keyed = more_span keyless ∙ was.keyed;
     bases = more_span (λ s. names_header s.base) ∙ was.bases;
   }
 

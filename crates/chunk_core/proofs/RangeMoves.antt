@@ -69,6 +69,7 @@ module _ (g h : MovingRange) (below : high_number h.high ≡ low_number g.low + 
     base = λ k. let s = ap (λ (t : ℕ). t * greater g.base h.base) (spans k) in let p = plus_times (within (cover_from h).span k) (within (cover_from g).span k) (greater g.base h.base) in
         let x = times_le (within (cover_from h).span k) h.base (greater g.base h.base) (greater_right g.base h.base) in let y = times_le (within (cover_from g).span k) g.base (greater g.base h.base) (greater_left g.base h.base) in omega arith;
     begun = λ e. let s = spans (low_number h.low) in omega arith;
+    keyed = λ e. omega arith;
     bases = λ G e. greater-cases g.base h.base (λ t. G t + 0 ≡ 0) (λ _. omega arith) (λ _. omega arith);
   }
 

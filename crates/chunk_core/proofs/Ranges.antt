@@ -14,14 +14,14 @@ use Rattle.oak_model.proofs.Counting.{total_append, total_map, both_true}
 use Rattle.oak_model.proofs.SumLaws.{plus_times}
 use Rattle.oak_model.proofs.MemberLaws.{total_split, total_passed, filter_all}
 use Rattle.chunk_core.specs.CoverRule.{CoversPartition}
-use Rattle.chunk_core.specs.CoverSums.{each, is_in, base_for, stray, naming, names, all_of, word_of, base_of}
+use Rattle.chunk_core.specs.CoverSums.{each, is_in, base_for, keyless, stray, naming, names, all_of, word_of, base_of}
 use Rattle.chunk_core.specs.Covers.{Entry, Cover, entry_from, cover_from}
-use Rattle.chunk_core.specs.KeyWords.{key_in, low_number, high_number, high_from}
+use Rattle.chunk_core.specs.KeyWords.{key_in, least_number, low_number, high_number, high_from}
 use Rattle.chunk_core.specs.MovingRanges.{takes, is_upper, upper_of, left_of, ranges_left}
 use Rattle.chunk_core.specs.Rooms.{RoomMemory}
 use Rattle.chunk_core.specs.Spans.{Span, past_high, within}
 use Rattle.chunk_core.specs.ValueWord.{names_header}
-use Rattle.chunk_core.proofs.SpanLaws.{cut_span, upper_at, lower_at, high_from-is, past-le, past-cases}
+use Rattle.chunk_core.proofs.SpanLaws.{cut_span, ends_past, upper_at, lower_at, high_from-is, past-le, past-cases}
 
 -- the same ranges and entries, cut otherwise
 pub record Parted (gs gs' : List Cover) : Type 0 where
@@ -30,10 +30,11 @@ pub record Parted (gs gs' : List Cover) : Type 0 where
   pub inside : total (each stray) gs ≡ 0 → total (each stray) gs' ≡ 0
   pub base : (k : ℕ) → total (base_for k) gs ≤ total (base_for k) gs'
   pub begun : total (λ (c : Cover). 1 - within c.span c.span.low) gs ≡ 0 → total (λ (c : Cover). 1 - within c.span c.span.low) gs' ≡ 0
+  pub keyed : total (λ (c : Cover). keyless c.span) gs ≡ 0 → total (λ (c : Cover). keyless c.span) gs' ≡ 0
   pub bases : (G : ℕ → ℕ) → total (λ (c : Cover). G c.span.base) gs ≡ 0 → total (λ (c : Cover). G c.span.base) gs' ≡ 0
 
 pub parted_same : (gs : List Cover) → Parted gs gs
-parted_same gs = record { spans = λ _. refl; entries = λ _. refl; inside = λ e. e; base = λ _. omega arith; begun = λ e. e; bases = λ _ e. e }
+parted_same gs = record { spans = λ _. refl; entries = λ _. refl; inside = λ e. e; base = λ _. omega arith; begun = λ e. e; keyed = λ e. e; bases = λ _ e. e }
 
 -- what it leaves of the covers
 module _ (z : Sizes) (m m' : RoomMemory) (content : ℕ → List ℕ) (is_key_word : ℕ → ℕ) (hs hs' : List RoomHolds) (gs gs' : List Cover) (parted : Parted gs gs')
@@ -51,13 +52,14 @@ module _ (z : Sizes) (m m' : RoomMemory) (content : ℕ → List ℕ) (is_key_wo
   pub names_still : (h : ℕ) → all_of z m' content hs' (each (naming h)) ≡ all_of z m content hs (each (naming h))
   names_still h = entries_still (λ x. names h x.value)
 
-  pub parted_covers : (total (λ (c : Cover). 1 - within c.span c.span.low) gs ≡ 0) → (total (each stray) gs ≡ 0) → (total (λ (c : Cover). names_header c.span.base) gs ≡ 0) → CoversPartition z m content is_key_word hs → CoversPartition z m' content is_key_word hs'
-  parted_covers all_begun no_stray no_name c = record {
+  pub parted_covers : (total (λ (c : Cover). 1 - within c.span c.span.low) gs ≡ 0) → (total (λ (c : Cover). keyless c.span) gs ≡ 0) → (total (each stray) gs ≡ 0) → (total (λ (c : Cover). names_header c.span.base) gs ≡ 0) → CoversPartition z m content is_key_word hs → CoversPartition z m' content is_key_word hs'
+  parted_covers all_begun all_keyed no_stray no_name c = record {
     covered = λ k. let s = step (is_in k) in let e = parted.spans k in let t = c.covered k in omega arith;
     once = λ k. let s = entries_still (λ x. one_at x.key k) in let t = c.once k in omega arith;
     inside = let s = step (each stray) in let e = parted.inside no_stray in let t = c.inside in omega arith;
     placed = let s = entries_still (λ x. 1 - is_key_word x.word) in let t = c.placed in omega arith;
     begun = let s = step (λ u. 1 - within u.span u.span.low) in let e = parted.begun all_begun in let t = c.begun in omega arith;
+    keyed = let s = step (λ u. keyless u.span) in let e = parted.keyed all_keyed in let t = c.keyed in omega arith;
     bases = let s = step (λ u. names_header u.span.base) in let e = parted.bases names_header no_name in let t = c.bases in omega arith;
   }
 
@@ -103,6 +105,7 @@ module _ (w : RoomCopy) (g : MovingRange) (c : Cover) (taken : takes w g ≡ tru
       inside = λ _. let e = entries (stray c.span) in let u = ap (λ (l : List Carried). total (stray c.span) (map entry_from l)) all_upper in let s = ap (λ (t : Span). total (stray t) (map entry_from g.carried)) span_same in let n = no_stray in omega arith;
       base = λ k. let e = ap (λ (s : Span). within s k * s.base) span_same in omega arith;
       begun = λ e. let s = ap (λ (t : Span). 1 - within t t.low) span_same in omega arith;
+      keyed = λ e. let s = ap keyless span_same in omega arith;
       bases = λ G e. let s = ap (λ (t : Span). G t.base) span_same in omega arith;
     }
 
@@ -129,14 +132,15 @@ module _ (w : RoomCopy) (g : MovingRange) (c : Cover) (taken : takes w g ≡ tru
       ∙ total_passed (λ x. not (is_upper w x)) (λ (x : Carried). stray (cover_from g).span (entry_from x)) (λ (x : Carried). stray rest.span (entry_from x)) g.carried (λ x passed e. let i = within-one (key_in x.word x.words) e in
       let u = lower_at (record { low = low_number g.low; high = high_number g.high; base = 0 }) rest.span c.span (low_number w.low) refl (high_from-is w.low) c_low high_same under (key_in x.word x.words) i (leb-false (low_number w.low) (key_in x.word x.words) (not-true (is_upper w x) passed)) in omega arith) stray_on
 
-  pub upper_parted : low_number g.low < low_number w.low → Parted (cover_from g ∷ []) (c ∷ rest ∷ [])
+  pub upper_parted : low_number g.low < low_number w.low → least_number < low_number w.low → Parted (cover_from g ∷ []) (c ∷ rest ∷ [])
   unfolding total
-  upper_parted lower_low = record {
+  upper_parted lower_low some_key = record {
     spans = λ k. let e = spans_cut k in omega arith;
     entries = λ f. let e = entries_cut f in omega arith;
     inside = λ _. let a = upper_in in let b = lower_in in omega arith;
     base = λ k. let e = spans_cut k in let t = ap (λ (y : ℕ). y * g.base) e in let p = plus_times (within rest.span k) (within c.span k) g.base in let q = ap (λ (y : ℕ). within c.span k * y) (c_base ∙ base) in omega arith;
     begun = λ e. let a = upper_at (record { low = low_number g.low; high = high_number g.high; base = 0 }) rest.span c.span (low_number w.low) refl (high_from-is w.low) c_low high_same under (low_number w.low) under (omega arith) in let b = ap (within c.span) c_low in
         let d = lower_at (record { low = low_number g.low; high = high_number g.high; base = 0 }) rest.span c.span (low_number w.low) refl (high_from-is w.low) c_low high_same under (low_number g.low) (within-one (low_number g.low) (omega arith)) lower_low in omega arith;
+    keyed = λ e. let s = ap (λ (y : ℕ). past_high y least_number) high_same in let p = ap (λ (y : ℕ). past_high y least_number) (high_from-is w.low) in let q = ends_past (low_number w.low) least_number some_key in omega arith;
     bases = λ G e. let s = ap G (c_base ∙ base) in omega arith;
   }

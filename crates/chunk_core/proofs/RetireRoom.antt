@@ -17,7 +17,7 @@ use Rattle.oak_model.proofs.Lists.{each_append}
 use Rattle.oak_model.proofs.PutLaws.{put-here, put-else}
 use Rattle.pin_word.specs.PinWord.{state_of, generation_of, count_of}
 use Rattle.chunk_core.specs.CoverRule.{CoversPartition}
-use Rattle.chunk_core.specs.CoverSums.{weight, each, stray, all_of}
+use Rattle.chunk_core.specs.CoverSums.{weight, each, stray, all_of, keyless}
 use Rattle.chunk_core.specs.Covers.{Cover, cover_at, cover_from, moving_of}
 use Rattle.chunk_core.specs.KeyWords.{low_number, high_number}
 use Rattle.chunk_core.specs.MayOnRooms.{MayRetire}
@@ -129,7 +129,7 @@ module _ (z : Sizes) (m : RoomMemory) (content : ℕ → List ℕ) (is_key_word 
   gone_none F e = let l = left.less F in let k = ranges_le F in omega arith
 
   pub retire_partition : CoversPartition z m' content is_key_word hs'
-  retire_partition = parted_covers z m m' content is_key_word hs hs' left.gone left.come left.parted retire_step (gone_none (λ (y : Cover). 1 - within y.span y.span.low) parts.begun) (gone_none (each stray) parts.inside) (gone_none (λ (y : Cover). names_header y.span.base) parts.bases) parts
+  retire_partition = parted_covers z m m' content is_key_word hs hs' left.gone left.come left.parted retire_step (gone_none (λ (y : Cover). 1 - within y.span y.span.low) parts.begun) (gone_none (λ (y : Cover). keyless y.span) parts.keyed) (gone_none (each stray) parts.inside) (gone_none (λ (y : Cover). names_header y.span.base) parts.bases) parts
 
   pub retire_rooms : RoomsStand z m' content hs'
   retire_rooms = given_up z m content hs rule seat a here r x held count generation (omega arith) (λ s is. free_none x s now is) (ranges_joined r a.moving) (λ weighs. absurd (let n = weight_free x now in omega arith)) (true_after content r a.moving (rule.carried seat a here))

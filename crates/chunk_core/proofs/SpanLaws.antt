@@ -31,6 +31,10 @@ pub high-some : (h k : ℕ) → h ≢ 0 → past_high h k ≡ past (h - 1) k
 unfolding past_high
 high-some h k ne = ap (λ (t : Bool). cond t 0 (past (h - 1) k)) (ne_eqb h 0 ne)
 
+-- a range that ends at n + 1 does not end at or before what is below n
+pub ends_past : (n k : ℕ) → k < n → past_high (n + 1) k ≡ 0
+ends_past n k l = high-some (n + 1) k (λ z. absurd (omega arith)) ∙ past-cases (n + 1 - 1) k (λ (t : ℕ). t ≡ 0) (λ le. absurd (omega arith)) (λ _. refl)
+
 -- the words of a high bound at another range's low bound
 pub high_from-is : (low : List ℕ) → high_number (high_from low) ≡ low_number low + 1
 unfolding high_number low_number

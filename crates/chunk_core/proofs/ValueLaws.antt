@@ -10,7 +10,7 @@ use Rattle.oak_model.proofs.Counting.{one_at-other}
 use Rattle.oak_model.proofs.PutLaws.{put-here, put-else}
 use Rattle.oak_model.proofs.SumLaws.{total_put, times-none}
 use Rattle.chunk_core.specs.CoverRule.{CoversPartition}
-use Rattle.chunk_core.specs.CoverSums.{each, weight, has_key, word_for, stray, all_of, word_of, base_of}
+use Rattle.chunk_core.specs.CoverSums.{each, weight, has_key, word_for, stray, all_of, word_of, base_of, keyless}
 use Rattle.chunk_core.specs.Covers.{Entry, Cover, cover_at, span_in, entry_at, key_at}
 use Rattle.chunk_core.specs.LinkedEntries.{linked}
 use Rattle.chunk_core.specs.RoomStep.{put_room}
@@ -60,6 +60,7 @@ module _ (z : Sizes) (m : RoomMemory) (content : ℕ → List ℕ) (is_key_word 
     inside = let v = value_all stray in let o = was.inside in omega arith;
     placed = let v = value_all (λ s y. 1 - is_key_word y.word) in let o = was.placed in omega arith;
     begun = span_all (λ s. 1 - within s s.low) ∙ was.begun;
+    keyed = span_all keyless ∙ was.keyed;
     bases = span_all (λ s. names_header s.base) ∙ was.bases;
   }
 

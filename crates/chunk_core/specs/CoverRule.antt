@@ -5,7 +5,7 @@ use Rattle.chunk_core.specs.declared.holds.RoomHolds.{RoomHolds}
 use Rattle.chunk_core.specs.Rooms.{RoomMemory}
 use Rattle.chunk_core.specs.ValueWord.{names_header}
 use Rattle.chunk_core.specs.Spans.{within}
-use Rattle.chunk_core.specs.CoverSums.{all_of, each, is_in, has_key, stray}
+use Rattle.chunk_core.specs.CoverSums.{all_of, each, is_in, has_key, keyless, stray}
 
 -- `is_key_word` is 1 for a word that names a block of the class that its length has, which is a key's
 pub record CoversPartition (z : Sizes) (m : RoomMemory) (content : ℕ → List ℕ) (is_key_word : ℕ → ℕ) (hs : List RoomHolds) : Type 0 where
@@ -19,5 +19,7 @@ pub record CoversPartition (z : Sizes) (m : RoomMemory) (content : ℕ → List 
   pub placed : all_of z m content hs (each (λ s x. 1 - is_key_word x.word)) ≡ 0
   -- each range has its low bound
   pub begun : all_of z m content hs (λ c. 1 - within c.span c.span.low) ≡ 0
+  -- and a key: none ends at or before the least one
+  pub keyed : all_of z m content hs (λ c. keyless c.span) ≡ 0
   -- a base names no header, so it may be an entry's floor
   pub bases : all_of z m content hs (λ c. names_header c.span.base) ≡ 0

@@ -7,7 +7,8 @@ use Rattle.chunk_core.specs.declared.states.TheConstants.{OPEN, FROZEN}
 use Rattle.chunk_core.specs.declared.holds.RoomHolds.{RoomHolds}
 use Rattle.chunk_core.specs.Rooms.{RoomMemory}
 use Rattle.chunk_core.specs.ValueWord.{names_header, header_in}
-use Rattle.chunk_core.specs.Spans.{Span, within}
+use Rattle.chunk_core.specs.KeyWords.{least_number}
+use Rattle.chunk_core.specs.Spans.{Span, past_high, within}
 use Rattle.chunk_core.specs.Covers.{Entry, Cover, cover_at, used_at, moving_of}
 
 -- 1 where a room with the pin word is a cover, and else 0
@@ -51,6 +52,10 @@ names h v = names_header v * one_at (header_in v) h
 -- 1 where the entry names the header
 abbrev pub naming : ℕ → Span → Entry → ℕ
 naming h s x = names h x.value
+
+-- 1 where the range ends at or before the least key, so that it has no key
+abbrev pub keyless : Span → ℕ
+keyless s = past_high s.high least_number
 
 -- 1 where the entry's key is outside the range
 abbrev pub stray : Span → Entry → ℕ

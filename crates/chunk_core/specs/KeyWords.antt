@@ -1,5 +1,5 @@
 -- Keys and bounds as they stand in words.
-use Rattle.std.specs.Prelude.{ℕ, ◌+◌, ◌-◌, ◌%◌, ◌^◌, ◌==◌, cond, List, ◌∷◌, take, drop, slice_index, Option, Some, None}
+use Rattle.std.specs.Prelude.{ℕ, ◌+◌, ◌-◌, ◌%◌, ◌^◌, ◌==◌, cond, List, [], ◌∷◌, take, drop, slice_index, Option, Some, None}
 use Rattle.oak_model.specs.KeyNumber.{key_number}
 use Rattle.oak_model.specs.WordBytes.{bytes_of}
 
@@ -14,6 +14,10 @@ key_bytes word words = take (key_length word) (bytes_of words)
 -- the number of that key
 unfoldable pub key_in : ℕ → List ℕ → ℕ
 key_in word words = key_number (key_bytes word words)
+
+-- the number of the least key, the one byte 0
+abbrev pub least_number : ℕ
+least_number = key_number (0 ∷ [])
 
 -- A bound: its first word is the length for a low bound, and for a high bound the length plus one, or 0 where there is none. The words of the bytes follow.
 

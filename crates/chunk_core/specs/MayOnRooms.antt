@@ -16,7 +16,7 @@ use Rattle.chunk_core.specs.declared.holds.RoomHolds.{RoomHolds}
 use Rattle.chunk_core.specs.declared.states.TheConstants.{FREE, OPEN, FROZEN, HELD}
 use Rattle.chunk_core.specs.Rooms.{RoomSpot, at_room_pin, at_latch, room_at}
 use Rattle.chunk_core.specs.ValueWord.{names_header}
-use Rattle.chunk_core.specs.KeyWords.{key_in, low_number, high_number}
+use Rattle.chunk_core.specs.KeyWords.{key_in, least_number, low_number, high_number}
 use Rattle.chunk_core.specs.Spans.{within}
 use Rattle.chunk_core.specs.LinkedEntries.{entries_in, prefix_in}
 use Rattle.chunk_core.specs.PinnedRooms.{IsGoodRoom, span_of, found_key}
@@ -77,6 +77,8 @@ pub record MayOpenRoom (z : Sizes) (w : RoomCopy) (gs : List MovingRange) : Type
   pub entries : (f : ℕ → ℕ → ℕ) → total (λ (e : EntryWords). f e.word e.value) (entries_held w) ≡ total (λ (c : Carried). f c.word c.value) (upper_of w range)
   -- the low bound is in the range
   pub under : within (record { low = low_number range.low; high = high_number range.high; base = 0 }) (low_number w.low) ≡ 1
+  -- what is left below it has a key
+  pub key : low_number w.low ≢ low_number range.low → least_number < low_number w.low
   -- neither bound is longer than a key
   pub bounds : AreBounds (slice_index w.low 0) (slice_index w.high 0)
   -- the prefix rises: so do the keys of the carried entries whose words stand there

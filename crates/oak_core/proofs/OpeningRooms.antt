@@ -15,9 +15,9 @@ use Rattle.chunk_core.specs.declared.holds.RoomHolds.{RoomHolds}
 use Rattle.chunk_core.specs.declared.layout.TheConstants.{BOUND_WORDS}
 use Rattle.chunk_core.specs.declared.states.TheConstants.{OPEN, FROZEN, HELD}
 use Rattle.chunk_core.specs.CoverRule.{CoversPartition}
-use Rattle.chunk_core.specs.CoverSums.{covers, weight, each, is_in, owning, owners_in_rooms, all_of}
+use Rattle.chunk_core.specs.CoverSums.{covers, weight, each, is_in, keyless, owning, owners_in_rooms, all_of}
 use Rattle.chunk_core.specs.Covers.{Entry, Cover, cover_at, used_at, span_in, entry_at, moving_of}
-use Rattle.chunk_core.specs.KeyWords.{low_number, high_number}
+use Rattle.chunk_core.specs.KeyWords.{least_number, low_number, high_number}
 use Rattle.chunk_core.specs.LinkedEntries.{entries_in, prefix_in, first_numbers}
 use Rattle.chunk_core.specs.PinnedRooms.{OnRoomPin, IsGoodRoom, RoomPinHolds}
 use Rattle.chunk_core.specs.RoomHolds.{no_rooms}
@@ -111,6 +111,7 @@ module _ (z : Sizes) (m : RoomMemory) (content : ℕ → List ℕ) (some_room : 
     inside = one_cover (cover_at m content) (each (λ s x. 1 - within s x.key)) ∙ empty (λ (x : Entry). 1 - within (span_in m 0) x.key);
     placed = one_cover (cover_at m content) (each (λ s x. 1 - is_key_word x.word)) ∙ empty (λ (x : Entry). 1 - is_key_word x.word);
     begun = one_cover (cover_at m content) (λ c. 1 - within c.span c.span.low) ∙ (let e = all_keys (span_in m 0).low in omega arith);
+    keyed = one_cover (cover_at m content) (λ c. keyless c.span) ∙ (ap (λ (n : ℕ). past_high n least_number) high_is ∙ high-none least_number);
     bases = one_cover (cover_at m content) (λ c. names_header c.span.base) ∙ (ap names_header (behind (at_base 0) (omega arith)) ∙ no_header);
   }
 

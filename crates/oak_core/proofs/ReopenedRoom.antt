@@ -93,6 +93,7 @@ module _ (z : Sizes) (m : RoomMemory) (content : ℕ → List ℕ) (bare : IsBar
     prefix = omega arith;
     entries = λ f. none_held (λ (e : EntryWords). f e.word e.value) (λ (c : Carried). f c.word c.value) (is_upper (copy_with_base z m 0)) (rows 0 z.entries (words_at m 0)) (carried_at m content 0) (entries_in (m.count 0)) none_counted;
     under = low_inside low;
+    key = λ other. absurd (other refl);
     bounds = record { low_fits = omega arith; high_fits = omega arith };
     sorted = λ i j c d lt few hc hd e g. absurd (omega arith);
   }
