@@ -1,6 +1,6 @@
 -- A chunk that a call comes to hold alone, and that it opens again.
-use Rattle.std.proofs.Common.{◌≡◌, ℕ, cond, Bool, List, [], ◌∷◌, length, map, sym, refl, ap, ◌∙◌, subst, inl, inr, arith, eq-eqb, ne_eqb, Option, Some, None}
-use Rattle.pin_word.specs.PinWord.{state_of}
+use Rattle.std.proofs.Common.{◌≡◌, ℕ, ◌<◌, cond, Bool, List, [], ◌∷◌, length, map, sym, refl, ap, ◌∙◌, subst, inl, inr, arith, eq-eqb, ne_eqb, Option, Some, None}
+use Rattle.pin_word.specs.PinWord.{state_of, count_of}
 use Rattle.oak_model.specs.Counts.{one_at, total}
 use Rattle.oak_model.specs.KeyNumber.{key_number}
 use Rattle.oak_model.specs.Limits.{Sizes}
@@ -20,21 +20,25 @@ use Rattle.chunk_core.specs.Spans.{within}
 use Rattle.chunk_core.proofs.HeldRooms.{room_rows}
 use Rattle.chunk_core.proofs.Weights.{open_none}
 use Rattle.oak_core.specs.declared.states.PassState.{PassState}
+use Rattle.oak_core.specs.AloneWords.{Runs}
 use Rattle.oak_core.specs.Memory.{in_rooms, memory}
 use Rattle.oak_core.specs.PassState.{rooms_held}
 use Rattle.oak_core.specs.Step.{load, on_rooms}
 use Rattle.oak_core.specs.Sweeping.{sweep}
+use Rattle.oak_core.proofs.AloneRuns.{Then, runs_as, runs_then}
 use Rattle.oak_core.proofs.CallSteps.{begins_same, met_both, met_none, stands_both, step_in, step_since, step_until}
 use Rattle.chunk_ops.specs.AskedRanges.{CoversKey}
-use Rattle.chunk_ops.specs.PinRecords.{with_room_pin}
-use Rattle.chunk_ops.specs.RoomPins.{DropsRoomPin, PinsOpen, Unpins}
+use Rattle.chunk_ops.specs.PinRecords.{OnlyMeets, with_room_pin}
+use Rattle.chunk_ops.specs.RoomPins.{AddsRoomPin, DropsRoomPin, PinsOpen, Unpins}
 use Rattle.chunk_ops.proofs.MeetingCalls.{stays_then}
-use Rattle.chunk_ops.proofs.PinSteps.{pin_found}
-use Rattle.rebalance.specs.Calls.{copy_span}
+use Rattle.chunk_ops.proofs.PinSteps.{pin_found, undone}
+use Rattle.rebalance.specs.Copies.{copy_span}
 use Rattle.rebalance.specs.Chunks.{ComesBack, HoldsFor, HoldsFront, HoldsPinned, LosesPinned, OpensFront, WorksBeside, held_row}
 use Rattle.rebalance.specs.HeldTables.{AwayFromPins, HoldsOnlyRooms, WorksOnRooms}
 use Rattle.rebalance.specs.Holding.{FindsFrozen, Freezes, Holds, StandsBeside, SweepsBeside, with_moving}
+use Rattle.rebalance.specs.LoneWords.{FreezesWords, LeavesBut, MovesWith, TakesRoom, held_by, leaves_same, no_room, runs_leave_both, stay_leaves}
 use Rattle.rebalance.proofs.ListedRows.{rows_total}
+use Rattle.rebalance.proofs.LoneTakes.{front_or, pin_takes, pinned_takes, takes_back, taken_works, works_takes}
 
 -- ---- what a pass does beside its rooms
 
@@ -144,6 +148,8 @@ holds_pinned z call r v a b u f n h = let w : RoomCopy = h.0 in let g : MovingRa
     mirrors = p.mirrors;
     origin = ap (λ (x : MovingRange). x.room) p.range_is;
     moment = p.ended;
+    alone = runs_as (Then (Then (FreezesWords z v r) (DropsRoomPin z r)) (MovesWith z r FROZEN HELD w)) (TakesRoom z v r w) v u (λ x y s. pinned_takes z v r w f.step.told.may.inside.0 x s.1.0 s.0 y s.1.1 s.1.2 s.2)
+        (runs_then (Then (FreezesWords z v r) (DropsRoomPin z r)) (MovesWith z r FROZEN HELD w) v b u (runs_then (FreezesWords z v r) (DropsRoomPin z r) v a b f.alone n.still) p.alone);
   },
 )
 
@@ -164,6 +170,22 @@ loses_pinned z call r v a u f n = record {
 
 -- ---- a try to hold the chunk of a key
 
+-- no room was found that has it
+pub back_moved : (z : Sizes) (call : ℕ) (v u : PassState) → OnlyMeets call v u → ComesBack z call v u
+back_moved z call v u o = record {
+  beside = works_of_stands call v u (record { stands = o.stands; blocks = o.blocks; headers = o.headers });
+  rooms = o.rooms;
+  alone = stay_leaves z no_room (held_by v) v u o.still;
+}
+
+-- one try behind others
+pub back_both : (z : Sizes) (call : ℕ) (u v w : PassState) → ComesBack z call u v → ComesBack z call v w → ComesBack z call u w
+back_both z call u v w a b = record {
+  beside = works_both call u v w a.beside b.beside;
+  rooms = b.rooms ∙ a.rooms;
+  alone = runs_leave_both z no_room (held_by u) u v w a.alone (subst (λ (o : RoomHolds). Runs (LeavesBut z no_room (λ q. 0 < in_room_state q HELD o)) v w) a.rooms b.alone);
+}
+
 -- the pass has of rooms what it had, and that is no pin
 pin_gone : (v : PassState) → HoldsOnlyRooms v → record v.rooms { pin = None } ≡ v.rooms
 pin_gone v only = ap (λ (o : Option _). record v.rooms { pin = o }) (sym only.pin)
@@ -173,10 +195,12 @@ module _ (z : Sizes) (call r : ℕ) (key : List ℕ) (v x : PassState) (only : H
   pinned_beside = record { stands = p.stands; blocks = p.blocks; headers = p.headers }
 
   -- the room was found, and another pass froze it
-  pub back_lost : (u : PassState) → LosesPinned z call r x u → ComesBack call v u
+  pub back_lost : (u : PassState) → LosesPinned z call r x u → ComesBack z call v u
   back_lost u l = record {
     beside = works_both call v x u (works_of_stands call v x pinned_beside) (works_of_stands call x u (record { stands = l.unpins.stands; blocks = l.unpins.blocks; headers = l.unpins.headers }));
     rooms = l.unpins.rooms ∙ (ap (with_room_pin None) p.rooms ∙ pin_gone v only);
+    alone = runs_as (Then (AddsRoomPin z r) (DropsRoomPin z r)) (LeavesBut z no_room (held_by v)) v u
+        (λ a b s. leaves_same z no_room (held_by v) a b (undone z r p.has.inside a s.0 b (λ n. state_of n ≡ OPEN) (λ n. 0 < count_of n) s.1 s.2)) (runs_then (AddsRoomPin z r) (DropsRoomPin z r) v x u p.still l.unpins.still);
   }
 
   -- the room is held in front of what the pass held
@@ -208,6 +232,12 @@ module _ (z : Sizes) (call r : ℕ) (key : List ℕ) (v x : PassState) (only : H
       moment = h.moment;
     }
 
+    -- where the pass is alone
+    pinned_alone : Runs (TakesRoom z v r w) v y
+    pinned_alone = runs_as (Then (AddsRoomPin z r) (TakesRoom z x r w)) (TakesRoom z v r w) v y
+        (λ a b s. pin_takes z v x r w p.has.inside (λ n. record { held = ap (λ (o : RoomHolds). o.held) p.rooms ∙ n.held; moving = ap (λ (o : RoomHolds). o.moving) p.rooms ∙ n.moving }) (λ q m. subst (λ (o : RoomHolds). 0 < in_room_state q HELD o) p.rooms m) a s.0 b s.1 s.2)
+        (runs_then (AddsRoomPin z r) (TakesRoom z x r w) v x y p.still h.alone)
+
     -- behind the look at its bounds
     module _ (q : PassState) (works : WorksOnRooms z call y q) (same : q.rooms ≡ y.rooms) where
       looked_beside : WorksBeside call v q
@@ -232,6 +262,9 @@ module _ (z : Sizes) (call r : ℕ) (key : List ℕ) (v x : PassState) (only : H
         moment = works.moment f.moment;
       }
 
+      looked_alone : Runs (TakesRoom z v r w) v q
+      looked_alone = taken_works z v y q r w (front_or v y r w pinned_front.held) pinned_alone works.words
+
       -- it is held for the key that its range has
       pub looked_for : within (copy_span w) (key_number key) ≡ 1 → HoldsFor z call key r w g v q
       looked_for inside = record {
@@ -247,17 +280,24 @@ module _ (z : Sizes) (call r : ℕ) (key : List ℕ) (v x : PassState) (only : H
         beside = looked_beside;
         front = looked_front;
         origin = h.origin;
+        alone = looked_alone;
       }
 
       -- it was opened again
-      pub back_opened : (u : PassState) → OpensFront z call r w v.rooms.held v.rooms.moving q u → ComesBack call v u
+      pub back_opened : (u : PassState) → OpensFront z call r w v.rooms.held v.rooms.moving q u → ComesBack z call v u
       back_opened u o = record {
         beside = works_both call v q u looked_beside o.beside;
         rooms = o.rooms ∙ (ap (λ (a : RoomHolds). record a { held = v.rooms.held; moving = v.rooms.moving }) (same ∙ front_rooms) ∙ pin_gone v only);
+        alone = runs_as (Then (TakesRoom z v r w) (MovesWith z r HELD OPEN w)) (LeavesBut z no_room (held_by v)) v u (λ a b s. takes_back z v r w a s.0 b s.1 s.2) (runs_then (TakesRoom z v r w) (MovesWith z r HELD OPEN w) v q u looked_alone o.alone);
       }
 
+-- a pass does not hold a room that is none of its own
+held_apart : (v : PassState) (r : ℕ) → total (λ (h : HeldRoom). one_at h.room r) v.rooms.held ≡ 0 → held_by v r → ⊥
+unfolding room_rows
+held_apart v r e h = let t = rows_total r v.rooms.held in omega arith
+
 -- a room that is held for a key behind tries that failed
-pub for_since : (z : Sizes) (call r : ℕ) (key : List ℕ) (u v w : PassState) → ComesBack call u v → (x : RoomCopy) × (g : MovingRange) × HoldsFor z call key r x g v w → (x : RoomCopy) × (g : MovingRange) × HoldsFor z call key r x g u w
+pub for_since : (z : Sizes) (call r : ℕ) (key : List ℕ) (u v w : PassState) → ComesBack z call u v → (x : RoomCopy) × (g : MovingRange) × HoldsFor z call key r x g v w → (x : RoomCopy) × (g : MovingRange) × HoldsFor z call key r x g u w
 for_since z call r key u v w b h = let p = h.2 in (
   h.0,
   h.1,
@@ -269,5 +309,8 @@ for_since z call r key u v w b h = let p = h.2 in (
     beside = works_both call u v w b.beside p.beside;
     front = subst (λ (a : RoomHolds). HoldsFront z r h.0 h.1 a.held a.moving w) b.rooms p.front;
     origin = p.origin;
+    alone = runs_as (Then (LeavesBut z no_room (held_by u)) (TakesRoom z v r h.0)) (TakesRoom z u r h.0) u w
+        (λ x y s. works_takes z u v r h.0 b.rooms (held_apart u r (subst (λ (a : RoomHolds). total (λ (k : HeldRoom). one_at k.room r) a.held ≡ 0) b.rooms p.front.apart)) x s.0 y s.1 s.2)
+        (runs_then (LeavesBut z no_room (held_by u)) (TakesRoom z v r h.0) u v w b.alone p.alone);
   },
 )

@@ -36,13 +36,15 @@ use Rattle.oak_core.specs.Usage.{is_free}
 use Rattle.oak_core.proofs.AloneRuns.{moment_after}
 use Rattle.oak_core.proofs.CallSteps.{step_alone, step_since}
 use Rattle.chunk_ops.specs.PinRecords.{OnlyMeets}
-use Rattle.chunk_ops.proofs.MeetingCalls.{only_both}
+use Rattle.chunk_ops.proofs.MeetingCalls.{only_both, stays_then}
 use Rattle.chunk_ops.proofs.PinSteps.{pin_found}
 use Rattle.chunk_ops.proofs.WordLoads.{load_reads}
 use Rattle.rebalance.specs.Holding.{Claims, FindsUsed, HasHeld, HasOnly, with_claimed}
+use Rattle.rebalance.specs.LoneWords.{MovesWith}
 use Rattle.rebalance.proofs.HeldAlone.{copy_first}
+use Rattle.rebalance.proofs.LoneSteps.{room_moves_with}
 use Rattle.rebalance.proofs.MirroredRooms.{latch_free}
-use Rattle.rebalance.proofs.RoomExchanges.{beside_since, claim_beside, claim_takes}
+use Rattle.rebalance.proofs.RoomExchanges.{beside_since, exchanged_state, claim_beside, claim_takes}
 
 -- ---- what is not free
 
@@ -156,6 +158,8 @@ claims z call r old n u v w only t e = let m : Memory = memory z t.table.words i
     has = subst (HasHeld z r copy) (sym takes) (record { held = claimed_once z call r old n v w t e copy; copy = copy_first r copy v.rooms.held; whole = whole_copy z m.rooms r });
     latch = latch_free z m.rooms (content m.arena.bytes) (map rooms_held t.table.states) t.rule.rooms r (ap count_of (pin_found z call r (claim_room r old) refl v n w t t.may.inside.0 ∙ e) ∙ t.may.rooms.count);
     ended = (_, moment_after z call (on_rooms (claim_room r old)) v n w t);
+    alone = stays_then (MovesWith z r FREE HELD copy) u v w only.still (room_moves_with z call r (claim_room r old) refl v n w t t.may.inside.0 FREE HELD copy (ap state_of e ∙ t.may.rooms.state)
+        (exchanged_state n old HELD e (let o = t.may.rooms.state in omega arith) ∙ ap (λ (k : ℕ). k + HELD) t.may.rooms.state) refl);
   },
 )
 
@@ -176,5 +180,6 @@ claims_since z call r u v w only f = let p = f.1 in (
     has = p.has;
     latch = p.latch;
     ended = p.ended;
+    alone = stays_then (MovesWith z r FREE HELD f.0) u v w only.still p.alone;
   },
 )

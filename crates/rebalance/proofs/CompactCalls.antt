@@ -19,10 +19,13 @@ use Rattle.oak_core.specs.CallSteps.{MetMore}
 use Rattle.oak_core.specs.PassState.{HoldsNothing}
 use Rattle.oak_core.specs.Step.{on_rooms}
 use Rattle.oak_core.proofs.CallSteps.{step_since, step_until}
-use Rattle.rebalance.specs.Calls.{ComesToHold, Compacts, Leaves, OpensWith, SweepsKey, copy_span}
+use Rattle.rebalance.specs.Calls.{ComesToHold, Compacts, Leaves, OpensWith, SweepsKey}
+use Rattle.rebalance.specs.Copies.{copy_span}
 use Rattle.rebalance.specs.Chunks.{AllValued, CompactsFront, HoldsFor, OpensFront, WorksBeside}
 use Rattle.rebalance.specs.HeldTables.{Apart, HoldsOnlyRooms, IsHeldRow}
 use Rattle.rebalance.proofs.ChunkLaws.{works_both, works_of_rooms}
+use Rattle.rebalance.proofs.LoneChunks.{step_apart}
+use Rattle.rebalance.proofs.LoneTakes.{bare_of, bare_still, front_or, lone_rewrites, taken_works}
 use Rattle.rebalance.proofs.SweptRooms.{mirrors_valued}
 
 -- what stands in a list stands in a longer one, further on
@@ -88,11 +91,14 @@ module _ (z : Sizes) (call : ℕ) (key : List ℕ) (is_key : IsKey key) (bytes :
       low = c.rewritten.low;
       high = c.rewritten.high;
       kept = c.rewritten.kept;
+      base = c.rewritten.base;
       sorted = c.rewritten.sorted;
       swept = swept_key;
     };
     count_is = let a = c.count_is in let b = c.kept_is in omega arith;
     leaves = leaves_all call v u3 idle all rooms_back;
+    alone = lone_rewrites z v u2 u3 r w c.words f.front.inside (bare_of v idle) (bare_still v u3 (bare_of v idle) rooms_back) o.moment
+        (step_apart z call (on_rooms (open_room r)) v u3 (opened_since z call r c.words v u2 u3 first.met o.opens).step) (taken_works z v u1 u2 r w (front_or v u1 r w f.front.held) f.alone c.works.words) o.alone;
   }
 
 -- a pass that held nothing has no rooms behind the one that it came to hold

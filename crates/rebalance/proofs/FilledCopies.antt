@@ -24,6 +24,7 @@ use Rattle.oak_core.specs.declared.sorting.SortSlot.{SortSlot}
 use Rattle.rebalance.specs.declared.entries.Entry.{Entry}
 use Rattle.rebalance.specs.CarriedKeys.{HasKey}
 use Rattle.rebalance.specs.Compacted.{in_use, KeysRise}
+use Rattle.rebalance.specs.Copies.{entries_of}
 use Rattle.rebalance.specs.DroppedRange.{sum_of}
 use Rattle.rebalance.specs.Entries.{entries}
 use Rattle.rebalance.specs.Filled.{IsFilled, count_of}
@@ -39,6 +40,12 @@ total_rows : {A B : Type 0} (F : A → ℕ) (G : B → ℕ) (f : ℕ → A) (g :
 unfolding total rows
 total_rows F G f g h i zero = refl
 total_rows F G f g h i (suc n) = let a = h i in let t = total_rows F G f g h (suc i) n in omega arith
+
+-- what is made of each of the rows
+mapped_rows : {A B : Type 0} (F : A → B) (f : ℕ → A) (i n : ℕ) → map F (rows i n f) ≡ rows i n (λ k. F (f k))
+unfolding rows
+mapped_rows F f i zero = refl
+mapped_rows F f i (suc n) = ap (λ (xs : List _). F (f i) ∷ xs) (mapped_rows F f (suc i) n)
 
 -- the same elements in another order
 pub permuted_total : {A : Type 0} (f : A → ℕ) (xs ys : List A) → IsPermutation xs ys → total f ys ≡ total f xs
@@ -66,6 +73,10 @@ module _ (z : Sizes) (m : RoomMemory) (r : ℕ) where
   pub copied_sum : (f : ℕ → ℕ → ℕ) → entries_in (m.count r) ≤ z.entries → total (λ (e : EntryWords). f e.word e.value) (entries_held (copy_at z m r)) ≡ sum_of f (in_use m r)
   copied_sum f few = ap (total (λ (e : EntryWords). f e.word e.value)) (take_rows 0 (entries_in (m.count r)) z.entries (words_at m r) few)
       ∙ total_rows (λ (e : EntryWords). f e.word e.value) (λ (e : Entry). f e.place e.value) (words_at m r) (λ i. record { place = m.key r i; value = m.value r i }) (λ k. refl) 0 (entries_in (m.count r))
+
+  -- its linked entries are those in use
+  pub copied_entries : entries_in (m.count r) ≤ z.entries → entries_of (copy_at z m r) ≡ in_use m r
+  copied_entries few = let F : EntryWords → Entry = λ e. record { place = e.word; value = e.value } in ap (map F) (take_rows 0 (entries_in (m.count r)) z.entries (words_at m r) few) ∙ mapped_rows F (words_at m r) 0 (entries_in (m.count r))
 
   -- the key word of an entry of the copy
   pub copied_word : (i : ℕ) → i < z.entries → word_held (copy_at z m r) i ≡ m.key r i

@@ -6,7 +6,6 @@ use Rattle.oak_model.specs.Counts.{rows, total, Each}
 use Rattle.oak_model.specs.Limits.{Sizes}
 use Rattle.oak_model.specs.declared.limits.TheConstants.{GREATEST_ENTRIES}
 use Rattle.oak_model.proofs.Counting.{test-cases}
-use Rattle.oak_model.proofs.Lists.{rows_length}
 use Rattle.oak_model.proofs.SumLaws.{times-none, times-one}
 use Rattle.chunk_core.specs.declared.layout.TheConstants.{BOUND_WORDS}
 use Rattle.chunk_core.specs.declared.holds.Carried.{Carried}
@@ -24,7 +23,7 @@ use Rattle.oak_core.specs.declared.sorting.SortSlot.{SortSlot}
 use Rattle.oak_core.specs.declared.states.PassState.{PassState}
 use Rattle.rebalance.specs.declared.entries.Entry.{Entry}
 use Rattle.rebalance.specs.declared.reading.Read.{Read}
-use Rattle.rebalance.specs.Calls.{values_in}
+use Rattle.rebalance.specs.Copies.{entries_of, values_in}
 use Rattle.rebalance.specs.Chunks.{HoldsFront, IsRewritten, AllValued, keys_in}
 use Rattle.rebalance.specs.Compacted.{IsCompacted, ReadsSorted, in_use}
 use Rattle.rebalance.specs.DroppedRange.{dropped_range, range_with, sum_of}
@@ -33,8 +32,8 @@ use Rattle.rebalance.specs.Mirrors.{Mirrors, held_memory}
 use Rattle.rebalance.specs.SlotRanges.{SlotsHave}
 use Rattle.rebalance.specs.Slots.{entry_of}
 use Rattle.rebalance.proofs.CompactedMirrors.{compacted_mirrors, slots_few, slots_have}
-use Rattle.rebalance.proofs.DroppedRange.{named-cases, parted_sum, total_filter}
-use Rattle.rebalance.proofs.FilledCopies.{copied_sum, filled_many, filled_prefix, filled_sum, length_total, permuted_total}
+use Rattle.rebalance.proofs.DroppedRange.{named-cases, total_filter}
+use Rattle.rebalance.proofs.FilledCopies.{copied_entries, copied_sum, filled_many, filled_prefix, filled_sum, length_total, permuted_total}
 use Rattle.rebalance.proofs.FrontRooms.{front_differ, front_keys, front_mirrors, front_stands, front_words}
 
 -- an entry with a value goes with no key word
@@ -75,12 +74,6 @@ kept_sum f es = total_filter has_value (λ (e : Entry). f e.place e.value) es �
         named-cases e.value (λ b. cond b x 0 + total (λ (e : Entry). cond (has_value e) (f e.place e.value) 0) es ≡ names_header e.value * x + total (λ (e : Entry). names_header e.value * f e.place e.value) es)
         (λ p. let y = times-one (names_header e.value) x p in omega arith) (λ p. let y = times-none (names_header e.value) x p in omega arith)
 
--- the greatest is not below the first
-pub greatest_over : (b : ℕ) (es : List Entry) → b ≤ greatest b es
-unfolding greatest
-greatest_over b [] = omega arith
-greatest_over b (e ∷ es) = let t = greatest_over b es in omega arith
-
 values_once : (es : List EntryWords) → total (λ (e : EntryWords). names_header e.value * 1) es ≡ total (λ (e : EntryWords). names_header e.value) es
 unfolding total
 values_once [] = refl
@@ -90,10 +83,6 @@ values_once (e ∷ es) = let t = values_once es in omega arith
 pub first_only : (b : ℕ) → greatest b [] ≡ b
 unfolding greatest
 first_only b = refl
-
-no_length : (es : List Entry) → length es ≡ 0 → es ≡ []
-no_length [] e = refl
-no_length (x ∷ es) e = absurd (omega arith)
 
 module _ (z : Sizes) (limit : z.entries ≤ GREATEST_ENTRIES) (r : ℕ) (w : RoomCopy) (g : MovingRange) (hs : List HeldRoom) (gs : List MovingRange) (v : PassState) (f : HoldsFront z r w g hs gs v) where
   abbrev m : RoomMemory
@@ -105,6 +94,9 @@ module _ (z : Sizes) (limit : z.entries ≤ GREATEST_ENTRIES) (r : ℕ) (w : Roo
 
   pub words_sum : (F : ℕ → ℕ → ℕ) → total (λ (e : EntryWords). F e.word e.value) (entries_held w) ≡ sum_of F (in_use (held_memory v.rooms.held) r)
   words_sum F = ap (λ (c : RoomCopy). total (λ (e : EntryWords). F e.word e.value) (entries_held c)) (sym (front_words z r w g hs gs v f)) ∙ copied_sum z m r F (front_mirrors z r w g hs gs v f).few
+
+  words_entries : entries_of w ≡ in_use (held_memory v.rooms.held) r
+  words_entries = ap entries_of (sym (front_words z r w g hs gs v f)) ∙ copied_entries z m r (front_mirrors z r w g hs gs v f).few
 
   module _ (slots : List SortSlot) (x : Read) (read : ReadsSorted (keys_in v.rooms.moving) (held_memory v.rooms.held) r slots x) (m' : RoomMemory) (compacts : IsCompacted r (entries_in ((held_memory v.rooms.held).count r)) (take x.kept slots) x.base (held_memory v.rooms.held) m') where
     abbrev xs : List SortSlot
@@ -139,18 +131,10 @@ module _ (z : Sizes) (limit : z.entries ≤ GREATEST_ENTRIES) (r : ℕ) (w : Roo
     now_rewritten = let bounds = compacts.fills.bounds_kept in let drops = compacts.drops in record {
       low = ap (λ (F : ℕ → ℕ → ℕ). rows 0 BOUND_WORDS (F r)) (bounds.low ∙ drops.low) ∙ ap (λ (c : RoomCopy). c.low) (front_words z r w g hs gs v f);
       high = ap (λ (F : ℕ → ℕ → ℕ). rows 0 BOUND_WORDS (F r)) (bounds.high ∙ drops.high) ∙ ap (λ (c : RoomCopy). c.high) (front_words z r w g hs gs v f);
-      base = let a = compacts.fills.filled.base_is in let b = read.base in let c = greatest_over (m.base r) (dropped (in_use m r)) in let d = ap (λ (c : RoomCopy). c.base) (front_words z r w g hs gs v f) in omega arith;
+      base = compacts.fills.filled.base_is ∙ (read.base ∙ (ap (λ (c : RoomCopy). greatest c.base (dropped (in_use m r))) (front_words z r w g hs gs v f) ∙ ap (λ (es : List Entry). greatest w.base (dropped es)) (sym words_entries)));
       kept = λ F. filled_sum z m' r xs x.base compacts.fills.filled few limit F ∙ (permuted_total (λ (e : Entry). F e.place e.value) (kept (in_use m r)) (map entry_of xs) read.same ∙ (kept_sum F (in_use m r) ∙ sym (words_sum (λ w v. names_header v * F w v))));
       sorted = record { count = filled_many z m' r xs x.base compacts.fills.filled few limit ∙ kept_values; prefix = filled_prefix z m' r xs x.base compacts.fills.filled few limit ∙ kept_values };
     }
 
     pub now_counted : entries_in w.count ≡ length xs + x.dropped
     now_counted = let a = read.many in let b = ap entries_in count_is in let c = many in omega arith
-
-    -- where none was dropped the base is what it was
-    pub base_still : x.dropped ≡ 0 → words'.base ≡ w.base
-    base_still e = compacts.fills.filled.base_is ∙ (read.base ∙ (ap (greatest (m.base r)) none ∙ (first_only (m.base r) ∙ ap (λ (c : RoomCopy). c.base) (front_words z r w g hs gs v f))))
-      where
-        none : dropped (in_use m r) ≡ []
-        none = let a = parted_sum (λ w v. 1) (in_use m r) in let b = length_total (in_use m r) in let c = length_total (dropped (in_use m r)) in let d = permuted_total (λ (e : Entry). 1) (kept (in_use m r)) (map entry_of xs) read.same in let l = length_total (map entry_of xs) in
-            let q = length-map xs entry_of in let k = rows_length 0 (entries_in (m.count r)) (λ (i : ℕ). let y : Entry = record { place = m.key r i; value = m.value r i } in y) in let n = read.many in let t = many in no_length (dropped (in_use m r)) (omega arith)

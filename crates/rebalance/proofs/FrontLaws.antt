@@ -36,7 +36,7 @@ use Rattle.chunk_ops.specs.RoomPins.{HadMoment}
 use Rattle.chunk_ops.proofs.BoundOrder.{by_numbers, less_is}
 use Rattle.chunk_ops.proofs.OrderLaws.{cmp_less}
 use Rattle.chunk_ops.proofs.WordParts.{part_small}
-use Rattle.rebalance.specs.Calls.{copy_span}
+use Rattle.rebalance.specs.Copies.{copy_span}
 use Rattle.rebalance.specs.Chunks.{HoldsFront, OpensFront, held_row}
 use Rattle.rebalance.specs.ListedRows.{SameWords, rows_of}
 use Rattle.rebalance.specs.HeldTables.{HoldsAlone, WorksOnRooms, filled}
@@ -154,4 +154,5 @@ front_opened z call r w g hs gs v u f o = let copy = front_copy z r w g hs gs v 
         inside = in_swept w (length v.findings.met) key f.mirrors.bounds is bytes inside;
       };
       moment = o.ended;
+      alone = o.alone w copy;
     }

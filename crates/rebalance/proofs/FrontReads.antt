@@ -21,7 +21,7 @@ use Rattle.oak_core.specs.declared.states.PassState.{PassState}
 use Rattle.chunk_ops.specs.RoomPins.{HadMoment}
 use Rattle.rebalance.specs.declared.entries.Entry.{Entry}
 use Rattle.rebalance.specs.declared.reading.Read.{Read}
-use Rattle.rebalance.specs.Calls.{values_in}
+use Rattle.rebalance.specs.Copies.{values_in}
 use Rattle.rebalance.specs.Chunks.{AllValued, CompactsFront, HoldsFront, ReadsFront, keys_in}
 use Rattle.rebalance.specs.Compacted.{ReadsSorted, in_use}
 use Rattle.rebalance.specs.DroppedRange.{sum_of}
@@ -31,7 +31,7 @@ use Rattle.rebalance.specs.Filled.{Fills}
 use Rattle.rebalance.specs.HeldTables.{Apart, HoldsAlone, IsHeldRow, WorksOnRooms, works_none, works_both}
 use Rattle.rebalance.specs.Mirrors.{held_memory}
 use Rattle.rebalance.specs.Slots.{entry_of}
-use Rattle.rebalance.proofs.DroppedRange.{named-cases}
+use Rattle.rebalance.proofs.CopyBases.{value_small}
 use Rattle.rebalance.proofs.FilledCopies.{length_total, permuted_total}
 use Rattle.rebalance.proofs.FrontCompacts.{count_is, kept_sum, words_sum}
 use Rattle.rebalance.proofs.FrontLaws.{looked_rooms}
@@ -39,9 +39,6 @@ use Rattle.rebalance.proofs.FrontRewrites.{entries_limited, front_compacts, only
 use Rattle.rebalance.proofs.FrontRooms.{front_alone}
 
 -- ---- lists in which each entry has a value
-
-value_small : (v : ℕ) → names_header v ≤ 1
-value_small v = named-cases v (λ _. names_header v ≤ 1) (λ e. omega arith) (λ e. omega arith)
 
 values_small : (es : List Entry) → sum_of (λ w v. names_header v * 1) es ≤ length es
 unfolding total

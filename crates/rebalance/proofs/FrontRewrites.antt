@@ -27,7 +27,7 @@ use Rattle.rebalance.specs.HeldTables.{Apart, HoldsOnlyRooms, IsHeldRow, RowsSta
 use Rattle.rebalance.specs.Mirrors.{held_memory}
 use Rattle.rebalance.specs.SlotRanges.{SlotsHave}
 use Rattle.rebalance.specs.Slots.{AllNamed}
-use Rattle.rebalance.proofs.FrontCompacts.{all_stay, base_still, kept_values, now_counted, now_rewritten, still_has, still_mirrors}
+use Rattle.rebalance.proofs.FrontCompacts.{all_stay, kept_values, now_counted, now_rewritten, still_has, still_mirrors}
 use Rattle.rebalance.proofs.HeldRows.{SameWords, rows_are}
 use Rattle.rebalance.proofs.MirroredEntries.{dropped_each}
 use Rattle.chunk_core.specs.declared.holds.Carried.{Carried}
@@ -103,7 +103,6 @@ module _ (z : Sizes) (call r : ℕ) (w : RoomCopy) (g : MovingRange) (hs : List 
     rewritten = now_rewritten z limit r w g hs gs v f slots x read (held_memory u.rooms.held) compacts;
     kept_is = kept_values z limit r w g hs gs v f slots x read (held_memory u.rooms.held) compacts;
     count_is = now_counted z limit r w g hs gs v f slots x read (held_memory u.rooms.held) compacts;
-    base_stays = base_still z limit r w g hs gs v f slots x read (held_memory u.rooms.held) compacts;
     has = subst (λ (cs : List Carried). SlotsHave (λ k. key_of_entry (with_word k cs)) (take x.kept slots) range) (sym works.carried) (still_has z limit r w g hs gs v f slots x read (held_memory u.rooms.held) compacts);
     filled = subst (λ (b : ℕ). IsFilled r (take x.kept slots) b (held_memory u.rooms.held)) (sym compacts.fills.filled.base_is) compacts.fills.filled;
     named = named;

@@ -1,5 +1,5 @@
 -- A pass freezes a room on which it has a pin, or finds it frozen.
-use Rattle.std.proofs.Common.{◌≡◌, ◌≢◌, ℕ, map, sym, refl, ap, ◌∙◌, subst, arith, inl}
+use Rattle.std.proofs.Common.{◌≡◌, ◌≢◌, ℕ, ◌+◌, map, sym, refl, ap, ◌∙◌, subst, arith, inl}
 use Rattle.pin_word.specs.PinWord.{state_of}
 use Rattle.oak_model.specs.Limits.{Sizes}
 use Rattle.oak_model.proofs.Counting.{one_at-same, one_at-other, one_at-true, total_at}
@@ -14,19 +14,23 @@ use Rattle.chunk_core.specs.Rooms.{at_room_pin}
 use Rattle.chunk_core.proofs.HeldRooms.{room_rows, row_here}
 use Rattle.chunk_core.proofs.Weights.{open_none}
 use Rattle.oak_core.specs.declared.states.PassState.{PassState}
+use Rattle.oak_core.specs.AloneWords.{Runs}
 use Rattle.oak_core.specs.Memory.{in_rooms, memory}
 use Rattle.oak_core.specs.PassState.{rooms_held}
 use Rattle.oak_core.specs.RoomCalls.{NamesRoomPin, FreezesRoom}
 use Rattle.oak_core.specs.Splitting.{Loads}
-use Rattle.oak_core.specs.Step.{load, on_rooms, Told}
-use Rattle.oak_core.proofs.AloneRuns.{moment_after}
+use Rattle.oak_core.specs.Step.{Step, load, on_rooms, Told}
+use Rattle.oak_core.proofs.AloneRuns.{moment_after, runs_as}
 use Rattle.oak_core.proofs.CallSteps.{step_alone, step_since}
 use Rattle.chunk_ops.specs.PinRecords.{HasRoomPin, RoomPinned, OnlyMeets}
-use Rattle.chunk_ops.proofs.MeetingCalls.{only_both}
+use Rattle.chunk_ops.proofs.MeetingCalls.{only_both, stays_then}
 use Rattle.chunk_ops.proofs.PinSteps.{pin_found}
 use Rattle.chunk_ops.proofs.WordLoads.{load_at, load_reads, only_loaded, pin_holds}
 use Rattle.rebalance.specs.Holding.{Freezes, FindsFrozen, with_frozen}
-use Rattle.rebalance.proofs.RoomExchanges.{beside_since, freeze_beside, freeze_takes}
+use Rattle.rebalance.specs.LoneWords.{FreezesWords}
+use Rattle.rebalance.proofs.LoneChunks.{lone_divides}
+use Rattle.rebalance.proofs.LoneSteps.{StepAt, moment_at, moves_at, step_at}
+use Rattle.rebalance.proofs.RoomExchanges.{beside_since, exchanged_state, freeze_beside, freeze_takes}
 
 -- the load of a room's pin word
 pub pin_load : (z : Sizes) (call r word n : ℕ) (v w : PassState) → NamesRoomPin z r word → Loads z call word v n w → Told z call (load (in_rooms (at_room_pin r))) v n w
@@ -59,6 +63,16 @@ frozen_once z call r old n v w t e = let is_open : state_of ((memory z t.table.w
     let none = open_none ((memory z t.table.words).rooms.pin r) FROZEN is_open (inl refl) in
     let more = row_here r r FROZEN (record { room = r; held_as = Frozen }) v.rooms.held refl refl in let one = one_at-same FROZEN FROZEN refl in omega arith
 
+-- what it does to the words, where the pass is alone
+freezes_alone : (z : Sizes) (call r old n : ℕ) (u v w : PassState) → OnlyMeets call u v → (t : FreezesRoom z call r old v n w) → n ≡ old → Runs (FreezesWords z u r) u w
+freezes_alone z call r old n u v w only t e = stays_then (FreezesWords z u r) u v w only.still (runs_as (StepAt z call x v n w t) (FreezesWords z u r) v w (λ a b s. record {
+  moves = moves_at z call r (freeze_room r old) refl v n w t t.may.inside.0 OPEN FROZEN (ap state_of e ∙ t.may.rooms) (exchanged_state n old 1 e (let o = t.may.rooms in omega arith) ∙ ap (λ (k : ℕ). k + 1) t.may.rooms) a b s;
+  divided = λ bare. lone_divides z a v (moment_at z call x v n w t a b s) s.alone record { held = ap (λ (h : RoomHolds). h.held) only.rooms ∙ bare.held; moving = ap (λ (h : RoomHolds). h.moving) only.rooms ∙ bare.moving };
+}) (step_at z call x v n w tt t))
+  where
+    x : Step
+    x = on_rooms (freeze_room r old)
+
 -- a step of the call that froze the room
 pub freezes : (z : Sizes) (call r old n : ℕ) (u v w : PassState) → OnlyMeets call u v → FreezesRoom z call r old v n w → n ≡ old → Freezes z call r u w
 freezes z call r old n u v w only t e = record {
@@ -72,4 +86,5 @@ freezes z call r old n u v w only t e = record {
   rooms = freeze_takes z call r old n v w t e ∙ ap (with_frozen r) only.rooms;
   frozen = subst (λ (a : RoomHolds). in_room_state r FROZEN a ≡ 1) (sym (freeze_takes z call r old n v w t e)) (frozen_once z call r old n v w t e);
   ended = (_, moment_after z call (on_rooms (freeze_room r old)) v n w t);
+  alone = freezes_alone z call r old n u v w only t e;
 }

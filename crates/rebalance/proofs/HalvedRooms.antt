@@ -5,6 +5,7 @@ use Rattle.std.proofs.lemmas.List.{length-drop}
 use Rattle.oak_model.specs.Counts.{rows, total}
 use Rattle.oak_model.specs.Limits.{Sizes}
 use Rattle.oak_model.proofs.Counting.{one_at-other, one_at-same}
+use Rattle.chunk_core.specs.declared.holds.EntryWords.{EntryWords}
 use Rattle.chunk_core.specs.declared.holds.HeldRoom.{HeldRoom}
 use Rattle.chunk_core.specs.declared.holds.MovingRange.{MovingRange}
 use Rattle.chunk_core.specs.declared.holds.RoomCopy.{RoomCopy}
@@ -14,7 +15,7 @@ use Rattle.chunk_core.specs.declared.states.TheConstants.{HELD}
 use Rattle.chunk_core.specs.KeyWords.{low_bytes, high_bytes, high_number, high_from}
 use Rattle.chunk_core.specs.MayOnRooms.{MayOpenCopy, MayOpenRoom}
 use Rattle.chunk_core.specs.MovingRanges.{ranges_left, ranges_opened}
-use Rattle.chunk_core.specs.RoomCopies.{copy_of, without_room}
+use Rattle.chunk_core.specs.RoomCopies.{copy_of, entries_held, without_room}
 use Rattle.chunk_core.specs.RoomReads.{copy_at}
 use Rattle.chunk_core.specs.RoomRule.{in_room_state}
 use Rattle.chunk_core.specs.RoomStep.{open_room}
@@ -37,6 +38,7 @@ use Rattle.rebalance.specs.Filled.{slots_from}
 use Rattle.rebalance.specs.Halving.{HasWhole, HoldsPair, IsHalved, OpensHalves, StoresHalves, swept_with}
 use Rattle.rebalance.specs.HeldTables.{Apart, RowsStay, WorksOnRooms, no_slot}
 use Rattle.rebalance.specs.Holding.{Opens}
+use Rattle.rebalance.specs.LoneWords.{held_by}
 use Rattle.rebalance.specs.Mirrors.{held_memory}
 use Rattle.rebalance.specs.Slots.{entry_of, key_of}
 use Rattle.rebalance.specs.Split.{Splits}
@@ -46,6 +48,7 @@ use Rattle.rebalance.proofs.FrontLaws.{in_swept}
 use Rattle.rebalance.proofs.HeldAlone.{copy_first}
 use Rattle.rebalance.proofs.HeldPairs.{first_held, first_of_two, half_fewer, half_some, half_stored, pair_bounds, pair_free, pair_limit, pair_stands, whole_base, whole_few, whole_long, whole_slots}
 use Rattle.rebalance.proofs.HeldRows.{rows_from}
+use Rattle.rebalance.proofs.LoneHalves.{halves_run, pair_only}
 use Rattle.rebalance.proofs.SplitOpens.{both_opened, lower_high, lower_low, lower_opens, splits_front, swept_halves, upper_high, upper_low, upper_opens}
 use Rattle.rebalance.proofs.SweptRooms.{mirrors_valued, sweep_is}
 
@@ -62,6 +65,12 @@ unfolding total
 total_back f zero xs = omega arith
 total_back f (suc h) [] = omega arith
 total_back f (suc h) (x ∷ xs) = let t = total_back f h xs in omega arith
+
+total_parts : {A : Type 0} (f : A → ℕ) (h : ℕ) (xs : List A) → total f (take h xs) + total f (drop h xs) ≡ total f xs
+unfolding total
+total_parts f zero xs = omega arith
+total_parts f (suc h) [] = refl
+total_parts f (suc h) (x ∷ xs) = let t = total_parts f h xs in omega arith
 
 slots_sum : (f : ℕ → ℕ → ℕ) (xs : List SortSlot) → sum_of f (map entry_of xs) ≡ total (λ (s : SortSlot). f s.key s.value) xs
 unfolding total
@@ -124,6 +133,12 @@ module _ (z : Sizes) (call r q : ℕ) (w c : RoomCopy) (g : MovingRange) (v : Pa
   high_valued = let f : ℕ → ℕ → ℕ = (λ _ n. 1 - names_header n) in let a = filled_sum z m' q (drop half xs) x.base parted.high_filled back_few (pair_limit z r q w c g v h) f in let b = slots_sum f (drop half xs) in let d = slots_sum f xs in
       let t = total_back (λ (s : SortSlot). 1 - names_header s.value) half xs in let n = none_lack in omega arith
 
+  -- both halves have what the room had
+  halves_sum : (f : ℕ → ℕ → ℕ) → total (λ (e : EntryWords). f e.word e.value) (entries_held low_copy) + total (λ (e : EntryWords). f e.word e.value) (entries_held high_copy) ≡ total (λ (e : EntryWords). f e.word e.value) (entries_held w)
+  halves_sum f = let limit = pair_limit z r q w c g v h in let a = filled_sum z m' r (take half xs) x.base parted.low_filled front_few limit f in let b = filled_sum z m' q (drop half xs) x.base parted.high_filled back_few limit f in
+      let d = slots_sum f (take half xs) in let e = slots_sum f (drop half xs) in let t = total_parts (λ (s : SortSlot). f s.key s.value) half xs in let k = slots_sum f xs in
+      let has = whole_slots z r q w c g v h slots x all in let s = has.sums f in let y = h.mirrors.entries f in omega arith
+
   base_same : x.base ≡ w.base
   base_same = whole_base z r q w c g v h slots x all ∙ sym h.mirrors.base
 
@@ -139,6 +154,7 @@ module _ (z : Sizes) (call r q : ℕ) (w c : RoomCopy) (g : MovingRange) (v : Pa
         low = ll ∙ sym h.mirrors.low;
         high = uh ∙ sym h.mirrors.high;
         bases = (parted.low_filled.base_is ∙ base_same, parted.high_filled.base_is ∙ base_same);
+        kept = halves_sum;
         lower = record { count = filled_many z m' r (take half xs) x.base parted.low_filled front_few limit ∙ front_long; prefix = filled_prefix z m' r (take half xs) x.base parted.low_filled front_few limit ∙ front_long };
         higher = record { count = filled_many z m' q (drop half xs) x.base parted.high_filled back_few limit ∙ back_long; prefix = filled_prefix z m' q (drop half xs) x.base parted.high_filled back_few limit ∙ back_long };
         valued = (low_valued, high_valued);
@@ -257,4 +273,6 @@ module _ (z : Sizes) (call r q : ℕ) (w c : RoomCopy) (g : MovingRange) (v : Pa
             (stores.halved.keys key 0 (length a.findings.met) (length s.findings.met) (in_swept w 0 key h.mirrors.bounds is bytes inside));
         beside = works_both call v s u (works_of_rooms z call v s stores.works) opened_beside;
         rooms = rooms_now;
+        moment = two.ended;
+        alone = halves_run z r q h.apart stores.low_copy stores.high_copy (held_by v) (pair_only z r q w c g v h) v s a u stores.works.words (one.alone stores.high_copy upper_copy) (two.alone stores.low_copy lower_copy);
       }

@@ -1,5 +1,5 @@
 -- A pass comes to hold a room alone that it has frozen, with the range of the room.
-use Rattle.std.proofs.Common.{◌≡◌, ℕ, ◌<◌, cond, Bool, List, ◌∷◌, map, sym, refl, ap, ◌∙◌, subst, arith, eq-eqb, Some}
+use Rattle.std.proofs.Common.{◌≡◌, ℕ, ◌+◌, ◌<◌, cond, Bool, List, ◌∷◌, map, sym, refl, ap, ◌∙◌, subst, arith, eq-eqb, Some}
 use lib.ListN.{get_elem?}
 use Rattle.pin_word.specs.PinWord.{packed, state_of, count_of, HasNoPin}
 use Rattle.pin_word.proofs.Laws.{state_of-packed, count_of-packed}
@@ -28,12 +28,15 @@ use Rattle.oak_core.proofs.AloneRuns.{moment_after}
 use Rattle.oak_core.proofs.CallSteps.{step_alone, step_since}
 use Rattle.chunk_ops.specs.PinRecords.{OnlyMeets}
 use Rattle.chunk_ops.specs.RoomPins.{HadMoment}
+use Rattle.chunk_ops.proofs.MeetingCalls.{stays_then}
 use Rattle.chunk_ops.proofs.PinSteps.{pin_found}
 use Rattle.rebalance.specs.Holding.{HasHeld, Holds, with_moving}
+use Rattle.rebalance.specs.LoneWords.{MovesWith}
 use Rattle.rebalance.specs.Mirrors.{Mirrors}
+use Rattle.rebalance.proofs.LoneSteps.{room_moves_with}
 use Rattle.rebalance.proofs.MirroredRooms.{latch_free, mirrors_at}
 use Rattle.rebalance.proofs.RangesStand.{range_stands}
-use Rattle.rebalance.proofs.RoomExchanges.{beside_since, hold_beside, hold_takes}
+use Rattle.rebalance.proofs.RoomExchanges.{beside_since, exchanged_state, hold_beside, hold_takes}
 
 -- a word of a state and no pin
 packed_bare : (s : ℕ) → s < 16 → HasNoPin s (packed 0 s 0)
@@ -96,6 +99,8 @@ module _ (z : Sizes) (call r old n : ℕ) (u v w : PassState) (only : OnlyMeets 
       mirrors = mirrored;
       stands = range_stands z w behind 0 range (ap (λ (a : RoomHolds). get_elem? a.moving 0) rooms_are);
       ended = behind;
+      alone = stays_then (MovesWith z r FROZEN HELD copy) u v w only.still (room_moves_with z call r (hold_room r old) refl v n w t t.may.inside.0 FROZEN HELD copy (ap state_of e ∙ t.may.rooms.0.state)
+          (exchanged_state n old 1 e (let o = t.may.rooms.0.state in omega arith) ∙ ap (λ (k : ℕ). k + 1) t.may.rooms.0.state) refl);
     },
   )
 

@@ -37,7 +37,7 @@ use Rattle.rebalance.specs.SlotRanges.{BoundsAre, SlotsHave}
 use Rattle.rebalance.specs.Slots.{entry_of, key_of}
 use Rattle.rebalance.proofs.CarriedEntries.{carried_names}
 use Rattle.rebalance.proofs.CompactedMirrors.{bounds_of}
-use Rattle.rebalance.proofs.FrontCompacts.{first_only}
+use Rattle.rebalance.proofs.CopyBases.{first_only}
 use Rattle.rebalance.proofs.FrontReads.{full_none}
 use Rattle.rebalance.proofs.FrontRooms.{front_copy}
 use Rattle.rebalance.proofs.HeldAlone.{copy_first}

@@ -47,6 +47,7 @@ use Rattle.rebalance.proofs.MergedMirrors.{appended_filled, joined_bounds, joine
 use Rattle.rebalance.proofs.RangesStand.{range_stands}
 use Rattle.rebalance.proofs.RebalancedRooms.{merged}
 use Rattle.rebalance.proofs.RoomsBeside.{entries_still}
+use Rattle.rebalance.proofs.TwoHeldRooms.{frees_upper}
 
 -- the range that came with a room, and the others, where the first one did and the second one did not
 range_first : (r : ℕ) (g h : MovingRange) → g.room ≡ r → range_of r (g ∷ h ∷ []) ≡ Some g
@@ -187,4 +188,5 @@ module _ (z : Sizes) (low up : Taken) (slots : List SortSlot) (v : PassState) (p
         count = filled_many z (held_memory n.rooms.held) low.room (p.own ++ slots) base joined_filled (omega arith) limit ∙ (omega arith);
         prefix = filled_prefix z (held_memory n.rooms.held) low.room (p.own ++ slots) base joined_filled (omega arith) limit ∙ (omega arith);
       };
+      alone = frees_upper z low.room up.room p.lower p.upper v n u p.front.held works.words retires.alone;
     }

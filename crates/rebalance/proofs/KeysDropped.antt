@@ -36,9 +36,11 @@ use Rattle.chunk_ops.specs.RoomPins.{HadMoment}
 use Rattle.rebalance.specs.declared.rooms.RoomWord.TheVariants.{Key}
 use Rattle.rebalance.specs.HeldRooms.{IsLoose}
 use Rattle.rebalance.specs.HeldTables.{AwayFromPins, HoldsAlone, WorksOnRooms}
+use Rattle.rebalance.specs.LoneWords.{no_room}
 use Rattle.rebalance.specs.Mirrors.{copy_or, held_memory}
 use Rattle.rebalance.proofs.AwayFromPins.{away_front}
 use Rattle.rebalance.proofs.HeldMemory.{word_read}
+use Rattle.rebalance.proofs.LoneStores.{clear_runs}
 use Rattle.rebalance.proofs.RoomStores.{stored_moment, stored_rooms, stored_works}
 use Rattle.rebalance.proofs.RoomWorks.{copy_stands}
 
@@ -102,4 +104,4 @@ module _ (z : Sizes) (call r e place : ℕ) (v w : PassState) (h : HoldsAlone z 
     given_away = away_front z call w u g.more (ap (λ (y : PassState). y.findings.met) g.after) g.calls
 
     pub drop_works : WorksOnRooms z call v u
-    drop_works = stored_works z call (at_key r e) 0 t.0 v w t.1 u given_stands given_blocks (ap (λ (y : PassState). y.headers) g.after) (given_rooms z call w c b u g) given_away (_, moment_after z call (on_arena (clear_bit c b)) w g.number u g.told)
+    drop_works = stored_works z call (at_key r e) 0 t.0 v w t.1 u given_stands given_blocks (ap (λ (y : PassState). y.headers) g.after) (given_rooms z call w c b u g) given_away (_, moment_after z call (on_arena (clear_bit c b)) w g.number u g.told) (clear_runs z call c b g.number w u g.told no_room no_room)

@@ -5,6 +5,7 @@ pub mod KeyCopies
 pub mod LeastKey
 pub mod HeldMemory
 pub mod StoredMemory
+mod LoneStores
 pub mod RoomWorks
 pub mod RoomStores
 pub mod CarriedEntries
@@ -29,6 +30,7 @@ mod MirroredRooms
 mod FrozenRooms
 mod HeldAlone
 mod ClaimedRooms
+mod TakenRooms
 mod OpenedRooms
 mod OpensWhole
 mod HeldBeside
@@ -46,6 +48,12 @@ mod NeighbourChunks
 mod MergedChunks
 mod JoinedRooms
 mod SettledKeys
+mod SettledWords
+mod TwoHeldRooms
+pub mod LoneChunks
+mod LonePins
+mod LoneTakes
+mod SettledCalls
 pub mod SweptRooms
 pub mod FrontRooms
 pub mod FrontCompacts
@@ -59,6 +67,10 @@ pub mod TestLaws
 pub mod FrontReads
 pub mod ReopenedChunks
 pub mod WholeRooms
+pub mod LoneSteps
 pub mod HeldPairs
+mod LoneHalves
 pub mod HalvedRooms
+mod LoneSplits
 pub mod SplitCalls
+mod CopyBases

@@ -65,6 +65,7 @@ module _ (z : Sizes) (w : RoomCopy) (g : MovingRange) (mirrors : Mirrors z w g) 
       prefix = mirrors.prefix;
       entries = λ f. mirrors.entries f ∙ ap (total (λ (c : Carried). f c.word c.value)) (sym all_upper);
       under = subst (λ (k : ℕ). within (range_span g) k ≡ 1) (sym low_same) stands.begun;
+      key = λ other. absurd (other low_same);
       bounds = mirrors.bounds;
       sorted = mirrors.sorted;
     }

@@ -1,8 +1,8 @@
 -- What the steps that exchange the pin word of a room leave: one that finds another word than it looks for only meets it.
-use Rattle.std.proofs.Common.{◌≡◌, ◌≢◌, ℕ, ◌+◌, ◌*◌, ◌==◌, cond, Bool, [], ◌∷◌, set, sym, refl, ap, ◌∙◌, subst, eq-eqb, ne_eqb, arith}
+use Rattle.std.proofs.Common.{◌≡◌, ◌≢◌, ℕ, ◌+◌, ◌*◌, ◌<◌, ◌==◌, cond, Bool, [], ◌∷◌, set, sym, refl, ap, ◌∙◌, subst, eq-eqb, ne_eqb, arith}
 use prog.Atomic.{either}
 use lib.Seq.{set-get_or}
-use Rattle.pin_word.specs.PinWord.{STATE, packed}
+use Rattle.pin_word.specs.PinWord.{STATE, packed, state_of}
 use Rattle.oak_model.specs.Limits.{Sizes}
 use Rattle.arena_core.specs.Place.{content}
 use Rattle.chunk_core.specs.declared.holds.RoomHeldAs.TheVariants.{Frozen, Held}
@@ -33,6 +33,14 @@ words_stay z call x v n w t e = runs_as (DoesStep z (on_rooms x) n) WordsStay v 
 -- an exchange that finds another number
 not_exchanged : (n old new : ℕ) → n ≢ old → either (n == old) new n ≡ n
 not_exchanged n old new ne = ap (λ (b : Bool). either b new n) (ne_eqb n old ne)
+
+states_more : (w k : ℕ) → state_of w + k < 16 → state_of (w + k * STATE) ≡ state_of w + k
+unfolding state_of
+states_more w k fits = omega arith
+
+-- one that finds it goes so many states further
+pub exchanged_state : (n old k : ℕ) → n ≡ old → state_of old + k < 16 → state_of (either (n == old) (old + k * STATE) n) ≡ state_of old + k
+exchanged_state n old k e fits = ap (λ (b : Bool). state_of (either b (old + k * STATE) n)) (eq-eqb n old e) ∙ states_more old k fits
 
 -- a step that froze the room, or found another word
 module _ (z : Sizes) (call r old n : ℕ) (v w : PassState) (t : FreezesRoom z call r old v n w) where

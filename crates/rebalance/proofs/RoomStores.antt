@@ -23,6 +23,7 @@ use Rattle.chunk_core.specs.ValueWord.{names_header}
 use Rattle.chunk_core.proofs.HeldRooms.{room_rows}
 use Rattle.chunk_core.proofs.StoredRooms.{rows_with, whole_with}
 use Rattle.oak_core.specs.declared.states.PassState.{PassState}
+use Rattle.oak_core.specs.AloneWords.{Runs}
 use Rattle.oak_core.specs.CallSteps.{Stands}
 use Rattle.oak_core.specs.Memory.{memory}
 use Rattle.oak_core.specs.RoomCalls.{StoresRoom}
@@ -35,9 +36,11 @@ use Rattle.rebalance.specs.declared.rooms.RoomWord.TheVariants.{Base, Count, Fir
 use Rattle.rebalance.specs.HeldRooms.{IsPlain, IsWithin, spot}
 use Rattle.rebalance.specs.HeldTables.{AwayFromPins, HoldsAlone, HoldsRoom, IsHeldAs, IsHeldRow, RowsStay, WorksOnRooms, away_both, away_none, carried_in, is_valued, valued}
 use Rattle.rebalance.specs.ListedRows.{rows_of}
+use Rattle.rebalance.specs.LoneWords.{LeavesBut, held_by, no_room, runs_leave_both, runs_leave_more, runs_leave_none}
 use Rattle.rebalance.specs.Mirrors.{held_memory}
 use Rattle.rebalance.proofs.AwayFromPins.{away_one, is_room_word, room_word_away}
 use Rattle.rebalance.proofs.HeldMemory.{word_inside}
+use Rattle.rebalance.proofs.LoneStores.{store_runs}
 use Rattle.rebalance.proofs.StoredMemory.{copy_stored, copy_else, memory_stored}
 
 -- the entries with a value are carried still, whichever key word was taken away
@@ -139,9 +142,9 @@ module _ (z : Sizes) (call : ℕ) (p : RoomSpot) (x n : ℕ) (v w : PassState) (
   stored_away = away_one z v w _ (ap (λ (y : PassState). y.findings.met) t.after) (room_word_away z p x t.may.inside t.may.rooms.1)
 
   -- and what is done behind it that leaves the rooms
-  pub stored_works : (u : PassState) → Stands call w u → u.blocks ≡ v.blocks → u.headers ≡ w.headers → u.rooms ≡ w.rooms → AwayFromPins z w u → HadMoment z u → WorksOnRooms z call v u
+  pub stored_works : (u : PassState) → Stands call w u → u.blocks ≡ v.blocks → u.headers ≡ w.headers → u.rooms ≡ w.rooms → AwayFromPins z w u → HadMoment z u → Runs (LeavesBut z no_room no_room) w u → WorksOnRooms z call v u
   unfolding room_rows
-  stored_works u stands blocks headers rooms away moment = let e = rooms ∙ stored_rooms in record {
+  stored_works u stands blocks headers rooms away moment left = let e = rooms ∙ stored_rooms in record {
     stands = stands_both call v w u stored_stands stands;
     blocks = blocks;
     headers = headers ∙ ap (λ (y : PassState). y.headers) t.after;
@@ -155,6 +158,7 @@ module _ (z : Sizes) (call : ℕ) (p : RoomSpot) (x n : ℕ) (v w : PassState) (
     away = away_both z v w u stored_away away;
     carried = ap (λ (a : RoomHolds). valued a.moving) e ∙ valued_still (word_dropped m p x) v.rooms.moving;
     moment = λ _. moment;
+    words = runs_leave_both z no_room (held_by v) v w u (store_runs z call p x n v w t) (runs_leave_more z no_room no_room no_room (held_by v) w u (λ q m. m) (λ q m. absurd m) left);
   }
 
   pub stored_moment : HadMoment z w
@@ -176,4 +180,4 @@ module _ (z : Sizes) (call r x : ℕ) (word : RoomWord) (v w : PassState) (h : H
     store_blocks = ap (λ (y : PassState). y.blocks) t.1.after ∙ ap (λ (k : ℕ). blocks_dropped k (memory z t.1.table.words) v.rooms v.blocks) none
 
     pub store_works : WorksOnRooms z call v w
-    store_works = stored_works z call (spot r word) x t.0 v w t.1 w (stands_none call w) store_blocks refl refl (away_none z w) (stored_moment z call (spot r word) x t.0 v w t.1)
+    store_works = stored_works z call (spot r word) x t.0 v w t.1 w (stands_none call w) store_blocks refl refl (away_none z w) (stored_moment z call (spot r word) x t.0 v w t.1) (runs_leave_none z no_room no_room w)

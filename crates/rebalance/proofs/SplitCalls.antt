@@ -7,29 +7,33 @@ use Rattle.chunk_core.specs.declared.holds.HeldRoom.{HeldRoom}
 use Rattle.chunk_core.specs.declared.holds.MovingRange.{MovingRange}
 use Rattle.chunk_core.specs.declared.holds.RoomCopy.{RoomCopy}
 use Rattle.chunk_core.specs.declared.holds.RoomHolds.{RoomHolds}
+use Rattle.chunk_core.specs.declared.states.TheConstants.{HELD, OPEN}
 use Rattle.chunk_core.specs.LinkedEntries.{entries_in}
+use Rattle.chunk_core.specs.RoomStep.{open_room}
 use Rattle.chunk_core.specs.ValueWord.{names_header}
 use Rattle.oak_core.specs.declared.sorting.SortSlot.{SortSlot}
 use Rattle.oak_core.specs.declared.states.PassState.{PassState}
+use Rattle.oak_core.specs.AloneWords.{Runs}
 use Rattle.oak_core.specs.PassState.{HoldsNothing}
+use Rattle.oak_core.specs.Step.{on_rooms}
+use Rattle.oak_core.proofs.AloneRuns.{Then, runs_then}
 use Rattle.oak_core.proofs.CallSteps.{met_both}
 use Rattle.rebalance.specs.declared.reading.Read.{Read}
 use Rattle.rebalance.specs.Calls.{FindsNoRoom, Halves, Loosens}
 use Rattle.rebalance.specs.Chunks.{AllValued, CompactsFront, HoldsFor, HoldsFront, OpensFront, ReadsFront, WorksBeside}
 use Rattle.rebalance.specs.Filled.{Fills}
 use Rattle.rebalance.specs.Halving.{HasWhole, HoldsPair, OpensHalves}
-use Rattle.rebalance.specs.HeldTables.{Apart, HoldsOnlyRooms, IsHeldRow, SeesValue, WorksOnRooms}
+use Rattle.rebalance.specs.HeldTables.{Apart, IsHeldRow, SeesValue, WorksOnRooms}
 use Rattle.rebalance.specs.Holding.{Claims, FindsNoneFree, HasOnly}
+use Rattle.rebalance.specs.LoneWords.{LeavesBut, MovesWith, TakesRoom, held_by, no_room, runs_leave_both, runs_leave_none, stay_leaves}
 use Rattle.rebalance.specs.Mirrors.{held_memory}
 use Rattle.rebalance.proofs.ChunkLaws.{works_both, works_none, works_of_rooms, works_of_stands}
 use Rattle.rebalance.proofs.FrontReads.{full_again, full_dropped, full_front, full_rooms, full_values, read_filled}
 use Rattle.rebalance.proofs.HeldPairs.{claimed_pair, claimed_whole}
+use Rattle.rebalance.proofs.LoneSplits.{halved_runs, open_runs}
+use Rattle.rebalance.proofs.LoneTakes.{bare_of, front_or, taken_works}
 use Rattle.rebalance.proofs.ReopenedChunks.{holds_until, lacks_room, leaves_rooms, loosened, opens_since, sweeps_since}
 use Rattle.rebalance.proofs.WholeRooms.{found_lacking}
-
--- a pass that holds nothing holds nothing but rooms
-pub nothing_else : (v : PassState) → HoldsNothing v → HoldsOnlyRooms v
-nothing_else v n = record { blocks = n.blocks; headers = n.headers; pin = ap (λ (a : RoomHolds). a.pin) n.rooms; latch = ap (λ (a : RoomHolds). a.latch) n.rooms; claim = ap (λ (a : RoomHolds). a.claim) n.rooms }
 
 module _ (z : Sizes) (call r : ℕ) (key : List ℕ) (w : RoomCopy) (g : MovingRange) (v0 v : PassState) (idle : HoldsNothing v0) (is : IsKey key) (bytes : AreBytes key) (p : HoldsFor z call key r w g v0 v) (u : PassState) (slots : List SortSlot) (x : Read) (reads : ReadsFront z call r slots x v u) where
   -- the chunk is all that the pass has
@@ -48,7 +52,11 @@ module _ (z : Sizes) (call r : ℕ) (key : List ℕ) (w : RoomCopy) (g : MovingR
 
   -- and opened again, with fewer entries than it may have
   pub split_loosens : (t e : PassState) (c : CompactsFront z call r x.dropped (take x.kept slots) w v0.rooms.held v0.rooms.moving v t) → OpensFront z call r c.words v0.rooms.held v0.rooms.moving t e → x.kept < z.entries → Loosens z call key v0 e
-  split_loosens t e c o few = loosened z call r key w g v0 v (nothing_else v0 idle) is bytes p v t e (works_none call v) x.dropped (take x.kept slots) c o (let l = long in omega arith)
+  split_loosens t e c o few = loosened z call r key w g v0 v idle is bytes p v t e (works_none call v) (runs_leave_none z no_room (held_by v) v) x.dropped (take x.kept slots) c o (let l = long in omega arith)
+
+  -- the pass took it and read it
+  split_taken : Runs (TakesRoom z v0 r w) v0 u
+  split_taken = taken_works z v0 v u r w (front_or v0 v r w p.front.held) p.alone reads.works.words
 
   -- It was full, with a value in each entry.
   module _ (full : x.kept ≡ z.entries) where
@@ -76,11 +84,15 @@ module _ (z : Sizes) (call r : ℕ) (key : List ℕ) (w : RoomCopy) (g : MovingR
       since : WorksBeside call v t
       since = works_both call v u t (works_of_rooms z call v u reads.works) (works_of_stands call u t (record { stands = none.only.stands; blocks = none.only.blocks; headers = none.only.headers }))
 
+      still : Runs (LeavesBut z no_room (held_by v)) v t
+      still = runs_leave_both z no_room (held_by v) v u t reads.works.words (stay_leaves z no_room (held_by v) u t none.only.still)
+
       -- and opened again
       pub none_lacks : ((i : ℕ) → i < entries_in ((held_memory v.rooms.held).count r) → names_header ((held_memory v.rooms.held).value r i) ≡ 1 → SeesValue z r i v u) → (s e : PassState) (c : CompactsFront z call r 0 (take x.kept slots) w v0.rooms.held v0.rooms.moving t s) → OpensFront z call r c.words v0.rooms.held v0.rooms.moving s e → FindsNoRoom z call key v0 e
       none_lacks sees s e c o = let later = met_both call t s e c.works.stands.met o.beside.met in
-          lacks_room z call r key w g v0 v (nothing_else v0 idle) is bytes p t s e since (take x.kept slots) c o (long ∙ full)
+          lacks_room z call r key w g v0 v idle is bytes p t s e since still (take x.kept slots) c o (long ∙ full)
           (found_lacking z call r key w g v0 v p u slots x reads full sees e (met_both call u t e none.only.stands.met later) t none later)
+          (open_runs z v0 r w p.front.inside (bare_of v0 idle) u t e (Then (LeavesBut z no_room (held_by t)) (MovesWith z r HELD OPEN c.words)) split_taken none.alone (runs_then (LeavesBut z no_room (held_by t)) (MovesWith z r HELD OPEN c.words) t s e c.works.words o.alone))
 
     -- One was claimed.
     module _ (q : ℕ) (other : q ≢ r) (c : RoomCopy) (t : PassState) (claim : Claims z call q c u t) where
@@ -112,9 +124,11 @@ module _ (z : Sizes) (call r : ℕ) (key : List ℕ) (w : RoomCopy) (g : MovingR
         low = h.low;
         high = h.high;
         bases = h.bases;
+        kept = h.kept;
         lower = h.lower;
         higher = h.higher;
         swept = sweeps_since call key v0 t e claimed_since (o.sweeps key is bytes p.inside);
         leaves = leaves_rooms call v0 e (works_both call v0 t e claimed_since o.beside)
             (o.rooms ∙ ((λ i. record { pin = only.pin i; latch = only.latch i; claim = only.claim i; held = []; moving = [] }) ∙ sym idle.rooms));
+        alone = halved_runs z v0 r w p.front.inside (bare_of v0 idle) q other c o.low_copy o.high_copy u t e call (on_rooms (open_room q)) (opens_since z call q o.high_copy v0 t e claimed_since o.opens_upper).step (record { held = ap (λ (a : RoomHolds). a.held) o.rooms; moving = ap (λ (a : RoomHolds). a.moving) o.rooms }) o.moment split_taken claim.alone o.alone;
       }

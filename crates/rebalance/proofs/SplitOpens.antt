@@ -11,7 +11,7 @@ use native.Mathlib.Decide.{ℕ_discrete}
 use lib.ListN.{get_elem?}
 use Rattle.oak_model.specs.declared.limits.TheConstants.{GREATEST_ENTRIES}
 use Rattle.oak_model.specs.Counts.{rows, Has}
-use Rattle.oak_model.specs.Key.{key_cmp}
+use Rattle.oak_model.specs.Key.{IsKey, key_cmp}
 use Rattle.oak_model.specs.KeyNumber.{key_number}
 use Rattle.oak_model.specs.Limits.{Sizes}
 use Rattle.oak_model.proofs.Counting.{true_both}
@@ -21,7 +21,7 @@ use Rattle.chunk_core.specs.declared.holds.Carried.{Carried}
 use Rattle.chunk_core.specs.declared.holds.MovingRange.{MovingRange}
 use Rattle.chunk_core.specs.declared.holds.RoomCopy.{RoomCopy}
 use Rattle.chunk_core.specs.declared.layout.TheConstants.{BOUND_WORDS}
-use Rattle.chunk_core.specs.KeyWords.{low_bytes, high_bytes, low_number, high_number, high_from}
+use Rattle.chunk_core.specs.KeyWords.{least_number, low_bytes, high_bytes, low_number, high_number, high_from}
 use Rattle.chunk_core.specs.MayOnRooms.{MayOpenRoom}
 use Rattle.chunk_core.specs.MovingRanges.{takes, is_upper, left_of, ranges_left}
 use Rattle.chunk_core.specs.RoomReads.{copy_at}
@@ -39,7 +39,8 @@ use Rattle.rebalance.specs.Split.{Splits}
 use Rattle.rebalance.proofs.DroppedRange.{filter_has}
 use Rattle.rebalance.proofs.FilledCopies.{filled_many, filled_prefix, filled_sum, filled_rises}
 use Rattle.rebalance.proofs.MiddleBounds.{bound_stored, stored_long, middle_low_bytes, middle_high_bytes, middle_low_number}
-use Rattle.rebalance.proofs.SlotKeys.{filter_every, rise_front, rise_back, slots_rise, slot_inside, upper_sum, lower_sum, carried_over, carried_under, within_low}
+use Rattle.rebalance.proofs.LeastKey.{least_key}
+use Rattle.rebalance.proofs.SlotKeys.{filter_every, rise_front, rise_back, slots_rise, slot_carried, slot_inside, upper_sum, lower_sum, carried_over, carried_under, within_low}
 use Rattle.rebalance.proofs.TakenRanges.{takes_none}
 
 -- Where one range is left of the one that a room takes, it stands in its place, and those before it stand as they did.
@@ -99,6 +100,11 @@ module _ (z : Sizes) (limit : z.entries ≤ GREATEST_ENTRIES) (m m' : RoomMemory
   pub middle_above : low_number g.low < low_number (rows 0 BOUND_WORDS (m'.low high))
   middle_above = let a = within_low (range_span g) (key_number (keys (slice_index_or xs 0 d).key)) (slot_inside keys xs g slots stands 0 d (omega arith)) in let b = slots_rise keys xs g slots 0 h d some_low some_high in let e = upper_number in omega arith
 
+  -- and above the least key, since the first entry's key is below it
+  some_key : least_number < low_number (rows 0 BOUND_WORDS (m'.low high))
+  some_key = let t = slot_carried keys xs g slots 0 d (omega arith) in let a = least_key (keys (slice_index_or xs 0 d).key) (subst (λ (w : ℕ). IsKey (keys w)) t.2 t.3.named.key) in
+      let b = slots_rise keys xs g slots 0 h d some_low some_high in let e = upper_number in omega arith
+
   below : (i : ℕ) → i < h → key_number (keys (slice_index_or xs i d).key) < low_number (rows 0 BOUND_WORDS (m'.low high))
   below i l = let r = slots_rise keys xs g slots i h d l some_high in let e = upper_number in omega arith
 
@@ -155,6 +161,7 @@ module _ (z : Sizes) (limit : z.entries ≤ GREATEST_ENTRIES) (m m' : RoomMemory
       entries = λ f. filled_sum z m' high (drop h xs) base filled back_few limit f
           ∙ (sym (upper_sum keys xs g slots (low_number (rows 0 BOUND_WORDS (m'.low high))) h d (omega arith) below above f) ∙ sym (carried_over keys xs g slots (low_number (rows 0 BOUND_WORDS (m'.low high))) f));
       under = middle_inside;
+      key = λ _. some_key;
       bounds = record {
         low_fits = let q = key_few in let e : slice_index (rows 0 BOUND_WORDS (m'.low high)) 0 ≡ k.length = ap (λ (ws : List ℕ). slice_index ws 0) upper_low in omega arith;
         high_fits = let q = fit.high_fits in let e : slice_index (rows 0 BOUND_WORDS (m'.high high)) 0 ≡ slice_index g.high 0 = ap (λ (ws : List ℕ). slice_index ws 0) upper_high in omega arith;
@@ -179,6 +186,7 @@ module _ (z : Sizes) (limit : z.entries ≤ GREATEST_ENTRIES) (m m' : RoomMemory
               ∙ (sym (lower_sum keys xs g slots (low_number (rows 0 BOUND_WORDS (m'.low high))) h d (omega arith) below above f)
               ∙ (sym (carried_under keys xs g slots (low_number (rows 0 BOUND_WORDS (m'.low high))) f) ∙ ap (sum_carried f) (sym all_upper)));
           under = ap (within (record { low = low_number g.low; high = high_number (high_from (rows 0 BOUND_WORDS (m'.low high))); base = 0 })) (ap low_number lower_low) ∙ lower_begun;
+          key = λ other. absurd (other (ap low_number lower_low));
           bounds = record {
             low_fits = let q = fit.low_fits in let e : slice_index (rows 0 BOUND_WORDS (m'.low low)) 0 ≡ slice_index g.low 0 = ap (λ (ws : List ℕ). slice_index ws 0) lower_low in omega arith;
             high_fits = let q = key_few in let e : slice_index (rows 0 BOUND_WORDS (m'.high low)) 0 ≡ k.length + 1 = ap (λ (ws : List ℕ). slice_index ws 0) lower_high in omega arith;

@@ -21,7 +21,8 @@ use Rattle.oak_core.specs.declared.states.Swept.{Swept}
 use Rattle.oak_core.specs.Lack.{InSwept, IsBelow}
 use Rattle.oak_core.proofs.MetLists.{at_behind}
 use Rattle.chunk_ops.proofs.WordParts.{part_small}
-use Rattle.rebalance.specs.Calls.{SweepsKey, copy_span}
+use Rattle.rebalance.specs.Calls.{SweepsKey}
+use Rattle.rebalance.specs.Copies.{copy_span}
 use Rattle.rebalance.proofs.JoinedRanges.{within_high}
 use Rattle.rebalance.proofs.RangeKeys.{high_number-is, number_of}
 
@@ -80,6 +81,10 @@ high_part ws h = by (get_or ws 0 0 == 0) (take (get_or ws 0 0 - 1) (bytes_of (dr
     by : (b : Bool) (x : List ℕ) → cond b None (Some x) ≡ Some h → x ≡ h
     by true x e = absurd cc
     by false x e = cc
+
+-- are bytes
+pub high_are_bytes : (ws h : List ℕ) → high_bytes ws ≡ Some h → AreBytes h
+high_are_bytes ws h e = subst AreBytes (high_part ws h e) (part_small (get_or ws 0 0 - 1) (drop 1 ws))
 
 no_number : (n : ℕ) → digits_number n [] ≡ 0
 unfolding digits_number

@@ -22,13 +22,15 @@ use Rattle.oak_core.specs.Sweeping.{valueless}
 use Rattle.oak_core.proofs.CallSteps.{step_in, step_since, step_until}
 use Rattle.rebalance.specs.declared.merging.Taken.{Taken}
 use Rattle.rebalance.specs.declared.reading.Read.{Read}
-use Rattle.rebalance.specs.Calls.{ComesToHold, Compacts, Leaves, OpensWith, copy_span}
+use Rattle.rebalance.specs.Calls.{ComesToHold, Leaves, OpensWith, Rewrites}
+use Rattle.rebalance.specs.Copies.{copy_span}
 use Rattle.rebalance.specs.Chunks.{AllValued, CompactsFront, HoldsFor, HoldsFront, OpensFront, WorksBeside}
 use Rattle.rebalance.specs.HeldTables.{Apart, IsHeldRow, WorksOnRooms}
 use Rattle.rebalance.specs.Merging.{HoldsCompacted, SweepsUpTo, TakesChunk}
 use Rattle.rebalance.specs.Mirrors.{copy_or, held_memory}
 use Rattle.rebalance.proofs.ChunkLaws.{works_both, works_none, works_of_rooms}
 use Rattle.rebalance.proofs.FrontLaws.{front_copy}
+use Rattle.rebalance.proofs.LoneTakes.{front_or, taken_works}
 use Rattle.rebalance.proofs.MirroredEntries.{each_of}
 use Rattle.rebalance.proofs.SweptKeys.{high_is_key, sweeps_since, swept_behind}
 use Rattle.rebalance.proofs.SweptRooms.{mirrors_valued}
@@ -71,6 +73,7 @@ taken z call r key w g x slots v t u p c many base = record {
   has = c.has;
   filled = c.filled;
   named = c.named;
+  alone = taken_works z v t u r w (front_or v t r w p.front.held) p.alone c.works.words;
 }
 
 -- the front room stays it while the pass works on words of its rooms
@@ -160,24 +163,22 @@ module _ (z : Sizes) (call : ℕ) (key : List ℕ) (t : Taken) (slots : List Sor
     pub opened_leaves : Leaves call v u
     opened_leaves = leaves_of call v u all (none_left z call t.room take.words take.range v d u idle front o)
 
-    abbrev pub opened_compacts : Compacts z call key take.dropped v u
-    opened_compacts = record {
-      room = t.room;
-      held = take.held;
-      opened = take.words;
-      rewrites = record {
+    -- with the words that it was taken with rewritten
+    pub opened_rewrites : Rewrites z call key t.room take.held take.words v u × Leaves call v u
+    opened_rewrites = (
+      record {
         holds = held_in z call t.room take.held v v a u (works_none call v) (works_both call a d u beside o.beside) take.came;
         inside = take.inside;
         opens = opens_since z call t.room take.words v d u before o.opens;
         low = take.rewritten.low;
         high = take.rewritten.high;
         kept = take.rewritten.kept;
+        base = take.rewritten.base;
         sorted = take.rewritten.sorted;
         swept = sweeps_since key v d u before.swept (o.sweeps none_lack key is bytes inside_still);
-      };
-      count_is = take.count_is;
-      leaves = opened_leaves;
-    }
+      },
+      opened_leaves,
+    )
 
     pub opened_sweeps : (high : Option (List ℕ)) → high_bytes take.words.high ≡ high → SweepsUpTo key high v u
     opened_sweeps high end = record {

@@ -30,7 +30,7 @@ use Rattle.oak_core.proofs.MetLists.{at_shorter, each_at, from_behind}
 use Rattle.oak_core.proofs.Words.{memory_set}
 use Rattle.rebalance.specs.declared.reading.Read.{Read}
 use Rattle.rebalance.specs.declared.rooms.RoomWord.TheVariants.{Value}
-use Rattle.rebalance.specs.Calls.{copy_span}
+use Rattle.rebalance.specs.Copies.{copy_span}
 use Rattle.rebalance.specs.Chunks.{HoldsFor, ReadsFront}
 use Rattle.rebalance.specs.HeldTables.{AwayFromPins, SeesValue, away_both}
 use Rattle.rebalance.specs.Holding.{FindsNoneFree}

@@ -8,18 +8,22 @@ use Rattle.oak_model.specs.KeyNumber.{key_number}
 use Rattle.oak_model.specs.Limits.{Sizes}
 use Rattle.chunk_core.specs.declared.holds.EntryWords.{EntryWords}
 use Rattle.chunk_core.specs.declared.holds.RoomCopy.{RoomCopy}
-use Rattle.chunk_core.specs.KeyWords.{low_number, high_number}
+use Rattle.chunk_core.specs.KeyWords.{high_bytes, low_number, high_number}
 use Rattle.chunk_core.specs.LinkedEntries.{entries_in, prefix_in}
+use Rattle.chunk_core.specs.MovingRanges.{greater}
 use Rattle.chunk_core.specs.RoomCopies.{copy_of, entries_held}
 use Rattle.chunk_core.specs.RoomStep.{hold_room, open_room, retire_room}
-use Rattle.chunk_core.specs.Spans.{Span, within}
+use Rattle.chunk_core.specs.Spans.{within}
 use Rattle.chunk_core.specs.ValueWord.{names_header}
 use Rattle.oak_core.specs.declared.states.PassState.{PassState}
 use Rattle.oak_core.specs.declared.states.Swept.{Swept}
+use Rattle.oak_core.specs.AloneWords.{Runs}
 use Rattle.oak_core.specs.CallSteps.{MetMore, StepOfCall}
 use Rattle.oak_core.specs.Lack.{InSwept}
 use Rattle.oak_core.specs.RoomLacks.{RoomLackFound}
 use Rattle.oak_core.specs.Step.{on_rooms}
+use Rattle.rebalance.specs.Copies.{base_without, copy_span, values_in}
+use Rattle.rebalance.specs.LoneCalls.{AllOpen, Divided, HalvesRoom, JoinsRooms, RewritesBoth, RewritesRoom, SettlesWords}
 
 -- The pass met more, all of it in the call, and may have swept ranges. It learned and wrote nothing, noted no call, and holds what it held.
 pub record Leaves (call : ℕ) (v w : PassState) : Type 0 where
@@ -46,14 +50,6 @@ pub record OpensWith (z : Sizes) (call r : ℕ) (copy : RoomCopy) (v w : PassSta
   pub step : StepOfCall z call (on_rooms (open_room r)) v w
   pub copy_is : copy_of r step.from.rooms.held ≡ Some copy
 
--- the range and the base of a room's words
-abbrev pub copy_span : RoomCopy → Span
-copy_span w = record { low = low_number w.low; high = high_number w.high; base = w.base }
-
--- how many of the linked entries have a value
-abbrev pub values_in : RoomCopy → ℕ
-values_in w = total (λ (e : EntryWords). names_header e.value) (entries_held w)
-
 -- n entries are in use, all of them in the sorted prefix
 pub record IsSorted (n : ℕ) (w : RoomCopy) : Type 0 where
   pub count : entries_in w.count ≡ n
@@ -68,7 +64,7 @@ pub record SweepsKey (key : List ℕ) (v w : PassState) : Type 0 where
   pub there : get_elem? more place ≡ some range
   pub inside : InSwept range key
 
--- The call held the room of the key, whose words were `held`, and opened it with the words `opened`, over the same range: the entries that had a value are its sorted prefix, and nothing is behind it.
+-- The call held the room of the key, whose words were `held`, and opened it with the words `opened`, over the same range: the entries that had a value are its sorted prefix, nothing is behind it, and the base is the greatest of the old one and the dropped floors.
 pub record Rewrites (z : Sizes) (call : ℕ) (key : List ℕ) (r : ℕ) (held opened : RoomCopy) (v w : PassState) : Type 0 where
   pub holds : ComesToHold z call r held v w
   pub inside : within (copy_span held) (key_number key) ≡ 1
@@ -76,6 +72,7 @@ pub record Rewrites (z : Sizes) (call : ℕ) (key : List ℕ) (r : ℕ) (held op
   pub low : opened.low ≡ held.low
   pub high : opened.high ≡ held.high
   pub kept : (f : ℕ → ℕ → ℕ) → total (λ (e : EntryWords). f e.word e.value) (entries_held opened) ≡ total (λ (e : EntryWords). names_header e.value * f e.word e.value) (entries_held held)
+  pub base : opened.base ≡ base_without held
   pub sorted : IsSorted (values_in held) opened
   pub swept : SweepsKey key v w
 
@@ -87,6 +84,8 @@ pub record Compacts (z : Sizes) (call : ℕ) (key : List ℕ) (dropped : ℕ) (v
   pub rewrites : Rewrites z call key room held opened v w
   pub count_is : entries_in held.count ≡ values_in held + dropped
   pub leaves : Leaves call v w
+  -- to a pass that is alone
+  pub alone : Runs (Divided z (RewritesRoom z room held opened)) v w
 
 -- split, where the chunk had fewer entries with a value than a room has entries
 pub record Loosens (z : Sizes) (call : ℕ) (key : List ℕ) (v w : PassState) : Type 0 where
@@ -110,10 +109,13 @@ pub record Halves (z : Sizes) (call : ℕ) (key : List ℕ) (upper : ℕ) (v w :
   pub low : low_copy.low ≡ held.low
   pub high : high_copy.high ≡ held.high
   pub bases : (low_copy.base ≡ held.base) × (high_copy.base ≡ held.base)
+  pub kept : (f : ℕ → ℕ → ℕ) → total (λ (e : EntryWords). f e.word e.value) (entries_held low_copy) + total (λ (e : EntryWords). f e.word e.value) (entries_held high_copy) ≡ total (λ (e : EntryWords). f e.word e.value) (entries_held held)
   pub lower : IsSorted (z.entries / 2) low_copy
   pub higher : IsSorted (z.entries - z.entries / 2) high_copy
   pub swept : SweepsKey key v w
   pub leaves : Leaves call v w
+  -- to a pass that is alone
+  pub alone : Runs (Divided z (HalvesRoom z room upper held low_copy high_copy)) v w
 
 -- split, where each entry of the chunk had a value and every other room was found not free in the call: the chunk is opened again with its entries, which are its sorted prefix, and its base
 pub record FindsNoRoom (z : Sizes) (call : ℕ) (key : List ℕ) (v w : PassState) : Type 0 where
@@ -121,6 +123,8 @@ pub record FindsNoRoom (z : Sizes) (call : ℕ) (key : List ℕ) (v w : PassStat
   pub full : values_in compacts.held ≡ z.entries
   pub base : compacts.opened.base ≡ compacts.held.base
   pub lacks : RoomLackFound z (length v.findings.met) (length w.findings.met) w.findings.met (key_number key)
+  -- to a pass that is alone
+  pub all_open : Runs (AllOpen z) v w
 
 -- merge, where the range and the one above it were opened as one
 pub record Merges (z : Sizes) (call : ℕ) (key : List ℕ) (v w : PassState) : Type 0 where
@@ -138,26 +142,45 @@ pub record Merges (z : Sizes) (call : ℕ) (key : List ℕ) (v w : PassState) : 
   pub opens : OpensWith z call room opened v w
   pub low : opened.low ≡ held.low
   pub high : opened.high ≡ next.high
-  pub bases : (held.base ≤ opened.base) × (next.base ≤ opened.base)
+  pub base : opened.base ≡ greater (base_without next) (base_without held)
+  pub kept : (f : ℕ → ℕ → ℕ) → total (λ (e : EntryWords). f e.word e.value) (entries_held opened) ≡ total (λ (e : EntryWords). names_header e.value * f e.word e.value) (entries_held held) + total (λ (e : EntryWords). names_header e.value * f e.word e.value) (entries_held next)
   pub sorted : IsSorted (values_in held + values_in next) opened
   pub swept : SweepsKey key v w
   pub leaves : Leaves call v w
+  -- to a pass that is alone
+  pub alone : Runs (Divided z (JoinsRooms z room other held next opened)) v w
 
--- the chunk, held alone, had a neighbour above, and the two, held alone, had too many entries with a value
-pub record HasMuchAbove (z : Sizes) (call : ℕ) (held : RoomCopy) (v w : PassState) : Type 0 where
+-- the call rewrote the chunk, which has no neighbour above
+pub record IsLast (z : Sizes) (room : ℕ) (held opened : RoomCopy) (v w : PassState) : Type 0 where
+  pub last : high_number held.high ≡ 0
+  -- to a pass that is alone
+  pub alone : Runs (Divided z (RewritesRoom z room held opened)) v w
+
+-- the call rewrote the chunk and its neighbour above, and the two, held alone, had too many entries with a value
+pub record HasMuchAbove (z : Sizes) (call room : ℕ) (held opened : RoomCopy) (v w : PassState) : Type 0 where
   pub other : ℕ
   pub next : RoomCopy
-  pub holds : ComesToHold z call other next v w
+  pub reopened : RoomCopy
+  pub key : List ℕ
+  pub begins : high_bytes held.high ≡ Some key
+  pub rewrites : Rewrites z call key other next reopened v w
   pub above : high_number held.high ≡ low_number next.low + 1
   pub many : z.entries / 2 < values_in held + values_in next
+  -- to a pass that is alone
+  pub alone : Runs (Divided z (RewritesBoth z room other held opened next reopened)) v w
 
 -- merge, where it has no neighbour above, or too many entries with that
 pub record StaysApart (z : Sizes) (call : ℕ) (key : List ℕ) (v w : PassState) : Type 0 where
-  pub dropped : ℕ
-  pub compacts : Compacts z call key dropped v w
-  pub why : (high_number compacts.held.high ≡ 0) ⊎ HasMuchAbove z call compacts.held v w
+  pub room : ℕ
+  pub held : RoomCopy
+  pub opened : RoomCopy
+  pub rewrites : Rewrites z call key room held opened v w
+  pub leaves : Leaves call v w
+  pub why : IsLast z room held opened v w ⊎ HasMuchAbove z call room held opened v w
 
 -- settle: ranges swept in the call cover every key
-pub record Settles (call : ℕ) (v w : PassState) : Type 0 where
+pub record Settles (z : Sizes) (call : ℕ) (v w : PassState) : Type 0 where
   pub leaves : Leaves call v w
   pub covered : (key : List ℕ) → IsKey key → SweepsKey key v w
+  -- to a pass that is alone
+  pub alone : Runs (SettlesWords z) v w

@@ -1,5 +1,5 @@
 -- A chunk that a pass holds alone, as the last one that it came to hold, and what the parts of a rebalance do to it.
-use Rattle.std.specs.Prelude.{◌≡◌, ℕ, ◌+◌, ◌*◌, ◌<◌, ◌≤◌, List, [], ◌∷◌, ◌++◌, length, take, None}
+use Rattle.std.specs.Prelude.{◌≡◌, ℕ, ◌+◌, ◌*◌, ◌<◌, List, [], ◌∷◌, ◌++◌, length, take, None}
 use Rattle.pin_word.specs.PinWord.{state_of}
 use Rattle.oak_model.specs.Counts.{one_at, total, Begins, Each}
 use Rattle.oak_model.specs.Key.{AreBytes, IsKey}
@@ -11,7 +11,7 @@ use Rattle.chunk_core.specs.declared.holds.HeldRoom.{HeldRoom}
 use Rattle.chunk_core.specs.declared.holds.MovingRange.{MovingRange}
 use Rattle.chunk_core.specs.declared.holds.RoomCopy.{RoomCopy}
 use Rattle.chunk_core.specs.declared.holds.RoomHeldAs.TheVariants.{Held}
-use Rattle.chunk_core.specs.declared.states.TheConstants.{FROZEN}
+use Rattle.chunk_core.specs.declared.states.TheConstants.{FROZEN, HELD, OPEN}
 use Rattle.chunk_core.specs.KeyWords.{low_bytes, high_bytes}
 use Rattle.chunk_core.specs.LinkedEntries.{entries_in}
 use Rattle.chunk_core.specs.RoomCopies.{entries_held}
@@ -21,12 +21,14 @@ use Rattle.chunk_core.specs.Rooms.{at_room_pin}
 use Rattle.chunk_core.specs.Spans.{within}
 use Rattle.chunk_core.specs.ValueWord.{names_header}
 use Rattle.oak_core.specs.declared.states.PassState.{PassState}
+use Rattle.oak_core.specs.AloneWords.{Runs}
 use Rattle.oak_core.specs.CallSteps.{MetMore, StepOfCall}
 use Rattle.oak_core.specs.Memory.{in_rooms, memory}
 use Rattle.oak_core.specs.Step.{load}
 use Rattle.oak_core.specs.Sweeping.{valueless}
 use Rattle.chunk_ops.specs.RoomPins.{HadMoment, Unpins}
-use Rattle.rebalance.specs.Calls.{ComesToHold, IsSorted, OpensWith, SweepsKey, copy_span, values_in}
+use Rattle.rebalance.specs.Calls.{ComesToHold, IsSorted, OpensWith, SweepsKey}
+use Rattle.rebalance.specs.Copies.{base_without, copy_span, values_in}
 use Rattle.rebalance.specs.declared.reading.Read.{Read}
 use Rattle.rebalance.specs.Compacted.{ReadsSorted, in_use}
 use Rattle.rebalance.specs.Dropping.{DropsKeys, dropped_ranges}
@@ -34,6 +36,7 @@ use Rattle.rebalance.specs.Entries.{dropped}
 use Rattle.rebalance.specs.Filled.{IsFilled}
 use Rattle.rebalance.specs.HeldTables.{AwayFromPins, HoldsOnlyRooms, WorksOnRooms, key_of_entry, valued, with_word}
 use Rattle.rebalance.specs.Holding.{StandsBeside}
+use Rattle.rebalance.specs.LoneWords.{LeavesBut, MovesWith, TakesRoom, held_by, no_room}
 use Rattle.rebalance.specs.Mirrors.{Mirrors, held_memory}
 use Rattle.rebalance.specs.SlotRanges.{SlotsHave}
 use Rattle.rebalance.specs.Slots.{AllNamed}
@@ -75,6 +78,8 @@ pub record HoldsFor (z : Sizes) (call : ℕ) (key : List ℕ) (r : ℕ) (w : Roo
   pub beside : WorksBeside call v u
   pub front : HoldsFront z r w g v.rooms.held v.rooms.moving u
   pub origin : g.room ≡ r
+  -- to a pass that is alone
+  pub alone : Runs (TakesRoom z v r w) v u
 
 -- The pass had a pin of the room. It froze the room and undid the pin, and holds the room since the last step of the call, in front of the rooms that it held, of which that is none. It only met more else.
 pub record HoldsPinned (z : Sizes) (call r : ℕ) (w : RoomCopy) (g : MovingRange) (v u : PassState) : Type 0 where
@@ -88,6 +93,8 @@ pub record HoldsPinned (z : Sizes) (call r : ℕ) (w : RoomCopy) (g : MovingRang
   pub mirrors : Mirrors z w g
   pub origin : g.room ≡ r
   pub moment : HadMoment z u
+  -- to a pass that is alone
+  pub alone : Runs (TakesRoom z v r w) v u
 
 -- The pass had a pin of the room, which a step of the call found frozen, and undid it.
 pub record LosesPinned (z : Sizes) (call r : ℕ) (v u : PassState) : Type 0 where
@@ -96,9 +103,11 @@ pub record LosesPinned (z : Sizes) (call r : ℕ) (v u : PassState) : Type 0 whe
   pub unpins : Unpins z call r v u
 
 -- The pass has of rooms what it had. It only met more else, and may have swept ranges.
-pub record ComesBack (call : ℕ) (v u : PassState) : Type 0 where
+pub record ComesBack (z : Sizes) (call : ℕ) (v u : PassState) : Type 0 where
   pub beside : WorksBeside call v u
   pub rooms : u.rooms ≡ v.rooms
+  -- to a pass that is alone
+  pub alone : Runs (LeavesBut z no_room (held_by v)) v u
 
 -- The call opened the front room, which had the words w, over all of its range, and the pass has the rooms and ranges behind it. The range is swept where each of its entries has a value.
 pub record OpensFront (z : Sizes) (call r : ℕ) (w : RoomCopy) (hs : List HeldRoom) (gs : List MovingRange) (v u : PassState) : Type 0 where
@@ -108,16 +117,18 @@ pub record OpensFront (z : Sizes) (call r : ℕ) (w : RoomCopy) (hs : List HeldR
   pub swept : valueless w ≡ 0 → u.findings.swept ≡ v.findings.swept ++ record { low = low_bytes w.low; high = high_bytes w.high; met = length v.findings.met } ∷ []
   pub sweeps : valueless w ≡ 0 → (key : List ℕ) → IsKey key → AreBytes key → within (copy_span w) (key_number key) ≡ 1 → SweepsKey key v u
   pub moment : HadMoment z u
+  -- to a pass that is alone
+  pub alone : Runs (MovesWith z r HELD OPEN w) v u
 
 -- each carried entry has a value
 abbrev pub AllValued : MovingRange → Type 0
 AllValued g = Each (λ (c : Carried). names_header c.value ≡ 1) g.carried
 
--- The words w became w', by which the entries that had a value are the sorted prefix, with nothing behind it, over the same range with a base that is not lower.
+-- The words w became w', by which the entries that had a value are the sorted prefix, with nothing behind it, over the same range, with the greatest of the base and the dropped floors.
 pub record IsRewritten (w w' : RoomCopy) : Type 0 where
   pub low : w'.low ≡ w.low
   pub high : w'.high ≡ w.high
-  pub base : w.base ≤ w'.base
+  pub base : w'.base ≡ base_without w
   pub kept : (f : ℕ → ℕ → ℕ) → total (λ (e : EntryWords). f e.word e.value) (entries_held w') ≡ total (λ (e : EntryWords). names_header e.value * f e.word e.value) (entries_held w)
   pub sorted : IsSorted (values_in w) w'
 
@@ -125,7 +136,7 @@ pub record IsRewritten (w w' : RoomCopy) : Type 0 where
 abbrev pub keys_in : List MovingRange → ℕ → List ℕ
 keys_in gs w = key_of_entry (with_word w (valued gs))
 
--- So did the words of the front room, by which it has the entries of the slots, those that were kept, while so many were dropped; where none was, the base is what it was.
+-- So did the words of the front room, by which it has the entries of the slots, those that were kept, while so many were dropped.
 pub record CompactsFront (z : Sizes) (call r dropped : ℕ) (slots : List SortSlot) (w : RoomCopy) (hs : List HeldRoom) (gs : List MovingRange) (v u : PassState) : Type 0 where
   pub words : RoomCopy
   pub range : MovingRange
@@ -135,7 +146,6 @@ pub record CompactsFront (z : Sizes) (call r dropped : ℕ) (slots : List SortSl
   pub rewritten : IsRewritten w words
   pub kept_is : length slots ≡ values_in w
   pub count_is : entries_in w.count ≡ length slots + dropped
-  pub base_stays : dropped ≡ 0 → words.base ≡ w.base
   pub has : SlotsHave (keys_in u.rooms.moving) slots range
   pub filled : IsFilled r slots words.base (held_memory u.rooms.held)
   pub named : AllNamed slots

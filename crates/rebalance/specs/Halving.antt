@@ -1,27 +1,33 @@
 -- Two rooms that a pass holds, one of them claimed for the upper half of the entries of the other, which are stored into both; and that both are opened.
 use Rattle.std.specs.Prelude.{◌≡◌, ◌≢◌, ℕ, ◌+◌, ◌-◌, ◌/◌, ◌<◌, ◌⊎◌, List, [], ◌∷◌, length, take}
+use Rattle.oak_model.specs.Counts.{total}
 use Rattle.oak_model.specs.Key.{AreBytes, IsKey}
 use Rattle.oak_model.specs.KeyNumber.{key_number}
 use Rattle.oak_model.specs.Limits.{Sizes}
+use Rattle.chunk_core.specs.declared.holds.EntryWords.{EntryWords}
 use Rattle.chunk_core.specs.declared.holds.MovingRange.{MovingRange}
 use Rattle.chunk_core.specs.declared.holds.RoomCopy.{RoomCopy}
 use Rattle.chunk_core.specs.KeyWords.{low_bytes, high_bytes, low_number, high_number}
 use Rattle.chunk_core.specs.MayOnRooms.{MayOpenRoom}
 use Rattle.chunk_core.specs.MovingRanges.{ranges_left}
+use Rattle.chunk_core.specs.RoomCopies.{entries_held}
 use Rattle.chunk_core.specs.RoomRule.{IsWholeCopy}
 use Rattle.chunk_core.specs.Spans.{within}
 use Rattle.oak_core.specs.declared.sorting.SortSlot.{SortSlot}
 use Rattle.oak_core.specs.declared.states.PassState.{PassState}
 use Rattle.oak_core.specs.declared.states.Swept.{Swept}
+use Rattle.oak_core.specs.AloneWords.{Runs}
 use Rattle.oak_core.specs.Lack.{InSwept}
 use Rattle.oak_core.specs.Sweeping.{valueless}
 use Rattle.chunk_ops.specs.RoomPins.{HadMoment}
 use Rattle.rebalance.specs.declared.reading.Read.{Read}
-use Rattle.rebalance.specs.Calls.{IsSorted, OpensWith, SweepsKey, copy_span}
+use Rattle.rebalance.specs.Calls.{IsSorted, OpensWith, SweepsKey}
+use Rattle.rebalance.specs.Copies.{copy_span}
 use Rattle.rebalance.specs.Chunks.{WorksBeside, held_row, keys_in}
 use Rattle.rebalance.specs.Compacted.{ReadsSorted, in_use}
 use Rattle.rebalance.specs.Entries.{dropped}
 use Rattle.rebalance.specs.HeldTables.{HoldsOnlyRooms, WorksOnRooms}
+use Rattle.rebalance.specs.LoneWords.{OpensBoth}
 use Rattle.rebalance.specs.Mirrors.{Mirrors, held_memory}
 use Rattle.rebalance.specs.Slots.{AllNamed}
 
@@ -56,6 +62,7 @@ pub record IsHalved (z : Sizes) (w low_copy high_copy : RoomCopy) : Type 0 where
   pub low : low_copy.low ≡ w.low
   pub high : high_copy.high ≡ w.high
   pub bases : (low_copy.base ≡ w.base) × (high_copy.base ≡ w.base)
+  pub kept : (f : ℕ → ℕ → ℕ) → total (λ (e : EntryWords). f e.word e.value) (entries_held low_copy) + total (λ (e : EntryWords). f e.word e.value) (entries_held high_copy) ≡ total (λ (e : EntryWords). f e.word e.value) (entries_held w)
   pub lower : IsSorted (z.entries / 2) low_copy
   pub higher : IsSorted (z.entries - z.entries / 2) high_copy
   pub valued : (valueless low_copy ≡ 0) × (valueless high_copy ≡ 0)
@@ -84,3 +91,6 @@ pub record OpensHalves (z : Sizes) (call r q : ℕ) (w : RoomCopy) (v u : PassSt
   pub sweeps : (key : List ℕ) → IsKey key → AreBytes key → within (copy_span w) (key_number key) ≡ 1 → SweepsKey key v u
   pub beside : WorksBeside call v u
   pub rooms : u.rooms ≡ record v.rooms { held = []; moving = [] }
+  pub moment : HadMoment z u
+  -- to a pass that is alone
+  pub alone : Runs (OpensBoth z r q low_copy high_copy) v u

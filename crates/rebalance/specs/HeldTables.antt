@@ -25,6 +25,7 @@ use Rattle.chunk_core.specs.ValueWord.{names_header}
 use Rattle.oak_core.specs.declared.sorting.SortSlot.{SortSlot}
 use Rattle.oak_core.specs.declared.states.Finding.{Finding}
 use Rattle.oak_core.specs.declared.states.PassState.{PassState}
+use Rattle.oak_core.specs.AloneWords.{Runs}
 use Rattle.oak_core.specs.CallSteps.{Stands}
 use Rattle.oak_core.specs.FoundBehind.{FoundBehind}
 use Rattle.oak_core.specs.Memory.{in_rooms, index}
@@ -36,6 +37,7 @@ use Rattle.chunk_ops.specs.RoomPins.{HadMoment}
 use Rattle.rebalance.specs.declared.held.HeldTable.{HeldTable}
 use Rattle.rebalance.specs.HeldRooms.{IsNamed}
 use Rattle.rebalance.specs.ListedRows.{rows_of}
+use Rattle.rebalance.specs.LoneWords.{LeavesBut, held_by, no_room, runs_leave_both, runs_leave_more, runs_leave_none}
 use Rattle.rebalance.specs.Mirrors.{held_memory}
 
 -- the pass holds the room alone, and keeps all its words
@@ -137,6 +139,8 @@ pub record WorksOnRooms (z : Sizes) (call : ℕ) (v w : PassState) : Type 0 wher
   pub away : AwayFromPins z v w
   pub carried : valued w.rooms.moving ≡ valued v.rooms.moving
   pub moment : HadMoment z v → HadMoment z w
+  -- to a pass that is alone
+  pub words : Runs (LeavesBut z no_room (held_by v)) v w
 
 -- The table with its pass.
 
@@ -207,7 +211,7 @@ away_both z u v w a b = record {
 
 -- where nothing was done
 pub works_none : (z : Sizes) (call : ℕ) (v : PassState) → WorksOnRooms z call v v
-works_none z call v = record { stands = stands_none call v; blocks = refl; headers = refl; pin = refl; latch = refl; claim = refl; states = λ r s. refl; listed = refl; copies = λ r h. h; rows = record { rooms = refl; held = λ e. e }; away = away_none z v; carried = refl; moment = λ m. m }
+works_none z call v = record { stands = stands_none call v; blocks = refl; headers = refl; pin = refl; latch = refl; claim = refl; states = λ r s. refl; listed = refl; copies = λ r h. h; rows = record { rooms = refl; held = λ e. e }; away = away_none z v; carried = refl; moment = λ m. m; words = runs_leave_none z no_room (held_by v) v }
 
 -- one part behind another
 pub works_both : (z : Sizes) (call : ℕ) (u v w : PassState) → WorksOnRooms z call u v → WorksOnRooms z call v w → WorksOnRooms z call u w
@@ -225,6 +229,7 @@ works_both z call u v w a b = record {
   away = away_both z u v w a.away b.away;
   carried = b.carried ∙ a.carried;
   moment = λ m. b.moment (a.moment m);
+  words = runs_leave_both z no_room (held_by u) u v w a.words (runs_leave_more z no_room (held_by v) no_room (held_by u) v w (λ q m. m) (λ q l. let e = a.states q HELD in omega arith) b.words);
 }
 
 works_in : (z y : Sizes) (first now : ℕ) (v w : PassState) → y ≡ z → now ≡ first → WorksOnRooms y now v w → WorksOnRooms z first v w

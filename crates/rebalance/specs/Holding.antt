@@ -17,6 +17,7 @@ use Rattle.chunk_core.specs.RoomRule.{in_room_state, IsWholeCopy}
 use Rattle.chunk_core.specs.RoomStep.{freeze_room, hold_room, claim_room, open_room, retire_room}
 use Rattle.chunk_core.specs.Rooms.{at_room_pin}
 use Rattle.oak_core.specs.declared.states.PassState.{PassState}
+use Rattle.oak_core.specs.AloneWords.{Runs}
 use Rattle.oak_core.specs.CallSteps.{MetMore, StepOfCall, Stands}
 use Rattle.oak_core.specs.Memory.{in_rooms, memory}
 use Rattle.oak_core.specs.RoomLacks.{FoundUsed}
@@ -24,6 +25,7 @@ use Rattle.oak_core.specs.Step.{load, on_rooms}
 use Rattle.oak_core.specs.Sweeping.{swept_by}
 use Rattle.chunk_ops.specs.PinRecords.{OnlyMeets}
 use Rattle.chunk_ops.specs.RoomPins.{HadMoment}
+use Rattle.rebalance.specs.LoneWords.{FreezesWords, MovesRoom, MovesWith, NoneFree}
 use Rattle.rebalance.specs.Mirrors.{Mirrors, RangeStands}
 
 -- The pass only met more, all in the call, but for what it has of rooms.
@@ -56,6 +58,8 @@ pub record Freezes (z : Sizes) (call r : ℕ) (v w : PassState) : Type 0 where
   pub rooms : w.rooms ≡ with_frozen r v.rooms
   pub frozen : in_room_state r FROZEN w.rooms ≡ 1
   pub ended : HadMoment z w
+  -- to a pass that is alone
+  pub alone : Runs (FreezesWords z v r) v w
 
 -- A step of the call found the room frozen, and the pass only met more.
 pub record FindsFrozen (z : Sizes) (call r : ℕ) (v w : PassState) : Type 0 where
@@ -85,6 +89,8 @@ pub record Holds (z : Sizes) (call r : ℕ) (copy : RoomCopy) (range : MovingRan
   pub mirrors : Mirrors z copy range
   pub stands : RangeStands range
   pub ended : HadMoment z w
+  -- to a pass that is alone
+  pub alone : Runs (MovesWith z r FROZEN HELD copy) v w
 
 -- ---- claiming
 
@@ -111,6 +117,8 @@ pub record Claims (z : Sizes) (call r : ℕ) (copy : RoomCopy) (v w : PassState)
   pub has : HasHeld z r copy w.rooms
   pub latch : copy.latch ≡ 0
   pub ended : HadMoment z w
+  -- to a pass that is alone
+  pub alone : Runs (MovesWith z r FREE HELD copy) v w
 
 -- the room was found not free in the call, and the pass had nothing of it
 abbrev pub FindsUsed : Sizes → PassState → PassState → ℕ → Type 0
@@ -121,6 +129,8 @@ pub record FindsNoneFree (z : Sizes) (call but : ℕ) (v w : PassState) : Type 0
   pub used : (r : ℕ) → r < z.chunks → r ≢ but → FindsUsed z v w r
   pub only : OnlyMeets call v w
   pub moment : HadMoment z v → HadMoment z w
+  -- to a pass that is alone
+  pub alone : Runs (NoneFree z but) v w
 
 -- ---- opening and retiring
 
@@ -148,6 +158,8 @@ pub record Opens (z : Sizes) (call r : ℕ) (v w : PassState) : Type 0 where
   pub beside : SweepsBeside call r v w
   pub rooms : w.rooms ≡ with_opened r v.rooms
   pub ended : HadMoment z w
+  -- to a pass that is alone
+  pub alone : (copy : RoomCopy) → copy_of r v.rooms.held ≡ Some copy → Runs (MovesWith z r HELD OPEN copy) v w
 
 -- what a pass has of rooms once it retired one that it held
 abbrev pub with_retired : ℕ → RoomHolds → RoomHolds
@@ -161,3 +173,5 @@ pub record Retires (z : Sizes) (call r : ℕ) (v w : PassState) : Type 0 where
   pub beside : StandsBeside call v w
   pub rooms : w.rooms ≡ with_retired r v.rooms
   pub ended : HadMoment z w
+  -- to a pass that is alone
+  pub alone : Runs (MovesRoom z r HELD FREE) v w

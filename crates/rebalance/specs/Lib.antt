@@ -1,4 +1,7 @@
 pub mod Calls
+pub mod Copies
+pub mod LoneCalls
+pub mod LoneWords
 pub mod Bounds
 pub mod CarriedKeys
 pub mod Chunks
@@ -12,6 +15,7 @@ pub mod ListedRows
 pub mod HeldTables
 pub mod Holding
 pub mod Merging
+pub mod Settling
 pub mod Mirrors
 pub mod Ranges
 pub mod Read

@@ -8,6 +8,7 @@ use Rattle.oak_model.specs.Limits.{Sizes}
 use Rattle.chunk_core.specs.declared.holds.Carried.{Carried}
 use Rattle.chunk_core.specs.declared.holds.MovingRange.{MovingRange}
 use Rattle.chunk_core.specs.declared.holds.RoomCopy.{RoomCopy}
+use Rattle.chunk_core.specs.KeyWords.{high_bytes}
 use Rattle.chunk_core.specs.LinkedEntries.{entries_in}
 use Rattle.chunk_core.specs.MovingRanges.{is_below, joined_by}
 use Rattle.chunk_core.specs.RoomRule.{IsWholeCopy}
@@ -16,14 +17,17 @@ use Rattle.chunk_core.specs.Spans.{within}
 use Rattle.chunk_core.specs.ValueWord.{names_header}
 use Rattle.oak_core.specs.declared.sorting.SortSlot.{SortSlot}
 use Rattle.oak_core.specs.declared.states.PassState.{PassState}
+use Rattle.oak_core.specs.AloneWords.{Runs}
 use Rattle.oak_core.specs.CallSteps.{StepOfCall}
 use Rattle.oak_core.specs.Lack.{IsBelow}
 use Rattle.oak_core.specs.Step.{on_rooms}
 use Rattle.rebalance.specs.declared.merging.Taken.{Taken}
-use Rattle.rebalance.specs.Calls.{ComesToHold, IsSorted, SweepsKey, copy_span, values_in}
+use Rattle.rebalance.specs.Calls.{ComesToHold, IsSorted, StaysApart, SweepsKey}
+use Rattle.rebalance.specs.Copies.{copy_span, values_in}
 use Rattle.rebalance.specs.Chunks.{AllValued, HoldsFront, IsRewritten, WorksBeside, held_row, keys_in}
 use Rattle.rebalance.specs.Filled.{IsFilled}
 use Rattle.rebalance.specs.HeldTables.{Apart, HoldsOnlyRooms, IsHeldRow}
+use Rattle.rebalance.specs.LoneWords.{FreesUpper, TakesRoom}
 use Rattle.rebalance.specs.Mirrors.{Mirrors, held_memory}
 use Rattle.rebalance.specs.SlotRanges.{SlotsHave}
 use Rattle.rebalance.specs.Slots.{AllNamed}
@@ -54,6 +58,8 @@ pub record TakesChunk (z : Sizes) (call : ℕ) (key : List ℕ) (t : Taken) (slo
   pub has : SlotsHave (keys_in u.rooms.moving) slots range
   pub filled : IsFilled t.room slots words.base (held_memory u.rooms.held)
   pub named : AllNamed slots
+  -- to a pass that is alone
+  pub alone : Runs (TakesRoom z v t.room held) v u
 
 -- The pass holds two rooms with neighbouring ranges, the upper one in front. Their entries, sorted, fit into one room, and the slots have those of the upper one.
 pub record HoldsPair (z : Sizes) (low up : Taken) (slots : List SortSlot) (v : PassState) : Type 0 where
@@ -87,11 +93,19 @@ pub record JoinsPair (z : Sizes) (call : ℕ) (low up : Taken) (below above : Mo
   pub retires : StepOfCall z call (on_rooms (retire_room up.room)) v u
   pub beside : WorksBeside call v u
   pub sorted : IsSorted (low.kept + up.kept) opened
+  -- to a pass that is alone
+  pub alone : Runs (FreesUpper z low.room up.room) v u
 
 -- Each key that is not below this one, and below the high bound, is in a range that was swept in the call. That bound is a key.
 pub record SweepsUpTo (key : List ℕ) (high : Option (List ℕ)) (v w : PassState) : Type 0 where
   pub swept : (k : List ℕ) → IsKey k → key_cmp k key ≢ Less → IsBelow high k → SweepsKey k v w
   pub is_key : (h : List ℕ) → high ≡ Some h → IsKey h
+
+-- The chunk stays apart from the one above it, and it ends at the high bound, up to which each key that is not below this one is in a range that was swept in the call.
+pub record ApartUpTo (z : Sizes) (call : ℕ) (key : List ℕ) (high : Option (List ℕ)) (v w : PassState) : Type 0 where
+  pub stays : StaysApart z call key v w
+  pub ends : high_bytes stays.held.high ≡ high
+  pub sweeps : SweepsUpTo key high v w
 
 -- Each key below this one is in a range that was swept in the call.
 abbrev pub SweepsBelow : List ℕ → PassState → PassState → Type 0

@@ -9,7 +9,7 @@ ghost use Rattle.chunk_core.specs.Spans.{within};
 ghost use Rattle.oak_core.specs.Passes.{IsPassOf, Stays, state, key as sizes, call_of};
 ghost use Rattle.chunk_ops.specs.PinRecords.{HasRoomPin};
 ghost use Rattle.chunk_ops.specs.Stored.{IsStored};
-ghost use Rattle.rebalance.specs.Calls.{copy_span};
+ghost use Rattle.rebalance.specs.Copies.{copy_span};
 ghost use Rattle.rebalance.specs.Chunks.{ComesBack, HoldsFor, HoldsFront, HoldsPinned, LosesPinned, OpensFront};
 ghost use Rattle.rebalance.specs.HeldTables.{HoldsOnlyRooms, WorksOnRooms};
 
@@ -80,7 +80,7 @@ fn try_hold<R: Wait>(rt: &R, table: &OakTable, pass: &mut Pass, key: &[u8]) -> O
     requires only { HoldsOnlyRooms (state pass.old) }
     ensures own { Stays pass.old pass.new }
     ensures holds { IfSome result (λ r. (w : RoomCopy) × (g : MovingRange) × HoldsFor (sizes table.now) (call_of pass.old) key.now r w g (state pass.old) (state pass.new)) }
-    ensures back { IfNone result (ComesBack (call_of pass.old) (state pass.old) (state pass.new)) }
+    ensures back { IfNone result (ComesBack (sizes table.now) (call_of pass.old) (state pass.old) (state pass.new)) }
 {
     let Ok(pin) = pin_for(table, pass, key, NO_HINT) else {
         return None;

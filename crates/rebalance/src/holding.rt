@@ -7,9 +7,11 @@ ghost use Rattle.chunk_core.specs.MayOnRooms.{MayOpenCopy, MayRetire};
 ghost use Rattle.chunk_core.specs.RoomCopies.{copy_of};
 ghost use Rattle.chunk_core.specs.RoomHolds.{had_room};
 ghost use Rattle.chunk_core.specs.RoomRule.{in_room_state};
+ghost use Rattle.oak_core.specs.AloneWords.{Runs};
 ghost use Rattle.oak_core.specs.Passes.{IsPassOf, Stays, state, key, call_of};
 ghost use Rattle.chunk_ops.specs.PinRecords.{HasRoomPin, OnlyMeets};
 ghost use Rattle.chunk_ops.specs.RoomPins.{HadMoment};
+ghost use Rattle.rebalance.specs.LoneWords.{IsTaken};
 ghost use Rattle.rebalance.specs.Holding.{Freezes, FindsFrozen, Holds, HasOnly, Claims, FindsUsed, FindsNoneFree, Opens, Retires};
 
 use chunk_core::{FREE, FROZEN, HELD, OPEN};
@@ -78,6 +80,7 @@ fn try_claim(table: &OakTable, pass: &mut Pass, room: u32) -> bool
     ensures used { result ≡ false → had_room room (state pass.old).rooms ≡ 0 → FindsUsed (key table.now) (state pass.old) (state pass.new) room }
     ensures only { result ≡ false → OnlyMeets (call_of pass.old) (state pass.old) (state pass.new) }
     ensures moment { result ≡ false → HadMoment (key table.now) (state pass.new) }
+    ensures alone { result ≡ false → (state pass.old).rooms.pin ≡ None → Runs (IsTaken (key table.now) room) (state pass.old) (state pass.new) }
 {
     let word = table.room_at(room);
     let free = pack(0, FREE, 0);

@@ -8,11 +8,11 @@ ghost use Rattle.chunk_core.specs.KeyWords.{high_bytes};
 ghost use Rattle.oak_core.specs.Passes.{IsPassOf, Stays, state, key as sizes, call_of, slots_of};
 ghost use Rattle.oak_core.specs.PassState.{HoldsNothing};
 ghost use Rattle.oak_core.specs.Scratch.{StaysButSlots};
-ghost use Rattle.rebalance.specs.Calls.{Merges, StaysApart};
+ghost use Rattle.rebalance.specs.Calls.{Merges};
 ghost use Rattle.rebalance.specs.Chunks.{HoldsFront};
 ghost use Rattle.rebalance.specs.HeldTables.{WorksOnRooms};
 ghost use Rattle.rebalance.specs.Ranges.{IsHighKey};
-ghost use Rattle.rebalance.specs.Merging.{HoldsCompacted, HoldsPair, JoinsPair, SweepsUpTo, TakesChunk};
+ghost use Rattle.rebalance.specs.Merging.{ApartUpTo, HoldsCompacted, HoldsPair, JoinsPair, TakesChunk};
 
 use crate::bounds::copy_high;
 use crate::chunks::{hold_for, open_front};
@@ -112,7 +112,7 @@ pub(crate) fn merge_chunk<R: Wait>(rt: &R, table: &OakTable, pass: &mut Pass, ke
     requires idle { HoldsNothing (state pass.old) }
     ensures own { StaysButSlots pass.old pass.new }
     ensures joined { result ≡ Merged.Joined → Merges (sizes table.now) (call_of pass.old) key.now (state pass.old) (state pass.new) }
-    ensures apart { (high : Option (List ℕ)) → result ≡ Merged.Apart high → StaysApart (sizes table.now) (call_of pass.old) key.now (state pass.old) (state pass.new) × SweepsUpTo key.now high (state pass.old) (state pass.new) }
+    ensures apart { (high : Option (List ℕ)) → result ≡ Merged.Apart high → ApartUpTo (sizes table.now) (call_of pass.old) key.now high (state pass.old) (state pass.new) }
 {
     let low = take_chunk(rt, table, pass, key);
     let Some(high) = high_of(table, pass, low.room) else {

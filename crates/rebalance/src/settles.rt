@@ -1,5 +1,5 @@
 //! Settling the whole map.
-ghost use Rattle.oak_core.specs.Passes.{IsPassOf, state, call_of};
+ghost use Rattle.oak_core.specs.Passes.{IsPassOf, state, key as sizes, call_of};
 ghost use Rattle.oak_core.specs.PassState.{HoldsNothing};
 ghost use Rattle.oak_core.specs.Scratch.{StaysButSlots};
 ghost use Rattle.rebalance.specs.Calls.{Settles};
@@ -16,7 +16,7 @@ pub fn settle<R: Wait>(rt: &R, table: &OakTable, pass: &mut Pass)
     requires own { IsPassOf table.now pass.old }
     requires idle { HoldsNothing (state pass.old) }
     ensures own { StaysButSlots pass.old pass.new }
-    ensures settled { Settles (call_of pass.old) (state pass.old) (state pass.new) }
+    ensures settled { Settles (sizes table.now) (call_of pass.old) (state pass.old) (state pass.new) }
 {
     let mut from = KeyBytes::least();
     for _ in rt.forever() {

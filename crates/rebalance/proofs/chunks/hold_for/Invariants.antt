@@ -1,4 +1,4 @@
-use Rattle.oak_core.specs.Passes.{Stays, state, call_of}
+use Rattle.oak_core.specs.Passes.{Stays, state, key as sizes, call_of}
 use Rattle.rebalance.specs.Chunks.{ComesBack}
 use Rattle.rebalance.proofs.chunks.hold_for.Given as goal
 
@@ -6,5 +6,5 @@ abbrev pub invariant-loop : goal.invariant-loop
 invariant-loop g l = record {
   next : (goal.iterator-loop g).can_next l.iterator';
   stays : Stays l.fn.pass l.pass;
-  back : ComesBack (call_of l.fn.pass) (state l.fn.pass) (state l.pass);
+  back : ComesBack (sizes l.fn.table) (call_of l.fn.pass) (state l.fn.pass) (state l.pass);
 }

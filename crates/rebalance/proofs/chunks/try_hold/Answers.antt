@@ -5,10 +5,10 @@ use Rattle.chunk_core.specs.declared.holds.MovingRange.{MovingRange}
 use Rattle.chunk_core.specs.declared.holds.RoomCopy.{RoomCopy}
 use Rattle.chunk_core.specs.Spans.{within}
 use Rattle.oak_core.specs.Passes.{state, key as sizes, call_of}
-use Rattle.rebalance.specs.Calls.{copy_span}
+use Rattle.rebalance.specs.Copies.{copy_span}
 use Rattle.rebalance.specs.Chunks.{HoldsPinned, LosesPinned, OpensFront}
 use Rattle.rebalance.specs.HeldTables.{WorksOnRooms}
-use Rattle.rebalance.proofs.ChunkLaws.{back_lost, back_opened, looked_for, looked_front, pinned_front}
+use Rattle.rebalance.proofs.ChunkLaws.{back_lost, back_moved, back_opened, looked_for, looked_front, pinned_front}
 use Rattle.rebalance.proofs.chunks.try_hold.Goals as goal
 
 pub returns-then-not-hold_pinned-clause-back : goal.returns-then-not-hold_pinned-clause-back
@@ -45,3 +45,6 @@ returns-clause-back g c = let z : Sizes = sizes c.args.table.now in let call = c
     let front = looked_front z call r c.args.key.now v x c.requires.only c.in-Ok.ensures.pinned y h.0 h.1 h.2 q works c.front_has.ensures.rooms in
     let opens = subst (λ (k : ℕ). OpensFront z k r h.0 v.rooms.held v.rooms.moving q u) (c.front_has.ensures.own.call ∙ to_here) (c.open_front.ensures.opens h.0 h.1 v.rooms.held v.rooms.moving front) in
     back_opened z call r c.args.key.now v x c.requires.only c.in-Ok.ensures.pinned y h.0 h.1 h.2 q works c.front_has.ensures.rooms u opens
+
+pub returns-in_default-clause-back : goal.returns-in_default-clause-back
+returns-in_default-clause-back g c = back_moved (sizes c.args.table.now) (call_of c.args.pass.now) (state c.args.pass.now) (state c.pin_for.new.pass) c.in_default.ensures.only

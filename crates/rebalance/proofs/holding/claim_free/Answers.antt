@@ -1,8 +1,10 @@
-use Rattle.std.proofs.Common.{◌≢◌, ℕ, ◌+◌, ◌<◌, sym, ap, ◌∙◌, subst}
+use Rattle.std.proofs.Common.{◌≢◌, ℕ, ◌+◌, ◌<◌, ◌≤◌, sym, ap, ◌∙◌, subst, arith}
 use Rattle.oak_model.specs.Limits.{Sizes}
 use Rattle.chunk_core.specs.RoomHolds.{had_room}
 use Rattle.chunk_core.specs.declared.holds.RoomCopy.{RoomCopy}
+use Rattle.chunk_core.specs.declared.holds.RoomHolds.{RoomHolds}
 use Rattle.oak_core.specs.declared.table.Pass.{Pass}
+use Rattle.oak_core.specs.AloneWords.{Runs}
 use Rattle.oak_core.specs.Passes.{Stays, state, key, call_of}
 use Rattle.oak_core.proofs.SamePass.{stays_both}
 use Rattle.chunk_ops.specs.PinRecords.{OnlyMeets}
@@ -10,6 +12,7 @@ use Rattle.chunk_ops.proofs.MeetingCalls.{only_none, only_both, only_in}
 use Rattle.chunk_ops.specs.RoomPins.{HadMoment}
 use Rattle.rebalance.specs.Holding.{Claims, FindsUsed}
 use Rattle.rebalance.proofs.ClaimedRooms.{claims_since, had_none, used_since, used_more}
+use Rattle.rebalance.proofs.TakenRooms.{TakenBelow, none_free, taken_but, taken_more}
 use Rattle.rebalance.proofs.holding.claim_free.Goals.{else-room-but-via-then-room-but+else-try_claim, else-room-but-via-else-room-but}
 use Rattle.rebalance.proofs.holding.claim_free.Goals as goal
 
@@ -26,11 +29,17 @@ loop-room-preserved c = let z : Sizes = key c.args.table.now in let call = call_
         moment = λ _. subst (λ (p : Pass). HadMoment z (state p)) (sym t.pass-is) (t.try_claim.ensures.moment t.if-try_claim.false);
         used = subst (λ (p : Pass). (j : ℕ) → j < r + 1 → j ≢ c.args.but → FindsUsed z u (state p) j) (sym t.pass-is) (used_more z call c.args.but r u v w only.stands.met i.used
             (λ ne. used_since z call r u v w i.only.stands.met (t.try_claim.ensures.used t.if-try_claim.false (ap (had_room r) i.only.rooms ∙ had_none r c.args.but u.rooms c.requires.only ne))));
+        alone = subst (λ (p : Pass). Runs (TakenBelow z c.args.but (r + 1)) u (state p)) (sym t.pass-is) (taken_more z c.args.but r u v w i.alone (t.try_claim.ensures.alone t.if-try_claim.false (ap (λ (a : RoomHolds). a.pin) i.only.rooms ∙ c.requires.only.pin)));
       })
       | else-room-but-via-else-room-but t ↦ record {
         stays = subst (λ (p : Pass). Stays c.args.pass.now p) (sym t.pass-is) i.stays;
         only = subst (λ (p : Pass). OnlyMeets call u (state p)) (sym t.pass-is) i.only;
         moment = λ h. subst (λ (p : Pass). HadMoment z (state p)) (sym t.pass-is) (i.moment h);
         used = subst (λ (p : Pass). (j : ℕ) → j < r + 1 → j ≢ c.args.but → FindsUsed z u (state p) j) (sym t.pass-is) (used_more z call c.args.but r u v v (only_none call v).stands.met i.used (λ ne. absurd (ne t.if-room-but.false)));
+        alone = subst (λ (p : Pass). Runs (TakenBelow z c.args.but (r + 1)) u (state p)) (sym t.pass-is) (taken_but z c.args.but r u v t.if-room-but.false i.alone);
       }
     ]
+
+pub returns-clause-none : goal.returns-clause-none
+returns-clause-none c = let z : Sizes = key c.args.table.now in let u = state c.args.pass.now in let v = state c.loop-room.pass in let i = c.loop-room.invariant in let all : z.chunks ≤ c.loop-room.room = let e = c.rooms-room-end.ensures.is in let no = c.loop-room-test.false in omega arith in
+    record { used = λ r lt ne. i.used r (omega arith) ne; only = i.only; moment = i.moment; alone = none_free z c.args.but c.loop-room.room u v all i.alone }

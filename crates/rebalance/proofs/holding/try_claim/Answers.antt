@@ -19,6 +19,7 @@ use Rattle.rebalance.proofs.ClaimedRooms.{load_used, exchange_used, claims}
 use Rattle.rebalance.proofs.FrozenRooms.{pin_load, pin_load_only}
 use Rattle.rebalance.proofs.HeldAlone.{bare_word}
 use Rattle.rebalance.proofs.RoomExchanges.{packed_states, claim_misses}
+use Rattle.rebalance.proofs.TakenRooms.{exchange_taken, load_taken}
 use Rattle.rebalance.proofs.holding.try_claim.Goals as goal
 
 pub load-requires-clause-inside : goal.load-requires-clause-inside
@@ -64,3 +65,14 @@ returns-clause-moment c e = let z : Sizes = key c.args.table.now in let call = c
     let names : NamesRoomPin z r c.room_at-word.result = record { inside = c.requires.inside; word_is = c.room_at-word.ensures } in
     let told : ClaimsRoom z call r c.pack-free.result v c.claim_room.result w = subst (λ (k : ℕ). ClaimsRoom z k r c.pack-free.result v c.claim_room.result w) c.load.ensures.own.call (c.claim_room.ensures.told r names) in
     (_, moment_after z call (on_rooms (claim_room r c.pack-free.result)) v c.claim_room.result w told)
+
+pub returns-then-load-free-clause-alone : goal.returns-then-load-free-clause-alone
+returns-then-load-free-clause-alone c _ none = let z : Sizes = key c.args.table.now in let call = call_of c.args.pass.now in let r = c.args.room in let v = state c.args.pass.now in let w = state c.load.new.pass in
+    load_taken z call r c.pack-free.result c.load.result v w (pin_load z call r c.room_at-word.result c.load.result v w record { inside = c.requires.inside; word_is = c.room_at-word.ensures } c.load.ensures.loaded)
+    (ap generation_of c.pack-free.ensures ∙ generation_of-packed 0 FREE 0 (omega arith) (omega arith)) (bare_word FREE c.pack-free.result (omega arith) c.pack-free.ensures) c.if-load-free.true none
+
+pub returns-clause-alone : goal.returns-clause-alone
+returns-clause-alone c e _ = let z : Sizes = key c.args.table.now in let call = call_of c.args.pass.now in let r = c.args.room in let u = state c.args.pass.now in let v = state c.load.new.pass in let w = state c.claim_room.new.pass in
+    let names : NamesRoomPin z r c.room_at-word.result = record { inside = c.requires.inside; word_is = c.room_at-word.ensures } in
+    exchange_taken z call r c.pack-free.result c.claim_room.result c.load.result u v w (pin_load z call r c.room_at-word.result c.load.result u v names c.load.ensures.loaded) c.if-load-free.false
+    (subst (λ (k : ℕ). ClaimsRoom z k r c.pack-free.result v c.claim_room.result w) c.load.ensures.own.call (c.claim_room.ensures.told r names)) (eqb-false c.claim_room.result c.pack-free.result e)

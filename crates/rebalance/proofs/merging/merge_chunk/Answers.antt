@@ -3,11 +3,10 @@ use Rattle.oak_model.specs.Key.{IsKey}
 use Rattle.oak_model.specs.Limits.{Sizes}
 use Rattle.oak_core.specs.Passes.{state, key as sizes, call_of, slots_of}
 use Rattle.chunk_ops.proofs.WordParts.{slice_bytes}
-use Rattle.rebalance.specs.Calls.{StaysApart}
 use Rattle.rebalance.specs.Chunks.{OpensFront}
 use Rattle.rebalance.specs.HeldTables.{WorksOnRooms}
-use Rattle.rebalance.specs.Merging.{JoinsPair, SweepsUpTo, TakesChunk}
-use Rattle.rebalance.proofs.MergedChunks.{alone_sweeps, apart_alone, apart_full, apart_of, full_sweeps, merged_chunks, none_of}
+use Rattle.rebalance.specs.Merging.{ApartUpTo, JoinsPair, TakesChunk}
+use Rattle.rebalance.proofs.MergedChunks.{apart_alone, apart_full, apart_of, merged_chunks, none_of}
 use Rattle.rebalance.proofs.NeighbourChunks.{pair_held}
 use Rattle.rebalance.proofs.TakenChunks.{end_is_key, front_back, front_looked, lone_compacted, lone_front}
 use Rattle.rebalance.proofs.merging.merge_chunk.Goals as goal
@@ -18,10 +17,7 @@ returns-in_default-clause-apart g c = λ high same. let z : Sizes = sizes c.args
     let works = subst (λ (k : ℕ). WorksOnRooms z k a q) to_a c.high_of.ensures.works in let alone = lone_front z call key low ys v a idle lower in let front = front_looked z call low.room lower.words lower.range [] [] a q alone works c.high_of.ensures.rooms in
     let u = state c.open_front.new.pass in let end = c.high_of.ensures.high lower.words lower.range [] [] alone ∙ none_of c.high_of.result c.in_default.not-Some in
     let o = subst (λ (k : ℕ). OpensFront z k low.room lower.words [] [] q u) (c.high_of.ensures.own.call ∙ to_a) (c.open_front.ensures.opens lower.words lower.range [] [] front) in let bytes = slice_bytes key c.type_inv.key in
-    subst (λ (x : Option (List ℕ)). StaysApart z call key v u × SweepsUpTo key x v u) (ap apart_of same) (
-      apart_alone z call key low ys v a idle lower q works front bytes c.requires.key u o end,
-      alone_sweeps z call key low ys v a idle lower q works front bytes c.requires.key u o end,
-    )
+    subst (λ (x : Option (List ℕ)). ApartUpTo z call key x v u) (ap apart_of same) (apart_alone z call key low ys v a idle lower q works front bytes c.requires.key u o end)
 
 pub take_chunk-up-requires-clause-key : goal.take_chunk-up-requires-clause-key
 take_chunk-up-requires-clause-key g c = let z : Sizes = sizes c.args.table.now in let call = call_of c.args.pass.now in let key = c.args.key.now in let v = state c.args.pass.now in let a = state c.take_chunk-low.new.pass in let q = state c.high_of.new.pass in
@@ -58,10 +54,7 @@ returns-then-low-up-clause-apart g c = λ high same. let z : Sizes = sizes c.arg
     let again = front_back z call low.room up.room lower.words upper.words lower.range upper.range [] [] q b d front upper.front n in
     let u = state c.open_front-then-low-up-2.new.pass in let bytes = slice_bytes key c.type_inv.key in let much = c.if-low-up.true in let is = c.entries.ensures.is in
     let o = subst (λ (k : ℕ). OpensFront z k low.room lower.words [] [] d u) (c.open_front-then-low-up.ensures.own.call ∙ to_b) (c.open_front-then-low-up-2.ensures.opens lower.words lower.range [] [] again) in
-    subst (λ (x : Option (List ℕ)). StaysApart z call key v u × SweepsUpTo key x v u) (ap apart_of same) (
-      apart_full z call key low ys v a idle lower q works front bytes c.requires.key h end up xs b upper d u n o (omega (arith, much, is)),
-      full_sweeps z call key low ys v a idle lower q works front bytes c.requires.key h end up xs b upper d u n o,
-    )
+    subst (λ (x : Option (List ℕ)). ApartUpTo z call key x v u) (ap apart_of same) (apart_full z call key low ys v a idle lower q works front bytes c.requires.key h end up xs b upper d u n o (omega (arith, much, is)))
 
 pub join_above-requires-clause-pair : goal.join_above-requires-clause-pair
 join_above-requires-clause-pair g c = let z : Sizes = sizes c.args.table.now in let call = call_of c.args.pass.now in let key = c.args.key.now in let v = state c.args.pass.now in let a = state c.take_chunk-low.new.pass in let q = state c.high_of.new.pass in

@@ -1,9 +1,14 @@
 use Rattle.std.proofs.Common.{ℕ, List, Some, None, ap, sym, ◌∙◌, subst, refl}
 use Rattle.oak_model.specs.Key.{IsKey}
-use Rattle.oak_core.specs.Passes.{state, call_of}
+use Rattle.oak_model.specs.KeyNumber.{key_number}
+use Rattle.oak_model.specs.Limits.{Sizes}
+use Rattle.oak_core.specs.AloneWords.{Runs}
+use Rattle.oak_core.specs.Passes.{state, key as sizes, call_of}
 use Rattle.rebalance.specs.declared.merging.Merged.TheVariants.{Apart}
-use Rattle.rebalance.specs.Calls.{Leaves}
-use Rattle.rebalance.specs.Merging.{SweepsBelow, SweepsUpTo}
+use Rattle.rebalance.specs.Calls.{Merges}
+use Rattle.rebalance.specs.Merging.{ApartUpTo, SweepsBelow}
+use Rattle.rebalance.specs.Settling.{SettlesBelow}
+use Rattle.rebalance.proofs.SettledCalls.{all_settles, joined_settles, least_settles, next_settles}
 use Rattle.rebalance.proofs.SettledKeys.{all_swept, below_high, below_still, idle_still, least_below, least_is_key, leaves_both, leaves_none}
 use Rattle.rebalance.proofs.settles.settle.Goals as goal
 
@@ -14,6 +19,7 @@ loop-init g c = record {
   stays = record { table = refl; seat = refl; call = refl; scratch = refl; sorting = refl };
   leaves = leaves_none (call_of c.args.pass.now) (state c.args.pass.now);
   below = least_below c.least-from.result (state c.args.pass.now) c.least-from.ensures;
+  alone = least_settles (sizes c.args.table.now) c.least-from.result (state c.args.pass.now) c.least-from.ensures;
 }
 
 pub merge_chunk-requires-clause-idle : goal.merge_chunk-requires-clause-idle
@@ -21,27 +27,31 @@ merge_chunk-requires-clause-idle g c = idle_still (call_of c.args.pass.now) (sta
 
 pub loop-preserved-in-Joined : goal.loop-preserved-in-Joined
 loop-preserved-in-Joined g c = let call = call_of c.args.pass.now in let u = state c.args.pass.now in let v = state c.loop.pass in let w = state c.merge_chunk.new.pass in let i = c.loop.invariant in let s = c.merge_chunk.ensures.own in
-    let last = subst (λ (k : ℕ). Leaves k v w) i.stays.call (c.merge_chunk.ensures.joined c.in-Joined.is).leaves in record {
+    let z : Sizes = sizes c.args.table.now in let m = subst (λ (p : ℕ × List ℕ). Merges z p.0 p.1 v w) (λ j. (i.stays.call j, c.as_slice.ensures j)) (c.merge_chunk.ensures.joined c.in-Joined.is) in let last = m.leaves in record {
       next = tt;
       key = i.key;
       stays = record { table = s.table ∙ i.stays.table; seat = s.seat ∙ i.stays.seat; call = s.call ∙ i.stays.call; scratch = s.scratch ∙ i.stays.scratch; sorting = refl };
       leaves = leaves_both call u v w i.leaves last;
       below = below_still call c.loop.from u v w i.below last;
+      alone = joined_settles z call c.loop.from u v w i.alone m;
     }
 
 pub loop-preserved : goal.loop-preserved
 loop-preserved g c = let call = call_of c.args.pass.now in let u = state c.args.pass.now in let v = state c.loop.pass in let w = state c.merge_chunk.new.pass in let i = c.loop.invariant in let s = c.merge_chunk.ensures.own in
-    let high = c.in-Apart-Some.high in let apart = c.merge_chunk.ensures.apart (Some high) (c.in-Apart-Some.is ∙ ap Apart c.in-Apart-Some.field-0-is) in
-    let last = subst (λ (k : ℕ). Leaves k v w) i.stays.call apart.0.compacts.leaves in let more = subst (λ (l : List ℕ). SweepsUpTo l (Some high) v w) c.as_slice.ensures apart.1 in record {
+    let z : Sizes = sizes c.args.table.now in let high = c.in-Apart-Some.high in
+    let apart = subst (λ (p : ℕ × List ℕ). ApartUpTo z p.0 p.1 (Some high) v w) (λ j. (i.stays.call j, c.as_slice.ensures j)) (c.merge_chunk.ensures.apart (Some high) (c.in-Apart-Some.is ∙ ap Apart c.in-Apart-Some.field-0-is)) in
+    let last = apart.stays.leaves in let more = apart.sweeps in record {
       next = tt;
       key = subst IsKey (sym c.in-Apart-Some.high-is) (more.is_key high refl);
       stays = record { table = s.table ∙ i.stays.table; seat = s.seat ∙ i.stays.seat; call = s.call ∙ i.stays.call; scratch = s.scratch ∙ i.stays.scratch; sorting = refl };
       leaves = leaves_both call u v w i.leaves last;
       below = subst (λ (l : List ℕ). SweepsBelow l u w) (sym c.in-Apart-Some.high-is) (below_high call c.loop.from u v w i.below i.leaves last high more);
+      alone = subst (λ (l : List ℕ). Runs (SettlesBelow z (key_number l)) u w) (sym c.in-Apart-Some.high-is) (next_settles z call c.loop.from u v w i.alone high apart);
     }
 
 pub returns-in-Apart-None-clause-settled : goal.returns-in-Apart-None-clause-settled
 returns-in-Apart-None-clause-settled g c = let call = call_of c.args.pass.now in let u = state c.args.pass.now in let v = state c.loop.pass in let w = state c.merge_chunk.new.pass in let i = c.loop.invariant in
-    let apart = c.merge_chunk.ensures.apart None (c.in-Apart-None.is ∙ ap Apart c.in-Apart-None.field-0-is) in
-    let last = subst (λ (k : ℕ). Leaves k v w) i.stays.call apart.0.compacts.leaves in
-    record { leaves = leaves_both call u v w i.leaves last; covered = all_swept call c.loop.from u v w i.below i.leaves last (subst (λ (l : List ℕ). SweepsUpTo l None v w) c.as_slice.ensures apart.1) }
+    let z : Sizes = sizes c.args.table.now in
+    let apart = subst (λ (p : ℕ × List ℕ). ApartUpTo z p.0 p.1 None v w) (λ j. (i.stays.call j, c.as_slice.ensures j)) (c.merge_chunk.ensures.apart None (c.in-Apart-None.is ∙ ap Apart c.in-Apart-None.field-0-is)) in
+    let last = apart.stays.leaves in
+    record { leaves = leaves_both call u v w i.leaves last; covered = all_swept call c.loop.from u v w i.below i.leaves last apart.sweeps; alone = all_settles z call c.loop.from u v w i.alone apart }

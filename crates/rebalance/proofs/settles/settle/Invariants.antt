@@ -1,8 +1,11 @@
 use Rattle.oak_model.specs.Key.{IsKey}
-use Rattle.oak_core.specs.Passes.{state, call_of}
+use Rattle.oak_model.specs.KeyNumber.{key_number}
+use Rattle.oak_core.specs.AloneWords.{Runs}
+use Rattle.oak_core.specs.Passes.{state, key as sizes, call_of}
 use Rattle.oak_core.specs.Scratch.{StaysButSlots}
 use Rattle.rebalance.specs.Calls.{Leaves}
 use Rattle.rebalance.specs.Merging.{SweepsBelow}
+use Rattle.rebalance.specs.Settling.{SettlesBelow}
 use Rattle.rebalance.proofs.settles.settle.Given as goal
 
 abbrev pub invariant-loop : goal.invariant-loop
@@ -12,4 +15,5 @@ invariant-loop g l = record {
   stays : StaysButSlots l.fn.pass l.pass;
   leaves : Leaves (call_of l.fn.pass) (state l.fn.pass) (state l.pass);
   below : SweepsBelow l.from (state l.fn.pass) (state l.pass);
+  alone : Runs (SettlesBelow (sizes l.fn.table) (key_number l.from)) (state l.fn.pass) (state l.pass);
 }
