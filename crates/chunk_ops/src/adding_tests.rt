@@ -233,7 +233,7 @@ fn begins_at_none(rt: &impl Abort, table: &OakTable, pass: &mut Pass, key: &[u8]
 }
 
 /// An entry of the key of this byte is added, or stands, at this place.
-fn adds_at(rt: &impl Abort, table: &OakTable, pass: &mut Pass, byte: u8, entry: u32)
+pub(crate) fn adds_at(rt: &impl Abort, table: &OakTable, pass: &mut Pass, byte: u8, entry: u32)
     requires own { IsPassOf table.now pass.old }
     requires idle { HoldsNothing (state pass.old) }
     ensures own { Stays pass.old pass.new }

@@ -1,13 +1,15 @@
 //! The bounds of a pinned room.
-ghost use Rattle.std.specs.Prelude.{◌≡◌, ◌<◌, ℕ, IfSome, slice_index};
+ghost use Rattle.std.specs.Prelude.{◌≡◌, ◌<◌, ℕ, IfSome, MatchOption, slice_index};
 ghost use Rattle.chunk_core.specs.declared.layout.TheConstants.{BOUND_WORDS};
 ghost use Rattle.oak_core.specs.Memory.{in_rooms, index};
 ghost use Rattle.oak_core.specs.Passes.{IsPassOf, Stays, state, key, call_of};
 ghost use Rattle.chunk_ops.specs.PinRecords.{HasRoomPin, OnlyMeets, room_pin};
 ghost use Rattle.chunk_ops.specs.PinnedBounds.{IsBelow, bound_spot, bound_words, bound_bytes, bound_length, low_length, high_length, low_bound, high_bound};
+ghost use Rattle.chunk_ops.specs.Stored.{IsStored};
 
 use crate::pins::RoomPin;
-use arena_core::words::WORD;
+use crate::stored::{KEY_WORDS, StoredKey};
+use arena_core::words::{WORD, first_bytes};
 use oak_core::{OakTable, Pass, load};
 
 /// One of the two bounds of a room.
@@ -110,4 +112,56 @@ pub fn high_byte(table: &OakTable, pass: &mut Pass, pin: &RoomPin, i: usize) -> 
     ensures only { OnlyMeets (call_of pass.old) (state pass.old) (state pass.new) }
 {
     bound_byte(table, pass, pin, Bound::High, i)
+}
+
+/// Loads the key of a bound of the pinned room, which has `length` bytes, each of its words once.
+fn load_bound(
+    table: &OakTable,
+    pass: &mut Pass,
+    pin: &RoomPin,
+    bound: Bound,
+    length: usize,
+) -> StoredKey
+    requires own { IsPassOf table.now pass.old }
+    requires pinned { HasRoomPin (key table.now) pin.now.room (state pass.old) }
+    requires long { length ≡ bound_length bound (room_pin (state pass.old)) }
+    ensures own { Stays pass.old pass.new }
+    ensures key { IsStored result (bound_bytes bound (room_pin (state pass.old))) }
+    ensures only { OnlyMeets (call_of pass.old) (state pass.old) (state pass.new) }
+{
+    let mut words = [0; KEY_WORDS];
+    for i in 0..length.div_ceil(WORD) {
+        let word = bound_word(table, pass, pin, bound, 1 + i as u32);
+        words[i] = first_bytes(word, length - WORD * i);
+    }
+    StoredKey::from_words(words, length)
+}
+
+/// The key at which the pinned room's range begins, each of its words loaded once; none exactly where
+/// the room has no low bound.
+pub fn low_key(table: &OakTable, pass: &mut Pass, pin: &RoomPin) -> Option<StoredKey>
+    requires own { IsPassOf table.now pass.old }
+    requires pinned { HasRoomPin (key table.now) pin.now.room (state pass.old) }
+    ensures own { Stays pass.old pass.new }
+    ensures low { MatchOption result (low_length (room_pin (state pass.old)) ≡ 0) (λ k. (0 < low_length (room_pin (state pass.old))) × IsStored k (low_bound (room_pin (state pass.old)))) }
+    ensures only { OnlyMeets (call_of pass.old) (state pass.old) (state pass.new) }
+{
+    let length = low_len(table, pass, pin);
+    if length == 0 {
+        return None;
+    }
+    Some(load_bound(table, pass, pin, Bound::Low, length))
+}
+
+/// The key before which the pinned room's range ends, each of its words loaded once; none exactly
+/// where the room has no high bound.
+pub fn high_key(table: &OakTable, pass: &mut Pass, pin: &RoomPin) -> Option<StoredKey>
+    requires own { IsPassOf table.now pass.old }
+    requires pinned { HasRoomPin (key table.now) pin.now.room (state pass.old) }
+    ensures own { Stays pass.old pass.new }
+    ensures high { MatchOption result (slice_index (room_pin (state pass.old)).high 0 ≡ 0) (λ k. (0 < slice_index (room_pin (state pass.old)).high 0) × IsStored k (high_bound (room_pin (state pass.old)))) }
+    ensures only { OnlyMeets (call_of pass.old) (state pass.old) (state pass.new) }
+{
+    let length = high_len(table, pass, pin)?;
+    Some(load_bound(table, pass, pin, Bound::High, length))
 }

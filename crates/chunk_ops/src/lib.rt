@@ -10,7 +10,11 @@ mod comparing;
 mod entries;
 mod finding;
 mod key_blocks;
+mod key_bytes;
 mod latching;
+mod listing;
+#[cfg(test)]
+mod listing_tests;
 mod loading;
 mod nearest;
 #[cfg(test)]
@@ -29,8 +33,10 @@ mod values;
 mod way;
 
 pub use adding::add;
-pub use bounds::{high_byte, high_len, low_byte, low_len};
+pub use bounds::{high_byte, high_key, high_len, low_byte, low_key, low_len};
 pub use entries::{AddHalt, Content, EntryNo, Found, NotAdded};
+pub use key_bytes::KeyBytes;
+pub use listing::{count_entries, entry_key};
 pub use loading::{base_of, key_byte, key_len};
 pub use pinning::{Moved, pin_for, pin_last};
 pub use pins::{RoomPin, unpin};

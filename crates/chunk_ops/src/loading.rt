@@ -25,7 +25,7 @@ pub fn base_of(table: &OakTable, pass: &mut Pass, pin: &RoomPin) -> u64
 }
 
 /// Loads the key word of an entry.
-fn key_word(table: &OakTable, pass: &mut Pass, pin: &RoomPin, entry: EntryNo) -> u64
+pub(crate) fn key_word(table: &OakTable, pass: &mut Pass, pin: &RoomPin, entry: EntryNo) -> u64
     requires own { IsPassOf table.now pass.old }
     requires pinned { HasRoomPin (key table.now) pin.now.room (state pass.old) }
     requires entry { (k : List ℕ) × HasEntry pin.now.room entry.0 k (state pass.old) }

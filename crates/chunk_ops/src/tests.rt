@@ -5,7 +5,9 @@ ghost use Rattle.oak_core.specs.PassState.{HoldsNothing, IsAlone};
 ghost use Rattle.chunk_ops.specs.PinRecords.{HasRoomPin};
 ghost use Rattle.chunk_ops.specs.TestStates.{HoldsAPin, IsIdleAgain};
 
-use crate::{Moved, RoomPin, base_of, high_len, low_len, pin_for, pin_last, unpin};
+use crate::{
+    Moved, RoomPin, base_of, high_key, high_len, low_key, low_len, pin_for, pin_last, unpin,
+};
 use chunk_core::OPEN;
 use oak_core::{OakTable, Pass, load};
 use oak_model::{Hint, Shape};
@@ -24,9 +26,13 @@ fn all_keys(rt: &impl Abort, table: &OakTable, pass: &mut Pass, pin: RoomPin)
     assert_eq!(rt; pin.room, 0);
     let low = low_len(table, pass, &pin);
     let high = high_len(table, pass, &pin);
+    let begin = low_key(table, pass, &pin);
+    let end = high_key(table, pass, &pin);
     let base = base_of(table, pass, &pin);
     assert_eq!(rt; low, 0);
     assert!(rt; high.is_none());
+    assert!(rt; begin.is_none());
+    assert!(rt; end.is_none());
     assert_eq!(rt; base, 0);
     unpin(table, pass, pin);
 }

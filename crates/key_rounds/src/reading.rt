@@ -8,7 +8,8 @@ ghost use Rattle.oak_core.specs.Known.{knows_life};
 ghost use Rattle.oak_core.specs.Passes.{IsPassOf, Stays, state, key, call_of};
 ghost use Rattle.chunk_ops.specs.PinRecords.{HasEntry, HasRoomPin};
 ghost use Rattle.value_ops.specs.Pinning.{HasPin, MeetsMore, OnlyLearns, with_pin};
-ghost use Rattle.value_ops.specs.Reading.{IsReading, OnlyLoads, ReadsOn};
+ghost use Rattle.value_ops.specs.PinnedValues.{OnlyLoads};
+ghost use Rattle.value_ops.specs.Reading.{IsReading, ReadsOn};
 ghost use Rattle.key_rounds.specs.Rounds.{EndsCall, WroteBy};
 
 use chunk_ops::{Content, EntryNo, RoomPin, content};

@@ -20,7 +20,7 @@ use Rattle.chunk_ops.specs.declared.entries.EntryNo.{EntryNo}
 use Rattle.chunk_ops.proofs.PinsKept.{kept_both, kept_same, under_only}
 use Rattle.point_ops.specs.Spots.{FoundAway, FoundNamed}
 use Rattle.point_ops.proofs.Composed.{last_in}
-use Rattle.point_ops.proofs.LoadedViews.{known_loaded, names_home}
+use Rattle.value_ops.proofs.LoadedViews.{known_loaded, names_home}
 
 -- a key that was read was read since every earlier state of the call
 pub last_since : (call k at : ℕ) (s : State) (u v w : PassState) → Learns call u v → ReadsLast k at s v w → ReadsLast k at s u w

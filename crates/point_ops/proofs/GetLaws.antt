@@ -18,7 +18,7 @@ use Rattle.oak_core.proofs.CallSteps.{learns_both, stands_learns, stands_none}
 use Rattle.chunk_ops.specs.PinRecords.{OnlyLearns, PinKept, UnderPin}
 use Rattle.chunk_ops.specs.RoomPins.{PinsOpen, Unpins}
 use Rattle.value_ops.specs.Pinning.{KnowsLife}
-use Rattle.value_ops.specs.Reading.{ReadsLife}
+use Rattle.value_ops.specs.PinnedValues.{ReadsLife}
 use Rattle.value_ops.specs.Views.{KnowsView, Viewed}
 use Rattle.point_ops.specs.FoundWords.{FoundWord}
 use Rattle.point_ops.specs.Gets.{Gets, GotFits}

@@ -3,7 +3,6 @@ pub mod ReplyLaws
 pub mod WritesIn
 pub mod PinnedCalls
 pub mod SpotLaws
-pub mod LoadedViews
 pub mod FoundSpots
 pub mod RemovalSeen
 pub mod KnownEnds

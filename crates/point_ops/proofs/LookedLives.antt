@@ -22,7 +22,8 @@ use Rattle.chunk_ops.proofs.MeetingCalls.{stays_then}
 use Rattle.value_ops.specs.declared.pinning.BadPin.{BadPin}
 use Rattle.value_ops.specs.declared.reading.Reading.{Reading}
 use Rattle.value_ops.specs.Pinning.{AddsPin, DropsPin, EndsPin, FindsDud, HasPin, IsLiveAt, KnowsLife, KnowsMore, PinsDud, PinsLive}
-use Rattle.value_ops.specs.Reading.{IsReading, LearnsByLoads, ReadsLife, stamp, value}
+use Rattle.value_ops.specs.PinnedValues.{LearnsByLoads, ReadsLife}
+use Rattle.value_ops.specs.Reading.{IsReading, header, stamp, value}
 use Rattle.value_ops.proofs.AlonePins.{undone}
 use Rattle.value_ops.proofs.LearnFacts.{knows_both, knows_same, learned_pin}
 use Rattle.point_ops.specs.FoundWords.{FoundWord}
@@ -47,11 +48,11 @@ header_of None = 0
 header_of (Some p) = p.header
 
 -- the reading is of the pinned header
-reading_of : (z : Sizes) (h g : ℕ) (p : PinnedHeader) (v : PassState) (r : Reading) → HasPin z h g p v → IsReading r → (state r.pass.now).headers ≡ v.headers → r.header ≡ h
-reading_of z h g p v r has reading same = sym reading.has.header_is ∙ (ap header_of (sym reading.has.is ∙ (ap (λ (a : HeaderHolds). a.pin) same ∙ has.is)) ∙ has.header_is)
+reading_of : (z : Sizes) (h g : ℕ) (p : PinnedHeader) (v : PassState) (r : Reading) → HasPin z h g p v → IsReading r → (state r.pass.now).headers ≡ v.headers → header r ≡ h
+reading_of z h g p v r has reading same = sym reading.pinned.has.header_is ∙ (ap header_of (sym reading.pinned.has.is ∙ (ap (λ (a : HeaderHolds). a.pin) same ∙ has.is)) ∙ has.header_is)
 
 module _ (z : Sizes) (call h g : ℕ) (p : PinnedHeader) (v : PassState) (r : Reading) (w : PassState) (has : HasPin z h g p v) (reading : IsReading r) (loads : LearnsByLoads z call v (state r.pass.now))
-    (reads : (key : List ℕ) → KnowsLife h g key v.knowledge → ReadsLife h g key (stamp r) (value r) v (state r.pass.now)) (y : Sizes) (later : ℕ) (table : y ≡ z) (same : later ≡ call) (undo : EndsPin y later r.header (state r.pass.now) w) where
+    (reads : (key : List ℕ) → KnowsLife h g key v.knowledge → ReadsLife h g key (stamp r) (value r) v (state r.pass.now)) (y : Sizes) (later : ℕ) (table : y ≡ z) (same : later ≡ call) (undo : EndsPin y later (header r) (state r.pass.now) w) where
   abbrev u : PassState
   u = state r.pass.now
 

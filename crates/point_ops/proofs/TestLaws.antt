@@ -25,7 +25,7 @@ use Rattle.point_ops.specs.TestStates.{HasView, IsReady, IsReadyAgain, WroteBy}
 use Rattle.point_ops.specs.declared.gets.Got.{Got}
 use Rattle.point_ops.specs.declared.gets.Got.TheVariants as gots
 use Rattle.point_ops.specs.declared.halts.Halt.{Halt}
-use Rattle.point_ops.proofs.LoadedViews.{view_loaded}
+use Rattle.value_ops.proofs.LoadedViews.{view_loaded}
 
 -- nothing was done, and the call may be a later one
 pub ready_later : (call next : ℕ) (v w : PassState) → call ≤ next → w ≡ v → IsReady call v → IsReadyAgain next v w

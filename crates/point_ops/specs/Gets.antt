@@ -1,5 +1,5 @@
 -- What a look at a key gets. v is the state of the pass at the call, w the one at its end.
-use Rattle.std.specs.Prelude.{◌≡◌, ℕ, List, None, Some}
+use Rattle.std.specs.Prelude.{◌≡◌, ℕ, List, None}
 use Rattle.oak_model.specs.declared.cells.CellCall.TheVariants.{Get}
 use Rattle.oak_model.specs.declared.cells.CellReply.TheVariants as replies
 use Rattle.oak_model.specs.KeyNumber.{key_number}
@@ -8,17 +8,12 @@ use Rattle.oak_core.specs.declared.states.PassState.{PassState}
 use Rattle.oak_core.specs.KeyHistories.{home_behind}
 use Rattle.oak_core.specs.KeyReads.{home_of}
 use Rattle.oak_core.specs.LastReads.{ReadsLast}
-use Rattle.oak_core.specs.LifeKeys.{key_in_loaded}
 use Rattle.oak_core.specs.PassState.{seen_of}
-use Rattle.value_ops.specs.Reading.{ReadsLife}
-use Rattle.value_ops.specs.Views.{Viewed, KnowsView}
+use Rattle.value_ops.specs.PinnedValues.{ReadsLife}
+use Rattle.value_ops.specs.Views.{KnowsView, LoadedView, Viewed}
 use Rattle.point_ops.specs.Replies.{RepliesAt}
 use Rattle.point_ops.specs.declared.gets.Got.{Got}
 use Rattle.point_ops.specs.declared.gets.Got.TheVariants.{Absent, View}
-
--- the pass loaded the life of the view from an entry of its key, so it knows the view, and will in every later state
-abbrev pub LoadedView : Viewed → PassState → Type 0
-LoadedView x v = key_in_loaded x.header x.generation v.knowledge.loaded ≡ Some x.key
 
 -- the key was read in a life, of which the view is, and the pass knows the view
 pub record SeesView (z : Sizes) (key : List ℕ) (x : Viewed) (v w : PassState) : Type 0 where

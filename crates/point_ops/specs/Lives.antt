@@ -12,7 +12,7 @@ use Rattle.oak_core.specs.KeyReads.{home_of}
 use Rattle.oak_core.specs.LastReads.{NotPast, ReadsLast}
 use Rattle.oak_core.specs.Memory.{in_headers}
 use Rattle.value_ops.specs.Pinning.{DropsPin, KnowsLife, KnowsMore}
-use Rattle.value_ops.specs.Reading.{ReadsLife}
+use Rattle.value_ops.specs.PinnedValues.{ReadsLife}
 use Rattle.point_ops.specs.FoundWords.{FoundWord}
 use Rattle.point_ops.specs.Halting.{IsDeadAt}
 use Rattle.point_ops.specs.declared.lives.Life.{Life}

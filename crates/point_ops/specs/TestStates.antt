@@ -5,8 +5,7 @@ use Rattle.oak_model.specs.Limits.{Sizes}
 use Rattle.oak_core.specs.declared.states.KeyedWrite.{KeyedWrite}
 use Rattle.oak_core.specs.declared.states.PassState.{PassState}
 use Rattle.oak_core.specs.PassState.{HoldsNothing}
-use Rattle.value_ops.specs.Views.{Viewed}
-use Rattle.point_ops.specs.Gets.{LoadedView}
+use Rattle.value_ops.specs.Views.{LoadedView, Viewed}
 
 -- all of its writes are of this call or of earlier ones
 abbrev pub WroteBy : ℕ → PassState → Type 0

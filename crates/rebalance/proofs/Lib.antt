@@ -1,7 +1,6 @@
 pub mod AwayFromPins
 pub mod LoadedBounds
 pub mod RangeKeys
-pub mod KeyCopies
 pub mod LeastKey
 pub mod HeldMemory
 pub mod StoredMemory

@@ -12,7 +12,6 @@ mod fronts;
 mod halving;
 mod held;
 mod holding;
-mod key_bytes;
 mod merges;
 mod merging;
 #[cfg(test)]

@@ -4,8 +4,8 @@ ghost use Rattle.oak_core.specs.PassState.{HoldsNothing};
 ghost use Rattle.oak_core.specs.Scratch.{StaysButSlots};
 ghost use Rattle.rebalance.specs.Calls.{Settles};
 
-use crate::key_bytes::KeyBytes;
 use crate::merging::{Merged, merge_chunk};
+use chunk_ops::KeyBytes;
 use oak_core::{OakTable, Pass};
 use std::sync::Wait;
 

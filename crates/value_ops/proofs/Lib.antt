@@ -43,3 +43,4 @@ pub mod LearnFacts
 pub mod ReadFacts
 pub mod ReadRounds
 pub mod ViewFacts
+pub mod LoadedViews

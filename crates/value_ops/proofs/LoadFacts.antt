@@ -23,7 +23,7 @@ use Rattle.oak_core.specs.TableState.{TableState}
 use Rattle.oak_core.proofs.HeadersInArena.{pin_fact, live_stocked}
 use Rattle.oak_core.proofs.OwnerLaws.{live_inside, owner_counts, names_itself}
 use Rattle.oak_core.proofs.Words.{index_apart, memory_read}
-use Rattle.value_ops.specs.Reading.{IsPlaced}
+use Rattle.value_ops.specs.PinnedValues.{IsPlaced}
 use Rattle.arena_core.proofs.ClassRooms.{place_room}
 
 -- a good pin of a pass, at a moment at which the rule holds

@@ -33,7 +33,7 @@ use Rattle.value_ops.specs.declared.pinning.BadPin.TheVariants.{Locked, Dead, Ot
 use Rattle.value_ops.specs.AloneLocks.{FindsWord}
 use Rattle.value_ops.specs.Claiming.{pin_spot, ChangesPin}
 use Rattle.value_ops.specs.Pinning.{pin_of, with_pin, MeetsMore, IsLiveAt, DropsPin, PinsLive, IsCause, LooksUnder, PinsHeader, EndsPin, IsStampOf, FindsDud, FindsGone, KnowsLife, LearnsCause, PinsDud}
-use Rattle.value_ops.specs.Reading.{OnlyLoads}
+use Rattle.value_ops.specs.PinnedValues.{OnlyLoads}
 use Rattle.value_ops.proofs.KnownStates.{IsInUse, known_state}
 use Rattle.value_ops.proofs.AlonePins.{load_finds, load_stays, none_stays, both_stay, pin_changes, undone}
 use Rattle.value_ops.proofs.LearnFacts.{Learned, gone_later, headers_loaded, learned_both, learned_met, learned_none, learned_pin, learned_stamp, only_learned}

@@ -18,7 +18,7 @@ use Rattle.oak_core.proofs.PlainLoads.{met_at}
 use Rattle.oak_core.proofs.StampTold.{stamp_home, stamp_reads}
 use Rattle.oak_core.proofs.Words.{header_before}
 use Rattle.value_ops.specs.Pinning.{HasPin, KnowsLife}
-use Rattle.value_ops.specs.Reading.{LearnsByLoads, ReadsLife, value_of}
+use Rattle.value_ops.specs.PinnedValues.{LearnsByLoads, ReadsLife, value_of}
 use Rattle.value_ops.proofs.AlonePins.{both_stay, load_stays}
 use Rattle.value_ops.proofs.LoadFacts.{stamp_loaded}
 use Rattle.value_ops.proofs.LearnFacts.{Learned, headers_loaded, learned_both, learned_met, learned_stamp, told_at}

@@ -4,7 +4,7 @@ use Rattle.oak_model.specs.Limits.{Sizes}
 use Rattle.header_core.specs.declared.holds.HeaderHolds.{HeaderHolds}
 use Rattle.oak_core.specs.declared.states.PassState.{PassState}
 use Rattle.value_ops.specs.Pinning.{with_pin, MeetsMore, OnlyLearns, PinsLive}
-use Rattle.value_ops.specs.Reading.{OnlyLoads}
+use Rattle.value_ops.specs.PinnedValues.{OnlyLoads}
 use Rattle.value_ops.proofs.LearnFacts.{learned_both, learned_met, learned_only, learned_pin, only_learned}
 use Rattle.value_ops.proofs.PinFacts.{loads_meet, unpinned_is}
 

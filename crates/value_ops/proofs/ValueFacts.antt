@@ -1,5 +1,5 @@
 -- Where the words of a value lie that is read.
-use Rattle.std.proofs.Common.{◌≡◌, ℕ, zero, suc, ◌+◌, ◌-◌, ◌*◌, ◌^◌, ◌<◌, ◌≤◌, List, length, get_or, take, sym, ap, ◌∙◌, subst, arith, refl}
+use Rattle.std.proofs.Common.{◌≡◌, ℕ, zero, suc, ◌+◌, ◌-◌, ◌*◌, ◌^◌, ◌<◌, ◌≤◌, List, length, get_or, take, sym, ap, ◌∙◌, subst, arith}
 use Rattle.std.proofs.lemmas.List.{length-take}
 use Rattle.std.proofs.Math.Nat.{min-eq_left}
 use Rattle.oak_model.specs.declared.limits.TheConstants.{CLASSES}
@@ -15,11 +15,14 @@ use Rattle.oak_core.proofs.ArenaPlaces.{bytes_place, few_bits, few_bytes}
 use Rattle.oak_core.proofs.Words.{index_below, arena_before}
 use Rattle.oak_core.proofs.SamePass.{stays_both}
 use Rattle.arena_ops.proofs.PutWords.{spot_from}
+use Rattle.oak_core.specs.declared.table.Pass.{Pass}
+use Rattle.value_ops.specs.declared.pinned_value.PinnedValue.{PinnedValue}
 use Rattle.value_ops.specs.declared.reading.Reading.{Reading}
 use Rattle.oak_model.specs.WordBytes.{word_bytes, bytes_of}
-use Rattle.value_ops.specs.Reading.{value, value_pinned, words_pinned, IsReading, OnlyLoads, ReadsOn}
+use Rattle.value_ops.specs.PinnedValues.{IsPinnedValue, OnlyLoads, ReadsPinned, value_pinned, value_under, words_pinned, words_under}
+use Rattle.value_ops.specs.Reading.{ReadsOn}
 use Rattle.arena_core.specs.Words.{bytes_in}
-use Rattle.value_ops.proofs.PinFacts.{loads_both, loads_none}
+use Rattle.value_ops.proofs.PinFacts.{loads_both}
 use Rattle.arena_core.proofs.ByteFacts.{length-bytes_of}
 use Rattle.arena_core.proofs.WordLaws.{word_put}
 
@@ -38,34 +41,31 @@ bytes_small z is c b i lc lb li =
     let at' : x < 8388608 = at in let bits' : y ≤ CLASSES * 8388608 = bits in let bytes' : w ≤ c * 8388608 = bytes in let e' : 1 + (y + (w + x)) ≡ j = e in
     let res : j < 2 ^ 32 = omega arith in res
 
-module _ (r : Reading) (is : IsReading r) where
-  abbrev z : Sizes
-  z = key r.table.now
-
+module _ (z : Sizes) (x : PinnedValue) (v : PassState) (is : IsPinnedValue z x v) where
   abbrev c : ℕ
   c = class_in is.pin.place
 
   abbrev b : ℕ
   b = block_in is.pin.place
 
-  pub words_are : words_pinned (state r.pass.now).headers.pin ≡ is.pin.words
+  pub words_are : words_under v ≡ is.pin.words
   words_are = ap words_pinned is.has.is
 
-  pub value_is : value r ≡ take r.length (bytes_of is.pin.words)
+  pub value_is : value_under v ≡ take x.length (bytes_of is.pin.words)
   value_is = ap value_pinned is.has.is ∙ ap (λ (n : ℕ). take n (bytes_of is.pin.words)) (sym is.length_is)
 
-  pub room : r.length ≤ 8 * length is.pin.words
+  pub room : x.length ≤ 8 * length is.pin.words
   room = let k : ℕ = block_words c in let p : length_in is.pin.place ≤ 8 * k = is.placed.room in let e = is.length_is in let w : length is.pin.words ≡ k = is.words in omega arith
 
-  pub long : length (value r) ≡ r.length
-  long = ap length value_is ∙ (length-take r.length (bytes_of is.pin.words) ∙ min-eq_left (let e = length-bytes_of is.pin.words in let l = room in let h : r.length ≤ length (bytes_of is.pin.words) = omega arith in h))
+  pub long : length (value_under v) ≡ x.length
+  long = ap length value_is ∙ (length-take x.length (bytes_of is.pin.words) ∙ min-eq_left (let e = length-bytes_of is.pin.words in let l = room in let h : x.length ≤ length (bytes_of is.pin.words) = omega arith in h))
 
-  module _ (i : ℕ) (lt : 8 * i < length (value r)) where
+  module _ (i : ℕ) (lt : 8 * i < length (value_under v)) where
     pub word_inside : i < block_words c
     word_inside = let k : ℕ = block_words c in let w : length is.pin.words ≡ k = is.words in let l = room in let e = long in let h : i < k = omega arith in h
 
-    pub word_spot : r.block + i ≡ index z (in_arena (at_bytes c b i))
-    word_spot = spot_from z c b r.block i is.block_is
+    pub word_spot : x.block + i ≡ index z (in_arena (at_bytes c b i))
+    word_spot = spot_from z c b x.block i is.block_is
 
     abbrev pub word_at : Spot
     word_at = in_arena (at_bytes c b i)
@@ -73,24 +73,33 @@ module _ (r : Reading) (is : IsReading r) where
     pub word_placed : IsInside z word_at
     word_placed = (is.placed.class, is.placed.block, word_inside)
 
-    pub word_below : r.block + i < word_count z
+    pub word_below : x.block + i < word_count z
     word_below = let e = word_spot in let l = index_below z word_at word_placed in omega arith
 
     pub word_in_front : index z word_at < rooms_at z
     word_in_front = arena_before z (at_bytes c b i) word_placed
 
-    pub word_small : r.block + i < 2 ^ 32
+    pub word_small : x.block + i < 2 ^ 32
     word_small = let e = word_spot in let l = bytes_small z is.limits c b i is.placed.class is.placed.block word_inside in omega arith
 
     -- the bytes of the word that was loaded
-    pub bytes_loaded : (n : ℕ) → n ≡ get_or (words_pinned (state r.pass.now).headers.pin) i 0 → take (length (value r) - 8 * i) (word_bytes n) ≡ bytes_in i (value r)
+    pub bytes_loaded : (n : ℕ) → n ≡ get_or (words_under v) i 0 → take (length (value_under v) - 8 * i) (word_bytes n) ≡ bytes_in i (value_under v)
     bytes_loaded n f = (λ j. take (long j - 8 * i) (word_bytes ((f ∙ ap (λ (ws : List ℕ). get_or ws i 0) words_are) j)))
-        ∙ (word_put is.pin.words r.length i (subst (λ (k : ℕ). 8 * i < k) long lt) room ∙ ap (bytes_in i) (sym value_is))
+        ∙ (word_put is.pin.words x.length i (subst (λ (k : ℕ). 8 * i < k) long lt) room ∙ ap (bytes_in i) (sym value_is))
+
+-- reads that go on
+
+pub pinned_same : (z : Sizes) (x : PinnedValue) (p q : Pass) → ReadsPinned z x p q → value_under (state q) ≡ value_under (state p)
+pinned_same z x p q o = ap (λ (v : PassState). value_pinned v.headers.pin) o.only.loads.after
+
+pub pinned_both : (z : Sizes) (x : PinnedValue) (p q r : Pass) → ReadsPinned z x p q → ReadsPinned z x q r → ReadsPinned z x p r
+pinned_both z x p q r a b = record {
+  stays = stays_both a.stays b.stays;
+  pinned = b.pinned;
+  only = loads_both z (call_of p) (state p) (state q) (state r) a.only (subst (λ (i : ℕ). OnlyLoads z i (state q) (state r)) a.stays.call b.only);
+}
 
 -- readings that go on
-
-pub value_same : (q r : Reading) → ReadsOn q r → value r ≡ value q
-value_same q r o = ap (λ (v : PassState). value_pinned v.headers.pin) o.only.loads.after
 
 pub reads_both : (q r s : Reading) → ReadsOn q r → ReadsOn r s → ReadsOn q s
 reads_both q r s a b = record {
@@ -100,6 +109,3 @@ reads_both q r s a b = record {
   only = loads_both (key q.table.now) (call_of q.pass.now) (state q.pass.now) (state r.pass.now) (state s.pass.now) a.only
       (subst (λ (i : Sizes × ℕ). OnlyLoads i.0 i.1 (state r.pass.now) (state s.pass.now)) (λ i. (ap (λ t. key t.now) a.table i, a.stays.call i)) b.only);
 }
-
-pub reads_none : (q : Reading) → IsReading q → ReadsOn q q
-reads_none q is = record { reading = is; table = refl; stays = record { table = refl; seat = refl; call = refl; scratch = refl; sorting = refl }; only = loads_none (key q.table.now) (call_of q.pass.now) (state q.pass.now) }

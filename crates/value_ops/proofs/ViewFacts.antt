@@ -19,7 +19,8 @@ use Rattle.value_ops.specs.declared.pinning.BadPin.{BadPin}
 use Rattle.value_ops.specs.declared.pinning.BadPin.TheVariants.{Locked, Dead, Other}
 use Rattle.value_ops.specs.declared.reading.Reading.{Reading}
 use Rattle.value_ops.specs.Pinning.{FindsDud, IsCause, KnowsLife, KnowsMore, LearnsCause, PinsDud, PinsLive}
-use Rattle.value_ops.specs.Reading.{FindsStamp, IsReading, LearnsByLoads, ReadsLife, stamp, value}
+use Rattle.value_ops.specs.PinnedValues.{FindsStamp, LearnsByLoads, ReadsLife}
+use Rattle.value_ops.specs.Reading.{IsReading, stamp, value}
 use Rattle.value_ops.specs.Views.{FindsReason, IsReason, KnowsView, LearnsReason, NotRead, ReadsView, Viewed, why_of}
 use Rattle.value_ops.proofs.LearnFacts.{life_stays}
 
@@ -74,7 +75,7 @@ module _ (z : Sizes) (call : ℕ) (x : Viewed) (v w : PassState) (known : KnowsV
     loads = loads;
     found = found;
     reading = reading;
-    header_is = sym reading.has.header_is ∙ ap header_pinned (sym reading.has.is ∙ (ap (λ (a : HeaderHolds). a.pin) loads.only.headers ∙ pins.pin.is));
+    header_is = sym reading.pinned.has.header_is ∙ ap header_pinned (sym reading.pinned.has.is ∙ (ap (λ (a : HeaderHolds). a.pin) loads.only.headers ∙ pins.pin.is));
     life = record {
       last = record {
         read = read_since (key_number x.key) (stamp r) (Some (value r)) v w (state r.pass.now) (λ k. begins_same (seen_of k v.knowledge) (seen_of k w.knowledge) (ap (λ (y : PassState). seen_of k y.knowledge) pins.after)) life.last.read;

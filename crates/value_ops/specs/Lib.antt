@@ -12,3 +12,4 @@ pub mod Rewriting
 pub mod AloneLocks
 pub mod LockHistories
 pub mod Views
+pub mod PinnedValues

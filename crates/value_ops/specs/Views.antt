@@ -1,11 +1,12 @@
 -- Views: what contracts see of one, and what a pin or a reading of it finds.
-use Rattle.std.specs.Prelude.{◌≡◌, ℕ, ◌<◌, true, List}
+use Rattle.std.specs.Prelude.{◌≡◌, ℕ, ◌<◌, true, List, Some}
 use Rattle.pin_word.specs.PinWord.{generation_of, state_of}
 use Rattle.oak_model.specs.Limits.{Sizes}
 use Rattle.header_core.specs.declared.states.TheConstants.{LOCKED}
 use Rattle.oak_core.specs.declared.states.PassState.{PassState}
 use Rattle.oak_core.specs.AloneWords.{Runs}
 use Rattle.oak_core.specs.HeaderTeaching.{is_over}
+use Rattle.oak_core.specs.LifeKeys.{key_in_loaded}
 use Rattle.oak_core.specs.Memory.{memory}
 use Rattle.oak_core.specs.Passes.{Stays, state}
 use Rattle.oak_core.specs.declared.table.Pass.{Pass}
@@ -15,7 +16,8 @@ use Rattle.value_ops.specs.declared.reading.Reading.{Reading}
 use Rattle.value_ops.specs.declared.views.NoRead.{NoRead}
 use Rattle.value_ops.specs.declared.views.NoRead.TheVariants.{Gone, Busy}
 use Rattle.value_ops.specs.Pinning.{FindsGone, KnowsLife, MeetsMore, PinsDud, PinsLive}
-use Rattle.value_ops.specs.Reading.{FindsStamp, IsReading, LearnsByLoads, ReadsLife, stamp, value}
+use Rattle.value_ops.specs.PinnedValues.{FindsStamp, LearnsByLoads, ReadsLife}
+use Rattle.value_ops.specs.Reading.{IsReading, header, stamp, value}
 
 -- the key, its life by the header and the generation, and the stamp of the key when the view was made
 pub record Viewed : Type 0 where
@@ -28,6 +30,10 @@ pub record Viewed : Type 0 where
 pub record KnowsView (z : Sizes) (x : Viewed) (v : PassState) : Type 0 where
   pub inside : x.header < z.headers
   pub life : KnowsLife x.header x.generation x.key v.knowledge
+
+-- the pass loaded the life of the view from an entry of its key, so it knows the view, and will in every later state
+abbrev pub LoadedView : Viewed → PassState → Type 0
+LoadedView x v = key_in_loaded x.header x.generation v.knowledge.loaded ≡ Some x.key
 
 -- why a view can't be read whose header can't be pinned
 abbrev pub why_of : BadPin → NoRead
@@ -72,6 +78,6 @@ pub record ReadsView (z : Sizes) (call : ℕ) (x : Viewed) (v : PassState) (r : 
   pub loads : LearnsByLoads z call pinned (state r.pass.now)
   pub found : FindsStamp z call x.header (stamp r) pinned (state r.pass.now)
   pub reading : IsReading r
-  pub header_is : r.header ≡ x.header
+  pub header_is : header r ≡ x.header
   pub life : ReadsLife x.header x.generation x.key (stamp r) (value r) v (state r.pass.now)
   pub knows : KnowsView z x (state r.pass.now)

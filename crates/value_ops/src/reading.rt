@@ -1,27 +1,22 @@
 //! Readings: the bytes of a value under a good pin.
-ghost use Rattle.std.specs.Prelude.{◌≡◌, ◌≢◌, ◌+◌, ◌*◌, ◌<◌, ◌≤◌, ◌++◌, ◌↔◌, IsTrue, MatchBool, ℕ, List, length, take, slice_index, slice_range};
+ghost use Rattle.std.specs.Prelude.{◌≡◌, ◌+◌, ◌*◌, ◌<◌, ◌≤◌, ◌↔◌, IsTrue, ℕ, List, length, slice_index, slice_range};
 ghost use Rattle.std.specs.Int.{w64, from_be_bytes};
 ghost use Rattle.header_core.specs.declared.holds.PinnedHeader.{PinnedHeader};
 ghost use Rattle.oak_core.specs.Passes.{IsPassOf, Stays, state, key, call_of};
 ghost use Rattle.value_ops.specs.Pinning.{HasPin, EndsPin, KnowsLife};
-ghost use Rattle.value_ops.specs.Reading.{IsReading, LearnsByLoads, ReadsLife, FindsStamp, ReadsOn, value, stamp, header, words_pinned};
-ghost use Rattle.arena_core.specs.Words.{bytes_in};
+ghost use Rattle.value_ops.specs.PinnedValues.{FindsStamp, LearnsByLoads, ReadsLife};
+ghost use Rattle.value_ops.specs.Reading.{IsReading, ReadsOn, value, stamp, header};
 
-use crate::pinning::{HeaderPin, unpin};
-use arena_core::place::{block_in, class_in, length_in};
-use arena_core::words::{WORD, is_word, put_word};
-use oak_core::{OakTable, Pass, load};
+use crate::pinned_value::PinnedValue;
+use crate::pinning::HeaderPin;
+use oak_core::{OakTable, Pass};
 
 /// A value that is read under a good pin. It borrows the pass until [`Reading::done`] undoes the pin,
 /// and can't be dropped. Its calls load words of the value's block, and change nothing.
 pub struct Reading<'p> {
     table: &'p OakTable,
     pass: &'p mut Pass,
-    header: u32,
-    /// The number of the block's first word.
-    block: u32,
-    length: usize,
-    stamp: u64,
+    value: PinnedValue,
 }
 
 impl HeaderPin {
@@ -37,21 +32,8 @@ impl HeaderPin {
         ensures reads { (of : List ℕ) → KnowsLife self.header self.generation of (state pass.old).knowledge → ReadsLife self.header self.generation of (stamp result) (value result) (state pass.old) (state result.pass.now) }
         ensures found { FindsStamp (key table.now) (call_of pass.old) self.header (stamp result) (state pass.old) (state result.pass.now) }
     {
-        let HeaderPin {
-            header,
-            generation: _,
-        } = self;
-        let place = load(table, pass, table.place_at(header));
-        let stamp = load(table, pass, table.stamp_at(header));
-        let block = table.bytes_at(class_in(place), block_in(place), 0);
-        Reading {
-            table,
-            pass,
-            header,
-            block,
-            length: length_in(place),
-            stamp,
-        }
+        let value = self.value(table, pass);
+        Reading { table, pass, value }
     }
 }
 
@@ -61,7 +43,7 @@ impl Reading<'_> {
         requires { IsReading self.now }
         ensures { result ≡ length (value self.now) }
     {
-        self.length
+        self.value.len()
     }
 
     /// The stamp of the write that made the value.
@@ -69,19 +51,7 @@ impl Reading<'_> {
         requires { IsReading self.now }
         ensures { result ≡ stamp self.now }
     {
-        self.stamp
-    }
-
-    /// Loads the word in which the bytes from `8 * i` on stand, the last of which may be none of the
-    /// value's.
-    fn word(&mut self, i: usize) -> u64
-        requires reading { IsReading self.old }
-        requires inside { WORD * i < length (value self.old) }
-        ensures same_reference { self.new.pass.ghost_name ≡ self.old.pass.ghost_name }
-        ensures reads { ReadsOn self.old self.new }
-        ensures word { result ≡ slice_index (words_pinned (state self.old.pass.now).headers.pin) i }
-    {
-        load(self.table, self.pass, self.block + i as u32)
+        self.value.at()
     }
 
     /// The byte at `i`.
@@ -92,7 +62,7 @@ impl Reading<'_> {
         ensures reads { ReadsOn self.old self.new }
         ensures byte { result ≡ slice_index (value self.old) i }
     {
-        self.word(i / WORD).to_be_bytes()[i % WORD]
+        self.value.byte(self.table, self.pass, i)
     }
 
     /// The bytes from `8 * i` to `8 * i + 7`, the first of which is the highest of the number.
@@ -103,19 +73,7 @@ impl Reading<'_> {
         ensures reads { ReadsOn self.old self.new }
         ensures eight { result ≡ from_be_bytes w64 (slice_range (value self.old) (8 * i) (8 * i + 8)) }
     {
-        self.word(i)
-    }
-
-    /// Whether the bytes of the value in word `i` are those that `other` has there.
-    fn same_in_word(&mut self, other: &[u8], i: usize) -> bool
-        requires reading { IsReading self.old }
-        requires long { length other.now ≡ length (value self.old) }
-        requires inside { WORD * i < length (value self.old) }
-        ensures same_reference { self.new.pass.ghost_name ≡ self.old.pass.ghost_name }
-        ensures reads { ReadsOn self.old self.new }
-        ensures same { MatchBool result (bytes_in i other.now ≡ bytes_in i (value self.old)) (bytes_in i other.now ≢ bytes_in i (value self.old)) }
-    {
-        is_word(other, i, self.word(i))
+        self.value.eight(self.table, self.pass, i)
     }
 
     /// Whether the value has exactly these bytes. Each word of the value is loaded once, up to the first
@@ -126,27 +84,7 @@ impl Reading<'_> {
         ensures reads { ReadsOn self.old self.new }
         ensures same { IsTrue result ↔ other.now ≡ value self.old }
     {
-        if other.len() != self.length {
-            return false;
-        }
-        for i in 0..other.len().div_ceil(WORD) {
-            if !self.same_in_word(other, i) {
-                return false;
-            }
-        }
-        true
-    }
-
-    /// Copies the bytes of the value in word `i` to their place in `out`.
-    fn copy_word(&mut self, out: &mut [u8], i: usize)
-        requires reading { IsReading self.old }
-        requires long { length out.old ≡ length (value self.old) }
-        requires inside { WORD * i < length (value self.old) }
-        ensures same_reference { self.new.pass.ghost_name ≡ self.old.pass.ghost_name }
-        ensures reads { ReadsOn self.old self.new }
-        ensures copied { take (WORD * i + WORD) out.new ≡ take (WORD * i) out.old ++ bytes_in i (value self.old) }
-    {
-        put_word(out, i, self.word(i));
+        self.value.same(self.table, self.pass, other)
     }
 
     /// Copies the value to `out`, which is as long. Each word of the value is loaded once.
@@ -157,9 +95,7 @@ impl Reading<'_> {
         ensures reads { ReadsOn self.old self.new }
         ensures copied { out.new ≡ value self.old }
     {
-        for i in 0..out.len().div_ceil(WORD) {
-            self.copy_word(out, i);
-        }
+        self.value.copy_into(self.table, self.pass, out);
     }
 
     /// Undoes the pin.
@@ -168,14 +104,7 @@ impl Reading<'_> {
         ensures own { Stays self.entry.pass.now self.exit.1.0.now }
         ensures undone { EndsPin (key self.entry.table.now) (call_of self.entry.pass.now) (header self.entry) (state self.entry.pass.now) (state self.exit.1.0.now) }
     {
-        let Reading {
-            table,
-            pass,
-            header,
-            block: _,
-            length: _,
-            stamp: _,
-        } = self;
-        unpin(table, pass, header);
+        let Reading { table, pass, value } = self;
+        value.unpin(table, pass);
     }
 }

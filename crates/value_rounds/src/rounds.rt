@@ -10,7 +10,8 @@ ghost use Rattle.oak_core.specs.declared.states.PassState.{PassState};
 ghost use Rattle.oak_core.specs.Passes.{IsPassOf, Stays, state, key, call_of};
 ghost use Rattle.value_ops.specs.OneHeader.{IsOneHeader, IsOneBlock, KeepsElse};
 ghost use Rattle.value_ops.specs.Pinning.{HasPin, MeetsMore, OnlyLearns, with_pin};
-ghost use Rattle.value_ops.specs.Reading.{IsReading, OnlyLoads, ReadsOn, value};
+ghost use Rattle.value_ops.specs.PinnedValues.{OnlyLoads};
+ghost use Rattle.value_ops.specs.Reading.{IsReading, ReadsOn, value};
 
 use arena_ops::{give, store, take};
 use oak_core::{Block, Fresh, OakTable, Pass};

@@ -1,22 +1,14 @@
-use Rattle.std.proofs.Common.{◌≡◌, ℕ, ◌/◌, ◌%◌, ◌<◌, List, length, get_or, ap, sym, subst, ◌∙◌, arith}
-use Rattle.oak_model.specs.declared.classes.Class.{Class}
-use Rattle.oak_model.specs.Class.{class_number}
-use Rattle.oak_model.specs.declared.limits.TheConstants.{CLASSES}
+use Rattle.std.proofs.Common.{ℕ, ◌/◌, ◌%◌, ◌<◌, List, length, get_or, ap, sym, subst, ◌∙◌, arith}
 use Rattle.oak_model.specs.Limits.{Sizes}
 use Rattle.arena_core.specs.Arena.{at_bytes, block_words, blocks}
-use Rattle.arena_core.specs.Place.{class_in, block_in, class_from}
-use Rattle.arena_core.proofs.PlaceLaws.{class_number-from}
-use Rattle.oak_core.specs.Memory.{in_arena, index}
+use Rattle.arena_core.specs.Place.{class_in, block_in}
+use Rattle.oak_core.specs.Memory.{in_arena}
 use Rattle.oak_core.specs.Passes.{state, key, call_of}
 use Rattle.oak_core.proofs.Words.{index_below}
-use Rattle.chunk_ops.proofs.FoundEntries.{block_inside, byte_found, pin_still, entry_still}
+use Rattle.chunk_ops.proofs.FoundEntries.{block_inside, byte_found, class_is, pin_still, entry_still, word_at}
 use Rattle.chunk_ops.proofs.MeetingCalls.{only_both, only_in}
 use Rattle.chunk_ops.proofs.WordLoads.{only_loaded}
 use Rattle.chunk_ops.proofs.loading.key_byte.Goals as goal
-
--- the class of the key word
-class_is : (k : Class) (word : ℕ) → k ≡ class_from (class_in word) → class_in word < CLASSES → class_number k ≡ class_in word
-class_is k word e lt = ap class_number e ∙ class_number-from (class_in word) lt
 
 pub bytes_at-at-requires-clause-block : goal.bytes_at-at-requires-clause-block
 bytes_at-at-requires-clause-block c = let z : Sizes = key c.args.table.now in let e = c.requires.entry in let f = c.key_word-place.ensures.word e.0 e.1 in
@@ -28,10 +20,6 @@ overflow_cast-i c = let e = c.requires.entry in let f = c.key_word-place.ensures
 pub bytes_at-at-requires-clause-inside : goal.bytes_at-at-requires-clause-inside
 bytes_at-at-requires-clause-inside c = let e = c.requires.entry in let f = c.key_word-place.ensures.word e.0 e.1 in
     subst (λ (t : ℕ). c.args.i / 8 < block_words t) (sym (class_is c.class_in.result c.key_word-place.result c.class_in.ensures f.class)) (block_inside (key c.args.table.now) e.0 e.1.entry c.key_word-place.result f c.args.i e.2).2
-
--- the number of the word that was loaded
-word_at : (z : Sizes) (at b word j : ℕ) (k : Class) → at ≡ index z (in_arena (at_bytes (class_number k) b j)) → class_number k ≡ class_in word → b ≡ block_in word → at ≡ index z (in_arena (at_bytes (class_in word) (block_in word) j))
-word_at z at b word j k e f g = e ∙ (λ i. index z (in_arena (at_bytes (f i) (g i) j)))
 
 pub load-word-requires-clause-inside : goal.load-word-requires-clause-inside
 load-word-requires-clause-inside c = let z : Sizes = key c.args.table.now in let e = c.requires.entry in let word = c.key_word-place.result in let f = c.key_word-place.ensures.word e.0 e.1 in

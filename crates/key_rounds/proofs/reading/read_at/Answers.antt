@@ -3,7 +3,7 @@ use Rattle.oak_model.specs.Limits.{Sizes}
 use Rattle.header_core.specs.declared.holds.HeaderHolds.{HeaderHolds}
 use Rattle.oak_core.specs.Passes.{state, key, call_of}
 use Rattle.value_ops.specs.Pinning.{with_pin, MeetsMore, OnlyLearns}
-use Rattle.value_ops.specs.Reading.{OnlyLoads}
+use Rattle.value_ops.specs.PinnedValues.{OnlyLoads}
 use Rattle.value_ops.proofs.ReadRounds.{read_round}
 use Rattle.key_rounds.proofs.reading.read_at.Goals as goal
 

@@ -6,7 +6,7 @@ use Rattle.point_ops.specs.Gets.{SeesView}
 use Rattle.point_ops.specs.Lives.{LooksAt}
 use Rattle.point_ops.specs.declared.lives.Life.{Life}
 use Rattle.point_ops.specs.declared.lives.Life.TheVariants.{Live}
-use Rattle.point_ops.proofs.LoadedViews.{view_loaded}
+use Rattle.value_ops.proofs.LoadedViews.{view_loaded}
 use Rattle.point_ops.proofs.gets.get_life.Goals as goal
 
 pub returns-in-Ok-Live-clause-got : goal.returns-in-Ok-Live-clause-got

@@ -3,7 +3,7 @@ use Rattle.oak_model.specs.Limits.{Sizes}
 use Rattle.oak_core.specs.declared.states.PassState.{PassState}
 use Rattle.oak_core.specs.Passes.{state, key as sizes, call_of}
 use Rattle.value_ops.specs.Pinning.{with_pin, MeetsMore, OnlyLearns}
-use Rattle.value_ops.specs.Reading.{OnlyLoads}
+use Rattle.value_ops.specs.PinnedValues.{OnlyLoads}
 use Rattle.value_ops.proofs.ReadRounds.{read_round}
 use Rattle.point_ops.specs.TestStates.{IsReadyAgain}
 use Rattle.point_ops.proofs.TestLaws.{learned_again}

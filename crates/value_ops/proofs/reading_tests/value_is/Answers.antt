@@ -3,7 +3,8 @@ use Rattle.oak_model.specs.Limits.{Sizes}
 use Rattle.oak_core.specs.declared.states.PassState.{PassState}
 use Rattle.oak_core.specs.Passes.{state, key, call_of}
 use Rattle.value_ops.specs.Pinning.{with_pin, MeetsMore, OnlyLearns}
-use Rattle.value_ops.specs.Reading.{OnlyLoads, ReadsOn}
+use Rattle.value_ops.specs.PinnedValues.{OnlyLoads}
+use Rattle.value_ops.specs.Reading.{ReadsOn}
 use Rattle.value_ops.proofs.ReadRounds.{read_round}
 use Rattle.value_ops.proofs.ValueFacts.{reads_both}
 use Rattle.value_ops.proofs.reading_tests.value_is.Goals as goal

@@ -3,7 +3,8 @@ use mathlib.Core.Option.{some}
 use Rattle.oak_core.specs.Passes.{state, key, call_of}
 use Rattle.oak_core.proofs.SamePass.{stays_both}
 use Rattle.value_ops.specs.Pinning.{KnowsLife}
-use Rattle.value_ops.specs.Reading.{FindsStamp, LearnsByLoads, ReadsLife, stamp, value}
+use Rattle.value_ops.specs.PinnedValues.{FindsStamp, LearnsByLoads, ReadsLife}
+use Rattle.value_ops.specs.Reading.{stamp, value}
 use Rattle.value_ops.specs.Views.{Viewed}
 use Rattle.value_ops.proofs.ViewFacts.{pinned_life, pinned_reads}
 use Rattle.value_ops.proofs.views.read_view.Goals as goal

@@ -2,7 +2,8 @@ use Rattle.std.proofs.Common.{rules, ◌≡◌, ℕ, None, ap, ◌∙◌, subst}
 use Rattle.oak_model.specs.Limits.{Sizes}
 use Rattle.oak_core.specs.Passes.{state, key, call_of}
 use Rattle.value_ops.specs.Pinning.{with_pin, MeetsMore}
-use Rattle.value_ops.specs.Reading.{OnlyLoads, ReadsOn}
+use Rattle.value_ops.specs.PinnedValues.{OnlyLoads}
+use Rattle.value_ops.specs.Reading.{ReadsOn}
 use Rattle.value_rounds.proofs.rounds.read_pinned.Goals as goal
 
 pub returns-clause-undone : goal.returns-clause-undone

@@ -1,18 +1,15 @@
 use Rattle.std.proofs.Common.{◌≡◌, ℕ, ◌<◌, ◌*◌, length, refl, sym, ap, ◌∙◌, subst, arith}
 use Rattle.chunk_core.specs.declared.holds.RoomHolds.{RoomHolds}
-use Rattle.oak_model.specs.declared.classes.Class.{Class}
-use Rattle.oak_model.specs.declared.limits.TheConstants.{CLASSES}
-use Rattle.oak_model.specs.Class.{class_number}
 use Rattle.oak_model.specs.Limits.{Sizes}
 use Rattle.arena_core.specs.Arena.{at_bytes, block_words, blocks, IsInArena}
-use Rattle.arena_core.specs.Place.{class_in, block_in, class_from, length_in}
-use Rattle.arena_core.proofs.PlaceLaws.{class_number-from}
-use Rattle.oak_core.specs.Memory.{in_arena, index}
+use Rattle.arena_core.specs.Place.{class_in, block_in, length_in}
+use Rattle.oak_core.specs.Memory.{in_arena}
 use Rattle.oak_core.specs.Passes.{state, key, call_of}
 use Rattle.oak_core.proofs.Words.{index_below}
 use Rattle.chunk_ops.specs.PinRecords.{RoomPinned, pin_or}
 use Rattle.chunk_ops.specs.Room.{IsRoom, Room, place_at, key_at, entries}
 use Rattle.chunk_ops.specs.RoomLoads.{AreNamed, room_below, room_of}
+use Rattle.chunk_ops.proofs.FoundEntries.{class_is, word_at}
 use Rattle.chunk_ops.proofs.PinnedWords.{block_is, named_inside}
 use Rattle.chunk_ops.proofs.WordLoads.{load_at, only_loaded}
 use Rattle.chunk_ops.proofs.pinned.PinnedTableSearchedRoom.block_word.Goals as goal
@@ -20,14 +17,6 @@ use Rattle.chunk_ops.proofs.pinned.PinnedTableSearchedRoom.block_word.Goals as g
 -- the word of an entry that is to be loaded is one of the table's
 named : (z : Sizes) (r : Room) (place i : ℕ) → AreNamed z r → (e : ℕ) × (e < entries r) × (place ≡ place_at r e) × (8 * i < length (key_at r e)) → IsInArena z (at_bytes (class_in place) (block_in place) i)
 named z r place i all n = subst (λ (y : ℕ). IsInArena z (at_bytes (class_in y) (block_in y) i)) (sym n.2) (named_inside z (place_at r n.0) i (key_at r n.0) (all n.0 n.1) n.3)
-
--- the class of the key word
-class_is : (k : Class) (word : ℕ) → k ≡ class_from (class_in word) → class_in word < CLASSES → class_number k ≡ class_in word
-class_is k word e lt = ap class_number e ∙ class_number-from (class_in word) lt
-
--- the number of the word that is loaded
-word_at : (z : Sizes) (at b word j : ℕ) (k : Class) → at ≡ index z (in_arena (at_bytes (class_number k) b j)) → class_number k ≡ class_in word → b ≡ block_in word → at ≡ index z (in_arena (at_bytes (class_in word) (block_in word) j))
-word_at z at b word j k e f g = e ∙ (λ i. index z (in_arena (at_bytes (f i) (g i) j)))
 
 pub bytes_at-word-requires-clause-block : goal.bytes_at-word-requires-clause-block
 bytes_at-word-requires-clause-block c = let s = c.args.self.now in let z : Sizes = key s.table.now in let n = named z (room_of s) c.args.place c.args.i c.requires.pinned.named c.requires.named in
