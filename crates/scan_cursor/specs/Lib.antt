@@ -1,0 +1,10 @@
+pub mod Views
+pub mod Holding
+pub mod Gathered
+pub mod Loading
+pub mod Reading
+pub mod Scanned
+pub mod Marks
+pub mod Walks
+pub mod Leaving
+pub mod Cursors

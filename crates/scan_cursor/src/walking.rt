@@ -1,0 +1,358 @@
+//! A scan that loads the entries of each room once.
+ghost use Rattle.std.specs.Prelude.{◌≡◌, ◌<◌, ◌≤◌, ℕ, MatchBool, None, Some, [], true, false};
+ghost use Rattle.oak_model.specs.declared.limits.TheConstants.{GREATEST_ENTRIES};
+ghost use Rattle.oak_model.specs.Key.{is_key};
+ghost use Rattle.oak_model.specs.KeyNumber.{key_number};
+ghost use Rattle.oak_core.specs.AloneWords.{Runs};
+ghost use Rattle.oak_core.specs.PassState.{HoldsNothing};
+ghost use Rattle.oak_core.specs.Passes.{IsPassOf, state, key as sizes, slots_of};
+ghost use Rattle.oak_core.specs.Scratch.{StaysButSlots};
+ghost use Rattle.scan_cursor.specs.Gathered.{in_slot};
+ghost use Rattle.scan_cursor.specs.Holding.{IsBound};
+ghost use Rattle.scan_cursor.specs.Leaving.{LeavesValue, given_by};
+ghost use Rattle.scan_cursor.specs.Marks.{InBounds, IsBeyond, Leaves};
+ghost use Rattle.scan_cursor.specs.Walks.{IsTaken, IsWalk, WalkSteps, WalksOrEnds, course_of};
+
+use crate::gathering::gather;
+use crate::marks::Mark;
+use crate::reading::{Here, read_key, read_life};
+use crate::spots::{bound_ahead, pin_ahead};
+use crate::ways::Way;
+use arena_core::words::put_word;
+use chunk_ops::{KEY_WORDS, KeyBytes, unpin};
+use oak_core::{OakTable, Pass, SortSlot};
+use oak_model::{GREATEST_KEY, cmp_keys};
+use std::sync::Wait;
+use std::thread;
+use value_ops::PinnedValue;
+
+/// How far a scan has come, and what it keeps of the room that it is in. Where it has loaded the entries, those that are
+/// left stand in the slots of its pass, from one number on and below another, and the room's bound in the direction of
+/// the scan is kept.
+#[derive(Debug, Drop)]
+pub(crate) struct Walk {
+    pub(crate) mark: Mark,
+    pub(crate) gathered: bool,
+    pub(crate) from: usize,
+    pub(crate) to: usize,
+    pub(crate) bound: Option<KeyBytes>,
+}
+
+impl Walk {
+    ghost use Rattle.scan_cursor.specs.Marks.{HasCome};
+    ghost use Rattle.scan_cursor.specs.Views.{View};
+
+    /// Where a scan between these keys begins: it has ended already where there is none between them.
+    pub(crate) fn at_start(low: &[u8], high: &[u8], way: Way) -> Walk
+        requires low { is_key low.now ≡ true }
+        requires high { is_key high.now ≡ true }
+        ensures gathered { result.gathered ≡ false }
+        ensures to { result.to ≡ 0 }
+        ensures bound { result.bound ≡ None }
+        ensures bounds { result.mark.ended ≡ false → InBounds (key_number low.now) (key_number high.now) result.mark.key }
+        ensures starts { (a : View) → HasCome way (key_number low.now) (key_number high.now) result.mark a a [] }
+    {
+        let key = match way {
+            Way::Up => KeyBytes::from_key(low),
+            Way::Down => KeyBytes::from_key(high),
+        };
+        let mark = Mark {
+            key,
+            past: false,
+            ended: is_above(low, high),
+        };
+        Walk {
+            mark,
+            gathered: false,
+            from: 0,
+            to: 0,
+            bound: None,
+        }
+    }
+}
+
+/// What a step of a scan came to: a pair, whose value is pinned; the end; neither yet; or nothing was read, so that it is
+/// to be tried again.
+#[derive(Clone, Copy, Debug)]
+pub(crate) enum Stepped {
+    Given(PinnedValue),
+    Ended,
+    Passed,
+    Again,
+}
+
+/// Whether `a` comes behind `b`.
+pub(crate) fn is_above(a: &[u8], b: &[u8]) -> bool
+    requires a { is_key a.now ≡ true }
+    requires b { is_key b.now ≡ true }
+    ensures { MatchBool result (key_number b.now < key_number a.now) (key_number a.now ≤ key_number b.now) }
+{
+    cmp_keys(a, b).is_gt()
+}
+
+/// Whether the key is behind the bound to which the scan goes.
+fn is_beyond(way: Way, key: &[u8], low: &[u8], high: &[u8]) -> bool
+    requires key { is_key key.now ≡ true }
+    requires low { is_key low.now ≡ true }
+    requires high { is_key high.now ≡ true }
+    ensures { MatchBool result (IsBeyond way (key_number low.now) (key_number high.now) key.now) (IsBeyond way (key_number low.now) (key_number high.now) key.now → ⊥) }
+{
+    match way {
+        Way::Up => is_above(key, high),
+        Way::Down => is_above(low, key),
+    }
+}
+
+/// Goes on at a room's bound, or ends where that is none of the scan's range.
+fn go_to_bound(mark: &mut Mark, bound: KeyBytes, low: &[u8], high: &[u8], way: Way)
+    requires bound { is_key bound ≡ true }
+    requires low { is_key low.now ≡ true }
+    requires high { is_key high.now ≡ true }
+    requires going { mark.old.ended ≡ false }
+    ensures { Leaves way (key_number low.now) (key_number high.now) (Some bound) mark.new }
+{
+    let behind = match way {
+        Way::Up => is_above(bound.as_slice(), high),
+        Way::Down => !is_above(bound.as_slice(), low),
+    };
+    if behind {
+        mark.ended = true;
+    } else {
+        mark.key = bound;
+        mark.past = way == Way::Down;
+    }
+}
+
+/// Leaves the room, of whose entries none is left, at its bound.
+fn leave_room(walk: &mut Walk, low: &[u8], high: &[u8], way: Way)
+    requires low { is_key low.now ≡ true }
+    requires high { is_key high.now ≡ true }
+    requires going { walk.old.mark.ended ≡ false }
+    requires bound { IsBound walk.old.bound }
+    ensures bound { IsBound walk.new.bound }
+    ensures gathered { walk.new.gathered ≡ false }
+    ensures from { walk.new.from ≡ walk.old.from }
+    ensures to { walk.new.to ≡ walk.old.to }
+    ensures leaves { Leaves way (key_number low.now) (key_number high.now) walk.old.bound walk.new.mark }
+{
+    walk.gathered = false;
+    match walk.bound.take() {
+        Some(bound) => go_to_bound(&mut walk.mark, bound, low, high, way),
+        None => walk.mark.ended = true,
+    }
+}
+
+/// Loads the entries that lie behind the mark in the room in which the scan goes on.
+fn refill(table: &OakTable, pass: &mut Pass, walk: &mut Walk, way: Way) -> Stepped
+    requires own { IsPassOf table.now pass.old }
+    requires idle { HoldsNothing (state pass.old) }
+    requires key { is_key walk.old.mark.key ≡ true }
+    requires past { walk.old.mark.past ≡ true }
+    requires going { walk.old.mark.ended ≡ false }
+    ensures own { StaysButSlots pass.old pass.new }
+    ensures steps { let z = sizes table.now in (low high : ℕ) → IsWalk way low high (course_of way z walk.old pass.old) → WalkSteps result way low high (course_of way z walk.old pass.old) (course_of way z walk.new pass.new) }
+    ensures still { Runs (LeavesValue (sizes table.now) None (given_by result)) (state pass.old) (state pass.new) }
+{
+    let Ok(pin) = pin_ahead(table, pass, &walk.mark, way) else {
+        return Stepped::Again;
+    };
+    walk.to = gather(table, pass, &pin, walk.mark.key.as_slice(), way);
+    walk.from = 0;
+    walk.bound = bound_ahead(table, pass, &pin, way);
+    walk.gathered = true;
+    unpin(table, pass, pin);
+    Stepped::Passed
+}
+
+/// Reads the key at the mark through the room that covers it.
+fn read_mark(table: &OakTable, pass: &mut Pass, walk: &mut Walk) -> Stepped
+    requires own { IsPassOf table.now pass.old }
+    requires idle { HoldsNothing (state pass.old) }
+    requires key { is_key walk.old.mark.key ≡ true }
+    requires at { walk.old.mark.past ≡ false }
+    requires going { walk.old.mark.ended ≡ false }
+    ensures own { StaysButSlots pass.old pass.new }
+    ensures steps { let z = sizes table.now in (way : Way) (low high : ℕ) → IsWalk way low high (course_of way z walk.old pass.old) → WalkSteps result way low high (course_of way z walk.old pass.old) (course_of way z walk.new pass.new) }
+    ensures still { Runs (LeavesValue (sizes table.now) None (given_by result)) (state pass.old) (state pass.new) }
+{
+    match read_key(table, pass, walk.mark.key.as_slice()) {
+        Here::Present(value) => {
+            walk.mark.past = true;
+            Stepped::Given(value)
+        }
+        Here::Absent => {
+            walk.mark.past = true;
+            Stepped::Passed
+        }
+        Here::Again => Stepped::Again,
+    }
+}
+
+/// The key of a slot.
+fn key_of(slot: &SortSlot) -> KeyBytes
+    requires { is_key (in_slot slot.now).key ≡ true }
+    ensures { result ≡ (in_slot slot.now).key }
+{
+    let mut bytes = [0; GREATEST_KEY];
+    for i in 0..KEY_WORDS {
+        put_word(&mut bytes, i, slot.words[i]);
+    }
+    KeyBytes::from_key(&bytes[..slot.length.min(GREATEST_KEY)])
+}
+
+/// Takes the next of the slots that are left, of which there is one.
+fn next_slot(pass: &Pass, walk: &mut Walk, way: Way) -> SortSlot
+    requires some { walk.old.from < walk.old.to }
+    requires few { walk.old.to ≤ GREATEST_ENTRIES }
+    ensures mark { walk.new.mark ≡ walk.old.mark }
+    ensures gathered { walk.new.gathered ≡ walk.old.gathered }
+    ensures bound { walk.new.bound ≡ walk.old.bound }
+    ensures few { walk.new.to ≤ GREATEST_ENTRIES }
+    ensures taken { IsTaken way walk.old walk.new (slots_of pass.now) (in_slot result) }
+{
+    let slots = pass.sorting().slots();
+    match way {
+        Way::Up => {
+            let slot = slots[walk.from];
+            walk.from += 1;
+            slot
+        }
+        Way::Down => {
+            walk.to -= 1;
+            slots[walk.to]
+        }
+    }
+}
+
+/// Goes to the key of the next of the slots that are left, and pins its value. Where that is being written, or was
+/// written anew, the scan stays at the key, which is then read through its room.
+fn take_slot(
+    table: &OakTable,
+    pass: &mut Pass,
+    walk: &mut Walk,
+    low: &[u8],
+    high: &[u8],
+    way: Way,
+) -> Stepped
+    requires own { IsPassOf table.now pass.old }
+    requires idle { HoldsNothing (state pass.old) }
+    requires low { is_key low.now ≡ true }
+    requires high { is_key high.now ≡ true }
+    requires walk { IsWalk way (key_number low.now) (key_number high.now) (course_of way (sizes table.now) walk.old pass.old) }
+    requires going { walk.old.mark.ended ≡ false }
+    requires past { walk.old.mark.past ≡ true }
+    requires gathered { walk.old.gathered ≡ true }
+    requires some { walk.old.from < walk.old.to }
+    ensures own { StaysButSlots pass.old pass.new }
+    ensures steps { let z = sizes table.now in WalkSteps result way (key_number low.now) (key_number high.now) (course_of way z walk.old pass.old) (course_of way z walk.new pass.new) }
+    ensures still { Runs (LeavesValue (sizes table.now) None (given_by result)) (state pass.old) (state pass.new) }
+{
+    let slot = next_slot(pass, walk, way);
+    let key = key_of(&slot);
+    if is_beyond(way, key.as_slice(), low, high) {
+        walk.mark.ended = true;
+        walk.gathered = false;
+        return Stepped::Ended;
+    }
+    walk.mark.key = key;
+    match read_life(table, pass, slot.key as u32, slot.value as u32) {
+        Here::Present(value) => Stepped::Given(value),
+        Here::Absent => Stepped::Passed,
+        Here::Again => {
+            walk.mark.past = false;
+            Stepped::Again
+        }
+    }
+}
+
+/// Goes on in the room whose entries are loaded: to the next of them, or where none is left to its bound.
+fn go_ahead(
+    table: &OakTable,
+    pass: &mut Pass,
+    walk: &mut Walk,
+    low: &[u8],
+    high: &[u8],
+    way: Way,
+) -> Stepped
+    requires own { IsPassOf table.now pass.old }
+    requires idle { HoldsNothing (state pass.old) }
+    requires low { is_key low.now ≡ true }
+    requires high { is_key high.now ≡ true }
+    requires walk { IsWalk way (key_number low.now) (key_number high.now) (course_of way (sizes table.now) walk.old pass.old) }
+    requires going { walk.old.mark.ended ≡ false }
+    requires past { walk.old.mark.past ≡ true }
+    requires gathered { walk.old.gathered ≡ true }
+    ensures own { StaysButSlots pass.old pass.new }
+    ensures steps { let z = sizes table.now in WalkSteps result way (key_number low.now) (key_number high.now) (course_of way z walk.old pass.old) (course_of way z walk.new pass.new) }
+    ensures still { Runs (LeavesValue (sizes table.now) None (given_by result)) (state pass.old) (state pass.new) }
+{
+    if walk.from < walk.to {
+        return take_slot(table, pass, walk, low, high, way);
+    }
+    leave_room(walk, low, high, way);
+    if walk.mark.ended {
+        Stepped::Ended
+    } else {
+        Stepped::Passed
+    }
+}
+
+/// One step of the scan: reads the key at the mark, loads the entries behind it, or goes on to the next of these.
+fn step(
+    table: &OakTable,
+    pass: &mut Pass,
+    walk: &mut Walk,
+    low: &[u8],
+    high: &[u8],
+    way: Way,
+) -> Stepped
+    requires own { IsPassOf table.now pass.old }
+    requires idle { HoldsNothing (state pass.old) }
+    requires low { is_key low.now ≡ true }
+    requires high { is_key high.now ≡ true }
+    requires walk { IsWalk way (key_number low.now) (key_number high.now) (course_of way (sizes table.now) walk.old pass.old) }
+    requires going { walk.old.mark.ended ≡ false }
+    ensures own { StaysButSlots pass.old pass.new }
+    ensures steps { let z = sizes table.now in WalkSteps result way (key_number low.now) (key_number high.now) (course_of way z walk.old pass.old) (course_of way z walk.new pass.new) }
+    ensures still { Runs (LeavesValue (sizes table.now) None (given_by result)) (state pass.old) (state pass.new) }
+{
+    if !walk.mark.past {
+        read_mark(table, pass, walk)
+    } else if walk.gathered {
+        go_ahead(table, pass, walk, low, high, way)
+    } else {
+        refill(table, pass, walk, way)
+    }
+}
+
+/// Goes to the next key that is read present, whose value is then pinned; none where there is no such key, and the scan
+/// has ended. It waits where a room was moved or a value is being written.
+pub(crate) fn walk_on<R: Wait>(
+    rt: &R,
+    table: &OakTable,
+    pass: &mut Pass,
+    walk: &mut Walk,
+    low: &[u8],
+    high: &[u8],
+    way: Way,
+) -> Option<PinnedValue>
+    requires own { IsPassOf table.now pass.old }
+    requires idle { HoldsNothing (state pass.old) }
+    requires low { is_key low.now ≡ true }
+    requires high { is_key high.now ≡ true }
+    requires walk { IsWalk way (key_number low.now) (key_number high.now) (course_of way (sizes table.now) walk.old pass.old) }
+    requires going { walk.old.mark.ended ≡ false }
+    ensures own { StaysButSlots pass.old pass.new }
+    ensures goes { let z = sizes table.now in WalksOrEnds result way (key_number low.now) (key_number high.now) (course_of way z walk.old pass.old) (course_of way z walk.new pass.new) }
+    ensures still { Runs (LeavesValue (sizes table.now) None result) (state pass.old) (state pass.new) }
+{
+    for _ in rt.forever() {
+        match step(table, pass, walk, low, high, way) {
+            Stepped::Given(value) => return Some(value),
+            Stepped::Ended => return None,
+            Stepped::Passed => {}
+            Stepped::Again => thread::yield_now(),
+        }
+    }
+    unreachable!()
+}
