@@ -1,0 +1,3 @@
+mod RepliesSince
+mod LoneRetries
+mod SameScratch

@@ -1,0 +1,113 @@
+//! The map and its passes: made, given their calls, split, joined, and at last closed.
+ghost use Rattle.std.specs.Prelude.{◌≡◌, ℕ, ◌<◌, IfOk, IfErr, Err};
+ghost use Rattle.oak_core.specs.AloneWords.{LeavesWords};
+ghost use Rattle.oak_core.specs.Closing.{closed_key, closed_state, closed_words, FullsLacked};
+ghost use Rattle.oak_core.specs.KnownPlaces.{PlacesStand};
+ghost use Rattle.oak_core.specs.Opening.{IsOpened, first_state};
+ghost use Rattle.oak_core.specs.Passes.{SearchesStay, Stays, Turns};
+ghost use Rattle.oak_core.specs.PassState.{IsAlone, both_state};
+ghost use Rattle.oak_core.specs.Schedule.{opening};
+ghost use Rattle.oak_core.specs.Splitting.{Ends, FindsAllGiven, LooksAtGiven, SeesLonger, SplitsOff};
+ghost use Rattle.oak_core.specs.declared.passes.SplitFault.TheVariants as SplitFault;
+ghost use Rattle.oak_map.specs.Maps.{IsReady, call_of, pass_of, sizes, state};
+
+use oak_core::{Closed, OakTable, Pass, SplitFault};
+use oak_model::{Hint, OutOfMemory, Shape};
+use std::sync::Wait;
+
+/// No room is tried before the others.
+pub(crate) const NO_HINT: Hint = Hint { room: None };
+
+/// A map, shared by its passes.
+pub struct OakMap {
+    pub(crate) table: OakTable,
+}
+
+/// A caller's token for a map. It is spent by [`OakMap::join`] or [`OakMap::close`], and can't be dropped.
+pub struct MapPass {
+    pub(crate) pass: Pass,
+}
+
+impl MapPass {
+    /// Names the present call of the pass's caller. Each call that may write wants a number above those of
+    /// all writes before it.
+    pub fn turn(&mut self, call: u32)
+        requires { call_of self.old < call }
+        ensures { Turns (pass_of self.old) (pass_of self.new) call }
+    {
+        self.pass.turn(call);
+    }
+}
+
+impl OakMap {
+    /// An empty map of this shape with its first pass, which has the number 0. The pass is alone, holds
+    /// nothing, and has met the making of the map.
+    pub fn create<R: Wait + AllocGlobal>(
+        rt: &R,
+        shape: &Shape,
+    ) -> Result<(OakMap, MapPass), OutOfMemory>
+        ensures key { IfOk result (λ t. sizes t.0 ≡ shape.now) }
+        ensures ready { IfOk result (λ t. IsReady t.0 t.1) }
+        ensures first { IfOk result (λ t. (state t.1 ≡ first_state (sizes t.0) 0) × (call_of t.1 ≡ 0)) }
+        ensures words { IfOk result (λ t. LeavesWords (opening (sizes t.0) 0).words (state t.1)) }
+        ensures opened { IfOk result (λ t. IsOpened (sizes t.0) 0 (opening (sizes t.0) 0).words) }
+    {
+        let (table, pass) = OakTable::create(rt.alloc(), shape)?;
+        Ok((OakMap { table }, MapPass { pass }))
+    }
+
+    /// Splits off a pass for another caller, with the least number that no pass has. It has seen what
+    /// this one has seen, and holds nothing. `Limit` comes exactly where one load found all numbers of the
+    /// shape given.
+    pub fn split<R: Wait + AllocGlobal>(
+        &self,
+        rt: &R,
+        pass: &mut MapPass,
+    ) -> Result<MapPass, SplitFault>
+        requires ready { IsReady self.now pass.old }
+        ensures own { Stays (pass_of pass.old) (pass_of pass.new) }
+        ensures searches { SearchesStay (pass_of pass.old) (pass_of pass.new) }
+        ensures ready { IsReady self.now pass.new }
+        ensures new { IfOk result (λ p. IsReady self.now p × (call_of p ≡ 0)) }
+        ensures split { IfOk result (λ p. SplitsOff (sizes self.now) (call_of pass.old) (state pass.old) (state pass.new) (state p)) }
+        ensures refused { IfErr result (λ _. LooksAtGiven (call_of pass.old) (state pass.old) (state pass.new)) }
+        ensures limit { (made : ℕ) → result ≡ Err (SplitFault.Limit made) → (made ≡ (sizes self.now).passes) × FindsAllGiven (sizes self.now) (call_of pass.old) (state pass.old) (state pass.new) }
+        ensures memory { result ≡ Err SplitFault.OutOfMemory → state pass.new ≡ state pass.old }
+    {
+        match pass.pass.split(rt.alloc(), &self.table) {
+            Ok(pass) => Ok(MapPass { pass }),
+            Err(fault) => Err(fault),
+        }
+    }
+
+    /// Takes the other pass into the first: of each key the longer of what the two have seen is seen, and
+    /// what the other wrote, met and noted is kept under its number.
+    pub fn join(&self, pass: &mut MapPass, other: MapPass)
+        requires ready { IsReady self.now pass.old }
+        requires other { IsReady self.now other }
+        ensures own { Stays (pass_of pass.old) (pass_of pass.new) }
+        ensures searches { SearchesStay (pass_of pass.old) (pass_of pass.new) }
+        ensures ready { IsReady self.now pass.new }
+        ensures joined { state pass.new ≡ both_state (state pass.old) (state other) }
+        ensures seen { (k : ℕ) → SeesLonger (state pass.old) (state other) (state pass.new) k }
+    {
+        let MapPass { pass: other } = other;
+        pass.pass.join(&self.table, other);
+    }
+
+    /// Closes the map with its last pass: every other was joined into it, or into one that was. What the
+    /// pass knows to be the place of a number among a key's writes is its place in the closed history.
+    pub fn close(self, pass: MapPass) -> Closed
+        requires ready { IsReady self pass }
+        requires alone { IsAlone (state pass) }
+        ensures key { closed_key result ≡ sizes self }
+        ensures state { closed_state result ≡ state pass }
+        ensures ends { Ends (sizes self) (closed_words result) (state pass) }
+        ensures noted { FullsLacked result }
+        ensures places { PlacesStand result }
+    {
+        let OakMap { table } = self;
+        let MapPass { pass } = pass;
+        table.close(pass)
+    }
+}

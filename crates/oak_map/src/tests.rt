@@ -1,0 +1,29 @@
+//! The calls of the map, by one pass.
+
+use crate::OakMap;
+use oak_model::{RecipeKind, Shape, Wrote};
+use point_ops::Got;
+use std::test::Fail;
+use value_ops::{Recipe, StepRecipe};
+
+#[test]
+fn an_absent_key(rt: HostRuntime) -> Result<(), Fail> {
+    let mut ones: Box<dyn Recipe + Send> = Box::new(rt.alloc(), StepRecipe::make())?;
+    ones.tell(RecipeKind::Xor, 1);
+    let shape = Shape::make(1, 1, 4, 1, [2, 0, 0, 0])?;
+    let (map, mut pass) = OakMap::create(&rt, &shape)?;
+    let got = map.view(&rt, &mut pass, b"k");
+    pass.turn(1);
+    let removed = map.remove(&rt, &mut pass, b"k");
+    pass.turn(2);
+    assert_eq!(rt; ones.calls(), 0);
+    let computed = map.compute(&rt, &mut pass, b"k", &mut ones);
+    map.settle(&rt, &mut pass);
+    let usage = map.close(pass).usage();
+    assert!(rt; matches!(got, Got::Absent { at: 0 }));
+    assert!(rt; removed == Wrote::Absent { at: 0 });
+    assert!(rt; computed == Wrote::Absent { at: 0 });
+    assert_eq!(rt; ones.calls(), 0);
+    assert_eq!(rt; usage.chunks, 1);
+    Ok(())
+}
