@@ -6,6 +6,7 @@ use Rattle.oak_model.specs.Key.{AreBytes, IsKey}
 use Rattle.oak_model.specs.KeyNumber.{key_number}
 use Rattle.oak_model.specs.Limits.{Sizes}
 use Rattle.oak_model.specs.Counts.{Begins, Each}
+use Rattle.oak_model.proofs.Lists.{begins_length}
 use Rattle.chunk_core.specs.declared.holds.MovingRange.{MovingRange}
 use Rattle.chunk_core.specs.declared.holds.RoomCopy.{RoomCopy}
 use Rattle.chunk_core.specs.declared.holds.RoomHolds.{RoomHolds}
@@ -38,13 +39,15 @@ pub same_span : (w x : RoomCopy) → x.low ≡ w.low → x.high ≡ w.high → (
 same_span w x low high k = λ i. within (record { low = low_number (low i); high = high_number (high i); base = 0 }) k
 
 -- what was swept in a later part of a call was swept in the call
-pub sweeps_since : (key : List ℕ) (u v w : PassState) → Begins u.findings.swept v.findings.swept → SweepsKey key v w → SweepsKey key u w
-sweeps_since key u v w b s = record {
+pub sweeps_since : (call : ℕ) (key : List ℕ) (u v w : PassState) → Begins u.findings.swept v.findings.swept → MetMore call u v → SweepsKey key v w → SweepsKey key u w
+sweeps_since call key u v w b m s = record {
   more = b.0 ++ s.more;
   swept = s.swept ∙ (ap (λ (l : List Swept). l ++ s.more) b.1 ∙ append_assoc u.findings.swept b.0 s.more);
   place = length b.0 + s.place;
   range = s.range;
   there = at_behind b.0 s.more s.place s.range s.there;
+  from = let f = s.from in let l = begins_length u.findings.met v.findings.met (m.more, m.met) in omega arith;
+  to = s.to;
   inside = s.inside;
 }
 
@@ -76,7 +79,7 @@ module _ (z : Sizes) (call : ℕ) (key : List ℕ) (is_key : IsKey key) (bytes :
   rooms_back = o.rooms ∙ (λ i. record { pin = (c.front.only.pin ∙ sym (ap (λ a. a.pin) idle.rooms)) i; latch = (c.front.only.latch ∙ sym (ap (λ a. a.latch) idle.rooms)) i; claim = (c.front.only.claim ∙ sym (ap (λ a. a.claim) idle.rooms)) i; held = v.rooms.held; moving = v.rooms.moving })
 
   swept_key : SweepsKey key v u3
-  swept_key = sweeps_since key v u2 u3 first.swept
+  swept_key = sweeps_since call key v u2 u3 first.swept first.met
       (o.sweeps (mirrors_valued z c.words c.range c.front.mirrors c.has.valued) key is_key bytes (same_span w c.words c.rewritten.low c.rewritten.high (key_number key) ∙ f.inside))
 
   pub compacts_key : Compacts z call key dropped v u3

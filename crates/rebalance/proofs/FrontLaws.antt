@@ -1,5 +1,5 @@
 -- The front room of those that a pass holds: its words, and what is left when it is opened.
-use Rattle.std.proofs.Common.{◌≡◌, ◌≢◌, ℕ, ◌+◌, ◌-◌, ◌≤◌, ◌==◌, cond, List, [], ◌∷◌, ◌++◌, length, get_or, take, drop, sym, refl, ap, ◌∙◌, subst, arith, Option, Some, None}
+use Rattle.std.proofs.Common.{◌≡◌, ◌≢◌, ℕ, ◌+◌, ◌-◌, ◌<◌, ◌≤◌, ◌==◌, cond, List, [], ◌∷◌, ◌++◌, length, get_or, take, drop, length-append, sym, refl, ap, ◌∙◌, subst, arith, Option, Some, None}
 use Rattle.std.proofs.lemmas.List.{length-take}
 use Rattle.std.specs.Ordering.{is_lt}
 use lib.ListN.{get_elem?}
@@ -10,7 +10,7 @@ use Rattle.oak_model.specs.KeyNumber.{key_number}
 use Rattle.oak_model.specs.Limits.{Sizes}
 use Rattle.oak_model.specs.WordBytes.{bytes_of}
 use Rattle.oak_model.proofs.Counting.{one_at-same, test-cases}
-use Rattle.oak_model.proofs.Lists.{rows_at, rows_length, same_elements}
+use Rattle.oak_model.proofs.Lists.{begins_length, rows_at, rows_length, same_elements}
 use Rattle.chunk_core.specs.declared.layout.TheConstants.{BOUND_WORDS}
 use Rattle.chunk_core.specs.declared.holds.HeldRoom.{HeldRoom}
 use Rattle.chunk_core.specs.declared.holds.MovingRange.{MovingRange}
@@ -21,6 +21,7 @@ use Rattle.chunk_core.specs.KeyWords.{low_bytes, high_bytes, low_number, high_nu
 use Rattle.chunk_core.specs.MayOnRooms.{MayOpenCopy}
 use Rattle.chunk_core.specs.MovingRanges.{ranges_opened}
 use Rattle.chunk_core.specs.RoomCopies.{copy_of, without_room}
+use Rattle.chunk_core.specs.RoomStep.{open_room}
 use Rattle.chunk_core.specs.RoomRule.{AreBounds, IsWholeCopy, IsWholeHeld, in_room_state}
 use Rattle.chunk_core.specs.Spans.{Span, past_high, within}
 use Rattle.chunk_core.proofs.HeldRooms.{room_rows, row_here}
@@ -28,9 +29,11 @@ use Rattle.chunk_core.proofs.SpanLaws.{past-cases}
 use Rattle.oak_core.specs.declared.states.PassState.{PassState}
 use Rattle.oak_core.specs.declared.states.Swept.{Swept}
 use Rattle.oak_core.specs.declared.table.Pass.{Pass}
+use Rattle.oak_core.specs.CallSteps.{StepOfCall}
 use Rattle.oak_core.specs.Lack.{InSwept, IsBelow}
 use Rattle.oak_core.specs.Passes.{Stays, slots_of}
 use Rattle.oak_core.specs.Scratch.{StaysButSlots}
+use Rattle.oak_core.specs.Step.{Told, on_rooms}
 use Rattle.oak_core.specs.Sweeping.{sweep, valueless}
 use Rattle.chunk_ops.specs.RoomPins.{HadMoment}
 use Rattle.chunk_ops.proofs.BoundOrder.{by_numbers, less_is}
@@ -134,6 +137,14 @@ in_swept w met key fit is bytes inside = record {
 
 -- ---- the opening
 
+-- it met one step more
+
+pub open_longer : (z : Sizes) (call r : ℕ) (v : PassState) (n : ℕ) (w : PassState) → Told z call (on_rooms (open_room r)) v n w → length w.findings.met ≡ length v.findings.met + 1
+open_longer z call r v n w t = ap (λ (y : PassState). length y.findings.met) t.after ∙ length-append v.findings.met (_ ∷ [])
+
+pub opening_longer : (z : Sizes) (call r : ℕ) (v u : PassState) → StepOfCall z call (on_rooms (open_room r)) v u → length v.findings.met < length u.findings.met
+opening_longer z call r v u s = let t = open_longer z call r s.from s.number s.to s.told in let b = begins_length v.findings.met s.from.findings.met (s.begun.more, s.begun.met) in let e = begins_length s.to.findings.met u.findings.met (s.ended.more, s.ended.met) in omega arith
+
 -- what is left when it is opened
 pub front_opened : (z : Sizes) (call r : ℕ) (w : RoomCopy) (g : MovingRange) (hs : List HeldRoom) (gs : List MovingRange) (v u : PassState) → HoldsFront z r w g hs gs v → Opens z call r v u → OpensFront z call r w hs gs v u
 front_opened z call r w g hs gs v u f o = let copy = front_copy z r w g hs gs v f in
@@ -151,6 +162,8 @@ front_opened z call r w g hs gs v u f o = let copy = front_copy z r w g hs gs v 
         place = 0;
         range = record { low = low_bytes w.low; high = high_bytes w.high; met = length v.findings.met };
         there = refl;
+        from = omega arith;
+        to = opening_longer z call r v u o.step;
         inside = in_swept w (length v.findings.met) key f.mirrors.bounds is bytes inside;
       };
       moment = o.ended;

@@ -1,10 +1,11 @@
 -- A full room whose entries were stored into two, and that both are opened.
-use Rattle.std.proofs.Common.{◌≡◌, ◌≢◌, ℕ, zero, suc, ◌+◌, ◌-◌, ◌/◌, ◌<◌, ◌≤◌, ⊎_elim, List, [], ◌∷◌, ◌++◌, length, map, take, drop, refl, sym, ap, ◌∙◌, subst, arith, Option, Some, append_assoc, length-append, length-take-le}
+use Rattle.std.proofs.Common.{◌≡◌, ◌≢◌, ℕ, zero, suc, ◌+◌, ◌-◌, ◌/◌, ◌<◌, ◌≤◌, ⊎_elim, List, [], ◌∷◌, ◌++◌, length, map, take, drop, refl, sym, ap, ◌∙◌, subst, arith, Option, Some, append_assoc, length-take-le}
 use Rattle.std.specs.List.{slice_index_or}
 use Rattle.std.proofs.lemmas.List.{length-drop}
 use Rattle.oak_model.specs.Counts.{rows, total}
 use Rattle.oak_model.specs.Limits.{Sizes}
 use Rattle.oak_model.proofs.Counting.{one_at-other, one_at-same}
+use Rattle.oak_model.proofs.Lists.{begins_length}
 use Rattle.chunk_core.specs.declared.holds.EntryWords.{EntryWords}
 use Rattle.chunk_core.specs.declared.holds.HeldRoom.{HeldRoom}
 use Rattle.chunk_core.specs.declared.holds.MovingRange.{MovingRange}
@@ -27,7 +28,7 @@ use Rattle.oak_core.specs.declared.sorting.SortSlot.{SortSlot}
 use Rattle.oak_core.specs.declared.states.PassState.{PassState}
 use Rattle.oak_core.specs.declared.states.Swept.{Swept}
 use Rattle.oak_core.specs.Lack.{InSwept}
-use Rattle.oak_core.specs.Step.{Told, on_rooms}
+use Rattle.oak_core.specs.Step.{on_rooms}
 use Rattle.oak_core.specs.Sweeping.{sweep, valueless}
 use Rattle.oak_core.proofs.CallSteps.{met_both, step_in, step_since}
 use Rattle.rebalance.specs.declared.reading.Read.{Read}
@@ -44,7 +45,7 @@ use Rattle.rebalance.specs.Slots.{entry_of, key_of}
 use Rattle.rebalance.specs.Split.{Splits}
 use Rattle.rebalance.proofs.ChunkLaws.{without_first, works_both, works_of_rooms, works_of_sweeps}
 use Rattle.rebalance.proofs.FilledCopies.{filled_many, filled_prefix, filled_sum}
-use Rattle.rebalance.proofs.FrontLaws.{in_swept}
+use Rattle.rebalance.proofs.FrontLaws.{in_swept, open_longer, opening_longer}
 use Rattle.rebalance.proofs.HeldAlone.{copy_first}
 use Rattle.rebalance.proofs.HeldPairs.{first_held, first_of_two, half_fewer, half_some, half_stored, pair_bounds, pair_free, pair_limit, pair_stands, whole_base, whole_few, whole_long, whole_slots}
 use Rattle.rebalance.proofs.HeldRows.{rows_from}
@@ -182,10 +183,6 @@ module _ (z : Sizes) (call r q : ℕ) (w c : RoomCopy) (g : MovingRange) (v : Pa
 
 -- ---- both are opened
 
--- one step more was met
-open_longer : (z : Sizes) (call r : ℕ) (v : PassState) (n : ℕ) (w : PassState) → Told z call (on_rooms (open_room r)) v n w → length w.findings.met ≡ length v.findings.met + 1
-open_longer z call r v n w t = ap (λ (y : PassState). length y.findings.met) t.after ∙ length-append v.findings.met (_ ∷ [])
-
 module _ (z : Sizes) (call r q : ℕ) (w c : RoomCopy) (g : MovingRange) (v : PassState) (h : HoldsPair z r q w c g v) (s : PassState) (stores : StoresHalves z call r q w g v s) where
   upper_copy : copy_of q s.rooms.held ≡ Some stores.high_copy
   upper_copy = ap (copy_of q) stores.held ∙ first_of_two r q stores.low_copy stores.high_copy h.apart
@@ -258,6 +255,17 @@ module _ (z : Sizes) (call r q : ℕ) (w c : RoomCopy) (g : MovingRange) (v : Pa
       first : length one.step.from.findings.met < length two.step.from.findings.met
       first = let t = open_longer z call q one.step.from one.step.number one.step.to one.step.told in let e = ap (λ (y : PassState). length y.findings.met) one.last in let f = ap (λ (y : PassState). length y.findings.met) two.first in omega arith
 
+      -- more was met all the while
+
+      stored_longer : length v.findings.met ≤ length s.findings.met
+      stored_longer = let m = stores.works.stands.met in begins_length v.findings.met s.findings.met (m.more, m.met)
+
+      upper_longer : length s.findings.met < length a.findings.met
+      upper_longer = opening_longer z call q s a one.step
+
+      lower_longer : length a.findings.met < length u.findings.met
+      lower_longer = opening_longer z call r a u two.step
+
       -- the pass stored the halves and opened both
       pub halves_opened : OpensHalves z call r q w v u
       halves_opened = record {
@@ -268,8 +276,8 @@ module _ (z : Sizes) (call r q : ℕ) (w c : RoomCopy) (g : MovingRange) (v : Pa
         opens_lower = lower_opened;
         first = first;
         sweeps = λ key is bytes inside. ⊎_elim
-            (λ (k : InSwept lower_swept key). let y : SweepsKey key v u = record { more = higher_swept ∷ lower_swept ∷ []; swept = swept_now; place = 1; range = lower_swept; there = refl; inside = k } in y)
-            (λ (k : InSwept higher_swept key). let y : SweepsKey key v u = record { more = higher_swept ∷ lower_swept ∷ []; swept = swept_now; place = 0; range = higher_swept; there = refl; inside = k } in y)
+            (λ (k : InSwept lower_swept key). let y : SweepsKey key v u = record { more = higher_swept ∷ lower_swept ∷ []; swept = swept_now; place = 1; range = lower_swept; there = refl; from = (let b = stored_longer in let c = upper_longer in omega arith); to = lower_longer; inside = k } in y)
+            (λ (k : InSwept higher_swept key). let y : SweepsKey key v u = record { more = higher_swept ∷ lower_swept ∷ []; swept = swept_now; place = 0; range = higher_swept; there = refl; from = stored_longer; to = (let c = upper_longer in let d = lower_longer in omega arith); inside = k } in y)
             (stores.halved.keys key 0 (length a.findings.met) (length s.findings.met) (in_swept w 0 key h.mirrors.bounds is bytes inside));
         beside = works_both call v s u (works_of_rooms z call v s stores.works) opened_beside;
         rooms = rooms_now;

@@ -41,7 +41,7 @@ pub mod RebalancedRooms
 pub mod RoomsBeside
 pub mod SlotKeys
 pub mod SplitOpens
-mod SweptKeys
+pub mod SweptKeys
 mod TakenChunks
 mod NeighbourChunks
 mod MergedChunks

@@ -122,9 +122,9 @@ module _ (z : Sizes) (call : ℕ) (key : List ℕ) (low : Taken) (ys : List Sort
         kept = upper.rewritten.kept;
         base = upper.rewritten.base;
         sorted = upper.rewritten.sorted;
-        swept = sweeps_until h v d u
-            (sweeps_since h v b d to_both.swept (n.sweeps (mirrors_valued z upper.words upper.range upper.front.mirrors upper.has.valued) h (end_is_key z call key low ys v a idle lower h end) (high_are_bytes lower.words.high h end) upper_inside))
-            o.beside.swept;
+        swept = sweeps_until call h v d u
+            (sweeps_since call h v b d to_both.swept to_both.met (n.sweeps (mirrors_valued z upper.words upper.range upper.front.mirrors upper.has.valued) h (end_is_key z call key low ys v a idle lower h end) (high_are_bytes lower.words.high h end) upper_inside))
+            o.beside.swept o.beside.met;
       }
 
       pub apart_full : z.entries / 2 < low.kept + up.kept → ApartUpTo z call key (Some h) v u
@@ -198,7 +198,7 @@ module _ (z : Sizes) (call : ℕ) (key : List ℕ) (low : Taken) (ys : List Sort
         base = base_is;
         kept = both_kept;
         sorted = subst (λ (n : ℕ). IsSorted n joins.opened) (λ i. e i + f i) joins.sorted;
-        swept = sweeps_since key v d u (works_both call v b d to_both joins.beside).swept (o.sweeps (mirrors_valued z joins.opened (joined_by upper.range lower.range) joins.front.mirrors joins.valued) key is bytes joined_inside);
+        swept = sweeps_since call key v d u (works_both call v b d to_both joins.beside).swept (works_both call v b d to_both joins.beside).met (o.sweeps (mirrors_valued z joins.opened (joined_by upper.range lower.range) joins.front.mirrors joins.valued) key is bytes joined_inside);
         leaves = leaves_of call v u all idle_again;
         alone = divided_runs z (JoinsRooms z low.room up.room lower.held upper.held joins.opened) v u (step_apart z call (on_rooms (open_room low.room)) v u (opens_since z call low.room joins.opened v d u (works_both call v b d to_both joins.beside) o.opens).step) (bare_still v u bare idle_again) o.moment
             (joins_rooms z low.room up.room front.inside upper.front.inside rooms_apart lower.held upper.held lower.words v q b bare takes front.held upper.alone joins.opened d u joins.alone o.alone);

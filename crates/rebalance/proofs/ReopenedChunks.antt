@@ -3,6 +3,7 @@ use Rattle.std.proofs.Common.{◌≡◌, ℕ, ◌+◌, ◌<◌, List, ◌++◌, 
 use Rattle.oak_model.specs.Key.{AreBytes, IsKey}
 use Rattle.oak_model.specs.KeyNumber.{key_number}
 use Rattle.oak_model.specs.Limits.{Sizes}
+use Rattle.oak_model.proofs.Lists.{begins_length}
 use Rattle.chunk_core.specs.declared.holds.MovingRange.{MovingRange}
 use Rattle.chunk_core.specs.declared.holds.RoomCopy.{RoomCopy}
 use Rattle.chunk_core.specs.declared.states.TheConstants.{HELD}
@@ -39,6 +40,8 @@ sweeps_since call key u v w b s = let first : List Swept = b.swept.0 in record {
   place = length first + s.place;
   range = s.range;
   there = at_behind first s.more s.place s.range s.there;
+  from = let f = s.from in let m = b.met in let l = begins_length u.findings.met v.findings.met (m.more, m.met) in omega arith;
+  to = s.to;
   inside = s.inside;
 }
 

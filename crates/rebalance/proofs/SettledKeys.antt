@@ -54,7 +54,7 @@ least_is_key key least = subst IsKey (sym least) (omega arith, omega arith)
 
 -- the keys that were swept before are so still
 pub below_still : (call : ℕ) (key : List ℕ) (u v w : PassState) → SweepsBelow key u v → Leaves call v w → SweepsBelow key u w
-below_still call key u v w below l k is before = sweeps_until k u v w (below k is before) l.swept
+below_still call key u v w below l k is before = sweeps_until call k u v w (below k is before) l.swept l.met
 
 either_order : (P : Type 0) (o : Ordering) → (o ≡ Less → P) → (o ≢ Less → P) → P
 either_order P Less a b = a refl
@@ -64,7 +64,7 @@ either_order P Greater a b = b (λ e. cc)
 -- so are those up to a high bound behind that, or all
 module _ (call : ℕ) (key : List ℕ) (u v w : PassState) (below : SweepsBelow key u v) (first : Leaves call u v) (last : Leaves call v w) where
   pub below_high : (h : List ℕ) → SweepsUpTo key (Some h) v w → SweepsBelow h u w
-  below_high h more k is before = either_order (SweepsKey k u w) (key_cmp k key) (λ less. below_still call key u v w below last k is less) (λ from. sweeps_since k u v w first.swept (more.swept k is from before))
+  below_high h more k is before = either_order (SweepsKey k u w) (key_cmp k key) (λ less. below_still call key u v w below last k is less) (λ from. sweeps_since call k u v w first.swept first.met (more.swept k is from before))
 
   pub all_swept : SweepsUpTo key None v w → (k : List ℕ) → IsKey k → SweepsKey k u w
-  all_swept more k is = either_order (SweepsKey k u w) (key_cmp k key) (λ less. below_still call key u v w below last k is less) (λ from. sweeps_since k u v w first.swept (more.swept k is from tt))
+  all_swept more k is = either_order (SweepsKey k u w) (key_cmp k key) (λ less. below_still call key u v w below last k is less) (λ from. sweeps_since call k u v w first.swept first.met (more.swept k is from tt))

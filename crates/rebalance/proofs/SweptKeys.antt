@@ -10,7 +10,7 @@ use Rattle.oak_model.specs.Counts.{Begins}
 use Rattle.oak_model.specs.Key.{AreBytes, IsKey, key_cmp}
 use Rattle.oak_model.specs.KeyNumber.{digits_number, key_number}
 use Rattle.oak_model.specs.WordBytes.{bytes_of}
-use Rattle.oak_model.proofs.Lists.{at_longer}
+use Rattle.oak_model.proofs.Lists.{at_longer, begins_length}
 use Rattle.oak_model.proofs.NumberLaws.{number_less}
 use Rattle.chunk_core.specs.declared.holds.RoomCopy.{RoomCopy}
 use Rattle.chunk_core.specs.KeyWords.{low_bytes, high_bytes, low_number, high_number}
@@ -18,6 +18,7 @@ use Rattle.chunk_core.specs.Spans.{Span, past_high, within}
 use Rattle.chunk_core.proofs.SpanLaws.{past-cases}
 use Rattle.oak_core.specs.declared.states.PassState.{PassState}
 use Rattle.oak_core.specs.declared.states.Swept.{Swept}
+use Rattle.oak_core.specs.CallSteps.{MetMore}
 use Rattle.oak_core.specs.Lack.{InSwept, IsBelow}
 use Rattle.oak_core.proofs.MetLists.{at_behind}
 use Rattle.chunk_ops.proofs.WordParts.{part_small}
@@ -27,24 +28,28 @@ use Rattle.rebalance.proofs.JoinedRanges.{within_high}
 use Rattle.rebalance.proofs.RangeKeys.{high_number-is, number_of}
 
 -- what was swept until one state was swept until a later one
-pub sweeps_until : (key : List ℕ) (v u w : PassState) → SweepsKey key v u → Begins u.findings.swept w.findings.swept → SweepsKey key v w
-sweeps_until key v u w s b = record {
+pub sweeps_until : (call : ℕ) (key : List ℕ) (v u w : PassState) → SweepsKey key v u → Begins u.findings.swept w.findings.swept → MetMore call u w → SweepsKey key v w
+sweeps_until call key v u w s b m = record {
   more = s.more ++ b.0;
   swept = b.1 ∙ (ap (λ (l : List Swept). l ++ b.0) s.swept ∙ append_assoc v.findings.swept s.more b.0);
   place = s.place;
   range = s.range;
   there = at_longer s.more b.0 s.place s.range s.there;
+  from = s.from;
+  to = let t = s.to in let l = begins_length u.findings.met w.findings.met (m.more, m.met) in omega arith;
   inside = s.inside;
 }
 
 -- and since an earlier one
-pub sweeps_since : (key : List ℕ) (u v w : PassState) → Begins u.findings.swept v.findings.swept → SweepsKey key v w → SweepsKey key u w
-sweeps_since key u v w b s = record {
+pub sweeps_since : (call : ℕ) (key : List ℕ) (u v w : PassState) → Begins u.findings.swept v.findings.swept → MetMore call u v → SweepsKey key v w → SweepsKey key u w
+sweeps_since call key u v w b m s = record {
   more = b.0 ++ s.more;
   swept = s.swept ∙ (ap (λ (l : List Swept). l ++ s.more) b.1 ∙ append_assoc u.findings.swept b.0 s.more);
   place = length b.0 + s.place;
   range = s.range;
   there = at_behind b.0 s.more s.place s.range s.there;
+  from = let f = s.from in let l = begins_length u.findings.met v.findings.met (m.more, m.met) in omega arith;
+  to = s.to;
   inside = s.inside;
 }
 

@@ -1,5 +1,5 @@
 -- A chunk that a call takes, and opens again.
-use Rattle.std.proofs.Common.{◌≡◌, ℕ, ◌+◌, List, [], ◌∷◌, length, sym, refl, ap, ◌∙◌, subst, Option, Some}
+use Rattle.std.proofs.Common.{◌≡◌, ℕ, ◌+◌, List, [], ◌∷◌, length, sym, refl, ap, ◌∙◌, subst, arith, Option, Some}
 use Rattle.oak_model.specs.Counts.{Each, total}
 use Rattle.oak_model.specs.Key.{AreBytes, IsKey}
 use Rattle.oak_model.specs.KeyNumber.{key_number}
@@ -29,7 +29,7 @@ use Rattle.rebalance.specs.HeldTables.{Apart, IsHeldRow, WorksOnRooms}
 use Rattle.rebalance.specs.Merging.{HoldsCompacted, SweepsUpTo, TakesChunk}
 use Rattle.rebalance.specs.Mirrors.{copy_or, held_memory}
 use Rattle.rebalance.proofs.ChunkLaws.{works_both, works_none, works_of_rooms}
-use Rattle.rebalance.proofs.FrontLaws.{front_copy}
+use Rattle.rebalance.proofs.FrontLaws.{front_copy, opening_longer}
 use Rattle.rebalance.proofs.LoneTakes.{front_or, taken_works}
 use Rattle.rebalance.proofs.MirroredEntries.{each_of}
 use Rattle.rebalance.proofs.SweptKeys.{high_is_key, sweeps_since, swept_behind}
@@ -175,19 +175,21 @@ module _ (z : Sizes) (call : ℕ) (key : List ℕ) (t : Taken) (slots : List Sor
         kept = take.rewritten.kept;
         base = take.rewritten.base;
         sorted = take.rewritten.sorted;
-        swept = sweeps_since key v d u before.swept (o.sweeps none_lack key is bytes inside_still);
+        swept = sweeps_since call key v d u before.swept before.met (o.sweeps none_lack key is bytes inside_still);
       },
       opened_leaves,
     )
 
     pub opened_sweeps : (high : Option (List ℕ)) → high_bytes take.words.high ≡ high → SweepsUpTo key high v u
     opened_sweeps high end = record {
-      swept = λ k k_is from to. sweeps_since k v d u before.swept (record {
+      swept = λ k k_is from to. sweeps_since call k v d u before.swept before.met (record {
         more = record { low = low_bytes take.words.low; high = high_bytes take.words.high; met = length d.findings.met } ∷ [];
         swept = o.swept none_lack;
         place = 0;
         range = record { low = low_bytes take.words.low; high = high_bytes take.words.high; met = length d.findings.met };
         there = refl;
+        from = omega arith;
+        to = opening_longer z call t.room d u o.opens.step;
         inside = swept_behind take.words (length d.findings.met) key k take.front.mirrors.bounds.low_fits bytes inside_still from (subst (λ (b : Option (List ℕ)). IsBelow b k) (sym end) to);
       });
       is_key = λ h e. end_is_key h (end ∙ e);

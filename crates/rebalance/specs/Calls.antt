@@ -55,13 +55,15 @@ pub record IsSorted (n : ℕ) (w : RoomCopy) : Type 0 where
   pub count : entries_in w.count ≡ n
   pub prefix : prefix_in w.count ≡ n
 
--- a range with the key was swept in the call
+-- a range with the key was swept in the call, by a step whose finding is one of those that it met
 pub record SweepsKey (key : List ℕ) (v w : PassState) : Type 0 where
   pub more : List Swept
   pub swept : w.findings.swept ≡ v.findings.swept ++ more
   pub place : ℕ
   pub range : Swept
   pub there : get_elem? more place ≡ some range
+  pub from : length v.findings.met ≤ range.met
+  pub to : range.met < length w.findings.met
   pub inside : InSwept range key
 
 -- The call held the room of the key, whose words were `held`, and opened it with the words `opened`, over the same range: the entries that had a value are its sorted prefix, nothing is behind it, and the base is the greatest of the old one and the dropped floors.
