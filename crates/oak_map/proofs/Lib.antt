@@ -1,3 +1,7 @@
 mod RepliesSince
 mod LoneRetries
 mod SameScratch
+mod Trying
+mod AnsweredPuts
+mod LackingCalls
+mod GoingCalls

@@ -1,7 +1,7 @@
 -- A reply after refusals is a reply from before them on, and refusals add up.
 use Rattle.std.proofs.Common.{◌≡◌, ℕ, Bool, true, false, List, [], ◌∷◌, ◌++◌, length, refl, ap, ◌∙◌, subst, arith}
 use Rattle.oak_model.specs.declared.cells.CellCall.{CellCall}
-use Rattle.oak_model.specs.declared.cells.CellCall.TheVariants.{Compute, Get}
+use Rattle.oak_model.specs.declared.cells.CellCall.TheVariants.{Compute, Get, Upsert}
 use Rattle.oak_model.specs.declared.cells.CellReply.{CellReply}
 use Rattle.oak_model.specs.declared.cells.CellReply.TheVariants as replies
 use Rattle.oak_model.specs.declared.recipes.RecipeKind.{RecipeKind}
@@ -46,7 +46,7 @@ refuses_both call u v w a b = record { learns = learns_both call u v w a.learns 
 
 -- ---- a reply that came after refusals
 
-goes_both : (call : ℕ) (u v w : PassState) → GoesOn call u v → GoesOn call v w → GoesOn call u w
+pub goes_both : (call : ℕ) (u v w : PassState) → GoesOn call u v → GoesOn call v w → GoesOn call u w
 goes_both call u v w a b = record {
   met = met_both call u v w a.met b.met;
   sights = sights_both call u v w a.sights b.sights;
@@ -109,6 +109,10 @@ wrote_holds (Full lack) call key ask v w f = absurd f
 -- a compute of what its recipe was told is the same as long as that is told
 pub compute_same : (k m : RecipeKind) (n p : ℕ) → k ≡ m → n ≡ p → Compute k n ≡ Compute m p
 compute_same k m n p e f = ap (λ (x : RecipeKind). Compute x n) e ∙ ap (Compute m) f
+
+-- and so is an upsert
+pub upsert_same : (v : List ℕ) (k m : RecipeKind) (n p : ℕ) → k ≡ m → n ≡ p → Upsert v k n ≡ Upsert v m p
+upsert_same v k m n p e f = ap (λ (x : RecipeKind). Upsert v x n) e ∙ ap (Upsert v m) f
 
 -- told again and again
 pub same_both : (A : Type 0) (a b c : A) → a ≡ b → b ≡ c → a ≡ c

@@ -3,7 +3,9 @@
 
 mod changing;
 mod looking;
+mod making_room;
 mod map;
+mod putting;
 mod settling;
 #[cfg(test)]
 mod tests;

@@ -1,7 +1,7 @@
 //! The calls of the map, by one pass.
 
 use crate::OakMap;
-use oak_model::{RecipeKind, Shape, Wrote};
+use oak_model::{Class, Lack, RecipeKind, Shape, Wrote};
 use point_ops::Got;
 use std::test::Fail;
 use value_ops::{Recipe, StepRecipe};
@@ -24,6 +24,31 @@ fn an_absent_key(rt: HostRuntime) -> Result<(), Fail> {
     assert!(rt; removed == Wrote::Absent { at: 0 });
     assert!(rt; computed == Wrote::Absent { at: 0 });
     assert_eq!(rt; ones.calls(), 0);
+    assert_eq!(rt; usage.chunks, 1);
+    Ok(())
+}
+
+#[test]
+fn a_put_key(rt: HostRuntime) -> Result<(), Fail> {
+    let mut ones: Box<dyn Recipe + Send> = Box::new(rt.alloc(), StepRecipe::make())?;
+    ones.tell(RecipeKind::Xor, 1);
+    let shape = Shape::make(1, 1, 4, 1, [2, 0, 0, 0])?;
+    let (map, mut pass) = OakMap::create(&rt, &shape)?;
+    pass.turn(1);
+    let new = map.put(&rt, &mut pass, b"k", b"one");
+    pass.turn(2);
+    let kept = map.put_if_absent(&rt, &mut pass, b"k", b"two");
+    pass.turn(3);
+    let full = map.put(&rt, &mut pass, b"l", b"two");
+    pass.turn(4);
+    assert_eq!(rt; ones.calls(), 0);
+    let done = map.upsert(&rt, &mut pass, b"k", b"two", &mut ones);
+    let usage = map.close(pass).usage();
+    assert!(rt; new == Wrote::New { at: 1 });
+    assert!(rt; kept == Wrote::Kept { at: 1 });
+    assert!(rt; full == Wrote::Full(Lack::Block(Class::B16)));
+    assert!(rt; done == Wrote::Done { at: 2 });
+    assert_eq!(rt; ones.calls(), 1);
     assert_eq!(rt; usage.chunks, 1);
     Ok(())
 }

@@ -1,0 +1,105 @@
+-- What a try found with nothing free is lacked by the call that swept every key before it.
+use Rattle.std.proofs.Common.{◌≡◌, ℕ, ◌+◌, ◌-◌, ◌%◌, ⊎_elim, List, ◌++◌, length, length-append, sym, ap, refl, ◌∙◌, subst, arith, false, None, inl, inr}
+use Rattle.std.specs.Int.{bit_at}
+use Rattle.std.proofs.lemmas.Nat.Bits.{bit_at-zero}
+use mathlib.Core.Option.{some}
+use lib.ListN.{get_elem?}
+use Rattle.pin_word.specs.PinWord.{generation_of}
+use Rattle.oak_model.specs.declared.classes.Class.{Class}
+use Rattle.oak_model.specs.declared.replies.Lack.{Lack}
+use Rattle.oak_model.specs.declared.replies.Lack.TheVariants.{Block, Header}
+use Rattle.oak_model.specs.Counts.{Begins}
+use Rattle.oak_model.specs.Limits.{Sizes}
+use Rattle.oak_model.proofs.Lists.{at_longer, begins_length}
+use Rattle.header_core.specs.Headers.{at_pin}
+use Rattle.oak_core.specs.declared.states.Finding.{Finding}
+use Rattle.oak_core.specs.declared.states.PassState.{PassState}
+use Rattle.oak_core.specs.declared.states.Swept.{Swept}
+use Rattle.oak_core.specs.CallSteps.{MetMore}
+use Rattle.oak_core.specs.Finding.{FoundThere, had}
+use Rattle.oak_core.specs.FoundBehind.{FoundBehind}
+use Rattle.oak_core.specs.Lack.{FoundRenewed, FoundSet, FoundTaken, KeySwept, LackFound, Lacks}
+use Rattle.oak_core.specs.Memory.{Spot, in_headers, index}
+use Rattle.oak_core.specs.PassState.{bare_state}
+use Rattle.oak_core.specs.Usage.{is_free}
+use Rattle.oak_core.proofs.CallSteps.{met_both}
+use Rattle.oak_core.proofs.MetLists.{at_behind, at_inside, each_at, from_behind}
+use Rattle.arena_ops.specs.Looking.{bit_spot}
+use Rattle.point_ops.specs.FoundWords.{FoundApart, FoundWord}
+use Rattle.point_ops.specs.Halting.{AllTaken, NoneFree}
+use Rattle.rebalance.specs.Calls.{SweepsKey}
+use Rattle.oak_map.specs.Putting.{SweepsAll}
+
+-- ---- what a try found
+
+module _ (z : Sizes) (call : ℕ) (v w : PassState) where
+  -- a finding of the try is one behind its begin
+  abbrev behind_begin : (p : Spot) (more : List Finding) → w.findings.met ≡ v.findings.met ++ more → (P : ℕ → Type 0) (Q : ℕ → ℕ → Type 0) (f : FoundThere z call p bare_state more P) → Q f.number f.finding.had
+      → FoundBehind (length v.findings.met) (length w.findings.met) w.findings.met (index z p) Q
+  behind_begin p more met P Q f shows = record {
+    place = length v.findings.met + f.place;
+    from = omega arith;
+    to = let i = at_inside more f.place f.finding f.there in let e = ap (λ (l : List Finding). length l) met in let n = length-append v.findings.met more in omega arith;
+    finding = f.finding;
+    there = subst (λ (l : List Finding). get_elem? l (length v.findings.met + f.place) ≡ some f.finding) (sym met) (at_behind v.findings.met more f.place f.finding f.there);
+    word_is = f.word_is;
+    number = f.number;
+    found_is = f.found_is;
+    shows = shows;
+  }
+
+  -- a pass that holds nothing has no bit, and no header
+  no_bit : (c : Class) (b : ℕ) → had (bit_spot c b) bare_state ≡ 0
+  unfolding Rattle.oak_model.specs.Counts.total
+  no_bit c b = refl
+
+  no_pin : (h : ℕ) → had (in_headers (at_pin h)) bare_state ≡ 0
+  unfolding Rattle.oak_model.specs.Counts.total
+  no_pin h = refl
+
+  set_found : (c : Class) (b : ℕ) → FoundWord z call (bit_spot c b) (λ n. bit_at n (b % 64) ≡ 1) v w → FoundSet z (length v.findings.met) (length w.findings.met) w.findings.met c b
+  set_found c b f = behind_begin (bit_spot c b) f.more f.met _ _ f.found (f.found.shows, subst (λ (n : ℕ). bit_at n (b % 64) ≡ 0) (sym (f.found.had_is ∙ no_bit c b)) (bit_at-zero (b % 64)))
+
+  pub blocks_found : (c : Class) → AllTaken z call c v w → LackFound z (length v.findings.met) (length w.findings.met) w.findings.met (Block c)
+  blocks_found c all = (None, λ b lt. inl (set_found c b (all b lt)))
+
+  taken_found : (h : ℕ) → FoundWord z call (in_headers (at_pin h)) (λ n. is_free n ≡ false) v w → FoundTaken z (length v.findings.met) (length w.findings.met) w.findings.met h
+  taken_found h f = behind_begin (in_headers (at_pin h)) f.more f.met _ _ f.found (f.found.shows, f.found.had_is ∙ no_pin h)
+
+  renewed_found : (h : ℕ) → FoundApart z call (in_headers (at_pin h)) generation_of v w → FoundRenewed z (length v.findings.met) (length w.findings.met) w.findings.met h
+  renewed_found h f = record {
+    one = behind_begin (in_headers (at_pin h)) f.more f.met _ (λ _ had. had ≡ 0) f.one (f.one.had_is ∙ no_pin h);
+    other = behind_begin (in_headers (at_pin h)) f.more f.met _ (λ _ had. had ≡ 0) f.other (f.other.had_is ∙ no_pin h);
+    apart = f.apart;
+  }
+
+  pub headers_found : NoneFree z call v w → LackFound z (length v.findings.met) (length w.findings.met) w.findings.met Header
+  headers_found none h lt = ⊎_elim (λ (f : FoundWord z call (in_headers (at_pin h)) (λ n. is_free n ≡ false) v w). inl (taken_found h f)) (λ (f : FoundApart z call (in_headers (at_pin h)) generation_of v w). inr (renewed_found h f)) (none h lt)
+
+-- ---- behind ranges with every key
+
+module _ (u v w : PassState) where
+  key_swept : (k : List ℕ) → SweepsKey k u v → Begins v.findings.swept w.findings.swept → KeySwept (length u.findings.met) (length v.findings.met) w.findings.swept k
+  key_swept k s b = record {
+    place = length u.findings.swept + s.place;
+    range = s.range;
+    there = subst (λ (l : List Swept). get_elem? l (length u.findings.swept + s.place) ≡ some s.range) (sym b.1)
+        (at_longer v.findings.swept b.0 (length u.findings.swept + s.place) s.range
+        (subst (λ (l : List Swept). get_elem? l (length u.findings.swept + s.place) ≡ some s.range) (sym s.swept) (at_behind u.findings.swept s.more s.place s.range s.there)));
+    from = s.from;
+    to = s.to;
+    inside = s.inside;
+  }
+
+  -- a call that began at u, and swept every key until v, lacks what it found with nothing free until w
+  pub lacks_since : (z : Sizes) (call : ℕ) (lack : Lack) → MetMore call u v → SweepsAll u v → MetMore call v w → Begins v.findings.swept w.findings.swept → LackFound z (length v.findings.met) (length w.findings.met) w.findings.met lack
+      → Lacks z call lack (length u.findings.met) (length w.findings.met) w.findings
+  lacks_since z call lack first all last swept found = let both = met_both call u v w first last in record {
+    behind = length v.findings.met;
+    from = begins_length u.findings.met v.findings.met (first.more, first.met);
+    to = begins_length v.findings.met w.findings.met (last.more, last.met);
+    met = omega arith;
+    of_call = λ i f le lt at. each_at (λ (x : Finding). x.call ≡ call) both.more both.calls (i - length u.findings.met) f (from_behind u.findings.met both.more i f le (subst (λ (l : List Finding). get_elem? l i ≡ some f) both.met at));
+    covered = λ k is. key_swept k (all k is) swept;
+    found = found;
+  }

@@ -1,0 +1,69 @@
+use Rattle.std.proofs.Common.{ℕ, Bool, true, length, sym, subst}
+use Rattle.oak_model.specs.declared.replies.Lack.TheVariants.{Block, Header, Room}
+use Rattle.oak_core.specs.Lack.{Lacks}
+use Rattle.oak_core.specs.Noting.{Notes}
+use Rattle.oak_core.specs.Passes.{state, key as sizes, call_of}
+use Rattle.point_ops.specs.declared.halts.Halt.{Halt}
+use Rattle.point_ops.specs.declared.halts.Halt.TheVariants.{Crowded, NoBlock, NoHeader}
+use Rattle.rebalance.specs.Calls.{Settles}
+use Rattle.oak_map.specs.Putting.{LastTry}
+use Rattle.oak_map.proofs.GoingCalls.{block_lacks, going_more, going_tried, header_lacks, refused_full, refused_going, room_lacks, split_leaves}
+use Rattle.oak_map.proofs.Trying.{tries_leaves, tries_none}
+use Rattle.oak_map.proofs.making_room.make_way.Goals as goal
+
+-- where it settled before, what the try found shows what it lacks
+
+pub refuse-requires-clause-lacks : goal.refuse-requires-clause-lacks
+refuse-requires-clause-lacks g c q = let z = sizes c.args.table.now in let call = call_of c.args.pass.now in let key = c.args.key.now in let t = c.requires.tried in let w = state c.args.pass.now in let x = state c.split.new.pass in
+    (length t.1.findings.met, subst (λ (k : ℕ). Lacks z k Room (length t.1.findings.met) (length x.findings.met) x.findings) (sym c.split.ensures.own.call) (room_lacks z call key c.args.halt t.0 t.1 t.2 w x (subst (λ (b : Bool). LastTry z call key c.args.halt b t.0 t.1 t.2 w) q t.3) c.in-Err.ensures.none))
+
+pub refuse-requires-in-NoBlock-clause-lacks : goal.refuse-requires-in-NoBlock-clause-lacks
+refuse-requires-in-NoBlock-clause-lacks g c q = let z = sizes c.args.table.now in let call = call_of c.args.pass.now in let key = c.args.key.now in let t = c.requires.tried in let w = state c.args.pass.now in
+    (length t.1.findings.met, block_lacks z call key c.in-NoBlock.class t.0 t.1 t.2 w (subst (λ (h : Halt). LastTry z call key h true t.0 t.1 t.2 w) c.in-NoBlock.is (subst (λ (b : Bool). LastTry z call key c.args.halt b t.0 t.1 t.2 w) q t.3)))
+
+pub refuse-requires-in-NoHeader-clause-lacks : goal.refuse-requires-in-NoHeader-clause-lacks
+refuse-requires-in-NoHeader-clause-lacks g c q = let z = sizes c.args.table.now in let call = call_of c.args.pass.now in let key = c.args.key.now in let t = c.requires.tried in let w = state c.args.pass.now in
+    (length t.1.findings.met, header_lacks z call key t.0 t.1 t.2 w (subst (λ (h : Halt). LastTry z call key h true t.0 t.1 t.2 w) c.in-NoHeader.is (subst (λ (b : Bool). LastTry z call key c.args.halt b t.0 t.1 t.2 w) q t.3)))
+
+-- it goes on
+
+pub returns-in-Busy-clause-going : goal.returns-in-Busy-clause-going
+returns-in-Busy-clause-going g c ask u v t = going_tried (sizes c.args.table.now) (call_of c.args.pass.now) c.args.key.now c.args.halt c.args.settled.now ask u v (state c.args.pass.now) t
+
+pub returns-in-Ok-clause-going : goal.returns-in-Ok-clause-going
+returns-in-Ok-clause-going g c ask u v t = let z = sizes c.args.table.now in let call = call_of c.args.pass.now in let key = c.args.key.now in let w = state c.args.pass.now in let x = state c.split.new.pass in
+    going_more call c.args.settled.now u w x (going_tried z call key c.args.halt c.args.settled.now ask u v w t) (tries_leaves call w x (split_leaves z call key w x c.in-Ok.field-0 c.in-Ok.ensures.loosened c.in-Ok.ensures.halved))
+
+pub returns-in-Err-clause-going : goal.returns-in-Err-clause-going
+returns-in-Err-clause-going g c ask u v t = let z = sizes c.args.table.now in let call = call_of c.args.pass.now in let key = c.args.key.now in let w = state c.args.pass.now in let x = state c.split.new.pass in let y = state c.refuse.new.pass in let e = c.split.ensures.own.call in
+    refused_going z call key c.args.halt c.args.settled.now c.refuse.new.settled ask Room u v w x y c.refuse.result t (tries_leaves call w x c.in-Err.ensures.none.compacts.leaves)
+    (λ q. let f = c.refuse.ensures.full q in (f.0, subst (λ (k : ℕ). Notes z k Room x y) e f.1)) (λ q. let a = c.refuse.ensures.again q in (a.0, a.1, subst (λ (k : ℕ). Settles z k x y) e a.2))
+
+pub returns-in-NoBlock-clause-going : goal.returns-in-NoBlock-clause-going
+returns-in-NoBlock-clause-going g c ask u v t = let call = call_of c.args.pass.now in let w = state c.args.pass.now in
+    refused_going (sizes c.args.table.now) call c.args.key.now c.args.halt c.args.settled.now c.refuse-in-NoBlock.new.settled ask (Block c.in-NoBlock.class) u v w w (state c.refuse-in-NoBlock.new.pass) c.refuse-in-NoBlock.result t (tries_none call w) c.refuse-in-NoBlock.ensures.full c.refuse-in-NoBlock.ensures.again
+
+pub returns-in-NoHeader-clause-going : goal.returns-in-NoHeader-clause-going
+returns-in-NoHeader-clause-going g c ask u v t = let call = call_of c.args.pass.now in let w = state c.args.pass.now in
+    refused_going (sizes c.args.table.now) call c.args.key.now c.args.halt c.args.settled.now c.refuse-in-NoHeader.new.settled ask Header u v w w (state c.refuse-in-NoHeader.new.pass) c.refuse-in-NoHeader.result t (tries_none call w) c.refuse-in-NoHeader.ensures.full c.refuse-in-NoHeader.ensures.again
+
+-- or gives up
+
+pub returns-in-Err-clause-full : goal.returns-in-Err-clause-full
+returns-in-Err-clause-full g c ask u v t = let z = sizes c.args.table.now in let call = call_of c.args.pass.now in let key = c.args.key.now in let w = state c.args.pass.now in let x = state c.split.new.pass in let y = state c.refuse.new.pass in let e = c.split.ensures.own.call in
+    let h = subst (λ (i : Halt). LastTry z call key i c.args.settled.now ask u v w) c.in-Crowded.is t in
+    refused_full z call key Crowded c.args.settled.now c.refuse.new.settled ask Room u v w x y c.refuse.result h (tries_leaves call w x c.in-Err.ensures.none.compacts.leaves)
+    (λ q. let f = c.refuse.ensures.full q in (f.0, subst (λ (k : ℕ). Notes z k Room x y) e f.1)) (λ q. let a = c.refuse.ensures.again q in (a.0, a.1, subst (λ (k : ℕ). Settles z k x y) e a.2))
+    h.halts.1 (λ q. room_lacks z call key Crowded ask u v w x (subst (λ (b : Bool). LastTry z call key Crowded b ask u v w) q h) c.in-Err.ensures.none)
+
+pub returns-in-NoBlock-clause-full : goal.returns-in-NoBlock-clause-full
+returns-in-NoBlock-clause-full g c ask u v t = let z = sizes c.args.table.now in let call = call_of c.args.pass.now in let key = c.args.key.now in let w = state c.args.pass.now in let b = c.in-NoBlock.class in
+    let h = subst (λ (i : Halt). LastTry z call key i c.args.settled.now ask u v w) c.in-NoBlock.is t in
+    refused_full z call key (NoBlock b) c.args.settled.now c.refuse-in-NoBlock.new.settled ask (Block b) u v w w (state c.refuse-in-NoBlock.new.pass) c.refuse-in-NoBlock.result h (tries_none call w) c.refuse-in-NoBlock.ensures.full c.refuse-in-NoBlock.ensures.again
+    h.halts.1 (λ q. block_lacks z call key b ask u v w (subst (λ (s : Bool). LastTry z call key (NoBlock b) s ask u v w) q h))
+
+pub returns-in-NoHeader-clause-full : goal.returns-in-NoHeader-clause-full
+returns-in-NoHeader-clause-full g c ask u v t = let z = sizes c.args.table.now in let call = call_of c.args.pass.now in let key = c.args.key.now in let w = state c.args.pass.now in
+    let h = subst (λ (i : Halt). LastTry z call key i c.args.settled.now ask u v w) c.in-NoHeader.is t in
+    refused_full z call key NoHeader c.args.settled.now c.refuse-in-NoHeader.new.settled ask Header u v w w (state c.refuse-in-NoHeader.new.pass) c.refuse-in-NoHeader.result h (tries_none call w) c.refuse-in-NoHeader.ensures.full c.refuse-in-NoHeader.ensures.again
+    h.halts.1 (λ q. header_lacks z call key ask u v w (subst (λ (s : Bool). LastTry z call key NoHeader s ask u v w) q h))

@@ -1,0 +1,11 @@
+use Rattle.oak_core.specs.Scratch.{StaysButSlots}
+use Rattle.oak_map.specs.Maps.{call_of, pass_of, state}
+use Rattle.oak_map.specs.Putting.{Going}
+use Rattle.oak_map.proofs.map.OakMap.put.Given as goal
+
+abbrev pub invariant-loop : goal.invariant-loop
+invariant-loop g l = record {
+  next : (goal.iterator-loop g).can_next l.iterator';
+  stays : StaysButSlots (pass_of l.fn.pass) (pass_of l.pass);
+  going : Going (call_of l.fn.pass) l.settled (state l.fn.pass) (state l.pass);
+}

@@ -1,0 +1,43 @@
+use Rattle.std.proofs.Common.{ℕ, ◌∙◌, subst}
+use Rattle.oak_model.specs.declared.cells.CellCall.TheVariants.{PutNew}
+use Rattle.oak_model.specs.declared.replies.Wrote.TheVariants.{Full}
+use Rattle.oak_core.specs.Passes.{state as table_state, call_of as table_call}
+use Rattle.point_ops.specs.Parts.{WroteFits}
+use Rattle.oak_map.specs.Maps.{call_of, pass_of, sizes, state}
+use Rattle.oak_map.specs.Putting.{Going}
+use Rattle.oak_map.specs.Replying.{GivesUp}
+use Rattle.oak_map.proofs.AnsweredPuts.{put_fits, put_idle}
+use Rattle.oak_map.proofs.GoingCalls.{last_try}
+use Rattle.oak_map.proofs.SameScratch.{slots_then}
+use Rattle.oak_map.proofs.map.OakMap.put_if_absent.Goals as goal
+
+pub returns-in-Ok-clause-wrote : goal.returns-in-Ok-clause-wrote
+returns-in-Ok-clause-wrote g c = let z = sizes c.args.self.now in let call = call_of c.args.pass.now in let key = c.args.key.now in let u = state c.args.pass.now in let v = state c.loop.pass in let w = table_state c.try_put_if_absent.new.pass in let i = c.loop.invariant in
+    put_fits call u v w i.going.tries c.in-Ok.wrote z key (PutNew c.args.value.now) (subst (λ (k : ℕ). WroteFits c.in-Ok.wrote k key (PutNew c.args.value.now) v w) i.stays.call c.in-Ok.ensures.wrote)
+
+pub make_way-requires-clause-tried : goal.make_way-requires-clause-tried
+make_way-requires-clause-tried g c = let u = state c.args.pass.now in let v = state c.loop.pass in let i = c.loop.invariant in let o = c.try_put_if_absent.ensures.own in let e = c.in-Err.ensures in
+    (PutNew c.args.value.now, u, v, last_try (sizes c.args.self.now) (call_of c.args.pass.now) (call_of c.loop.pass) (table_call c.try_put_if_absent.new.pass) c.args.key.now c.in-Err.halt c.loop.settled (PutNew c.args.value.now) u v (table_state c.try_put_if_absent.new.pass) i.stays.call o.call i.going e.refused e.halted)
+
+-- it gives up
+
+pub returns-in-Some-make_way-clause-wrote : goal.returns-in-Some-make_way-clause-wrote
+returns-in-Some-make_way-clause-wrote g c = let z = sizes c.args.self.now in let key = c.args.key.now in let ask = PutNew c.args.value.now in let u = state c.args.pass.now in let v = state c.loop.pass in let w = table_state c.try_put_if_absent.new.pass in let i = c.loop.invariant in let o = c.try_put_if_absent.ensures.own in let e = c.in-Err.ensures in
+    subst (λ (k : ℕ). GivesUp z k key ask c.in-Some-make_way.lack u (table_state c.make_way.new.pass)) (o.call ∙ i.stays.call)
+    (c.in-Some-make_way.ensures.full ask u v (last_try z (call_of c.args.pass.now) (call_of c.loop.pass) (table_call c.try_put_if_absent.new.pass) key c.in-Err.halt c.loop.settled ask u v w i.stays.call o.call i.going e.refused e.halted))
+
+pub returns-in-Some-make_way-clause-ready : goal.returns-in-Some-make_way-clause-ready
+returns-in-Some-make_way-clause-ready g c = let z = sizes c.args.self.now in let key = c.args.key.now in let ask = PutNew c.args.value.now in let u = state c.args.pass.now in let v = state c.loop.pass in let w = table_state c.try_put_if_absent.new.pass in let i = c.loop.invariant in let o = c.try_put_if_absent.ensures.own in let e = c.in-Err.ensures in let r = c.requires.ready in record {
+  own = c.make_way.ensures.own.table ∙ (o.table ∙ (i.stays.table ∙ r.own));
+  idle = put_idle z (table_call c.try_put_if_absent.new.pass) key ask (Full c.in-Some-make_way.lack) u (table_state c.make_way.new.pass) r.idle
+      (c.in-Some-make_way.ensures.full ask u v (last_try z (call_of c.args.pass.now) (call_of c.loop.pass) (table_call c.try_put_if_absent.new.pass) key c.in-Err.halt c.loop.settled ask u v w i.stays.call o.call i.going e.refused e.halted));
+}
+
+-- or goes on
+pub loop-preserved : goal.loop-preserved
+loop-preserved g c = let z = sizes c.args.self.now in let key = c.args.key.now in let ask = PutNew c.args.value.now in let u = state c.args.pass.now in let v = state c.loop.pass in let w = table_state c.try_put_if_absent.new.pass in let i = c.loop.invariant in let o = c.try_put_if_absent.ensures.own in let e = c.in-Err.ensures in record {
+  next = tt;
+  stays = slots_then (pass_of c.args.pass.now) (pass_of c.loop.pass) c.try_put_if_absent.new.pass c.make_way.new.pass i.stays o c.make_way.ensures.own;
+  going = subst (λ (k : ℕ). Going k c.make_way.new.settled u (table_state c.make_way.new.pass)) (o.call ∙ i.stays.call)
+      (c.in_default.ensures.going ask u v (last_try z (call_of c.args.pass.now) (call_of c.loop.pass) (table_call c.try_put_if_absent.new.pass) key c.in-Err.halt c.loop.settled ask u v w i.stays.call o.call i.going e.refused e.halted));
+}

@@ -1,0 +1,60 @@
+use Rattle.std.proofs.Common.{ℕ, ◌∙◌, subst, arith}
+use Rattle.oak_model.specs.declared.cells.CellCall.{CellCall}
+use Rattle.oak_model.specs.declared.cells.CellCall.TheVariants.{Upsert}
+use Rattle.oak_model.specs.declared.recipes.RecipeKind.{RecipeKind}
+use Rattle.oak_model.specs.declared.replies.Wrote.TheVariants.{Full}
+use Rattle.oak_core.specs.Passes.{state as table_state, call_of as table_call}
+use Rattle.point_ops.specs.Halting.{Halts}
+use Rattle.point_ops.specs.Parts.{WroteFits}
+use Rattle.oak_map.specs.Maps.{call_of, pass_of, sizes, state}
+use Rattle.oak_map.specs.Putting.{Going}
+use Rattle.oak_map.specs.Replying.{GivesUp}
+use Rattle.oak_map.proofs.AnsweredPuts.{put_fits, put_idle}
+use Rattle.oak_map.proofs.GoingCalls.{last_try}
+use Rattle.oak_map.proofs.RepliesSince.{same_both, upsert_same}
+use Rattle.oak_map.proofs.SameScratch.{room_then}
+use Rattle.oak_map.proofs.map.OakMap.upsert.Goals as goal
+
+pub returns-in-Ok-clause-wrote : goal.returns-in-Ok-clause-wrote
+returns-in-Ok-clause-wrote g c = let z = sizes c.args.self.now in let call = call_of c.args.pass.now in let key = c.args.key.now in let u = state c.args.pass.now in let v = state c.loop.pass in let w = table_state c.try_upsert.new.pass in let i = c.loop.invariant in
+    let first = c.args.recipe.now in let now = c.loop.recipe in let x = goal.Recipe-dyn g (first.vtable, first.value) in let y = goal.Recipe-dyn g (now.vtable, now.value) in
+    let e = upsert_same c.args.value.now (y.told_kind now.value) (x.told_kind first.value) (y.told_argument now.value) (x.told_argument first.value) i.kind i.argument in
+    put_fits call u v w i.going.tries c.in-Ok.wrote z key (Upsert c.args.value.now (x.told_kind first.value) (x.told_argument first.value))
+    (subst (λ (a : CellCall). WroteFits c.in-Ok.wrote call key a v w) e (subst (λ (k : ℕ). WroteFits c.in-Ok.wrote k key (Upsert c.args.value.now (y.told_kind now.value) (y.told_argument now.value)) v w) i.stays.call c.in-Ok.ensures.wrote))
+
+pub make_way-requires-clause-tried : goal.make_way-requires-clause-tried
+make_way-requires-clause-tried g c = let now = c.loop.recipe in let y = goal.Recipe-dyn g (now.vtable, now.value) in let ask = Upsert c.args.value.now (y.told_kind now.value) (y.told_argument now.value) in let u = state c.args.pass.now in let v = state c.loop.pass in let i = c.loop.invariant in let o = c.try_upsert.ensures.own in let e = c.in-Err.ensures in
+    (ask, u, v, last_try (sizes c.args.self.now) (call_of c.args.pass.now) (call_of c.loop.pass) (table_call c.try_upsert.new.pass) c.args.key.now c.in-Err.halt c.loop.settled ask u v (table_state c.try_upsert.new.pass) i.stays.call o.call i.going e.refused e.halted)
+
+-- it gives up
+
+pub returns-in-Some-make_way-clause-wrote : goal.returns-in-Some-make_way-clause-wrote
+returns-in-Some-make_way-clause-wrote g c = let z = sizes c.args.self.now in let key = c.args.key.now in let u = state c.args.pass.now in let v = state c.loop.pass in let w = table_state c.try_upsert.new.pass in let i = c.loop.invariant in let o = c.try_upsert.ensures.own in let e = c.in-Err.ensures in
+    let first = c.args.recipe.now in let now = c.loop.recipe in let x = goal.Recipe-dyn g (first.vtable, first.value) in let y = goal.Recipe-dyn g (now.vtable, now.value) in
+    let ask = Upsert c.args.value.now (x.told_kind first.value) (x.told_argument first.value) in
+    let same = upsert_same c.args.value.now (y.told_kind now.value) (x.told_kind first.value) (y.told_argument now.value) (x.told_argument first.value) i.kind i.argument in
+    subst (λ (k : ℕ). GivesUp z k key ask c.in-Some-make_way.lack u (table_state c.make_way.new.pass)) (o.call ∙ i.stays.call)
+    (c.in-Some-make_way.ensures.full ask u v (last_try z (call_of c.args.pass.now) (call_of c.loop.pass) (table_call c.try_upsert.new.pass) key c.in-Err.halt c.loop.settled ask u v w i.stays.call o.call i.going e.refused
+    (subst (λ (a : CellCall). Halts c.in-Err.halt z (call_of c.loop.pass) key a v w) same e.halted)))
+
+pub returns-in-Some-make_way-clause-ready : goal.returns-in-Some-make_way-clause-ready
+returns-in-Some-make_way-clause-ready g c = let z = sizes c.args.self.now in let key = c.args.key.now in let u = state c.args.pass.now in let v = state c.loop.pass in let w = table_state c.try_upsert.new.pass in let i = c.loop.invariant in let o = c.try_upsert.ensures.own in let e = c.in-Err.ensures in let r = c.requires.ready in
+    let now = c.loop.recipe in let y = goal.Recipe-dyn g (now.vtable, now.value) in let ask = Upsert c.args.value.now (y.told_kind now.value) (y.told_argument now.value) in record {
+      own = c.make_way.ensures.own.table ∙ (o.table ∙ (i.stays.table ∙ r.own));
+      idle = put_idle z (table_call c.try_upsert.new.pass) key ask (Full c.in-Some-make_way.lack) u (table_state c.make_way.new.pass) r.idle
+          (c.in-Some-make_way.ensures.full ask u v (last_try z (call_of c.args.pass.now) (call_of c.loop.pass) (table_call c.try_upsert.new.pass) key c.in-Err.halt c.loop.settled ask u v w i.stays.call o.call i.going e.refused e.halted));
+    }
+
+-- or goes on
+pub loop-preserved : goal.loop-preserved
+loop-preserved g c = let z = sizes c.args.self.now in let key = c.args.key.now in let u = state c.args.pass.now in let v = state c.loop.pass in let w = table_state c.try_upsert.new.pass in let i = c.loop.invariant in let o = c.try_upsert.ensures.own in let e = c.in-Err.ensures in
+    let first = c.args.recipe.now in let now = c.loop.recipe in let next = c.try_upsert.new.recipe in let x = goal.Recipe-dyn g (first.vtable, first.value) in let y = goal.Recipe-dyn g (now.vtable, now.value) in let t = goal.Recipe-dyn g (next.vtable, next.value) in
+    let ask = Upsert c.args.value.now (y.told_kind now.value) (y.told_argument now.value) in record {
+      next = tt;
+      stays = room_then (pass_of c.args.pass.now) (pass_of c.loop.pass) c.try_upsert.new.pass c.make_way.new.pass i.stays o c.make_way.ensures.own;
+      going = subst (λ (k : ℕ). Going k c.make_way.new.settled u (table_state c.make_way.new.pass)) (o.call ∙ i.stays.call)
+          (c.in_default.ensures.going ask u v (last_try z (call_of c.args.pass.now) (call_of c.loop.pass) (table_call c.try_upsert.new.pass) key c.in-Err.halt c.loop.settled ask u v w i.stays.call o.call i.going e.refused e.halted));
+      counted = let a = e.counted in let b = i.counted in omega arith;
+      kind = same_both RecipeKind (t.told_kind next.value) (y.told_kind now.value) (x.told_kind first.value) c.try_upsert.ensures.told.0 i.kind;
+      argument = same_both ℕ (t.told_argument next.value) (y.told_argument now.value) (x.told_argument first.value) c.try_upsert.ensures.told.1 i.argument;
+    }

@@ -1,0 +1,136 @@
+//! Puts.
+ghost use Rattle.std.specs.Prelude.{◌≡◌, ◌<◌, ◌+◌, ◌-◌, ◌^◌, Ok};
+ghost use Rattle.oak_model.specs.declared.cells.CellCall.TheVariants.{Put, PutNew, Upsert};
+ghost use Rattle.oak_model.specs.Key.{IsKey};
+ghost use Rattle.oak_model.specs.Value.{IsValue};
+ghost use Rattle.oak_core.specs.MayWrite.{IsNewCall};
+ghost use Rattle.oak_core.specs.Scratch.{StaysButSlots};
+ghost use Rattle.point_ops.specs.Counted.{times_done};
+ghost use Rattle.oak_map.specs.Maps.{IsReady, call_of, pass_of, sizes, state};
+ghost use Rattle.oak_map.specs.Putting.{StaysButRoom};
+ghost use Rattle.oak_map.specs.Replying.{PutFits};
+
+use crate::making_room::make_way;
+use crate::map::{MapPass, NO_HINT, OakMap};
+use oak_model::Wrote;
+use point_ops::{try_put, try_put_if_absent, try_upsert};
+use std::sync::Wait;
+use value_ops::Recipe;
+
+impl OakMap {
+    /// Puts the value of a key: `New` where it was absent, `Over` where it was present, with the stamp of
+    /// the write. It is tried again while other passes are at work on the key or move its room, and its
+    /// chunk is split while it has no entry left for the key. `Full` comes only where the call settled the
+    /// map, and behind that found nothing free of what it needs; it made no write then, and is noted with
+    /// what it lacks. The pass made no write in this turn.
+    pub fn put<R: Wait>(&self, rt: &R, pass: &mut MapPass, key: &[u8], value: &[u8]) -> Wrote
+        requires ready { IsReady self.now pass.old }
+        requires key { IsKey key.now }
+        requires turn { IsNewCall (call_of pass.old) (state pass.old) }
+        requires value { IsValue value.now }
+        ensures own { StaysButSlots (pass_of pass.old) (pass_of pass.new) }
+        ensures ready { IsReady self.now pass.new }
+        ensures wrote { PutFits result (sizes self.now) (call_of pass.old) key.now (Put value.now) (state pass.old) (state pass.new) }
+    {
+        let mut settled = false;
+        for _ in rt.forever() {
+            match try_put(&self.table, &mut pass.pass, NO_HINT, key, value) {
+                Ok(wrote) => return wrote,
+                Err(halt) => {
+                    if let Some(lack) = make_way(
+                        rt,
+                        &self.table,
+                        &mut pass.pass,
+                        &mut settled,
+                        key,
+                        halt,
+                    ) {
+                        return Wrote::Full(lack);
+                    }
+                }
+            }
+        }
+        unreachable!()
+    }
+
+    /// Puts the value of a key if it is absent: `New` then, and `Kept` where it was present, with a number
+    /// at whose place it was. It is tried again, and answers `Full`, as [`OakMap::put`] does.
+    pub fn put_if_absent<R: Wait>(
+        &self,
+        rt: &R,
+        pass: &mut MapPass,
+        key: &[u8],
+        value: &[u8],
+    ) -> Wrote
+        requires ready { IsReady self.now pass.old }
+        requires key { IsKey key.now }
+        requires turn { IsNewCall (call_of pass.old) (state pass.old) }
+        requires value { IsValue value.now }
+        ensures own { StaysButSlots (pass_of pass.old) (pass_of pass.new) }
+        ensures ready { IsReady self.now pass.new }
+        ensures wrote { PutFits result (sizes self.now) (call_of pass.old) key.now (PutNew value.now) (state pass.old) (state pass.new) }
+    {
+        let mut settled = false;
+        for _ in rt.forever() {
+            match try_put_if_absent(&self.table, &mut pass.pass, NO_HINT, key, value) {
+                Ok(wrote) => return wrote,
+                Err(halt) => {
+                    if let Some(lack) = make_way(
+                        rt,
+                        &self.table,
+                        &mut pass.pass,
+                        &mut settled,
+                        key,
+                        halt,
+                    ) {
+                        return Wrote::Full(lack);
+                    }
+                }
+            }
+        }
+        unreachable!()
+    }
+
+    /// Computes the value of a key anew, as [`OakMap::compute`] does, or puts one where it was absent:
+    /// `Done` or `New`. The recipe's count is one more exactly after `Done`. It is tried again, and answers
+    /// `Full`, as [`OakMap::put`] does.
+    pub fn upsert<R: Wait>(
+        &self,
+        rt: &R,
+        pass: &mut MapPass,
+        key: &[u8],
+        value: &[u8],
+        recipe: &mut Box<dyn Recipe + Send>,
+    ) -> Wrote
+        requires ready { IsReady self.now pass.old }
+        requires key { IsKey key.now }
+        requires turn { IsNewCall (call_of pass.old) (state pass.old) }
+        requires value { IsValue value.now }
+        requires few { calls recipe.old < 2 ^ 64 - 1 }
+        ensures own { StaysButRoom (pass_of pass.old) (pass_of pass.new) }
+        ensures ready { IsReady self.now pass.new }
+        ensures wrote { PutFits result (sizes self.now) (call_of pass.old) key.now (Upsert value.now (told_kind recipe.old) (told_argument recipe.old)) (state pass.old) (state pass.new) }
+        ensures counted { calls recipe.new ≡ calls recipe.old + times_done (Ok result) }
+        ensures told { (told_kind recipe.new ≡ told_kind recipe.old) × (told_argument recipe.new ≡ told_argument recipe.old) }
+    {
+        let mut settled = false;
+        for _ in rt.forever() {
+            match try_upsert(&self.table, &mut pass.pass, NO_HINT, key, value, recipe) {
+                Ok(wrote) => return wrote,
+                Err(halt) => {
+                    if let Some(lack) = make_way(
+                        rt,
+                        &self.table,
+                        &mut pass.pass,
+                        &mut settled,
+                        key,
+                        halt,
+                    ) {
+                        return Wrote::Full(lack);
+                    }
+                }
+            }
+        }
+        unreachable!()
+    }
+}
