@@ -116,6 +116,6 @@ module _ (z : Sizes) (call r : ℕ) (P : Span → Type 0) (v u w x : PassState) 
   pub all_got_alone : UnderPin z c2 r u w → (y : Got) (key : List ℕ) → Gets y z key u w → IsAlone v → GotAlone y z key v x
   all_got_alone under y key g alone = got_alone y z call key v x alone p.begun n0.ended (all_got z call r P v u w x idle p c2 c3 e2 e3 under n0 y key g)
 
-  pub all_same_alone : KeepsUnder z r u w → Learns c2 u w → SameAlone v x
-  all_same_alone held l alone = let s = all_refuses z call r P v u w x idle p c2 c3 e2 e3 held n0 l in
-      seen_same z v x alone (sees_whole z v alone p.begun) s.holds.numbers s.learns.all.seen (sees_whole z x (alone_later v x s.holds.numbers alone) n0.ended) s.learns.all.mine
+  pub all_same_alone : KeepsUnder z r u w → Learns c2 u w → SameAlone z v x
+  all_same_alone held l alone = let s = all_refuses z call r P v u w x idle p c2 c3 e2 e3 held n0 l in let b = sees_whole z v alone p.begun in let e = sees_whole z x (alone_later v x s.holds.numbers alone) n0.ended in
+      record { begun = b; ended = e; same = seen_same z v x alone b s.holds.numbers s.learns.all.seen e s.learns.all.mine }

@@ -1,12 +1,12 @@
 -- Whole calls of a pass that is alone: a life that an entry names is never refused to it, nor is a room.
-use Rattle.std.proofs.Common.{◌≡◌, ℕ, ◌<◌, true, false, true≢false, List, sym, ap, ◌∙◌, subst, Result, Ok, Err, IfErr}
+use Rattle.std.proofs.Common.{◌≡◌, ℕ, ◌<◌, true, false, true≢false, ⊎_elim, List, [], sym, ap, ◌∙◌, subst, Result, Ok, Err, IfErr}
 use Rattle.pin_word.specs.PinWord.{count_of, state_of}
 use Rattle.oak_model.specs.Limits.{Sizes}
 use Rattle.header_core.specs.HeaderHolds.{no_headers}
 use Rattle.chunk_core.specs.declared.holds.RoomHolds.{RoomHolds}
 use Rattle.chunk_core.specs.declared.states.TheConstants.{OPEN}
 use Rattle.oak_core.specs.declared.states.PassState.{PassState}
-use Rattle.oak_core.specs.AloneWords.{Runs}
+use Rattle.oak_core.specs.AloneWords.{Runs, RunsTo}
 use Rattle.oak_core.specs.Memory.{memory}
 use Rattle.oak_core.specs.PassState.{HoldsNothing}
 use Rattle.oak_core.proofs.AloneRuns.{Then, runs_as, runs_then}
@@ -14,7 +14,7 @@ use Rattle.chunk_ops.specs.declared.entries.Content.TheVariants.{Value}
 use Rattle.chunk_ops.specs.declared.entries.EntryNo.{EntryNo}
 use Rattle.chunk_ops.specs.Contents.{Says}
 use Rattle.chunk_ops.specs.Latching.{Never}
-use Rattle.chunk_ops.specs.LoneRooms.{NeverAlone}
+use Rattle.chunk_ops.specs.LoneRooms.{HasNoRoom, NeverAlone}
 use Rattle.chunk_ops.specs.PinRecords.{HasEntry, WordsStay}
 use Rattle.chunk_ops.specs.RoomPins.{AddsRoomPin, DropsRoomPin}
 use Rattle.chunk_ops.proofs.MeetingCalls.{both_stay}
@@ -24,6 +24,7 @@ use Rattle.value_ops.specs.Pinning.{IsLiveAt}
 use Rattle.point_ops.specs.declared.halts.Halt.{Halt}
 use Rattle.point_ops.specs.declared.spots.Spot.TheVariants.{Present}
 use Rattle.point_ops.specs.LoneLives.{EntrySays, GetsIn, LooksAlone, RefusesLock, RefusesLook}
+use Rattle.point_ops.specs.LoneReplies.{SameAlone}
 use Rattle.point_ops.proofs.LoneChanges.{never_then, then_never}
 use Rattle.point_ops.proofs.LoneNamed.{named_free, named_live}
 use Rattle.point_ops.proofs.LoneSpots.{spot_stays}
@@ -56,6 +57,13 @@ of_each P (Err e) p = p
 -- the pass had nothing, so that it found a room
 pub room_found : (v w : PassState) (Q : List ℕ → List ℕ → Type 0) → HoldsNothing v → Runs (NeverAlone v) v w → Runs Q v w
 room_found v w Q idle n = runs_as (NeverAlone v) Q v w (λ a b d. absurd (d record { held = ap (λ (a : RoomHolds). a.held) idle.rooms; moving = ap (λ (a : RoomHolds). a.moving) idle.rooms })) n
+
+-- so it is never told that it found none
+pub room_never : (z : Sizes) (v w : PassState) → HoldsNothing v → Runs (NeverAlone v) v w → SameAlone z v w
+room_never z v w idle n alone = ⊎_elim (λ (s : (v ≡ w) × ((words : List ℕ) → NeverAlone v words words)). absurd (s.1 [] bare)) (λ (s : (before : List ℕ) × RunsTo (NeverAlone v) before w). absurd (s.1.does bare)) (n.starts alone)
+  where
+    bare : HasNoRoom v
+    bare = record { held = ap (λ (a : RoomHolds). a.held) idle.rooms; moving = ap (λ (a : RoomHolds). a.moving) idle.rooms }
 
 -- a room was pinned, a key looked at under the pin, and the room unpinned
 pub pinned_got : {A : Type 0} (z : Sizes) (r : ℕ) (v u w x : PassState) → r < z.chunks → Runs (AddsRoomPin z r) v u → Runs (DropsRoomPin z r) w x → (y : Result A Halt) → Runs (GetsIn y) u w → Runs (GetsIn y) v x

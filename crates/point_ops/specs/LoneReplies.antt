@@ -45,6 +45,12 @@ abbrev pub GotAlone : Got → Sizes → List ℕ → PassState → PassState →
 GotAlone (got.Absent at) z key v w = AnswersAlone z key Get replies.Absent v w
 GotAlone (got.View x) z key v w = (bytes : List ℕ) × AnswersAlone z key Get (replies.Holds bytes) v w
 
--- where the pass is alone, no history changed
-abbrev pub SameAlone : PassState → PassState → Type 0
-SameAlone v w = IsAlone v → (q : ℕ) → seen_of q w.knowledge ≡ seen_of q v.knowledge
+-- so it had at the call's begin and at its end, and no history changed
+pub record SeesTheSame (z : Sizes) (v w : PassState) : Type 0 where
+  pub begun : SeesWhole z v
+  pub ended : SeesWhole z w
+  pub same : (q : ℕ) → seen_of q w.knowledge ≡ seen_of q v.knowledge
+
+-- this holds where the pass is alone
+abbrev pub SameAlone : Sizes → PassState → PassState → Type 0
+SameAlone z v w = IsAlone v → SeesTheSame z v w

@@ -13,6 +13,7 @@ ghost use Rattle.oak_core.specs.Passes.{IsPassOf, Stays, state, key as sizes, ca
 ghost use Rattle.oak_core.specs.PassState.{HoldsNothing, IsAlone};
 ghost use Rattle.chunk_ops.specs.AskedRanges.{CoversKey};
 ghost use Rattle.chunk_ops.specs.PinRecords.{HasRoomPin, room_pin};
+ghost use Rattle.chunk_ops.specs.RoomPins.{HadMoment};
 ghost use Rattle.point_ops.specs.Halting.{Halts};
 ghost use Rattle.point_ops.specs.LonePuts.{PutsIn, PutsUnder};
 ghost use Rattle.point_ops.specs.Parts.{Answers, KeepsUnder, WroteFits};
@@ -118,7 +119,7 @@ pub fn try_compute(
     ensures wrote { IfOk result (λ x. WroteFits x (call_of pass.old) key.now (Compute (told_kind recipe.old) (told_argument recipe.old)) (state pass.old) (state pass.new)) }
     ensures alone_reply { IfOk result (λ x. IsAlone (state pass.old) → WroteAlone x (sizes table.now) key.now (Compute (told_kind recipe.old) (told_argument recipe.old)) (state pass.old) (state pass.new)) }
     ensures refused { IfErr result (λ _. Refuses (call_of pass.old) (state pass.old) (state pass.new)) }
-    ensures alone_same { IfErr result (λ _. SameAlone (state pass.old) (state pass.new)) }
+    ensures alone_same { IfErr result (λ _. SameAlone (sizes table.now) (state pass.old) (state pass.new)) }
     ensures halted { IfErr result (λ why. Halts why (sizes table.now) (call_of pass.old) key.now (Compute (told_kind recipe.old) (told_argument recipe.old)) (state pass.old) (state pass.new)) }
     ensures either { IfErr result (λ why. (why ≡ halts.Busy) ⊎ (why ≡ halts.Moved)) }
     ensures alone { IfErr result (λ _. Runs Never (state pass.old) (state pass.new)) }
@@ -200,8 +201,9 @@ pub fn try_upsert(
     ensures own { StaysButScratch pass.old pass.new }
     ensures wrote { IfOk result (λ x. WroteFits x (call_of pass.old) key.now (Upsert value.now (told_kind recipe.old) (told_argument recipe.old)) (state pass.old) (state pass.new)) }
     ensures alone_reply { IfOk result (λ x. IsAlone (state pass.old) → WroteAlone x (sizes table.now) key.now (Upsert value.now (told_kind recipe.old) (told_argument recipe.old)) (state pass.old) (state pass.new)) }
+    ensures ended { IfOk result (λ _. HadMoment (sizes table.now) (state pass.new)) }
     ensures refused { IfErr result (λ _. Refuses (call_of pass.old) (state pass.old) (state pass.new)) }
-    ensures alone_same { IfErr result (λ _. SameAlone (state pass.old) (state pass.new)) }
+    ensures alone_same { IfErr result (λ _. SameAlone (sizes table.now) (state pass.old) (state pass.new)) }
     ensures halted { IfErr result (λ why. Halts why (sizes table.now) (call_of pass.old) key.now (Upsert value.now (told_kind recipe.old) (told_argument recipe.old)) (state pass.old) (state pass.new)) }
     ensures alone { Runs (PutsIn result (sizes table.now) key.now value.now) (state pass.old) (state pass.new) }
     ensures counted { calls recipe.new ≡ calls recipe.old + times_done result }

@@ -106,7 +106,7 @@ pub fn try_get(table: &OakTable, pass: &mut Pass, hint: Hint, key: &[u8]) -> Res
     ensures got { IfOk result (λ x. GotFits x (sizes table.now) (call_of pass.old) key.now (state pass.old) (state pass.new)) }
     ensures alone_reply { IfOk result (λ x. IsAlone (state pass.old) → GotAlone x (sizes table.now) key.now (state pass.old) (state pass.new)) }
     ensures refused { IfErr result (λ _. Refuses (call_of pass.old) (state pass.old) (state pass.new)) }
-    ensures alone_same { IfErr result (λ _. SameAlone (state pass.old) (state pass.new)) }
+    ensures alone_same { IfErr result (λ _. SameAlone (sizes table.now) (state pass.old) (state pass.new)) }
     ensures halted { IfErr result (λ why. Halts why (sizes table.now) (call_of pass.old) key.now Get (state pass.old) (state pass.new)) }
     ensures either { IfErr result (λ why. (why ≡ halts.Busy) ⊎ (why ≡ halts.Moved)) }
     ensures alone { Runs (GetsIn result) (state pass.old) (state pass.new) }

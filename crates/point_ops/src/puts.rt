@@ -16,6 +16,7 @@ ghost use Rattle.oak_core.specs.Passes.{IsPassOf, Stays, state, key as sizes, ca
 ghost use Rattle.oak_core.specs.PassState.{HoldsNothing, IsAlone};
 ghost use Rattle.chunk_ops.specs.AskedRanges.{CoversKey};
 ghost use Rattle.chunk_ops.specs.PinRecords.{HasRoomPin, OnlyLearns, WordsStay, room_pin};
+ghost use Rattle.chunk_ops.specs.RoomPins.{HadMoment};
 ghost use Rattle.value_ops.specs.Pinning.{KnowsLife};
 ghost use Rattle.point_ops.specs.FoundWords.{FoundWord};
 ghost use Rattle.point_ops.specs.Halting.{Halts, IsDeadAt, IsLockedOut};
@@ -100,8 +101,9 @@ pub fn try_put(
     ensures own { Stays pass.old pass.new }
     ensures wrote { IfOk result (λ x. WroteFits x (call_of pass.old) key.now (Put value.now) (state pass.old) (state pass.new)) }
     ensures alone_reply { IfOk result (λ x. IsAlone (state pass.old) → WroteAlone x (sizes table.now) key.now (Put value.now) (state pass.old) (state pass.new)) }
+    ensures ended { IfOk result (λ _. HadMoment (sizes table.now) (state pass.new)) }
     ensures refused { IfErr result (λ _. Refuses (call_of pass.old) (state pass.old) (state pass.new)) }
-    ensures alone_same { IfErr result (λ _. SameAlone (state pass.old) (state pass.new)) }
+    ensures alone_same { IfErr result (λ _. SameAlone (sizes table.now) (state pass.old) (state pass.new)) }
     ensures halted { IfErr result (λ why. Halts why (sizes table.now) (call_of pass.old) key.now (Put value.now) (state pass.old) (state pass.new)) }
     ensures alone { Runs (PutsIn result (sizes table.now) key.now value.now) (state pass.old) (state pass.new) }
 {
@@ -190,8 +192,9 @@ pub fn try_put_if_absent(
     ensures own { Stays pass.old pass.new }
     ensures wrote { IfOk result (λ x. WroteFits x (call_of pass.old) key.now (PutNew value.now) (state pass.old) (state pass.new)) }
     ensures alone_reply { IfOk result (λ x. IsAlone (state pass.old) → WroteAlone x (sizes table.now) key.now (PutNew value.now) (state pass.old) (state pass.new)) }
+    ensures ended { IfOk result (λ _. HadMoment (sizes table.now) (state pass.new)) }
     ensures refused { IfErr result (λ _. Refuses (call_of pass.old) (state pass.old) (state pass.new)) }
-    ensures alone_same { IfErr result (λ _. SameAlone (state pass.old) (state pass.new)) }
+    ensures alone_same { IfErr result (λ _. SameAlone (sizes table.now) (state pass.old) (state pass.new)) }
     ensures halted { IfErr result (λ why. Halts why (sizes table.now) (call_of pass.old) key.now (PutNew value.now) (state pass.old) (state pass.new)) }
     ensures alone { Runs (PutsIn result (sizes table.now) key.now value.now) (state pass.old) (state pass.new) }
 {

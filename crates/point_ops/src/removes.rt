@@ -118,7 +118,7 @@ pub fn try_remove(table: &OakTable, pass: &mut Pass, hint: Hint, key: &[u8]) -> 
     ensures wrote { IfOk result (λ x. WroteFits x (call_of pass.old) key.now Remove (state pass.old) (state pass.new)) }
     ensures alone_reply { IfOk result (λ x. IsAlone (state pass.old) → WroteAlone x (sizes table.now) key.now Remove (state pass.old) (state pass.new)) }
     ensures refused { IfErr result (λ _. Refuses (call_of pass.old) (state pass.old) (state pass.new)) }
-    ensures alone_same { IfErr result (λ _. SameAlone (state pass.old) (state pass.new)) }
+    ensures alone_same { IfErr result (λ _. SameAlone (sizes table.now) (state pass.old) (state pass.new)) }
     ensures halted { IfErr result (λ why. Halts why (sizes table.now) (call_of pass.old) key.now Remove (state pass.old) (state pass.new)) }
     ensures either { IfErr result (λ why. (why ≡ halts.Busy) ⊎ (why ≡ halts.Moved)) }
     ensures alone { IfErr result (λ _. Runs Never (state pass.old) (state pass.new)) }

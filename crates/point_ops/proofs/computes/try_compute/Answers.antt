@@ -1,4 +1,4 @@
-use Rattle.point_ops.proofs.LoneCalls.{pinned_never, room_found}
+use Rattle.point_ops.proofs.LoneCalls.{pinned_never, room_found, room_never}
 use Rattle.std.proofs.Common.{◌∙◌}
 use Rattle.oak_model.specs.declared.cells.CellCall.TheVariants.{Compute}
 use Rattle.oak_core.specs.Passes.{state, key as sizes, call_of}
@@ -29,6 +29,9 @@ returns-clause-alone_reply g c = let o = c.args.recipe.now in let k = (goal.Reci
 pub returns-clause-alone_same : goal.returns-clause-alone_same
 returns-clause-alone_same g c = err_map _ _ c.compute_pinned-wrote.result (λ y l. all_same_alone (sizes c.args.table.now) (call_of c.args.pass.now) c.in-Ok.pin.room (CoversKey c.args.key.now) (state c.args.pass.now) (state c.pin_for.new.pass) (state c.compute_pinned-wrote.new.pass) (state c.unpin.new.pass) c.requires.idle c.in-Ok.ensures.pinned
     _ _ c.pin_for.ensures.own.call (c.compute_pinned-wrote.ensures.own.call ∙ c.pin_for.ensures.own.call) c.unpin.ensures.unpinned c.compute_pinned-wrote.ensures.held l) c.compute_pinned-wrote.ensures.learns
+
+pub returns-in_default-clause-alone_same : goal.returns-in_default-clause-alone_same
+returns-in_default-clause-alone_same g c = room_never (sizes c.args.table.now) (state c.args.pass.now) (state c.pin_for.new.pass) c.requires.idle c.in_default.ensures.alone
 
 pub returns-in_default-clause-alone : goal.returns-in_default-clause-alone
 returns-in_default-clause-alone g c = room_found (state c.args.pass.now) (state c.pin_for.new.pass) _ c.requires.idle c.in_default.ensures.alone

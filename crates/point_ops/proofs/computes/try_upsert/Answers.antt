@@ -5,7 +5,7 @@ use Rattle.chunk_ops.specs.AskedRanges.{CoversKey}
 use Rattle.point_ops.proofs.LoneAnswers.{all_same_alone, all_wrote_alone}
 use Rattle.point_ops.proofs.Outcomes.{ok_map, err_map}
 use Rattle.point_ops.proofs.PinnedCalls.{all_answers, all_halts, all_refuses}
-use Rattle.point_ops.proofs.LoneCalls.{room_found}
+use Rattle.point_ops.proofs.LoneCalls.{room_found, room_never}
 use Rattle.point_ops.proofs.LonePins.{pinned_puts}
 use Rattle.point_ops.proofs.computes.try_upsert.Goals as goal
 
@@ -30,6 +30,13 @@ returns-clause-alone_reply g c = let o = c.args.recipe.now in let k = (goal.Reci
 pub returns-clause-alone_same : goal.returns-clause-alone_same
 returns-clause-alone_same g c = err_map _ _ c.upsert_pinned-wrote.result (λ y l. all_same_alone (sizes c.args.table.now) (call_of c.args.pass.now) c.in-Ok.pin.room (CoversKey c.args.key.now) (state c.args.pass.now) (state c.pin_for.new.pass) (state c.upsert_pinned-wrote.new.pass) (state c.unpin.new.pass) c.requires.idle c.in-Ok.ensures.pinned
     _ _ c.pin_for.ensures.own.call (c.upsert_pinned-wrote.ensures.own.call ∙ c.pin_for.ensures.own.call) c.unpin.ensures.unpinned c.upsert_pinned-wrote.ensures.held l) c.upsert_pinned-wrote.ensures.learns
+
+-- behind it there was a moment of the rule
+pub returns-clause-ended : goal.returns-clause-ended
+returns-clause-ended g c = ok_map _ _ c.upsert_pinned-wrote.result (λ y l. c.unpin.ensures.unpinned.ended) c.upsert_pinned-wrote.ensures.got
+
+pub returns-in_default-clause-alone_same : goal.returns-in_default-clause-alone_same
+returns-in_default-clause-alone_same g c = room_never (sizes c.args.table.now) (state c.args.pass.now) (state c.pin_for.new.pass) c.requires.idle c.in_default.ensures.alone
 
 pub returns-in_default-clause-alone : goal.returns-in_default-clause-alone
 returns-in_default-clause-alone g c = room_found (state c.args.pass.now) (state c.pin_for.new.pass) _ c.requires.idle c.in_default.ensures.alone

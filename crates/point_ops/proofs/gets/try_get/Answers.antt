@@ -1,4 +1,4 @@
-use Rattle.point_ops.proofs.LoneCalls.{pinned_got, room_found}
+use Rattle.point_ops.proofs.LoneCalls.{pinned_got, room_found, room_never}
 use Rattle.std.proofs.Common.{◌∙◌}
 use Rattle.oak_model.specs.declared.cells.CellCall.TheVariants.{Get}
 use Rattle.oak_core.specs.Passes.{state, key as sizes, call_of}
@@ -30,6 +30,9 @@ returns-clause-alone_reply c = ok_map _ _ c.get_pinned-got.result (λ y l. all_g
 pub returns-clause-alone_same : goal.returns-clause-alone_same
 returns-clause-alone_same c = err_map _ _ c.get_pinned-got.result (λ y l. all_same_alone (sizes c.args.table.now) (call_of c.args.pass.now) c.in-Ok.pin.room (CoversKey c.args.key.now) (state c.args.pass.now) (state c.pin_for.new.pass) (state c.get_pinned-got.new.pass) (state c.unpin.new.pass) c.requires.idle c.in-Ok.ensures.pinned
     _ _ c.pin_for.ensures.own.call (c.get_pinned-got.ensures.own.call ∙ c.pin_for.ensures.own.call) c.unpin.ensures.unpinned (under_keeps (sizes c.args.table.now) _ c.in-Ok.pin.room (state c.pin_for.new.pass) (state c.get_pinned-got.new.pass) c.get_pinned-got.ensures.under) c.get_pinned-got.ensures.under.learns) c.get_pinned-got.ensures.halted
+
+pub returns-in_default-clause-alone_same : goal.returns-in_default-clause-alone_same
+returns-in_default-clause-alone_same c = room_never (sizes c.args.table.now) (state c.args.pass.now) (state c.pin_for.new.pass) c.requires.idle c.in_default.ensures.alone
 
 pub returns-in_default-clause-alone : goal.returns-in_default-clause-alone
 returns-in_default-clause-alone c = room_found (state c.args.pass.now) (state c.pin_for.new.pass) _ c.requires.idle c.in_default.ensures.alone

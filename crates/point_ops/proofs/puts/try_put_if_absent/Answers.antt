@@ -5,7 +5,7 @@ use Rattle.chunk_ops.specs.AskedRanges.{CoversKey}
 use Rattle.point_ops.proofs.LoneAnswers.{all_same_alone, all_wrote_alone}
 use Rattle.point_ops.proofs.Outcomes.{ok_map, err_map}
 use Rattle.point_ops.proofs.PinnedCalls.{all_answers, all_halts, all_refuses}
-use Rattle.point_ops.proofs.LoneCalls.{room_found}
+use Rattle.point_ops.proofs.LoneCalls.{room_found, room_never}
 use Rattle.point_ops.proofs.LonePins.{pinned_puts}
 use Rattle.point_ops.proofs.puts.try_put_if_absent.Goals as goal
 
@@ -30,6 +30,13 @@ returns-clause-alone_reply c = ok_map _ _ c.put_new_pinned-wrote.result (λ y l.
 pub returns-clause-alone_same : goal.returns-clause-alone_same
 returns-clause-alone_same c = err_map _ _ c.put_new_pinned-wrote.result (λ y l. all_same_alone (sizes c.args.table.now) (call_of c.args.pass.now) c.in-Ok.pin.room (CoversKey c.args.key.now) (state c.args.pass.now) (state c.pin_for.new.pass) (state c.put_new_pinned-wrote.new.pass) (state c.unpin.new.pass) c.requires.idle c.in-Ok.ensures.pinned
     _ _ c.pin_for.ensures.own.call (c.put_new_pinned-wrote.ensures.own.call ∙ c.pin_for.ensures.own.call) c.unpin.ensures.unpinned c.put_new_pinned-wrote.ensures.held l) c.put_new_pinned-wrote.ensures.learns
+
+-- behind it there was a moment of the rule
+pub returns-clause-ended : goal.returns-clause-ended
+returns-clause-ended c = ok_map _ _ c.put_new_pinned-wrote.result (λ y l. c.unpin.ensures.unpinned.ended) c.put_new_pinned-wrote.ensures.got
+
+pub returns-in_default-clause-alone_same : goal.returns-in_default-clause-alone_same
+returns-in_default-clause-alone_same c = room_never (sizes c.args.table.now) (state c.args.pass.now) (state c.pin_for.new.pass) c.requires.idle c.in_default.ensures.alone
 
 pub returns-in_default-clause-alone : goal.returns-in_default-clause-alone
 returns-in_default-clause-alone c = room_found (state c.args.pass.now) (state c.pin_for.new.pass) _ c.requires.idle c.in_default.ensures.alone
