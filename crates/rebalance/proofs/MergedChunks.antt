@@ -77,6 +77,7 @@ module _ (z : Sizes) (call : ℕ) (key : List ℕ) (low : Taken) (ys : List Sort
         opened = lower.words;
         rewrites = r;
         leaves = l;
+        ended = o.moment;
         why = inl (record {
           last = ap high_number (sym lower.rewritten.high) ∙ (high_number-is lower.words.high ∙ ap number_of end);
           alone = lone_rewrites z v q u low.room lower.held lower.words front.inside bare (bare_still v u bare l.rooms) o.moment (step_apart z call (on_rooms (open_room low.room)) v u r.opens.step) takes o.alone;
@@ -135,6 +136,7 @@ module _ (z : Sizes) (call : ℕ) (key : List ℕ) (low : Taken) (ys : List Sort
           opened = lower.words;
           rewrites = r;
           leaves = l;
+          ended = o.moment;
           why = inr (record {
             other = up.room;
             next = upper.held;

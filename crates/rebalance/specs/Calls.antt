@@ -22,6 +22,7 @@ use Rattle.oak_core.specs.CallSteps.{MetMore, StepOfCall}
 use Rattle.oak_core.specs.Lack.{InSwept}
 use Rattle.oak_core.specs.RoomLacks.{RoomLackFound}
 use Rattle.oak_core.specs.Step.{on_rooms}
+use Rattle.chunk_ops.specs.RoomPins.{HadMoment}
 use Rattle.rebalance.specs.Copies.{base_without, copy_span, values_in}
 use Rattle.rebalance.specs.LoneCalls.{AllOpen, Divided, HalvesRoom, JoinsRooms, RewritesBoth, RewritesRoom, SettlesWords}
 
@@ -178,11 +179,13 @@ pub record StaysApart (z : Sizes) (call : ℕ) (key : List ℕ) (v w : PassState
   pub opened : RoomCopy
   pub rewrites : Rewrites z call key room held opened v w
   pub leaves : Leaves call v w
+  pub ended : HadMoment z w
   pub why : IsLast z room held opened v w ⊎ HasMuchAbove z call room held opened v w
 
--- settle: ranges swept in the call cover every key
+-- settle: ranges swept in the call cover every key, and at its end the rule held with the pass as it is then
 pub record Settles (z : Sizes) (call : ℕ) (v w : PassState) : Type 0 where
   pub leaves : Leaves call v w
+  pub ended : HadMoment z w
   pub covered : (key : List ℕ) → IsKey key → SweepsKey key v w
   -- to a pass that is alone
   pub alone : Runs (SettlesWords z) v w

@@ -48,7 +48,7 @@ pub(crate) fn read_sorted<H: HeldRooms>(rooms: &mut H, room: u32) -> Read
     read
 }
 
-/// IsCompacted a held room: its entries are then those that had a value, in the order of their keys.
+/// Compacts a held room: its entries are then those that had a value, in the order of their keys.
 pub(crate) fn compact_held<H: HeldRooms>(rooms: &mut H, room: u32) -> Read
     requires held { H.held rooms.old room }
     requires within { entries_in ((H.rooms rooms.old).count room) ≤ H.entries rooms.old }

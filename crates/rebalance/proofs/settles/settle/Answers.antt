@@ -54,4 +54,4 @@ returns-in-Apart-None-clause-settled g c = let call = call_of c.args.pass.now in
     let z : Sizes = sizes c.args.table.now in
     let apart = subst (λ (p : ℕ × List ℕ). ApartUpTo z p.0 p.1 None v w) (λ j. (i.stays.call j, c.as_slice.ensures j)) (c.merge_chunk.ensures.apart None (c.in-Apart-None.is ∙ ap Apart c.in-Apart-None.field-0-is)) in
     let last = apart.stays.leaves in
-    record { leaves = leaves_both call u v w i.leaves last; covered = all_swept call c.loop.from u v w i.below i.leaves last apart.sweeps; alone = all_settles z call c.loop.from u v w i.alone apart }
+    record { leaves = leaves_both call u v w i.leaves last; ended = apart.stays.ended; covered = all_swept call c.loop.from u v w i.below i.leaves last apart.sweeps; alone = all_settles z call c.loop.from u v w i.alone apart }
