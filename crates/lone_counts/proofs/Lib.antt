@@ -1,0 +1,18 @@
+mod Sums
+mod NumberSums
+mod SetBits
+mod ByClass
+mod KeyLaw
+mod RisingPairs
+mod MapSums
+mod Used
+mod Exact
+mod Gathered
+mod LoneSums
+mod LoneBlocks
+mod LoneHeaders
+mod LoneTables
+mod ValuedRooms
+pub mod TableCounts
+pub mod MapChanges
+pub mod LoneMaps
