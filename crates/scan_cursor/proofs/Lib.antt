@@ -23,4 +23,5 @@ mod FillLaws
 mod LifeLaws
 mod LeavingLaws
 pub mod EndLaws
+pub mod FitLaws
 mod CursorLaws

@@ -1,9 +1,9 @@
 -- The keys of a pinned room's range, by the room's bounds and in the direction of a scan.
-use Rattle.std.proofs.Common.{◌≡◌, ◌≢◌, ℕ, zero, suc, ◌+◌, ◌-◌, ◌^◌, ◌<◌, ◌≤◌, cond, Bool, true, List, [], ◌∷◌, drop, get_or, replicate, take, Option, Some, None, sym, refl, ap, ◌∙◌, arith, eq-eqb, ne_eqb, mul-le-mul_right}
+use Rattle.std.proofs.Common.{◌≡◌, ◌≢◌, ℕ, zero, suc, ◌+◌, ◌-◌, ◌^◌, ◌<◌, ◌≤◌, cond, Bool, true, List, [], ◌∷◌, drop, get_or, length, replicate, take, Option, Some, None, sym, refl, ap, ◌∙◌, arith, eq-eqb, ne_eqb, mul-le-mul_right}
 use mathlib.Core.Logic.{dite}
 use native.Mathlib.Decide.{ℕ_discrete}
 use Rattle.oak_model.specs.declared.limits.TheConstants.{GREATEST_KEY}
-use Rattle.oak_model.specs.Key.{AreBytes}
+use Rattle.oak_model.specs.Key.{AreBytes, is_key}
 use Rattle.oak_model.specs.KeyNumber.{digits_number, key_number}
 use Rattle.oak_model.specs.WordBytes.{bytes_of}
 use Rattle.chunk_core.specs.declared.holds.PinnedRoom.{PinnedRoom}
@@ -16,6 +16,8 @@ use Rattle.scan_cursor.specs.declared.ways.Way.{Way}
 use Rattle.scan_cursor.specs.declared.ways.Way.TheVariants.{Up, Down}
 use Rattle.scan_cursor.specs.Holding.{Covers, Room, ahead_from, ahead_past, bound_in, greatest_key, high_end, low_end, room_of}
 use Rattle.scan_cursor.specs.Loading.{IsBehind}
+use Rattle.scan_cursor.specs.Scanned.{least_key}
+use Rattle.oak_model.proofs.KeyLaws.{is_key-is}
 
 -- ---- the greatest key, whose number no key's is above
 
@@ -28,6 +30,21 @@ digits_most (suc n) (x ∷ xs) b = let t = digits_most n xs (λ i. b (suc i)) in
 pub number_most : (k : List ℕ) → AreBytes k → key_number k ≤ key_number greatest_key
 unfolding key_number
 number_most k b = digits_most GREATEST_KEY k b
+
+-- ---- the least key, whose number none is below
+
+digits_least : (n : ℕ) (k : List ℕ) → 0 < length k → digits_number (suc n) (0 ∷ []) ≤ digits_number (suc n) k
+unfolding digits_number
+digits_least n [] some = absurd (omega arith)
+digits_least n (x ∷ xs) some = let z = no_digits n in let f : 1 ≤ x + 1 = omega arith in let m = mul-le-mul_right (257 ^ n) f in omega arith
+  where
+    no_digits : (n : ℕ) → digits_number n [] ≡ 0
+    no_digits zero = refl
+    no_digits (suc n) = refl
+
+pub number_least : (k : List ℕ) → is_key k ≡ true → key_number least_key ≤ key_number k
+unfolding key_number
+number_least k e = digits_least 63 k (is_key-is k e).0.0
 
 no_key : (xs : List ℕ) → key_number (take 0 xs) ≡ 0
 unfolding key_number digits_number

@@ -4,6 +4,7 @@ pub mod Gathered
 pub mod Loading
 pub mod Reading
 pub mod Scanned
+pub mod Fitting
 pub mod Marks
 pub mod Walks
 pub mod Leaving
