@@ -1,5 +1,5 @@
 -- How a call that puts goes on after a try without an answer, and how it gives up.
-use Rattle.std.proofs.Common.{◌≡◌, ℕ, Bool, true, false, List, length, refl, sym, subst, Option, Some, None, IfSome, IfNone, Result, Ok, inl, inr}
+use Rattle.std.proofs.Common.{◌≡◌, ℕ, Bool, true, false, List, length, refl, sym, subst, Option, Some, None, IfSome, IfNone, Result, Ok, ◌⊎◌, ⊎_elim, inl, inr}
 use Rattle.oak_model.specs.declared.cells.CellCall.{CellCall}
 use Rattle.oak_model.specs.declared.classes.Class.{Class}
 use Rattle.oak_model.specs.declared.replies.Lack.{Lack}
@@ -15,7 +15,7 @@ use Rattle.oak_core.specs.Noting.{Notes}
 use Rattle.oak_core.proofs.CallSteps.{begins_same}
 use Rattle.oak_core.proofs.KnownReads.{read_since, read_stays}
 use Rattle.point_ops.specs.declared.halts.Halt.{Halt}
-use Rattle.point_ops.specs.declared.halts.Halt.TheVariants.{NoBlock, NoHeader}
+use Rattle.point_ops.specs.declared.halts.Halt.TheVariants.{Busy, Moved, NoBlock, NoHeader}
 use Rattle.point_ops.specs.Needs.{Needs, NeedsNow}
 use Rattle.point_ops.specs.Halting.{Halts}
 use Rattle.point_ops.specs.Replies.{GoesOn, Refuses}
@@ -25,6 +25,7 @@ use Rattle.rebalance.specs.declared.answers.Split.{Split}
 use Rattle.rebalance.specs.declared.answers.Split.TheVariants.{Halved, Loosened}
 use Rattle.rebalance.specs.Calls.{FindsNoRoom, Halves, Leaves, Loosens, Settles}
 use Rattle.rebalance.proofs.SweptKeys.{sweeps_since, sweeps_until}
+use Rattle.oak_map.specs.MakingRoom.{MakesWay}
 use Rattle.oak_map.specs.Putting.{Going, LastTry}
 use Rattle.oak_map.specs.Replying.{GivesUp, Tries}
 use Rattle.oak_map.proofs.LackingCalls.{blocks_found, headers_found, lacks_since}
@@ -48,6 +49,16 @@ going_settled z call before after u v w g s = record {
 pub split_leaves : (z : Sizes) (call : ℕ) (key : List ℕ) (v w : PassState) (s : Split) → ((let r : Result Split NoRoom = Ok s in r) ≡ Ok Loosened → Loosens z call key v w) → ((room : ℕ) → (let r : Result Split NoRoom = Ok s in r) ≡ Ok (Halved room) → Halves z call key room v w) → Leaves call v w
 split_leaves z call key v w Loosened loosened halved = (loosened refl).compacts.leaves
 split_leaves z call key v w (Halved room) loosened halved = (halved room refl).leaves
+
+-- it dropped entries, or opened the range as two
+pub split_ways : (z : Sizes) (call : ℕ) (key : List ℕ) (v w : PassState) (s : Split) → ((let r : Result Split NoRoom = Ok s in r) ≡ Ok Loosened → Loosens z call key v w) → ((room : ℕ) → (let r : Result Split NoRoom = Ok s in r) ≡ Ok (Halved room) → Halves z call key room v w) → Loosens z call key v w ⊎ ((room : ℕ) × Halves z call key room v w)
+split_ways z call key v w Loosened loosened halved = inl (loosened refl)
+split_ways z call key v w (Halved room) loosened halved = inr (room, halved room refl)
+
+-- one that waited made no room
+pub waits_way : (z : Sizes) (call : ℕ) (key : List ℕ) (halt : Halt) (settled : Bool) (v : PassState) → (halt ≡ Busy) ⊎ (halt ≡ Moved) → MakesWay halt z call key settled settled None v v
+waits_way z call key halt settled v e = ⊎_elim (λ (b : halt ≡ Busy). subst (λ (h : Halt). MakesWay h z call key settled settled None v v) (sym b) (record { none = refl; same = refl }, refl))
+    (λ (m : halt ≡ Moved). subst (λ (h : Halt). MakesWay h z call key settled settled None v v) (sym m) (record { none = refl; same = refl }, refl)) e
 
 -- behind the last try
 pub going_tried : (z : Sizes) (call : ℕ) (key : List ℕ) (halt : Halt) (settled : Bool) (ask : CellCall) (u v w : PassState) → LastTry z call key halt settled ask u v w → Going call settled u w

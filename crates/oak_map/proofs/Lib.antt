@@ -1,3 +1,4 @@
+pub mod ClosedMaps
 mod RepliesSince
 mod LoneRetries
 mod SameScratch
@@ -5,3 +6,21 @@ mod Trying
 mod AnsweredPuts
 mod LackingCalls
 mod GoingCalls
+mod SettledStays
+mod SettledSplits
+mod WordsThrough
+mod LoneWays
+mod LoneGoesOn
+mod LoneFull
+mod LoneNoted
+mod AbsentKeys
+mod LackLaws
+mod SpareWords
+mod LoneStates
+mod FullCounts
+mod RoomOfKey
+mod NoRoomLeft
+mod FullAnswers
+mod LonePutCalls
+mod ReplyAnswers
+mod ReplyWords

@@ -1,3 +1,7 @@
+pub mod Closings
+pub mod LonePuts
+pub mod LoneRetrying
+pub mod MakingRoom
 pub mod Maps
 pub mod Putting
 pub mod Replying

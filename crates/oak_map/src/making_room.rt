@@ -9,6 +9,7 @@ ghost use Rattle.oak_core.specs.Passes.{IsPassOf, state, key as sizes, call_of};
 ghost use Rattle.oak_core.specs.PassState.{HoldsNothing};
 ghost use Rattle.oak_core.specs.Scratch.{StaysButSlots};
 ghost use Rattle.rebalance.specs.Calls.{Settles};
+ghost use Rattle.oak_map.specs.MakingRoom.{MakesWay};
 ghost use Rattle.oak_map.specs.Putting.{Going, LastTry};
 ghost use Rattle.oak_map.specs.Replying.{GivesUp};
 
@@ -60,6 +61,7 @@ pub(crate) fn make_way<R: Wait>(
     ensures own { StaysButSlots pass.old pass.new }
     ensures full { (ask : CellCall) (u v : PassState) → LastTry (sizes table.now) (call_of pass.old) key.now halt settled.old ask u v (state pass.old) → IfSome result (λ lack. GivesUp (sizes table.now) (call_of pass.old) key.now ask lack u (state pass.new)) }
     ensures going { (ask : CellCall) (u v : PassState) → LastTry (sizes table.now) (call_of pass.old) key.now halt settled.old ask u v (state pass.old) → IfNone result (Going (call_of pass.old) settled.new u (state pass.new)) }
+    ensures way { MakesWay halt (sizes table.now) (call_of pass.old) key.now settled.old settled.new result (state pass.old) (state pass.new) }
 {
     match halt {
         Halt::Busy | Halt::Moved => {

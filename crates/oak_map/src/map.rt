@@ -1,5 +1,5 @@
 //! The map and its passes: made, given their calls, split, joined, and at last closed.
-ghost use Rattle.std.specs.Prelude.{◌≡◌, ℕ, ◌<◌, IfOk, IfErr, Err};
+ghost use Rattle.std.specs.Prelude.{◌≡◌, ℕ, ◌<◌, IfOk, IfErr, Err, List};
 ghost use Rattle.oak_core.specs.AloneWords.{LeavesWords};
 ghost use Rattle.oak_core.specs.Closing.{closed_key, closed_state, closed_words, FullsLacked};
 ghost use Rattle.oak_core.specs.KnownPlaces.{PlacesStand};
@@ -9,6 +9,8 @@ ghost use Rattle.oak_core.specs.PassState.{IsAlone, both_state};
 ghost use Rattle.oak_core.specs.Schedule.{opening};
 ghost use Rattle.oak_core.specs.Splitting.{Ends, FindsAllGiven, LooksAtGiven, SeesLonger, SplitsOff};
 ghost use Rattle.oak_core.specs.declared.passes.SplitFault.TheVariants as SplitFault;
+ghost use Rattle.rebalance.specs.LoneCalls.{IsSettled};
+ghost use Rattle.oak_map.specs.Closings.{UsesJustMap};
 ghost use Rattle.oak_map.specs.Maps.{IsReady, call_of, pass_of, sizes, state};
 
 use oak_core::{Closed, OakTable, Pass, SplitFault};
@@ -96,7 +98,8 @@ impl OakMap {
     }
 
     /// Closes the map with its last pass: every other was joined into it, or into one that was. What the
-    /// pass knows to be the place of a number among a key's writes is its place in the closed history.
+    /// pass knows to be the place of a number among a key's writes is its place in the closed history. Where
+    /// the pass left the map settled, just the keys and values of the map are in use.
     pub fn close(self, pass: MapPass) -> Closed
         requires ready { IsReady self pass }
         requires alone { IsAlone (state pass) }
@@ -105,6 +108,7 @@ impl OakMap {
         ensures ends { Ends (sizes self) (closed_words result) (state pass) }
         ensures noted { FullsLacked result }
         ensures places { PlacesStand result }
+        ensures settled { (words : List ℕ) → LeavesWords words (state pass) → IsSettled (sizes self) words → UsesJustMap result }
     {
         let OakMap { table } = self;
         let MapPass { pass } = pass;

@@ -3,9 +3,12 @@ ghost use Rattle.std.specs.Prelude.{◌≡◌, ◌<◌, ◌+◌, ◌-◌, ◌^�
 ghost use Rattle.oak_model.specs.declared.cells.CellCall.TheVariants.{Put, PutNew, Upsert};
 ghost use Rattle.oak_model.specs.Key.{IsKey};
 ghost use Rattle.oak_model.specs.Value.{IsValue};
+ghost use Rattle.oak_core.specs.AloneWords.{Runs};
 ghost use Rattle.oak_core.specs.MayWrite.{IsNewCall};
+ghost use Rattle.oak_core.specs.PassState.{IsAlone};
 ghost use Rattle.oak_core.specs.Scratch.{StaysButSlots};
 ghost use Rattle.point_ops.specs.Counted.{times_done};
+ghost use Rattle.oak_map.specs.LonePuts.{PutAlone, PutsAlone};
 ghost use Rattle.oak_map.specs.Maps.{IsReady, call_of, pass_of, sizes, state};
 ghost use Rattle.oak_map.specs.Putting.{StaysButRoom};
 ghost use Rattle.oak_map.specs.Replying.{PutFits};
@@ -22,7 +25,8 @@ impl OakMap {
     /// the write. It is tried again while other passes are at work on the key or move its room, and its
     /// chunk is split while it has no entry left for the key. `Full` comes only where the call settled the
     /// map, and behind that found nothing free of what it needs; it made no write then, and is noted with
-    /// what it lacks. The pass made no write in this turn.
+    /// what it lacks. To a pass that is alone `Full` comes exactly where the map lacks that, or where there is
+    /// no room for the key. The pass made no write in this turn.
     pub fn put<R: Wait>(&self, rt: &R, pass: &mut MapPass, key: &[u8], value: &[u8]) -> Wrote
         requires ready { IsReady self.now pass.old }
         requires key { IsKey key.now }
@@ -31,6 +35,8 @@ impl OakMap {
         ensures own { StaysButSlots (pass_of pass.old) (pass_of pass.new) }
         ensures ready { IsReady self.now pass.new }
         ensures wrote { PutFits result (sizes self.now) (call_of pass.old) key.now (Put value.now) (state pass.old) (state pass.new) }
+        ensures alone_reply { IsAlone (state pass.old) → PutAlone result (sizes self.now) key.now (Put value.now) (state pass.old) (state pass.new) }
+        ensures alone { Runs (PutsAlone (sizes self.now) key.now (Put value.now) (state pass.old) result) (state pass.old) (state pass.new) }
     {
         let mut settled = false;
         for _ in rt.forever() {
@@ -69,6 +75,8 @@ impl OakMap {
         ensures own { StaysButSlots (pass_of pass.old) (pass_of pass.new) }
         ensures ready { IsReady self.now pass.new }
         ensures wrote { PutFits result (sizes self.now) (call_of pass.old) key.now (PutNew value.now) (state pass.old) (state pass.new) }
+        ensures alone_reply { IsAlone (state pass.old) → PutAlone result (sizes self.now) key.now (PutNew value.now) (state pass.old) (state pass.new) }
+        ensures alone { Runs (PutsAlone (sizes self.now) key.now (PutNew value.now) (state pass.old) result) (state pass.old) (state pass.new) }
     {
         let mut settled = false;
         for _ in rt.forever() {
@@ -110,6 +118,8 @@ impl OakMap {
         ensures own { StaysButRoom (pass_of pass.old) (pass_of pass.new) }
         ensures ready { IsReady self.now pass.new }
         ensures wrote { PutFits result (sizes self.now) (call_of pass.old) key.now (Upsert value.now (told_kind recipe.old) (told_argument recipe.old)) (state pass.old) (state pass.new) }
+        ensures alone_reply { IsAlone (state pass.old) → PutAlone result (sizes self.now) key.now (Upsert value.now (told_kind recipe.old) (told_argument recipe.old)) (state pass.old) (state pass.new) }
+        ensures alone { Runs (PutsAlone (sizes self.now) key.now (Upsert value.now (told_kind recipe.old) (told_argument recipe.old)) (state pass.old) result) (state pass.old) (state pass.new) }
         ensures counted { calls recipe.new ≡ calls recipe.old + times_done (Ok result) }
         ensures told { (told_kind recipe.new ≡ told_kind recipe.old) × (told_argument recipe.new ≡ told_argument recipe.old) }
     {

@@ -1,4 +1,4 @@
-use Rattle.std.proofs.Common.{ℕ, Bool, true, length, sym, subst}
+use Rattle.std.proofs.Common.{ℕ, Bool, true, length, None, inl, inr, refl, sym, subst}
 use Rattle.oak_model.specs.declared.replies.Lack.TheVariants.{Block, Header, Room}
 use Rattle.oak_core.specs.Lack.{Lacks}
 use Rattle.oak_core.specs.Noting.{Notes}
@@ -6,8 +6,9 @@ use Rattle.oak_core.specs.Passes.{state, key as sizes, call_of}
 use Rattle.point_ops.specs.declared.halts.Halt.{Halt}
 use Rattle.point_ops.specs.declared.halts.Halt.TheVariants.{Crowded, NoBlock, NoHeader}
 use Rattle.rebalance.specs.Calls.{Settles}
+use Rattle.oak_map.specs.MakingRoom.{MakesWay}
 use Rattle.oak_map.specs.Putting.{LastTry}
-use Rattle.oak_map.proofs.GoingCalls.{block_lacks, going_more, going_tried, header_lacks, refused_full, refused_going, room_lacks, split_leaves}
+use Rattle.oak_map.proofs.GoingCalls.{block_lacks, going_more, going_tried, header_lacks, refused_full, refused_going, room_lacks, split_leaves, split_ways, waits_way}
 use Rattle.oak_map.proofs.Trying.{tries_leaves, tries_none}
 use Rattle.oak_map.proofs.making_room.make_way.Goals as goal
 
@@ -67,3 +68,33 @@ returns-in-NoHeader-clause-full g c ask u v t = let z = sizes c.args.table.now i
     let h = subst (λ (i : Halt). LastTry z call key i c.args.settled.now ask u v w) c.in-NoHeader.is t in
     refused_full z call key NoHeader c.args.settled.now c.refuse-in-NoHeader.new.settled ask Header u v w w (state c.refuse-in-NoHeader.new.pass) c.refuse-in-NoHeader.result h (tries_none call w) c.refuse-in-NoHeader.ensures.full c.refuse-in-NoHeader.ensures.again
     h.halts.1 (λ q. header_lacks z call key ask u v w (subst (λ (s : Bool). LastTry z call key NoHeader s ask u v w) q h))
+
+-- which way it went
+
+pub returns-in-Busy-clause-way : goal.returns-in-Busy-clause-way
+returns-in-Busy-clause-way g c = waits_way (sizes c.args.table.now) (call_of c.args.pass.now) c.args.key.now c.args.halt c.args.settled.now (state c.args.pass.now) c.in-Busy.is
+
+pub returns-in-Ok-clause-way : goal.returns-in-Ok-clause-way
+returns-in-Ok-clause-way g c = let z = sizes c.args.table.now in let call = call_of c.args.pass.now in let key = c.args.key.now in let w = state c.args.pass.now in let x = state c.split.new.pass in
+    subst (λ (h : Halt). MakesWay h z call key c.args.settled.now c.args.settled.now None w x) (sym c.in-Crowded.is) (inl (record { none = refl; same = refl }, split_ways z call key w x c.in-Ok.field-0 c.in-Ok.ensures.loosened c.in-Ok.ensures.halved))
+
+pub returns-in-Err-clause-way : goal.returns-in-Err-clause-way
+returns-in-Err-clause-way g c = let z = sizes c.args.table.now in let call = call_of c.args.pass.now in let key = c.args.key.now in let w = state c.args.pass.now in let x = state c.split.new.pass in let y = state c.refuse.new.pass in let e = c.split.ensures.own.call in
+    subst (λ (h : Halt). MakesWay h z call key c.args.settled.now c.refuse.new.settled c.refuse.result w y) (sym c.in-Crowded.is) (inr (
+      x,
+      c.in-Err.ensures.none,
+      record {
+        full = λ q. let f = c.refuse.ensures.full q in (f.0, subst (λ (k : ℕ). Notes z k Room x y) e f.1);
+        again = λ q. let a = c.refuse.ensures.again q in (a.0, a.1, subst (λ (k : ℕ). Settles z k x y) e a.2);
+      },
+    ))
+
+pub returns-in-NoBlock-clause-way : goal.returns-in-NoBlock-clause-way
+returns-in-NoBlock-clause-way g c = let z = sizes c.args.table.now in let call = call_of c.args.pass.now in let key = c.args.key.now in
+    subst (λ (h : Halt). MakesWay h z call key c.args.settled.now c.refuse-in-NoBlock.new.settled c.refuse-in-NoBlock.result (state c.args.pass.now) (state c.refuse-in-NoBlock.new.pass)) (sym c.in-NoBlock.is)
+    (record { full = c.refuse-in-NoBlock.ensures.full; again = c.refuse-in-NoBlock.ensures.again })
+
+pub returns-in-NoHeader-clause-way : goal.returns-in-NoHeader-clause-way
+returns-in-NoHeader-clause-way g c = let z = sizes c.args.table.now in let call = call_of c.args.pass.now in let key = c.args.key.now in
+    subst (λ (h : Halt). MakesWay h z call key c.args.settled.now c.refuse-in-NoHeader.new.settled c.refuse-in-NoHeader.result (state c.args.pass.now) (state c.refuse-in-NoHeader.new.pass)) (sym c.in-NoHeader.is)
+    (record { full = c.refuse-in-NoHeader.ensures.full; again = c.refuse-in-NoHeader.ensures.again })

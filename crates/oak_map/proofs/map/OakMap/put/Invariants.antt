@@ -1,5 +1,7 @@
+use Rattle.oak_model.specs.declared.cells.CellCall.TheVariants.{Put}
 use Rattle.oak_core.specs.Scratch.{StaysButSlots}
-use Rattle.oak_map.specs.Maps.{call_of, pass_of, state}
+use Rattle.oak_map.specs.LoneRetrying.{LoneGoing}
+use Rattle.oak_map.specs.Maps.{call_of, pass_of, sizes, state}
 use Rattle.oak_map.specs.Putting.{Going}
 use Rattle.oak_map.proofs.map.OakMap.put.Given as goal
 
@@ -8,4 +10,5 @@ invariant-loop g l = record {
   next : (goal.iterator-loop g).can_next l.iterator';
   stays : StaysButSlots (pass_of l.fn.pass) (pass_of l.pass);
   going : Going (call_of l.fn.pass) l.settled (state l.fn.pass) (state l.pass);
+  lone : LoneGoing (sizes l.fn.self) l.fn.key (Put l.fn.value) l.settled (state l.fn.pass) (state l.pass);
 }

@@ -1,13 +1,18 @@
-use Rattle.std.proofs.Common.{ℕ, ◌∙◌, subst}
+use Rattle.std.proofs.Common.{ℕ, refl, ◌∙◌, subst}
 use Rattle.oak_model.specs.declared.cells.CellCall.TheVariants.{PutNew}
 use Rattle.oak_model.specs.declared.replies.Wrote.TheVariants.{Full}
+use Rattle.oak_model.proofs.KeyLaws.{is_key-of}
 use Rattle.oak_core.specs.Passes.{state as table_state, call_of as table_call}
+use Rattle.chunk_ops.proofs.WordParts.{slice_bytes}
 use Rattle.point_ops.specs.Parts.{WroteFits}
 use Rattle.oak_map.specs.Maps.{call_of, pass_of, sizes, state}
 use Rattle.oak_map.specs.Putting.{Going}
 use Rattle.oak_map.specs.Replying.{GivesUp}
 use Rattle.oak_map.proofs.AnsweredPuts.{put_fits, put_idle}
-use Rattle.oak_map.proofs.GoingCalls.{last_try}
+use Rattle.oak_map.proofs.GoingCalls.{going_first, last_try}
+use Rattle.oak_map.proofs.LonePutCalls.{idle_behind, lone_first, put_gives_up, put_goes_on, put_sees}
+use Rattle.oak_map.proofs.ReplyAnswers.{replied_alone}
+use Rattle.oak_map.proofs.ReplyWords.{replied_words}
 use Rattle.oak_map.proofs.SameScratch.{slots_then}
 use Rattle.oak_map.proofs.map.OakMap.put_if_absent.Goals as goal
 
@@ -40,4 +45,32 @@ loop-preserved g c = let z = sizes c.args.self.now in let key = c.args.key.now i
   stays = slots_then (pass_of c.args.pass.now) (pass_of c.loop.pass) c.try_put_if_absent.new.pass c.make_way.new.pass i.stays o c.make_way.ensures.own;
   going = subst (λ (k : ℕ). Going k c.make_way.new.settled u (table_state c.make_way.new.pass)) (o.call ∙ i.stays.call)
       (c.in_default.ensures.going ask u v (last_try z (call_of c.args.pass.now) (call_of c.loop.pass) (table_call c.try_put_if_absent.new.pass) key c.in-Err.halt c.loop.settled ask u v w i.stays.call o.call i.going e.refused e.halted));
+  lone = let is = is_key-of key c.requires.key (slice_bytes key c.type_inv.key) in let idle = idle_behind (call_of c.loop.pass) (call_of c.args.pass.now) c.loop.settled u v w c.requires.ready.idle i.going e.refused in
+      put_goes_on z (call_of c.loop.pass) key c.args.value.now ask c.in-Err.halt c.loop.settled u v w is refl i.going.tries.holds.numbers e.refused.holds.numbers idle i.lone e.alone_same e.halted e.alone (table_call c.try_put_if_absent.new.pass) c.make_way.new.settled (table_state c.make_way.new.pass) c.in_default.ensures.way;
 }
+
+-- to a pass that is alone
+
+pub loop-init : goal.loop-init
+loop-init g c = record {
+  next = tt;
+  stays = record { table = refl; seat = refl; call = refl; scratch = refl; sorting = refl };
+  going = going_first (call_of c.args.pass.now) (state c.args.pass.now);
+  lone = lone_first (sizes c.args.self.now) c.args.key.now (PutNew c.args.value.now) (state c.args.pass.now);
+}
+
+pub returns-in-Some-make_way-clause-alone_reply : goal.returns-in-Some-make_way-clause-alone_reply
+returns-in-Some-make_way-clause-alone_reply g c = let z = sizes c.args.self.now in let key = c.args.key.now in let ask = PutNew c.args.value.now in let u = state c.args.pass.now in let v = state c.loop.pass in let w = table_state c.try_put_if_absent.new.pass in let i = c.loop.invariant in let e = c.in-Err.ensures in let is = is_key-of key c.requires.key (slice_bytes key c.type_inv.key) in let idle = idle_behind (call_of c.loop.pass) (call_of c.args.pass.now) c.loop.settled u v w c.requires.ready.idle i.going e.refused in
+    put_sees z (call_of c.loop.pass) key c.args.value.now ask c.in-Err.halt c.loop.settled u v w is refl i.going.tries.holds.numbers e.refused.holds.numbers idle i.lone e.alone_same e.halted e.alone (table_call c.try_put_if_absent.new.pass) c.make_way.new.settled c.in-Some-make_way.lack (table_state c.make_way.new.pass) c.in-Some-make_way.ensures.way
+
+pub returns-in-Some-make_way-clause-alone : goal.returns-in-Some-make_way-clause-alone
+returns-in-Some-make_way-clause-alone g c = let z = sizes c.args.self.now in let key = c.args.key.now in let ask = PutNew c.args.value.now in let u = state c.args.pass.now in let v = state c.loop.pass in let w = table_state c.try_put_if_absent.new.pass in let i = c.loop.invariant in let e = c.in-Err.ensures in let is = is_key-of key c.requires.key (slice_bytes key c.type_inv.key) in let idle = idle_behind (call_of c.loop.pass) (call_of c.args.pass.now) c.loop.settled u v w c.requires.ready.idle i.going e.refused in
+    put_gives_up z (call_of c.loop.pass) key c.args.value.now ask c.in-Err.halt c.loop.settled u v w is refl i.going.tries.holds.numbers e.refused.holds.numbers idle i.lone e.alone_same e.halted e.alone (table_call c.try_put_if_absent.new.pass) c.make_way.new.settled c.in-Some-make_way.lack (table_state c.make_way.new.pass) c.in-Some-make_way.ensures.way
+
+pub returns-in-Ok-clause-alone_reply : goal.returns-in-Ok-clause-alone_reply
+returns-in-Ok-clause-alone_reply g c = let z = sizes c.args.self.now in let call = call_of c.loop.pass in let key = c.args.key.now in let ask = PutNew c.args.value.now in let u = state c.args.pass.now in let v = state c.loop.pass in let w = table_state c.try_put_if_absent.new.pass in let i = c.loop.invariant in let e = c.in-Ok.ensures in
+    replied_alone c.in-Ok.wrote z key ask c.loop.settled u v w i.lone i.going.tries.holds.numbers e.alone_reply
+
+pub returns-in-Ok-clause-alone : goal.returns-in-Ok-clause-alone
+returns-in-Ok-clause-alone g c = let z = sizes c.args.self.now in let call = call_of c.loop.pass in let key = c.args.key.now in let ask = PutNew c.args.value.now in let u = state c.args.pass.now in let v = state c.loop.pass in let w = table_state c.try_put_if_absent.new.pass in let i = c.loop.invariant in let e = c.in-Ok.ensures in
+    replied_words z call (call_of c.args.pass.now) key c.args.value.now ask c.loop.settled u v w c.in-Ok.wrote (is_key-of key c.requires.key (slice_bytes key c.type_inv.key)) c.requires.ready.idle i.going i.lone e.wrote e.alone_reply e.ended e.alone

@@ -1,16 +1,23 @@
-use Rattle.std.proofs.Common.{ℕ, ◌∙◌, subst, arith}
+use Rattle.std.proofs.Common.{ℕ, refl, ◌∙◌, subst, arith}
 use Rattle.oak_model.specs.declared.cells.CellCall.{CellCall}
 use Rattle.oak_model.specs.declared.cells.CellCall.TheVariants.{Upsert}
 use Rattle.oak_model.specs.declared.recipes.RecipeKind.{RecipeKind}
 use Rattle.oak_model.specs.declared.replies.Wrote.TheVariants.{Full}
+use Rattle.oak_model.proofs.KeyLaws.{is_key-of}
+use Rattle.oak_core.specs.PassState.{IsAlone}
 use Rattle.oak_core.specs.Passes.{state as table_state, call_of as table_call}
+use Rattle.chunk_ops.proofs.WordParts.{slice_bytes}
 use Rattle.point_ops.specs.Halting.{Halts}
+use Rattle.point_ops.specs.LoneReplies.{WroteAlone}
 use Rattle.point_ops.specs.Parts.{WroteFits}
 use Rattle.oak_map.specs.Maps.{call_of, pass_of, sizes, state}
 use Rattle.oak_map.specs.Putting.{Going}
 use Rattle.oak_map.specs.Replying.{GivesUp}
 use Rattle.oak_map.proofs.AnsweredPuts.{put_fits, put_idle}
-use Rattle.oak_map.proofs.GoingCalls.{last_try}
+use Rattle.oak_map.proofs.GoingCalls.{going_first, last_try}
+use Rattle.oak_map.proofs.LonePutCalls.{idle_behind, lone_first, put_gives_up, put_goes_on, put_sees}
+use Rattle.oak_map.proofs.ReplyAnswers.{replied_alone}
+use Rattle.oak_map.proofs.ReplyWords.{replied_words}
 use Rattle.oak_map.proofs.RepliesSince.{same_both, upsert_same}
 use Rattle.oak_map.proofs.SameScratch.{room_then}
 use Rattle.oak_map.proofs.map.OakMap.upsert.Goals as goal
@@ -57,4 +64,48 @@ loop-preserved g c = let z = sizes c.args.self.now in let key = c.args.key.now i
       counted = let a = e.counted in let b = i.counted in omega arith;
       kind = same_both RecipeKind (t.told_kind next.value) (y.told_kind now.value) (x.told_kind first.value) c.try_upsert.ensures.told.0 i.kind;
       argument = same_both ℕ (t.told_argument next.value) (y.told_argument now.value) (x.told_argument first.value) c.try_upsert.ensures.told.1 i.argument;
+      lone = let same = upsert_same c.args.value.now (y.told_kind now.value) (x.told_kind first.value) (y.told_argument now.value) (x.told_argument first.value) i.kind i.argument in let is = is_key-of key c.requires.key (slice_bytes key c.type_inv.key) in let idle = idle_behind (call_of c.loop.pass) (call_of c.args.pass.now) c.loop.settled u v w c.requires.ready.idle i.going e.refused in
+          put_goes_on z (call_of c.loop.pass) key c.args.value.now (Upsert c.args.value.now (x.told_kind first.value) (x.told_argument first.value)) c.in-Err.halt c.loop.settled u v w is refl i.going.tries.holds.numbers e.refused.holds.numbers idle i.lone e.alone_same (subst (λ (a : CellCall). Halts c.in-Err.halt z (call_of c.loop.pass) key a v w) same e.halted) e.alone (table_call c.try_upsert.new.pass) c.make_way.new.settled (table_state c.make_way.new.pass) c.in_default.ensures.way;
     }
+
+-- to a pass that is alone
+
+pub loop-init : goal.loop-init
+loop-init g c = let first = c.args.recipe.now in let x = goal.Recipe-dyn g (first.vtable, first.value) in record {
+  next = tt;
+  stays = record { table = refl; seat = refl; call = refl; scratch = refl; sorting = refl };
+  going = going_first (call_of c.args.pass.now) (state c.args.pass.now);
+  lone = lone_first (sizes c.args.self.now) c.args.key.now (Upsert c.args.value.now (x.told_kind first.value) (x.told_argument first.value)) (state c.args.pass.now);
+  counted = refl;
+  kind = refl;
+  argument = refl;
+}
+
+pub returns-in-Some-make_way-clause-alone_reply : goal.returns-in-Some-make_way-clause-alone_reply
+returns-in-Some-make_way-clause-alone_reply g c = let z = sizes c.args.self.now in let key = c.args.key.now in let u = state c.args.pass.now in let v = state c.loop.pass in let w = table_state c.try_upsert.new.pass in let i = c.loop.invariant in let e = c.in-Err.ensures in
+    let first = c.args.recipe.now in let now = c.loop.recipe in let x = goal.Recipe-dyn g (first.vtable, first.value) in let y = goal.Recipe-dyn g (now.vtable, now.value) in
+    let same = upsert_same c.args.value.now (y.told_kind now.value) (x.told_kind first.value) (y.told_argument now.value) (x.told_argument first.value) i.kind i.argument in
+    let first_ask = Upsert c.args.value.now (x.told_kind first.value) (x.told_argument first.value) in let is = is_key-of key c.requires.key (slice_bytes key c.type_inv.key) in let idle = idle_behind (call_of c.loop.pass) (call_of c.args.pass.now) c.loop.settled u v w c.requires.ready.idle i.going e.refused in
+    put_sees z (call_of c.loop.pass) key c.args.value.now first_ask c.in-Err.halt c.loop.settled u v w is refl i.going.tries.holds.numbers e.refused.holds.numbers idle i.lone e.alone_same (subst (λ (a : CellCall). Halts c.in-Err.halt z (call_of c.loop.pass) key a v w) same e.halted) e.alone (table_call c.try_upsert.new.pass) c.make_way.new.settled c.in-Some-make_way.lack (table_state c.make_way.new.pass) c.in-Some-make_way.ensures.way
+
+pub returns-in-Some-make_way-clause-alone : goal.returns-in-Some-make_way-clause-alone
+returns-in-Some-make_way-clause-alone g c = let z = sizes c.args.self.now in let key = c.args.key.now in let u = state c.args.pass.now in let v = state c.loop.pass in let w = table_state c.try_upsert.new.pass in let i = c.loop.invariant in let e = c.in-Err.ensures in
+    let first = c.args.recipe.now in let now = c.loop.recipe in let x = goal.Recipe-dyn g (first.vtable, first.value) in let y = goal.Recipe-dyn g (now.vtable, now.value) in
+    let same = upsert_same c.args.value.now (y.told_kind now.value) (x.told_kind first.value) (y.told_argument now.value) (x.told_argument first.value) i.kind i.argument in
+    let first_ask = Upsert c.args.value.now (x.told_kind first.value) (x.told_argument first.value) in let is = is_key-of key c.requires.key (slice_bytes key c.type_inv.key) in let idle = idle_behind (call_of c.loop.pass) (call_of c.args.pass.now) c.loop.settled u v w c.requires.ready.idle i.going e.refused in
+    put_gives_up z (call_of c.loop.pass) key c.args.value.now first_ask c.in-Err.halt c.loop.settled u v w is refl i.going.tries.holds.numbers e.refused.holds.numbers idle i.lone e.alone_same (subst (λ (a : CellCall). Halts c.in-Err.halt z (call_of c.loop.pass) key a v w) same e.halted) e.alone (table_call c.try_upsert.new.pass) c.make_way.new.settled c.in-Some-make_way.lack (table_state c.make_way.new.pass) c.in-Some-make_way.ensures.way
+
+pub returns-in-Ok-clause-alone_reply : goal.returns-in-Ok-clause-alone_reply
+returns-in-Ok-clause-alone_reply g c = let z = sizes c.args.self.now in let call = call_of c.loop.pass in let key = c.args.key.now in let u = state c.args.pass.now in let v = state c.loop.pass in let w = table_state c.try_upsert.new.pass in let i = c.loop.invariant in let e = c.in-Ok.ensures in
+    let first = c.args.recipe.now in let now = c.loop.recipe in let x = goal.Recipe-dyn g (first.vtable, first.value) in let y = goal.Recipe-dyn g (now.vtable, now.value) in let ask = Upsert c.args.value.now (x.told_kind first.value) (x.told_argument first.value) in
+    let same = upsert_same c.args.value.now (y.told_kind now.value) (x.told_kind first.value) (y.told_argument now.value) (x.told_argument first.value) i.kind i.argument in
+    let answer : IsAlone v → WroteAlone c.in-Ok.wrote z key ask v w = λ alone. subst (λ (a : CellCall). WroteAlone c.in-Ok.wrote z key a v w) same (e.alone_reply alone) in
+    replied_alone c.in-Ok.wrote z key ask c.loop.settled u v w i.lone i.going.tries.holds.numbers answer
+
+pub returns-in-Ok-clause-alone : goal.returns-in-Ok-clause-alone
+returns-in-Ok-clause-alone g c = let z = sizes c.args.self.now in let call = call_of c.loop.pass in let key = c.args.key.now in let u = state c.args.pass.now in let v = state c.loop.pass in let w = table_state c.try_upsert.new.pass in let i = c.loop.invariant in let e = c.in-Ok.ensures in
+    let first = c.args.recipe.now in let now = c.loop.recipe in let x = goal.Recipe-dyn g (first.vtable, first.value) in let y = goal.Recipe-dyn g (now.vtable, now.value) in let ask = Upsert c.args.value.now (x.told_kind first.value) (x.told_argument first.value) in
+    let same = upsert_same c.args.value.now (y.told_kind now.value) (x.told_kind first.value) (y.told_argument now.value) (x.told_argument first.value) i.kind i.argument in
+    let answer : IsAlone v → WroteAlone c.in-Ok.wrote z key ask v w = λ alone. subst (λ (a : CellCall). WroteAlone c.in-Ok.wrote z key a v w) same (e.alone_reply alone) in
+    replied_words z call (call_of c.args.pass.now) key c.args.value.now ask c.loop.settled u v w c.in-Ok.wrote (is_key-of key c.requires.key (slice_bytes key c.type_inv.key)) c.requires.ready.idle i.going i.lone
+    (subst (λ (a : CellCall). WroteFits c.in-Ok.wrote call key a v w) same e.wrote) answer e.ended e.alone

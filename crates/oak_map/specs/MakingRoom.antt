@@ -1,0 +1,34 @@
+-- Which way a call that puts went, after a try without an answer.
+use Rattle.std.specs.Prelude.{◌≡◌, ℕ, ◌⊎◌, Bool, true, false, List, Option, Some, None}
+use Rattle.oak_model.specs.declared.replies.Lack.{Lack}
+use Rattle.oak_model.specs.declared.replies.Lack.TheVariants.{Block, Header, Room}
+use Rattle.oak_model.specs.Limits.{Sizes}
+use Rattle.oak_core.specs.declared.states.PassState.{PassState}
+use Rattle.oak_core.specs.Noting.{Notes}
+use Rattle.point_ops.specs.declared.halts.Halt.{Halt}
+use Rattle.point_ops.specs.declared.halts.Halt.TheVariants.{Busy, Moved, Crowded, NoBlock, NoHeader}
+use Rattle.rebalance.specs.Calls.{FindsNoRoom, Halves, Loosens, Settles}
+
+-- it tries again, and has settled if it had
+pub record TriesAgain (settled then : Bool) (result : Option Lack) : Type 0 where
+  pub none : result ≡ None
+  pub same : then ≡ settled
+
+-- it lacks something: once it has settled it was noted with that, and before it settled
+pub record IsRefused (z : Sizes) (call : ℕ) (settled then : Bool) (lack : Lack) (result : Option Lack) (v w : PassState) : Type 0 where
+  pub full : settled ≡ true → (result ≡ Some lack) × Notes z call lack v w
+  pub again : settled ≡ false → (result ≡ None) × (then ≡ true) × Settles z call v w
+
+-- it made room in the chunk of the key, or found no room and lacks that
+abbrev pub SplitsChunk : Sizes → ℕ → List ℕ → (settled then : Bool) → Option Lack → PassState → PassState → Type 0
+SplitsChunk z call key settled then result v w =
+    (TriesAgain settled then result × (Loosens z call key v w ⊎ ((room : ℕ) × Halves z call key room v w)))
+    ⊎ ((x : PassState) × FindsNoRoom z call key v x × IsRefused z call settled then Room result x w)
+
+-- by why it was refused
+abbrev pub MakesWay : Halt → Sizes → ℕ → List ℕ → (settled then : Bool) → Option Lack → PassState → PassState → Type 0
+MakesWay Busy z call key settled then result v w = TriesAgain settled then result × (w ≡ v)
+MakesWay Moved z call key settled then result v w = TriesAgain settled then result × (w ≡ v)
+MakesWay Crowded z call key settled then result v w = SplitsChunk z call key settled then result v w
+MakesWay (NoBlock c) z call key settled then result v w = IsRefused z call settled then (Block c) result v w
+MakesWay NoHeader z call key settled then result v w = IsRefused z call settled then Header result v w
