@@ -1,3 +1,4 @@
+pub mod LoneViews
 pub mod ClosedMaps
 mod RepliesSince
 mod LoneRetries
@@ -24,3 +25,12 @@ mod FullAnswers
 mod LonePutCalls
 mod ReplyAnswers
 mod ReplyWords
+mod FoundValues
+mod FoundLives
+mod LentValues
+mod LentLives
+mod Through
+mod Bounds
+pub mod LentEnds
+mod LendingTests
+pub mod TestLaws

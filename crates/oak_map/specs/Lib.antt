@@ -1,7 +1,10 @@
 pub mod Closings
+pub mod Finding
+pub mod Lending
 pub mod LonePuts
 pub mod LoneRetrying
 pub mod MakingRoom
 pub mod Maps
 pub mod Putting
 pub mod Replying
+pub mod Rests

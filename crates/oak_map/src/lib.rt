@@ -2,12 +2,26 @@
 #![tactic(auto)]
 
 mod changing;
+mod finding;
+mod lending;
+#[cfg(test)]
+mod lending_tests;
 mod looking;
 mod making_room;
 mod map;
 mod putting;
+#[cfg(test)]
+mod row_tests;
 mod settling;
 #[cfg(test)]
+mod test_calls;
+#[cfg(test)]
 mod tests;
+#[cfg(test)]
+mod thread_tests;
 
+pub use lending::{Lent, Looked, get_of, look_of, scan_of};
 pub use map::{MapPass, OakMap};
+pub use oak_model::Wrote;
+pub use scan_cursor::{Cursor, Way};
+pub use value_ops::{Reading, ValueView};

@@ -1,5 +1,6 @@
 //! The map and its passes: made, given their calls, split, joined, and at last closed.
 ghost use Rattle.std.specs.Prelude.{◌≡◌, ℕ, ◌<◌, IfOk, IfErr, Err, List};
+ghost use Rattle.std.specs.Borrow.{Lends, sem};
 ghost use Rattle.oak_core.specs.AloneWords.{LeavesWords};
 ghost use Rattle.oak_core.specs.Closing.{closed_key, closed_state, closed_words, FullsLacked};
 ghost use Rattle.oak_core.specs.KnownPlaces.{PlacesStand};
@@ -11,7 +12,10 @@ ghost use Rattle.oak_core.specs.Splitting.{Ends, FindsAllGiven, LooksAtGiven, Se
 ghost use Rattle.oak_core.specs.declared.passes.SplitFault.TheVariants as SplitFault;
 ghost use Rattle.rebalance.specs.LoneCalls.{IsSettled};
 ghost use Rattle.oak_map.specs.Closings.{UsesJustMap};
+ghost use Rattle.oak_core.specs.contracts.table.Pass as table_pass;
 ghost use Rattle.oak_map.specs.Maps.{IsReady, call_of, pass_of, sizes, state};
+ghost use Rattle.oak_map.specs.Rests.{with_pass};
+ghost use Rattle.oak_map.specs.contracts.map.MapPass.{the_row};
 
 use oak_core::{Closed, OakTable, Pass, SplitFault};
 use oak_model::{Hint, OutOfMemory, Shape};
@@ -38,6 +42,14 @@ impl MapPass {
         ensures { Turns (pass_of self.old) (pass_of self.new) call }
     {
         self.pass.turn(call);
+    }
+
+    /// The pass on the map's table.
+    pub fn pass_mut(&mut self) -> &mut Pass
+        ensures* rests { sem 𝓛 (Lends the_row table_pass.the_row self.entry result (with_pass self.old)) }
+        ensures pass { result.now ≡ self.old.pass }
+    {
+        &mut self.pass
     }
 }
 

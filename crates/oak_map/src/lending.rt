@@ -1,0 +1,173 @@
+//! Calls that lend the pass: to a reading, or to a cursor.
+ghost use Rattle.std.specs.Prelude.{◌≡◌, [], IfSome, MatchOption, None};
+ghost use Rattle.std.specs.Borrow.{Lends, sem};
+ghost use Rattle.oak_model.specs.Key.{IsKey};
+ghost use Rattle.oak_core.specs.PassState.{HoldsNothing};
+ghost use Rattle.oak_core.specs.Passes.{IsPassOf, state as table_state};
+ghost use Rattle.oak_core.specs.contracts.table.Pass as table_pass;
+ghost use Rattle.value_ops.specs.Views.{KnowsView};
+ghost use Rattle.scan_cursor.specs.Cursors.{HasGiven, IsCursor};
+ghost use Rattle.scan_cursor.specs.Holding.{greatest_key};
+ghost use Rattle.scan_cursor.specs.Scanned.{least_key};
+ghost use Rattle.scan_cursor.specs.Walks.{view_at};
+ghost use Rattle.oak_map.specs.Maps.{IsReady, sizes, state, table_of};
+ghost use Rattle.oak_map.specs.Rests.{LentFits, LentRests, LookedFits, LookedRests, MapFits, MapLookedFits, MapLookedRests, MapRests, with_pass};
+ghost use Rattle.oak_map.specs.contracts.map.MapPass.{the_row};
+
+use crate::finding::{find_life, find_value};
+use crate::map::{MapPass, OakMap};
+use oak_core::Pass;
+use scan_cursor::{Cursor, Way};
+use std::sync::Wait;
+use value_ops::{Reading, ValueView};
+
+/// What a key holds: nothing at the number `at`, or a value, which is read under a pin.
+pub enum Lent<'p> {
+    Absent { at: u64 },
+    Present(Reading<'p>),
+}
+
+/// What a view shows: its life is over, or the value that it has, which is read under a pin.
+pub enum Looked<'p> {
+    Gone,
+    Present(Reading<'p>),
+}
+
+/// [`OakMap::get`] by the pass on the map's table. It takes the pass first: in this form its caller learns
+/// what becomes of the pass where nothing is read.
+pub fn get_of<'p, R: Wait>(pass: &'p mut Pass, rt: &R, map: &'p OakMap, key: &[u8]) -> Lent<'p>
+    requires own { IsPassOf (table_of map.now) pass.old }
+    requires idle { HoldsNothing (table_state pass.old) }
+    requires key { IsKey key.now }
+    ensures* rests { sem 𝓛 (LentRests (sizes map.now) pass.entry key.now result) }
+    ensures present { LentFits (table_of map.now) pass.entry key.now result }
+{
+    match find_value(rt, &map.table, pass, key) {
+        Err(at) => Lent::Absent { at },
+        Ok(pin) => Lent::Present(pin.reading(&map.table, pass)),
+    }
+}
+
+/// [`OakMap::look`] by the pass on the map's table, which it takes first, as [`get_of`] does.
+pub fn look_of<'p, R: Wait>(
+    pass: &'p mut Pass,
+    rt: &R,
+    map: &'p OakMap,
+    view: &ValueView,
+) -> Looked<'p>
+    requires own { IsPassOf (table_of map.now) pass.old }
+    requires idle { HoldsNothing (table_state pass.old) }
+    requires known { KnowsView (sizes map.now) view.now (table_state pass.old) }
+    ensures* rests { sem 𝓛 (LookedRests (sizes map.now) pass.entry view.now result) }
+    ensures present { LookedFits (table_of map.now) pass.entry view.now result }
+{
+    match find_life(rt, &map.table, pass, view) {
+        None => Looked::Gone,
+        Some(pin) => Looked::Present(pin.reading(&map.table, pass)),
+    }
+}
+
+/// [`OakMap::scan`] by the pass on the map's table, with bounds that it copies.
+pub fn scan_of<'p>(
+    map: &'p OakMap,
+    pass: &'p mut Pass,
+    low: Option<&[u8]>,
+    high: Option<&[u8]>,
+    way: Way,
+) -> Cursor<'p>
+    requires own { IsPassOf (table_of map.now) pass.old }
+    requires idle { HoldsNothing (table_state pass.old) }
+    requires low { IfSome low (λ k. IsKey k.now) }
+    requires high { IfSome high (λ k. IsKey k.now) }
+    ensures same_reference { result.pass.ghost_name ≡ pass.entry.ghost_name }
+    ensures table { result.table.now ≡ table_of map.now }
+    ensures same { result.pass.now ≡ pass.old }
+    ensures low { MatchOption low.entry (result.low ≡ least_key) (λ k. result.low ≡ k.now) }
+    ensures high { MatchOption high.entry (result.high ≡ greatest_key) (λ k. result.high ≡ k.now) }
+    ensures way { result.way ≡ way }
+    ensures value { result.value ≡ None }
+    ensures cursor { IsCursor result }
+    ensures starts { HasGiven result (view_at (sizes map.now) pass.old) [] }
+{
+    Cursor::begin(&map.table, pass, low, high, way)
+}
+
+/// The same with bounds that live as long as the loan.
+fn scan_within<'p>(
+    map: &'p OakMap,
+    pass: &'p mut Pass,
+    low: Option<&'p [u8]>,
+    high: Option<&'p [u8]>,
+    way: Way,
+) -> Cursor<'p>
+    requires own { IsPassOf (table_of map.now) pass.old }
+    requires idle { HoldsNothing (table_state pass.old) }
+    requires low { IfSome low (λ k. IsKey k.now) }
+    requires high { IfSome high (λ k. IsKey k.now) }
+    ensures same_reference { result.pass.ghost_name ≡ pass.entry.ghost_name }
+    ensures table { result.table.now ≡ table_of map.now }
+    ensures same { result.pass.now ≡ pass.old }
+    ensures low { MatchOption low.entry (result.low ≡ least_key) (λ k. result.low ≡ k.now) }
+    ensures high { MatchOption high.entry (result.high ≡ greatest_key) (λ k. result.high ≡ k.now) }
+    ensures way { result.way ≡ way }
+    ensures value { result.value ≡ None }
+    ensures cursor { IsCursor result }
+    ensures starts { HasGiven result (view_at (sizes map.now) pass.old) [] }
+{
+    scan_of(map, pass, low, high, way)
+}
+
+impl OakMap {
+    /// Looks for a key, and reads its value where it has one: the answer is the cell's at the place of the
+    /// number `at`, or of the reading's stamp, in the key's history. It is tried again while other passes
+    /// are at work on the key or move its room. Where the pass is alone, the answer is the cell's on the
+    /// last state of the key.
+    pub fn get<'p, R: Wait>(&'p self, rt: &R, pass: &'p mut MapPass, key: &[u8]) -> Lent<'p>
+        requires ready { IsReady self.now pass.old }
+        requires key { IsKey key.now }
+        ensures* rests { sem 𝓛 (MapRests (sizes self.now) pass.entry key.now result) }
+        ensures present { MapFits (table_of self.now) pass.entry key.now result }
+    {
+        get_of(pass.pass_mut(), rt, self, key)
+    }
+
+    /// Reads the value that the life of a view has. It waits while a pass writes it. `Gone` comes only where
+    /// the life was found to be over.
+    pub fn look<'p, R: Wait>(
+        &'p self,
+        rt: &R,
+        pass: &'p mut MapPass,
+        view: &ValueView,
+    ) -> Looked<'p>
+        requires ready { IsReady self.now pass.old }
+        requires known { KnowsView (sizes self.now) view.now (state pass.old) }
+        ensures* rests { sem 𝓛 (MapLookedRests (sizes self.now) pass.entry view.now result) }
+        ensures present { MapLookedFits (table_of self.now) pass.entry view.now result }
+    {
+        look_of(pass.pass_mut(), rt, self, view)
+    }
+
+    /// Begins a scan of the keys between the bounds, which belong to the range; none is no bound.
+    pub fn scan<'p>(
+        &'p self,
+        pass: &'p mut MapPass,
+        low: Option<&'p [u8]>,
+        high: Option<&'p [u8]>,
+        way: Way,
+    ) -> Cursor<'p>
+        requires ready { IsReady self.now pass.old }
+        requires low { IfSome low (λ k. IsKey k.now) }
+        requires high { IfSome high (λ k. IsKey k.now) }
+        ensures* rests { sem 𝓛 (Lends the_row table_pass.the_row pass.entry result.pass (with_pass pass.old)) }
+        ensures table { result.table.now ≡ table_of self.now }
+        ensures same { result.pass.now ≡ pass.old.pass }
+        ensures low { MatchOption low.entry (result.low ≡ least_key) (λ k. result.low ≡ k.now) }
+        ensures high { MatchOption high.entry (result.high ≡ greatest_key) (λ k. result.high ≡ k.now) }
+        ensures way { result.way ≡ way }
+        ensures value { result.value ≡ None }
+        ensures cursor { IsCursor result }
+        ensures starts { HasGiven result (view_at (sizes self.now) pass.old.pass) [] }
+    {
+        scan_within(self, pass.pass_mut(), low, high, way)
+    }
+}
