@@ -1,6 +1,6 @@
 -- A thread's turns with one more turn.
 use Rattle.std.proofs.Common.{◌≡◌, ℕ, suc, ◌+◌, ◌<◌, ◌≤◌, Bool, true, false, cond, List, [], ◌∷◌, ◌++◌, length, Option, Some, None, refl, ap, subst, arith}
-use Rattle.std.specs.Prelude.{fold, MatchOption, ⊤}
+use Rattle.std.specs.Prelude.{MatchOption, ⊤}
 use Rattle.std.specs.Bool.{OnTrue}
 use Rattle.std.specs.List.{AllByRecursion}
 use Rattle.oak_model.specs.declared.replies.Pair.{Pair}
@@ -13,12 +13,9 @@ use Rattle.oak_run.specs.Turn.{Turn}
 use Rattle.oak_run.specs.Answers.{AnswerFits, AnswersFit, Mark, marks, writes_key}
 use Rattle.oak_run.specs.Order.{Follows, Ordered}
 use Rattle.oak_run.specs.Views.{Names, ViewFits, ViewsFit, no_names, names_after}
+pub use Rattle.oak_run.specs.Views.{names_of}
 use Rattle.oak_run.specs.Scans.{ScanTurnFits, ScansFit}
 use Rattle.oak_run.proofs.GrowLaws.{Grows, UpTo, ReplyUpTo, answers-grow, views-grow, scans-grow}
-
--- what the names stand for behind these turns
-abbrev pub names_of : Names → List Turn → Names
-names_of names ts = fold names_after names ts
 
 -- no later reply may be before a place that is not in the histories
 abbrev pub FloorsWithin : Histories → Turn → Type 0
@@ -50,11 +47,11 @@ pub all-map : {A : Type 0} (P Q : A → Type 0) (xs : List A) → ((x : A) → P
 all-map P Q [] f each = tt
 all-map P Q (x ∷ xs) f each = (f x each.0, all-map P Q xs f each.1)
 
-answers-push : (h : Histories) (caller n m : ℕ) (ts : List Turn) (t : Turn) → m ≡ n + length ts → AnswersFit h caller n ts → AnswerFits h caller m t → AnswersFit h caller n (ts ++ t ∷ [])
+pub answers-push : (h : Histories) (caller n m : ℕ) (ts : List Turn) (t : Turn) → m ≡ n + length ts → AnswersFit h caller n ts → AnswerFits h caller m t → AnswersFit h caller n (ts ++ t ∷ [])
 answers-push h caller n m [] t e fits last = let same : m ≡ n = omega arith in (subst (λ (k : ℕ). AnswerFits h caller k t) same last, tt)
 answers-push h caller n m (x ∷ xs) t e fits last = (fits.0, answers-push h caller (suc n) m xs t (omega arith) fits.1 last)
 
-views-push : (h : Histories) (names : Names) (ts : List Turn) (t : Turn) → ViewsFit h names ts → ViewFits h (names_of names ts) t t.call → ViewsFit h names (ts ++ t ∷ [])
+pub views-push : (h : Histories) (names : Names) (ts : List Turn) (t : Turn) → ViewsFit h names ts → ViewFits h (names_of names ts) t t.call → ViewsFit h names (ts ++ t ∷ [])
 views-push h names [] t fits last = (last, tt)
 views-push h names (x ∷ xs) t fits last = (fits.0, views-push h (names_after names x) xs t fits.1 last)
 
@@ -68,7 +65,7 @@ follows-newest h x t behind within q r s floor place =
     by true low above = omega (arith, low, above)
     by false low above = tt
 
-ordered-push : (ts : List Turn) (t : Turn) → Ordered ts → AllByRecursion (λ x. Follows x t) ts → Ordered (ts ++ t ∷ [])
+pub ordered-push : (ts : List Turn) (t : Turn) → Ordered ts → AllByRecursion (λ x. Follows x t) ts → Ordered (ts ++ t ∷ [])
 ordered-push [] t o each = (tt, tt)
 ordered-push (x ∷ xs) t o each = (all-push (Follows x) xs t o.0 each.0, ordered-push xs t o.1 each.1)
 

@@ -5,6 +5,8 @@ pub mod Order
 pub mod Views
 pub mod Scans
 pub mod Closing
+pub mod Behind
+pub mod Shown
 pub mod Refusals
 pub mod Ending
 pub mod Findings
@@ -14,3 +16,6 @@ pub mod Plain
 pub mod ThreadRuns
 pub mod Keeps
 pub mod Does
+pub mod MapTurns
+pub mod MapThreads
+pub mod Reads

@@ -1,5 +1,5 @@
 -- Part three of a run that fits: a look shows the life that its name's last hold found.
-use Rattle.std.specs.Prelude.{◌≡◌, ℕ, if◌then◌else◌, List, [], ◌∷◌, Option, Some, None, IsSomeAnd, ⊤}
+use Rattle.std.specs.Prelude.{◌≡◌, ℕ, if◌then◌else◌, fold, List, [], ◌∷◌, Option, Some, None, IsSomeAnd, ⊤}
 use Rattle.std.specs.Option.{option_map}
 use Rattle.oak_model.specs.declared.replies.Reply.{Reply}
 use Rattle.oak_model.specs.declared.replies.Reply.TheVariants as replies
@@ -49,6 +49,10 @@ renamed names t (Back low high) = names
 
 abbrev pub names_after : Names → Turn → Names
 names_after names t = renamed names t t.call
+
+-- the names behind these turns
+abbrev pub names_of : Names → List Turn → Names
+names_of names ts = fold names_after names ts
 
 -- bytes of the view's own life, at the place of the reply's number
 pub record Shows (h : Histories) (x : View) (key value : List ℕ) (at : ℕ) (t : Turn) : Type 0 where
