@@ -28,9 +28,9 @@ module _ (call : ℕ) (u v w : PassState) (r : Tries call u v) where
   found_behind false k at f = sighted_in call u v w w r.goes.sights (sights_same call w w refl) k at f
   found_behind true k at f = (f.0, f.1, sighted_in call u v w w r.goes.sights (sights_same call w w refl) k f.0 f.2)
 
-  mine_behind : (b : Bool) (k : ℕ) → MineAfter b call k v w → MineAfter b call k u w
-  mine_behind false k e = e ∙ r.mine
-  mine_behind true k m = (m.0, m.1 ∙ ap (λ (l : List KeyedWrite). l ++ m.0 ∷ []) r.mine, m.2, m.3)
+  mine_behind : (b : Bool) (k at : ℕ) → MineAfter b call k at v w → MineAfter b call k at u w
+  mine_behind false k at e = e ∙ r.mine
+  mine_behind true k at m = (m.0, m.1 ∙ ap (λ (l : List KeyedWrite). l ++ m.0 ∷ []) r.mine, m.2, m.3, m.4)
 
   replies_behind : (key : List ℕ) (ask : CellCall) (reply : CellReply) (at : ℕ) → RepliesAt call key ask reply at v w → MapReplies call key ask reply at u w
   replies_behind key ask reply at x = record {
@@ -39,7 +39,7 @@ module _ (call : ℕ) (u v w : PassState) (r : Tries call u v) where
     fits = subst (λ (n : ℕ). ReplyFits (writes_of (seen_of (key_number key) w.knowledge)) n call ask reply (length (seen_of (key_number key) w.knowledge))) (ap (λ (n : Numbers). n.number) r.holds.numbers) x.fits;
     later = λ e. let before = begins_length (seen_of (key_number key) u.knowledge) (seen_of (key_number key) v.knowledge) (r.goes.seen (key_number key)) in let behind = x.later e in omega arith;
     found = found_behind (is_write reply) (key_number key) at x.found;
-    mine = mine_behind (is_write reply) (key_number key) x.mine;
+    mine = mine_behind (is_write reply) (key_number key) at x.mine;
     holds = holds_on_both u v w r.holds (holds_on v w x.holds);
   }
 

@@ -61,9 +61,9 @@ module _ (call : ℕ) (u v w : PassState) (r : Refuses call u v) where
   found_since false k at f = sighted_in call u v w w r.learns.sights (sights_same call w w refl) k at f
   found_since true k at f = (f.0, f.1, sighted_in call u v w w r.learns.sights (sights_same call w w refl) k f.0 f.2)
 
-  mine_since : (b : Bool) (k : ℕ) → MineAfter b call k v w → MineAfter b call k u w
-  mine_since false k e = e ∙ r.learns.all.mine
-  mine_since true k m = (m.0, m.1 ∙ ap (λ (l : List KeyedWrite). l ++ m.0 ∷ []) r.learns.all.mine, m.2, m.3)
+  mine_since : (b : Bool) (k at : ℕ) → MineAfter b call k at v w → MineAfter b call k at u w
+  mine_since false k at e = e ∙ r.learns.all.mine
+  mine_since true k at m = (m.0, m.1 ∙ ap (λ (l : List KeyedWrite). l ++ m.0 ∷ []) r.learns.all.mine, m.2, m.3, m.4)
 
   pub replies_since : (key : List ℕ) (ask : CellCall) (reply : CellReply) (at : ℕ) → RepliesAt call key ask reply at v w → RepliesAt call key ask reply at u w
   replies_since key ask reply at x = record {
@@ -72,7 +72,7 @@ module _ (call : ℕ) (u v w : PassState) (r : Refuses call u v) where
     fits = subst (λ (n : ℕ). ReplyFits (writes_of (seen_of (key_number key) w.knowledge)) n call ask reply (length (seen_of (key_number key) w.knowledge))) (ap (λ (n : Numbers). n.number) r.holds.numbers) x.fits;
     later = λ e. let before = begins_length (seen_of (key_number key) u.knowledge) (seen_of (key_number key) v.knowledge) (r.learns.all.seen (key_number key)) in let behind = x.later e in omega arith;
     found = found_since (is_write reply) (key_number key) at x.found;
-    mine = mine_since (is_write reply) (key_number key) x.mine;
+    mine = mine_since (is_write reply) (key_number key) at x.mine;
     holds = holds_both u v w r.holds x.holds;
   }
 

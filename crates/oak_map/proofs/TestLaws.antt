@@ -19,9 +19,9 @@ use Rattle.oak_map.specs.Replying.{MapReplies, PutFits}
 use Rattle.oak_map.proofs.AnsweredPuts.{put_idle, put_numbers}
 
 -- of its own writes it has the same, or one more, which is of the call
-wrote_after : (b : Bool) (call k : ℕ) (v w : PassState) → MineAfter b call k v w → WroteBy call v → WroteBy call w
-wrote_after false call k v w e wrote = subst (Each (λ (x : KeyedWrite). x.write.call ≤ call)) (sym e) wrote
-wrote_after true call k v w m wrote = subst (Each (λ (x : KeyedWrite). x.write.call ≤ call)) (sym m.1) (each_append (λ (x : KeyedWrite). x.write.call ≤ call) v.knowledge.mine (m.0 ∷ []) wrote (let e = m.3 in omega arith, tt))
+wrote_after : (b : Bool) (call k at : ℕ) (v w : PassState) → MineAfter b call k at v w → WroteBy call v → WroteBy call w
+wrote_after false call k at v w e wrote = subst (Each (λ (x : KeyedWrite). x.write.call ≤ call)) (sym e) wrote
+wrote_after true call k at v w m wrote = subst (Each (λ (x : KeyedWrite). x.write.call ≤ call)) (sym m.1) (each_append (λ (x : KeyedWrite). x.write.call ≤ call) v.knowledge.mine (m.0 ∷ []) wrote (let e = m.3 in omega arith, tt))
 
 -- what is loaded is kept, and the writes are of the call or of earlier ones
 record Keeps (call : ℕ) (v w : PassState) : Type 0 where
@@ -29,7 +29,7 @@ record Keeps (call : ℕ) (v w : PassState) : Type 0 where
   wrote : WroteBy call w
 
 replied : (call : ℕ) (key : List ℕ) (ask : CellCall) (reply : CellReply) (at : ℕ) (v w : PassState) → MapReplies call key ask reply at v w → WroteBy call v → Keeps call v w
-replied call key ask reply at v w r wrote = record { loaded = r.goes.loaded; wrote = wrote_after (is_write reply) call (key_number key) v w r.mine wrote }
+replied call key ask reply at v w r wrote = record { loaded = r.goes.loaded; wrote = wrote_after (is_write reply) call (key_number key) at v w r.mine wrote }
 
 put_keeps : (y : Wrote) (z : Sizes) (call : ℕ) (key : List ℕ) (ask : CellCall) (v w : PassState) → PutFits y z call key ask v w → WroteBy call v → Keeps call v w
 put_keeps (New at) z call key ask v w f = replied call key ask replies.New at v w f

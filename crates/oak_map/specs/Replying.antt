@@ -42,7 +42,7 @@ pub record MapReplies (call : ℕ) (key : List ℕ) (ask : CellCall) (reply : Ce
   pub fits : ReplyFits (writes_of (seen_of (key_number key) w.knowledge)) v.numbers.number call ask reply (length (seen_of (key_number key) w.knowledge))
   pub later : is_write reply ≡ true → length (seen_of (key_number key) v.knowledge) < length (seen_of (key_number key) w.knowledge)
   pub found : FoundForReply (is_write reply) (key_number key) at v w
-  pub mine : MineAfter (is_write reply) call (key_number key) v w
+  pub mine : MineAfter (is_write reply) call (key_number key) at v w
   pub holds : HoldsOn v w
 
 -- The call lacks something. It made no write; it needs what it lacks, on a state of the key that it read; all that it met since its begin is its own, ranges that it swept cover every key, and behind these it found nothing free of what it lacks. With that it was noted, in one step more.

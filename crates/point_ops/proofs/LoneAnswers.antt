@@ -70,7 +70,7 @@ module _ (z : Sizes) (call : ℕ) (key : List ℕ) (ask : CellCall) (at : ℕ) (
       h : History
       h = writes_of (seen_of k w.knowledge)
 
-      by : (t : Bool) → is_write reply ≡ t → MatchBool t (WriteFits h v.numbers.number call ask reply (length (seen_of k w.knowledge))) (ReadFits h ask reply (length (seen_of k w.knowledge))) → MineAfter t call k v w → AnswersAlone z key ask reply v w
+      by : (t : Bool) → is_write reply ≡ t → MatchBool t (WriteFits h v.numbers.number call ask reply (length (seen_of k w.knowledge))) (ReadFits h ask reply (length (seen_of k w.knowledge))) → MineAfter t call k at v w → AnswersAlone z key ask reply v w
       by false e fits mine = record { begun = a; ended = b; answer = answer; after = ap state_behind (same k) ∙ sym (read_leaves (state_behind (seen_of k v.knowledge)) ask (ap is_write answer ∙ e)); others = λ q ne. same q }
         where
           same : (q : ℕ) → seen_of q w.knowledge ≡ seen_of q v.knowledge

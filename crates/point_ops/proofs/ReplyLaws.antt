@@ -53,7 +53,7 @@ read_replies call key ask reply at s v w learns holds reads answer r = record {
       record { last = let e = writes_length seen in omega arith; answer = ap (λ (t : State). reply_of t ask) (end_state seen ∙ r.ends.state) ∙ answer };
   later = λ y. absurd (true_not_false (sym y ∙ reads));
   found = subst (λ (b : Bool). FoundForReply b (key_number key) at v w) (sym reads) r.sighted;
-  mine = subst (λ (b : Bool). MineAfter b call (key_number key) v w) (sym reads) learns.all.mine;
+  mine = subst (λ (b : Bool). MineAfter b call (key_number key) at v w) (sym reads) learns.all.mine;
   holds = holds;
 }
   where
@@ -95,7 +95,7 @@ write_replies call key ask reply at v w holds writes r = record {
       (write_fits (writes_of x.rest) x.write.write v.numbers.number call ask reply x.caller x.call_is (r.kind_is ∙ ap Some (sym x.kind_is)) (ap (λ (s : State). reply_of s ask) x.state ∙ r.answer) (ap (λ (s : State). state_after s ask) x.state ∙ (r.leaves ∙ sym x.after_is))));
   later = λ _. let l = begins_length (seen_of (key_number key) v.knowledge) x.rest x.longer in let n = many in let m = writes_length x.rest in omega arith;
   found = subst (λ (b : Bool). FoundForReply b (key_number key) at v w) (sym writes) (r.wrote.found_at, r.wrote.next, r.wrote.sighted);
-  mine = subst (λ (b : Bool). MineAfter b call (key_number key) v w) (sym writes) (x.write, x.mine, (x.rest, x.ends), x.call_is);
+  mine = subst (λ (b : Bool). MineAfter b call (key_number key) at v w) (sym writes) (x.write, x.mine, (x.rest, x.ends), x.call_is, x.stamp_is);
   holds = holds;
 }
   where

@@ -58,23 +58,23 @@ idle_still v w h idle = record {
 }
 
 -- of its own writes it has the same, or one more, which is of the call
-wrote_after : (b : Bool) (call k : ℕ) (v w : PassState) → MineAfter b call k v w → WroteBy call v → WroteBy call w
-wrote_after false call k v w e wrote = subst (Each (λ (x : KeyedWrite). x.write.call ≤ call)) (sym e) wrote
-wrote_after true call k v w m wrote = subst (Each (λ (x : KeyedWrite). x.write.call ≤ call)) (sym m.1) (each_append (λ (x : KeyedWrite). x.write.call ≤ call) v.knowledge.mine (m.0 ∷ []) wrote (let e = m.3 in omega arith, tt))
+wrote_after : (b : Bool) (call k at : ℕ) (v w : PassState) → MineAfter b call k at v w → WroteBy call v → WroteBy call w
+wrote_after false call k at v w e wrote = subst (Each (λ (x : KeyedWrite). x.write.call ≤ call)) (sym e) wrote
+wrote_after true call k at v w m wrote = subst (Each (λ (x : KeyedWrite). x.write.call ≤ call)) (sym m.1) (each_append (λ (x : KeyedWrite). x.write.call ≤ call) v.knowledge.mine (m.0 ∷ []) wrote (let e = m.3 in omega arith, tt))
 
 -- a reply, whichever it is
 replied : (call : ℕ) (key : List ℕ) (ask : CellCall) (reply : CellReply) (at : ℕ) (v w : PassState) → RepliesAt call key ask reply at v w → IsReady call v → IsReadyAgain call v w
 replied call key ask reply at v w r y = record {
   numbers = r.holds.numbers;
   loaded = r.goes.loaded;
-  ready = record { idle = idle_still v w r.holds y.idle; wrote = wrote_after (is_write reply) call (key_number key) v w r.mine y.wrote };
+  ready = record { idle = idle_still v w r.holds y.idle; wrote = wrote_after (is_write reply) call (key_number key) at v w r.mine y.wrote };
 }
 
 refused_again : (call : ℕ) (v w : PassState) → Refuses call v w → IsReady call v → IsReadyAgain call v w
 refused_again call v w r y = record {
   numbers = r.holds.numbers;
   loaded = r.learns.all.loaded;
-  ready = record { idle = idle_still v w r.holds y.idle; wrote = wrote_after false call 0 v w r.learns.all.mine y.wrote };
+  ready = record { idle = idle_still v w r.holds y.idle; wrote = wrote_after false call 0 0 v w r.learns.all.mine y.wrote };
 }
 
 pub wrote_again : (o : Result Wrote Halt) (call : ℕ) (key : List ℕ) (ask : CellCall) (v w : PassState) → IfOk o (λ x. WroteFits x call key ask v w) → IfErr o (λ _. Refuses call v w) → IsReady call v → IsReadyAgain call v w

@@ -37,10 +37,10 @@ abbrev pub FoundForReply : Bool → (k at : ℕ) → PassState → PassState →
 FoundForReply false k at v w = SightedSince k at v.findings w.findings
 FoundForReply true k at v w = (n : ℕ) × (at ≡ n + 1) × SightedSince k n v.findings w.findings
 
--- of its own writes the pass has one more, that of this call, the last that it has seen of the key, where the reply is a write's; else it has the same
-abbrev pub MineAfter : Bool → (call k : ℕ) → PassState → PassState → Type 0
-MineAfter false call k v w = w.knowledge.mine ≡ v.knowledge.mine
-MineAfter true call k v w = (x : KeyedWrite) × (w.knowledge.mine ≡ v.knowledge.mine ++ x ∷ []) × ((rest : List KeyedWrite) × (seen_of k w.knowledge ≡ rest ++ x ∷ [])) × (x.write.call ≡ call)
+-- of its own writes the pass has one more, that of this call and with this stamp, the last that it has seen of the key, where the reply is a write's; else it has the same
+abbrev pub MineAfter : Bool → (call k at : ℕ) → PassState → PassState → Type 0
+MineAfter false call k at v w = w.knowledge.mine ≡ v.knowledge.mine
+MineAfter true call k at v w = (x : KeyedWrite) × (w.knowledge.mine ≡ v.knowledge.mine ++ x ∷ []) × ((rest : List KeyedWrite) × (seen_of k w.knowledge ≡ rest ++ x ∷ [])) × (x.write.call ≡ call) × (x.write.stamp ≡ at)
 
 -- The reply fits at the place of its number, at which all ends that the pass has seen of the key; that is not before what it had seen, and for a write it is behind it.
 pub record RepliesAt (call : ℕ) (key : List ℕ) (ask : CellCall) (reply : CellReply) (at : ℕ) (v w : PassState) : Type 0 where
@@ -49,7 +49,7 @@ pub record RepliesAt (call : ℕ) (key : List ℕ) (ask : CellCall) (reply : Cel
   pub fits : ReplyFits (writes_of (seen_of (key_number key) w.knowledge)) v.numbers.number call ask reply (length (seen_of (key_number key) w.knowledge))
   pub later : is_write reply ≡ true → length (seen_of (key_number key) v.knowledge) < length (seen_of (key_number key) w.knowledge)
   pub found : FoundForReply (is_write reply) (key_number key) at v w
-  pub mine : MineAfter (is_write reply) call (key_number key) v w
+  pub mine : MineAfter (is_write reply) call (key_number key) at v w
   pub holds : HoldsAsBefore v w
 
 -- No step of the call was a write, and all is held as before.
