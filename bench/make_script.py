@@ -1,11 +1,12 @@
 #!/usr/bin/env python3
 """Writes a script of many calls to standard output.
 
-usage: make_script.py KIND CALLS KEYS
+usage: make_script.py KIND CALLS KEYS [SHAPE]
 
 KIND is `puts` (puts and gets in turn) or `mixed` (all ten calls, with 32 scans). CALLS is the number of
-calls, from 0 to 262144, and KEYS the number of different keys, from 1 to 4294967296. The same words give
-the same script each time.
+calls, from 0 to 262144, and KEYS the number of different keys, from 1 to 4294967296. SHAPE is `default`, as
+without it, or `greatest`: the script then asks for the greatest table. The same words give the same script
+each time.
 """
 import random
 import sys
@@ -13,6 +14,7 @@ import sys
 MOST_CALLS = 262_144
 MOST_KEYS = 2 ** 32
 MOST_SCANS = 32
+SHAPE_LINES = {"default": [], "greatest": ["shape 1024 256 65536 65536 65536 16384 4096"]}
 
 
 def put_and_get(random_state, key, number):
@@ -33,10 +35,10 @@ def mixed(random_state, key, number, scans):
     ])
 
 
-def write_script(kind, calls, keys):
+def write_script(kind, calls, keys, shape):
     random_state = random.Random(1)
     scans = set(random_state.sample(range(calls), min(MOST_SCANS, calls)))
-    lines = ["oak 1", "thread"]
+    lines = ["oak 1"] + SHAPE_LINES[shape] + ["thread"]
     for number in range(calls):
         key = f"{random_state.randrange(keys):08x}"
         if kind == "puts":
@@ -61,13 +63,16 @@ def number_in(word, name, least, most):
 
 def main():
     words = sys.argv[1:]
-    if len(words) != 3:
-        refuse("three words are wanted")
+    if len(words) not in (3, 4):
+        refuse("three or four words are wanted")
     if words[0] not in ("puts", "mixed"):
         refuse(f"no such kind: {words[0]!r}")
     calls = number_in(words[1], "CALLS", 0, MOST_CALLS)
     keys = number_in(words[2], "KEYS", 1, MOST_KEYS)
-    write_script(words[0], calls, keys)
+    shape = words[3] if len(words) == 4 else "default"
+    if shape not in SHAPE_LINES:
+        refuse(f"no such shape: {shape!r}")
+    write_script(words[0], calls, keys, shape)
 
 
 main()

@@ -22,7 +22,7 @@ use Rattle.oak_core.specs.declared.closing.Closed.{Closed}
 use Rattle.oak_core.specs.declared.states.KeyedWrite.{KeyedWrite}
 use Rattle.oak_core.specs.declared.states.PassState.{PassState}
 use Rattle.oak_core.specs.AloneWords.{Moment}
-use Rattle.oak_core.specs.Closing.{closed_findings, closed_history, closed_key, closed_map, closed_state, closed_words}
+use Rattle.oak_core.specs.Closing.{closed_history, closed_key, closed_map, closed_state, closed_words}
 use Rattle.oak_core.specs.KeyHistories.{state_behind, writes_of}
 use Rattle.oak_core.specs.KnownPlaces.{Remembers}
 use Rattle.oak_core.specs.Memory.{memory}
@@ -43,14 +43,9 @@ use Rattle.scan_cursor.specs.Scanned.{HasScanned}
 use Rattle.scan_cursor.specs.Views.{View}
 use Rattle.scan_cursor.proofs.FitLaws.{closed_goes_on, scan_fits}
 use Rattle.oak_map.specs.Closings.{UsesJustMap}
-use Rattle.oak_run.specs.Closing.{Closing}
+use Rattle.oak_run.specs.ClosedRuns.{closing_of}
 use Rattle.oak_run.specs.Ending.{EndFits, MapFits, UsageFits}
-use Rattle.oak_run.specs.Shown.{closing_by}
 use Rattle.oak_run.proofs.BehindLaws.{seen_more}
-
--- what the closed table shows of a run
-abbrev pub closing_of : Closed → Closing
-closing_of c = closing_by (closed_findings c) (λ k. seen_of k (closed_state c).knowledge) (usage_of (closed_key c) (memory (closed_key c) (closed_words c))) (closed_key c) (retired_in (closed_key c) (closed_words c)) (used_chunks (closed_key c) (memory (closed_key c) (closed_words c)))
 
 writes_length : (l : List KeyedWrite) → length (writes_of l) ≡ length l
 writes_length [] = refl

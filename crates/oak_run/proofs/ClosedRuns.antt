@@ -36,6 +36,7 @@ use Rattle.oak_map.specs.Closings.{UsesJustMap}
 use Rattle.oak_run.specs.Answers.{AnswersFit, Mark, mark_of, marks}
 use Rattle.oak_run.specs.Behind.{GoesBehind, histories}
 use Rattle.oak_run.specs.Findings.{FindingsFit}
+use Rattle.oak_run.specs.ClosedRuns.{closing_of}
 use Rattle.oak_run.specs.MapThreads.{ThreadFits}
 use Rattle.oak_run.specs.Reads.{OnlyReads}
 use Rattle.oak_run.specs.Refusals.{RefusalsFit}
@@ -45,7 +46,7 @@ use Rattle.oak_run.specs.Views.{no_names}
 use Rattle.oak_run.proofs.BehindLaws.{behind_before}
 use Rattle.oak_run.proofs.CallsOnce.{one_write}
 use Rattle.oak_run.proofs.ClosedBehind.{closed_behind, closed_finds}
-use Rattle.oak_run.proofs.ClosedEnds.{closing_of, end_fits}
+use Rattle.oak_run.proofs.ClosedEnds.{end_fits}
 use Rattle.oak_run.proofs.ForeignMarks.{no_marks}
 use Rattle.oak_run.proofs.OwnWrites.{own_rise, seen_is_own}
 

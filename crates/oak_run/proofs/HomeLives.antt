@@ -57,21 +57,21 @@ home_there s (x ∷ xs) w r (inr m) d = let lt = stamp_above x.write.stamp xs w 
 
 -- ---- lives begin
 
-last_on : (f : KeyedWrite → ℕ) (d : ℕ) (a b : List KeyedWrite) → last_of f d (a ++ b) ≡ last_of f (last_of f d a) b
+pub last_on : (f : KeyedWrite → ℕ) (d : ℕ) (a b : List KeyedWrite) → last_of f d (a ++ b) ≡ last_of f (last_of f d a) b
 unfolding last_of
 last_on f d [] b = refl
 last_on f d (x ∷ xs) b = last_on f (f x) xs b
 
-abbrev state_from : State → List KeyedWrite → State
+abbrev pub state_from : State → List KeyedWrite → State
 state_from s h = fold (λ (t : State) (w : Write). w.after) s (writes_of h)
 
-lives_second : (s : State) (home : ℕ) (a b : List KeyedWrite) → LivesFollow s home (a ++ b) → LivesFollow (state_from s a) (last_of (λ (w : KeyedWrite). w.home) home a) b
+pub lives_second : (s : State) (home : ℕ) (a b : List KeyedWrite) → LivesFollow s home (a ++ b) → LivesFollow (state_from s a) (last_of (λ (w : KeyedWrite). w.home) home a) b
 unfolding last_of
 lives_second s home [] b l = l
 lives_second s home (x ∷ xs) b l = lives_second x.write.after x.home xs b l.3
 
 -- behind an absent key the next write begins a life, so the last life of what is written next began there
-begun_next : (g home : ℕ) (b : List KeyedWrite) → LivesFollow None home b → 0 < length b → last_of (λ (w : KeyedWrite). w.home) home b ≡ g → 0 < total (begins g) b
+pub begun_next : (g home : ℕ) (b : List KeyedWrite) → LivesFollow None home b → 0 < length b → last_of (λ (w : KeyedWrite). w.home) home b ≡ g → 0 < total (begins g) b
 unfolding last_of total
 begun_next g home [] l some e = absurd (omega arith)
 begun_next g home (w ∷ ws) l some e = dite (ℕ_discrete w.home g)

@@ -13,10 +13,10 @@ use Rattle.scan_cursor.specs.Scanned.{HasScanned}
 use Rattle.scan_cursor.specs.Views.{View}
 use Rattle.oak_script.specs.declared.scripts.Call.{Call}
 use Rattle.oak_map.specs.Closings.{UsesJustMap}
+use Rattle.oak_run.specs.ClosedRuns.{closing_of}
 use Rattle.oak_run.specs.MapThreads.{ThreadFits}
 use Rattle.oak_run.specs.Reads.{IsOnlyThread, OnlyReads}
 use Rattle.oak_run.specs.RunFits.{RunFits}
-use Rattle.oak_run.proofs.ClosedEnds.{closing_of}
 use Rattle.oak_run.proofs.ClosedRuns.{run_fits_alone}
 use Rattle.oak_run.proofs.OnlyThreads.{only_still}
 use Rattle.oak_run.proofs.ReadsLaws.{learns_reads, reads_then, seen_settled}

@@ -53,6 +53,10 @@ nothing_done v none = record {
   findings = λ by hs used z retired open_rooms b f. tt;
 }
 
+pub no_turns : (v : PassState) (none : v.knowledge.mine ≡ []) → (nothing_done v none).turns ≡ []
+unfolding nothing_done
+no_turns v none = refl
+
 -- ---- one more turn
 
 pub refusals-push : (c : Closing) (thread n m : ℕ) (ts : List Turn) (t : Turn) → m ≡ n + length ts → RefusalsFit c thread n ts → RefusalFits c thread m t t.reply → RefusalsFit c thread n (ts ++ t ∷ [])
@@ -125,9 +129,6 @@ module _ (v w : PassState) (cs : List Call) (ys : List Reply) (n : ℕ) (t : Tur
         (findings-push (closing_by by hs used z retired open_rooms) v.numbers.number 1 n no_names x.turns t counted (on_later (λ c. FindingsFit c v.numbers.number 1 no_names x.turns) x.findings by hs used z retired open_rooms b f) (turned.finding by hs used z retired open_rooms b f));
   }
 
--- the turn of the next call, with its call and reply
-pub one_more : (v w : PassState) (cs : List Call) (ys : List Reply) (n : ℕ) (t : Turn) (c : Call) (y : Reply) (x : ThreadFits v cs ys) → n ≡ suc (length cs) → Turned n (names_of no_names x.turns) t v w → t.call ≡ c → t.reply ≡ y → CanReply c y → ThreadFits w (cs ++ c ∷ []) (ys ++ y ∷ [])
-one_more v w cs ys n t c y x number turned of_call of_reply can =
-    subst (λ (d : Call). ThreadFits w (cs ++ d ∷ []) (ys ++ y ∷ [])) of_call
-    (subst (λ (z : Reply). ThreadFits w (cs ++ t.call ∷ []) (ys ++ z ∷ [])) of_reply
-    (one_turn_more v w cs ys n t x number turned (subst (λ (d : Call). CanReply d t.reply) (sym of_call) (subst (CanReply c) (sym of_reply) can))))
+  pub more_turns : one_turn_more.turns ≡ x.turns ++ t ∷ []
+  unfolding one_turn_more
+  more_turns = refl

@@ -38,6 +38,7 @@ unfolding of_key
 quiet_turned n names t v w r quiet o = record {
   extends = r.learns.all.seen;
   remembers = r.learns.all.remembers;
+  met = r.learns.met;
   finds = record {
     sights = (r.learns.sights.more, r.learns.sights.sights);
     gones = r.learns.all.gones;
@@ -47,6 +48,7 @@ quiet_turned n names t v w r quiet o = record {
   numbers = r.learns.all.numbers;
   order = o.order;
   wrote = [];
+  calls = tt;
   mine = r.learns.all.mine ∙ sym (append-nil v.knowledge.mine);
   marks = λ q is. no_mark q (ask_of t.call) (makes_write t.reply) (record { stamp = reply_at t.reply; caller = v.numbers.number; call = n }) quiet;
   answers = o.answers;

@@ -2,7 +2,7 @@
 use Rattle.std.proofs.Common.{◌≡◌, ℕ, List, [], sym, refl, ap, ◌∙◌, subst, append-nil}
 use Rattle.oak_model.specs.Counts.{Begins, Each}
 use Rattle.oak_model.specs.Limits.{Sizes}
-use Rattle.oak_model.proofs.Lists.{begins_self}
+use Rattle.oak_model.proofs.Lists.{begins_self, begins_trans}
 use Rattle.chunk_ops.specs.RoomPins.{HadMoment}
 use Rattle.oak_core.specs.declared.states.Joined.{Joined}
 use Rattle.oak_core.specs.declared.states.Knowledge.{Knowledge}
@@ -24,6 +24,7 @@ begins_same a b e = ([], e ∙ sym (append-nil a))
 
 pub reads_itself : (v : PassState) → OnlyReads v v
 reads_itself v = record {
+  met = begins_self v.findings.met;
   extends = extends_self v;
   remembers = remembers_self v.knowledge;
   finds = record { sights = begins_self v.findings.sights; gones = begins_self v.findings.gones; fulls = begins_self v.findings.fulls };
@@ -33,6 +34,7 @@ reads_itself v = record {
 
 pub reads_then : (u v w : PassState) → OnlyReads u v → OnlyReads v w → OnlyReads u w
 reads_then u v w a b = record {
+  met = begins_trans u.findings.met v.findings.met w.findings.met a.met b.met;
   extends = extends_then u v w a.extends b.extends;
   remembers = remembers_then u.knowledge v.knowledge w.knowledge a.remembers b.remembers;
   finds = finds_before u.findings v.findings w.findings a.finds b.finds;
@@ -43,6 +45,7 @@ reads_then u v w a b = record {
 -- a call that may have learned
 pub learns_reads : (call : ℕ) (v w : PassState) → Learns call v w → OnlyReads v w
 learns_reads call v w l = record {
+  met = (l.met.more, l.met.met);
   extends = l.all.seen;
   remembers = l.all.remembers;
   finds = record { sights = (l.sights.more, l.sights.sights); gones = l.all.gones; fulls = begins_same v.findings.fulls w.findings.fulls l.all.fulls };
@@ -53,6 +56,7 @@ learns_reads call v w l = record {
 -- a call that only rebalanced
 pub leaves_reads : (call : ℕ) (v w : PassState) → Leaves call v w → OnlyReads v w
 leaves_reads call v w l = record {
+  met = (l.met.more, l.met.met);
   extends = λ k. begins_same (seen_of k v.knowledge) (seen_of k w.knowledge) (ap (seen_of k) l.knowledge);
   remembers = λ k at r knows. subst (λ (q : Knowledge). KnowsPlace k at r q) (sym l.knowledge) knows;
   finds = record { sights = begins_same v.findings.sights w.findings.sights l.sights; gones = begins_same v.findings.gones w.findings.gones l.gones; fulls = begins_same v.findings.fulls w.findings.fulls l.fulls };

@@ -182,11 +182,13 @@ module _ (way : Way) (low high : Option (List ℕ)) (z : Sizes) (n : ℕ) (v w :
     scan_turned = let l = x.later.learns in record {
       extends = l.all.seen;
       remembers = l.all.remembers;
+      met = l.met;
       finds = finds_more n v w l.sights l.all;
       loaded = l.all.loaded;
       numbers = l.all.numbers;
       order = order;
       wrote = [];
+      calls = tt;
       mine = l.all.mine ∙ sym (append-nil v.knowledge.mine);
       marks = λ q e. rw (asked way) (none_marked (key_number q));
       answers = λ hs b. rw (asked way) tt;

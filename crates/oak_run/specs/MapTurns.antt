@@ -1,13 +1,14 @@
 -- One call of a thread on the map: v is the state of its pass before, w the one behind, and t the turn.
 use Rattle.std.specs.Prelude.{◌≡◌, ℕ, ◌<◌, ◌≤◌, true, if◌then◌else◌, List, [], ◌∷◌, ◌++◌, length, map, take, Some, IsSome}
 use Rattle.oak_model.specs.declared.shapes.Usage.{Usage}
-use Rattle.oak_model.specs.Counts.{Begins}
+use Rattle.oak_model.specs.Counts.{Begins, Each}
 use Rattle.oak_model.specs.Key.{is_key}
 use Rattle.oak_model.specs.KeyNumber.{key_number}
 use Rattle.oak_model.specs.Limits.{Sizes}
 use Rattle.oak_core.specs.declared.states.Findings.{Findings}
 use Rattle.oak_core.specs.declared.states.KeyedWrite.{KeyedWrite}
 use Rattle.oak_core.specs.declared.states.PassState.{PassState}
+use Rattle.oak_core.specs.CallSteps.{MetMore}
 use Rattle.oak_core.specs.KeyHistories.{home_behind, state_behind, writes_of}
 use Rattle.oak_core.specs.KeyReads.{home_of}
 use Rattle.oak_core.specs.KnownPlaces.{Remembers}
@@ -38,12 +39,14 @@ OnClosing w P = (by : ℕ → Findings) (hs : ℕ → List KeyedWrite) (used : U
 pub record Turned (n : ℕ) (names : Names) (t : Turn) (v w : PassState) : Type 0 where
   pub extends : Extends v w
   pub remembers : Remembers v.knowledge w.knowledge
+  pub met : MetMore n v w
   pub finds : FindsMore v.findings w.findings
   pub loaded : Begins v.knowledge.loaded w.knowledge.loaded
   pub numbers : w.numbers ≡ v.numbers
   pub order : StaysBetween v w t
   pub wrote : List KeyedWrite
   pub mine : w.knowledge.mine ≡ v.knowledge.mine ++ wrote
+  pub calls : Each (λ (x : KeyedWrite). x.write.call ≡ n) wrote
   pub marks : (q : List ℕ) → is_key q ≡ true → map mark_of (writes_of (of_key (key_number q) wrote)) ≡ (if writes_key q t then record { stamp = reply_at t.reply; caller = v.numbers.number; call = n } ∷ [] else [])
   pub answers : (hs : ℕ → List KeyedWrite) → GoesBehind w hs → AnswerFits (histories hs) v.numbers.number n t
   pub view : (hs : ℕ → List KeyedWrite) → GoesBehind w hs → ViewFits (histories hs) names t t.call

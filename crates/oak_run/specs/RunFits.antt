@@ -1,6 +1,5 @@
 -- When the replies and the final map of a run fit the histories of its keys.
-use Rattle.std.specs.Prelude.{◌≡◌, ℕ, suc, List, [], ◌∷◌, map, false, ⊤}
-use Rattle.std.specs.List.{AllByRecursion}
+use Rattle.std.specs.Prelude.{◌≡◌, ℕ, suc, List, [], ◌∷◌, map, ⊤}
 use Rattle.std.specs.List.Sorted.{IsPermutation}
 use Rattle.oak_model.specs.declared.replies.Pair.{Pair}
 use Rattle.oak_model.specs.declared.replies.Reply.{Reply}
@@ -9,14 +8,13 @@ use Rattle.oak_model.specs.History.{Histories, IsLegal, AreDistinctCalls}
 use Rattle.oak_script.specs.declared.scripts.Call.{Call}
 use Rattle.oak_script.specs.Text.{RepliesAnswer}
 use Rattle.oak_run.specs.Turn.{Turn}
-use Rattle.oak_run.specs.Told.{is_full}
 use Rattle.oak_run.specs.Answers.{AnswersFit, mark_of, all_marks}
 use Rattle.oak_run.specs.Order.{Ordered}
 use Rattle.oak_run.specs.Views.{ViewsFit, no_names}
 use Rattle.oak_run.specs.Scans.{ScansFit}
 use Rattle.oak_run.specs.Closing.{Closing}
 use Rattle.oak_run.specs.Refusals.{RefusalsFit}
-use Rattle.oak_run.specs.Ending.{MapFits, EndFits}
+use Rattle.oak_run.specs.Ending.{EndFits}
 use Rattle.oak_run.specs.Findings.{FindingsFit}
 
 -- for each thread from this number on
@@ -34,26 +32,6 @@ replies_of threads = map (λ (ts : List Turn). map (λ (t : Turn). t.reply) ts) 
 pub record RepliesFit (h : Histories) (threads : List (List Turn)) : Type 0 where
   pub each : EachThread (λ thread ts. AnswersFit h thread 1 ts) 1 threads
   pub once : (q : List ℕ) → IsPermutation (all_marks q 1 threads) (map mark_of (h q))
-
--- no call was refused
-abbrev pub NoneRefused : List Turn → Type 0
-NoneRefused ts = AllByRecursion (λ (t : Turn). is_full t.reply ≡ false) ts
-
--- What one thread's run over a plain list of writes promises: replies of the kinds that their calls can have,
--- legal histories, no refusal, and of a run that fits the parts on replies, order, views and scans, and the map.
-pub record PlainFits (h : Histories) (calls : List (List Call)) (said : List (List Reply)) (finals : List Pair) : Type 0 where
-  pub threads : List (List Turn)
-  pub of_calls : calls_of threads ≡ calls
-  pub of_replies : replies_of threads ≡ said
-  pub answered : RepliesAnswer calls said
-  pub legal : (q : List ℕ) → IsLegal (h q)
-  pub distinct : AreDistinctCalls h
-  pub replies : RepliesFit h threads
-  pub order : EachThread (λ _ ts. Ordered ts) 1 threads
-  pub views : EachThread (λ _ ts. ViewsFit h no_names ts) 1 threads
-  pub scans : EachThread (λ _ ts. ScansFit h ts) 1 threads
-  pub unrefused : EachThread (λ _ ts. NoneRefused ts) 1 threads
-  pub final : MapFits h finals
 
 -- A run over a table of this shape fits what the closed table shows. Each reply is of a kind that its call can
 -- have, the histories are legal, and each of the seven parts is a field of its own.

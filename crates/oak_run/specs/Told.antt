@@ -8,6 +8,7 @@ use Rattle.oak_model.specs.declared.cells.CellCall.{CellCall}
 use Rattle.oak_model.specs.declared.cells.CellCall.TheVariants as asks
 use Rattle.oak_model.specs.declared.cells.CellReply.{CellReply}
 use Rattle.oak_model.specs.declared.cells.CellReply.TheVariants as words
+use Rattle.oak_model.specs.Cell.{is_write}
 use Rattle.oak_script.specs.declared.scripts.Call.{Call}
 use Rattle.oak_script.specs.declared.scripts.Call.TheVariants.{Put, Get, PutNew, Compute, Upsert, Remove, Hold, Look, Scan, Back}
 
@@ -104,3 +105,10 @@ Tells k (replies.Held at) word = (bytes : List ℕ) × (word ≡ words.Holds byt
 Tells k replies.Gone word = ⊥
 Tells k replies.Unheld word = ⊥
 Tells k (replies.Pairs pairs) word = ⊥
+
+-- the reply tells the cell's word of the key, with this number
+pub record TellsWord (k : List ℕ) (word : CellReply) (at : ℕ) (y : Reply) : Type 0 where
+  pub tells : Tells k y word
+  pub number : reply_at y ≡ at
+  pub not_full : is_full y ≡ false
+  pub writes : makes_write y ≡ is_write word

@@ -1,143 +1,159 @@
-ghost use Rattle.std.specs.Prelude.{◌≡◌, IfOk, if◌then◌else◌};
-ghost use Rattle.oak_model.specs.Cell.{HasArgument, is_new};
+//! A script's calls on one key, made on the map.
+ghost use Rattle.std.specs.Prelude.{◌≡◌, ◌<◌, ◌+◌, ◌-◌, ◌^◌, IfOk, true};
+ghost use Rattle.oak_model.specs.Key.{IsKey, is_key};
 ghost use Rattle.oak_model.specs.Recipe.{IsArgument};
-ghost use Rattle.oak_model.specs.declared.cells.CellCall.TheVariants.{Put, PutNew, Compute, Upsert};
-ghost use Rattle.oak_run.specs.Keeps.{AreFew};
-ghost use Rattle.oak_run.specs.Does.{CellDoes, SaysWord, AskDoes};
+ghost use Rattle.oak_script.specs.declared.scripts.Call.TheVariants as script;
+ghost use Rattle.oak_core.specs.MayWrite.{IsNewCall};
+ghost use Rattle.oak_core.specs.PassState.{HoldsNothing};
+ghost use Rattle.oak_core.specs.Passes.{IsPassOf, Stays, call_of as table_call, state as table_state};
+ghost use Rattle.oak_map.specs.Maps.{IsReady, call_of, sizes, state, table_of};
+ghost use Rattle.oak_run.specs.CallTurns.{CallTurned, times_told};
 
-use crate::lasts::{Last, Lasts, last_of};
-use oak_model::{
-    CellCall, CellReply, Key, OutOfMemory, RecipeKind, Reply, Value, Wrote, answer_call,
-};
+use crate::copies::{copy_value, told};
+use oak_core::Pass;
+use oak_map::{Lent, MapPass, OakMap, get_of};
+use oak_model::{Key, OutOfMemory, RecipeKind, Reply, Value, Wrote};
 use std::alloc::Global;
+use std::sync::Wait;
+use value_ops::Recipe;
 
-/// The cell's reply to a call on a key, and the number that goes with it.
-fn call_cell(
+/// The same bytes, which are a key's.
+fn checked(bytes: &[u8]) -> &[u8]
+    requires { IsKey bytes.now }
+    ensures same { result.now ≡ bytes.now }
+    ensures key { is_key bytes.now ≡ true }
+{
+    bytes
+}
+
+/// The bytes of a key.
+pub fn bytes_of(key: &Key) -> &[u8]
+    ensures value { result.now ≡ key.now }
+    ensures long { IsKey key.now }
+    ensures key { is_key key.now ≡ true }
+{
+    checked(key.bytes())
+}
+
+/// [`get`] by the pass on the map's table.
+fn get_by<R: Wait>(
+    rt: &R,
     alloc: Global,
-    lasts: &mut Lasts,
+    map: &OakMap,
+    pass: &mut Pass,
     key: &Key,
-    call: &CellCall,
-) -> Result<(CellReply, u64), OutOfMemory>
-    requires few { AreFew lasts.old }
-    requires argument { HasArgument call.now }
-    ensures { IfOk result (λ r. CellDoes lasts.old lasts.new (record { key = key.now; cell = call.now }) r.0 r.1) }
+) -> Result<Reply, OutOfMemory>
+    requires own { IsPassOf (table_of map.now) pass.old }
+    requires idle { HoldsNothing (table_state pass.old) }
+    ensures own { Stays pass.old pass.new }
+    ensures idle { HoldsNothing (table_state pass.new) }
+    ensures numbers { (table_state pass.new).numbers ≡ (table_state pass.old).numbers }
+    ensures turned { IfOk result (λ y. CallTurned (sizes map.now) (table_call pass.old) (script.Get key.now) y (table_state pass.old) (table_state pass.new)) }
 {
-    let (count, born, value) = last_of(lasts, key);
-    let answer = answer_call(alloc, value, call)?;
-    if !answer.reply.is_write() {
-        return Ok((answer.reply, count));
-    }
-    let at = count + 1;
-    let born = born_at(&answer.reply, born, at);
-    let key = key.copy(alloc)?;
-    let value = answer.after;
-    lasts.insert(
-        key,
-        Last {
-            count: at,
-            born,
-            value,
-        },
-    )?;
-    Ok((answer.reply, at))
-}
-
-/// Where the life behind a write began.
-fn born_at(reply: &CellReply, born: u64, at: u64) -> u64
-    ensures { result ≡ (if is_new reply.now then at else born) }
-{
-    if reply.is_new() { at } else { born }
-}
-
-/// The reply that tells a cell's reply to a call on a key.
-fn reply_with(alloc: Global, key: &Key, word: CellReply, at: u64) -> Result<Reply, OutOfMemory>
-    ensures { IfOk result (λ y. SaysWord key.now word at y) }
-{
-    match word {
-        CellReply::New => Ok(Reply::Wrote(Wrote::New { at })),
-        CellReply::Over => Ok(Reply::Wrote(Wrote::Over { at })),
-        CellReply::Kept => Ok(Reply::Wrote(Wrote::Kept { at })),
-        CellReply::Done => Ok(Reply::Wrote(Wrote::Done { at })),
-        CellReply::Removed => Ok(Reply::Wrote(Wrote::Removed { at })),
-        CellReply::Absent => Ok(Reply::Wrote(Wrote::Absent { at })),
-        CellReply::Holds(value) => {
-            let key = key.copy(alloc)?;
-            Ok(Reply::Value { key, value, at })
+    match get_of(pass, rt, map, bytes_of(key)) {
+        Lent::Absent { at } => Ok(Reply::Wrote(Wrote::Absent { at })),
+        Lent::Present(mut reading) => {
+            let at = reading.at();
+            let copy = copy_value(alloc, &mut reading);
+            reading.done();
+            told(alloc, key, copy, at)
         }
     }
 }
 
-/// The reply to a call on a key.
-pub fn ask(
+/// The value of a key, or that it has none.
+pub fn get<R: Wait>(
+    rt: &R,
     alloc: Global,
-    lasts: &mut Lasts,
+    map: &OakMap,
+    pass: &mut MapPass,
     key: &Key,
-    call: CellCall,
 ) -> Result<Reply, OutOfMemory>
-    requires few { AreFew lasts.old }
-    requires argument { HasArgument call }
-    ensures { IfOk result (λ y. AskDoes lasts.old lasts.new (record { key = key.now; cell = call }) y) }
+    requires ready { IsReady map.now pass.old }
+    ensures ready { IsReady map.now pass.new }
+    ensures call { call_of pass.new ≡ call_of pass.old }
+    ensures numbers { (state pass.new).numbers ≡ (state pass.old).numbers }
+    ensures turned { IfOk result (λ y. CallTurned (sizes map.now) (call_of pass.old) (script.Get key.now) y (state pass.old) (state pass.new)) }
 {
-    let (word, at) = call_cell(alloc, lasts, key, &call)?;
-    reply_with(alloc, key, word, at)
+    get_by(rt, alloc, map, pass.pass_mut(), key)
 }
 
-pub fn put(alloc: Global, lasts: &mut Lasts, key: &Key, value: &Value) -> Result<Reply, OutOfMemory>
-    requires { AreFew lasts.old }
-    ensures { IfOk result (λ y. AskDoes lasts.old lasts.new (record { key = key.now; cell = Put value.now }) y) }
+/// Puts the value of a key.
+pub fn put<R: Wait>(rt: &R, map: &OakMap, pass: &mut MapPass, key: &Key, value: &Value) -> Reply
+    requires ready { IsReady map.now pass.old }
+    requires turn { IsNewCall (call_of pass.old) (state pass.old) }
+    ensures ready { IsReady map.now pass.new }
+    ensures call { call_of pass.new ≡ call_of pass.old }
+    ensures turned { CallTurned (sizes map.now) (call_of pass.old) (script.Put key.now value.now) result (state pass.old) (state pass.new) }
 {
-    let value = value.copy(alloc)?;
-    ask(alloc, lasts, key, CellCall::Put { value })
+    Reply::Wrote(map.put(rt, pass, bytes_of(key), value.bytes()))
 }
 
-pub fn put_new(
-    alloc: Global,
-    lasts: &mut Lasts,
+/// Puts the value of a key where it is absent.
+pub fn put_new<R: Wait>(rt: &R, map: &OakMap, pass: &mut MapPass, key: &Key, value: &Value) -> Reply
+    requires ready { IsReady map.now pass.old }
+    requires turn { IsNewCall (call_of pass.old) (state pass.old) }
+    ensures ready { IsReady map.now pass.new }
+    ensures call { call_of pass.new ≡ call_of pass.old }
+    ensures turned { CallTurned (sizes map.now) (call_of pass.old) (script.PutNew key.now value.now) result (state pass.old) (state pass.new) }
+{
+    Reply::Wrote(map.put_if_absent(rt, pass, bytes_of(key), value.bytes()))
+}
+
+/// Computes the value of a key by the recipe, which is told what to do.
+pub fn compute<R: Wait>(
+    rt: &R,
+    map: &OakMap,
+    pass: &mut MapPass,
+    recipe: &mut Box<dyn Recipe + Send>,
+    key: &Key,
+    kind: RecipeKind,
+    argument: u64,
+) -> Reply
+    requires ready { IsReady map.now pass.old }
+    requires turn { IsNewCall (call_of pass.old) (state pass.old) }
+    requires few { calls recipe.old < 2 ^ 64 - 1 }
+    requires argument { IsArgument kind argument }
+    ensures ready { IsReady map.now pass.new }
+    ensures call { call_of pass.new ≡ call_of pass.old }
+    ensures turned { CallTurned (sizes map.now) (call_of pass.old) (script.Compute key.now kind argument) result (state pass.old) (state pass.new) }
+    ensures counted { calls recipe.new ≡ calls recipe.old + times_told result }
+{
+    recipe.tell(kind, argument);
+    Reply::Wrote(map.compute(rt, pass, bytes_of(key), recipe))
+}
+
+/// Computes the value of a key as [`compute`] does, or puts one where it is absent.
+pub fn upsert<R: Wait>(
+    rt: &R,
+    map: &OakMap,
+    pass: &mut MapPass,
+    recipe: &mut Box<dyn Recipe + Send>,
     key: &Key,
     value: &Value,
-) -> Result<Reply, OutOfMemory>
-    requires { AreFew lasts.old }
-    ensures { IfOk result (λ y. AskDoes lasts.old lasts.new (record { key = key.now; cell = PutNew value.now }) y) }
+    kind: RecipeKind,
+    argument: u64,
+) -> Reply
+    requires ready { IsReady map.now pass.old }
+    requires turn { IsNewCall (call_of pass.old) (state pass.old) }
+    requires few { calls recipe.old < 2 ^ 64 - 1 }
+    requires argument { IsArgument kind argument }
+    ensures ready { IsReady map.now pass.new }
+    ensures call { call_of pass.new ≡ call_of pass.old }
+    ensures turned { CallTurned (sizes map.now) (call_of pass.old) (script.Upsert key.now value.now kind argument) result (state pass.old) (state pass.new) }
+    ensures counted { calls recipe.new ≡ calls recipe.old + times_told result }
 {
-    let value = value.copy(alloc)?;
-    ask(alloc, lasts, key, CellCall::PutNew { value })
+    recipe.tell(kind, argument);
+    Reply::Wrote(map.upsert(rt, pass, bytes_of(key), value.bytes(), recipe))
 }
 
-pub fn compute(
-    alloc: Global,
-    lasts: &mut Lasts,
-    key: &Key,
-    recipe: RecipeKind,
-    argument: u64,
-) -> Result<Reply, OutOfMemory>
-    requires few { AreFew lasts.old }
-    requires argument { IsArgument recipe argument }
-    ensures { IfOk result (λ y. AskDoes lasts.old lasts.new (record { key = key.now; cell = Compute recipe argument }) y) }
+/// Removes a key.
+pub fn remove<R: Wait>(rt: &R, map: &OakMap, pass: &mut MapPass, key: &Key) -> Reply
+    requires ready { IsReady map.now pass.old }
+    requires turn { IsNewCall (call_of pass.old) (state pass.old) }
+    ensures ready { IsReady map.now pass.new }
+    ensures call { call_of pass.new ≡ call_of pass.old }
+    ensures turned { CallTurned (sizes map.now) (call_of pass.old) (script.Remove key.now) result (state pass.old) (state pass.new) }
 {
-    ask(alloc, lasts, key, CellCall::Compute { recipe, argument })
-}
-
-pub fn upsert(
-    alloc: Global,
-    lasts: &mut Lasts,
-    key: &Key,
-    value: &Value,
-    recipe: RecipeKind,
-    argument: u64,
-) -> Result<Reply, OutOfMemory>
-    requires few { AreFew lasts.old }
-    requires argument { IsArgument recipe argument }
-    ensures { IfOk result (λ y. AskDoes lasts.old lasts.new (record { key = key.now; cell = Upsert value.now recipe argument }) y) }
-{
-    let value = value.copy(alloc)?;
-    ask(
-        alloc,
-        lasts,
-        key,
-        CellCall::Upsert {
-            value,
-            recipe,
-            argument,
-        },
-    )
+    Reply::Wrote(map.remove(rt, pass, bytes_of(key)))
 }

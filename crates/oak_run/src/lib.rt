@@ -1,14 +1,14 @@
-//! Runs scripts.
+//! Runs scripts over the map.
 #![tactic(auto)]
 
 mod asks;
-mod lasts;
+mod copies;
 mod laws;
 mod looks;
-mod plain;
-mod ranges;
 mod runner;
+mod scans;
+mod worker;
 
-pub use lasts::{Held, Last};
-pub use laws::a_plain_run_fits;
+pub use laws::one_text;
+pub use looks::{HeldView, HeldViews};
 pub use runner::{Ran, run_script};

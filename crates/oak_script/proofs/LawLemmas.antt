@@ -1,6 +1,8 @@
 -- Each text is a script's or has a first fault, and none is both.
-use Rattle.std.proofs.Common.{◌≡◌, ℕ, zero, suc, ◌+◌, ◌<◌, ◌≤◌, ◌⊎◌, List, [], ◌∷◌, length, Result, Ok, Err, refl, ap, sym, subst, ◌∙◌, inl, inr, arith}
-use Rattle.std.specs.Prelude.{IfOk}
+use Rattle.std.proofs.Common.{◌≡◌, ℕ, zero, suc, ◌+◌, ◌<◌, ◌≤◌, ◌⊎◌, List, [], ◌∷◌, ◌++◌, length, map, Option, Some, None, Result, Ok, Err, refl, ap, sym, subst, ◌∙◌, inl, inr, arith}
+use Rattle.std.specs.Prelude.{IfOk, IfSome}
+use Rattle.std.specs.List.{flat_map}
+use Rattle.std.proofs.lemmas.List.{append-nil}
 use Rattle.std.proofs.lemmas.Bool.{cases_lt}
 use Rattle.oak_model.specs.Limits.{Sizes}
 use Rattle.oak_script.specs.declared.faults.What.{What}
@@ -11,28 +13,74 @@ use Rattle.oak_script.specs.declared.stages.Stage.TheVariants.{Ended}
 use Rattle.oak_script.specs.declared.faults.NoScript.{NoScript}
 use Rattle.oak_script.specs.declared.faults.NoScript.TheVariants.{Fault, OutOfMemory}
 use Rattle.oak_script.specs.Lines.{Words, text_words}
-use Rattle.oak_script.specs.Grammar.{script_lines, default_sizes, IsScript, Spells}
+use Rattle.oak_script.specs.ShapeLine.{shape_line, SizesFit}
+use Rattle.oak_script.specs.Grammar.{oak_line, thread_line, end_line, call_words, thread_lines, default_sizes, IsScript, AreLinesOf, Spells}
 use Rattle.oak_script.specs.Faults.{faults_at, IsFirstAt, IsFirstFault, HasNoFault}
-use Rattle.oak_script.specs.Reading.{so_far, AreCalls}
+use Rattle.oak_script.specs.Reading.{so_far, sizes_for, AreCalls}
 use Rattle.oak_script.specs.Answers.{Tells, Gives}
-use Rattle.oak_script.proofs.ScriptLemmas.{one_thread, no_fault, found, same-calls}
+use Rattle.oak_script.proofs.SizesLemmas.{sizes-fit, sizes-passes}
+use Rattle.oak_script.proofs.EndLemmas.{ended_lines}
+use Rattle.oak_script.proofs.SpelledLemmas.{no_fault}
+use Rattle.oak_script.proofs.ScriptLemmas.{found, same-lines}
 
 -- ---- scripts
 
 are_calls : (s : Script) (is : IsScript s) → AreCalls is.calls
 are_calls s is = record { each = is.each; few = is.few; scans = is.scans }
 
-spelled-so : (text : List ℕ) (s : Script) (sp : Spells text s) → text_words text ≡ so_far Ended sp.script.calls
-spelled-so text s sp = sp.lines ∙ ap script_lines sp.script.one ∙ one_thread sp.script.calls
+-- the lines of a script as a reader takes them
+record Taken (lines : List Words) (s : Script) (calls : List Call) : Type 0 where
+  shape : Option Sizes
+  fit : IfSome shape SizesFit
+  spelled : lines ≡ so_far (Ended shape) calls
+  sizes : s.shape ≡ sizes_for shape 1
+
+own-sizes : (p c e h : ℕ) (bs : List ℕ) → p ≡ 2 → (let s : Sizes = record { passes = p; chunks = c; entries = e; headers = h; blocks = bs } in s ≡ sizes_for (Some s) 1)
+own-sizes p c e h bs two = rw two refl
+
+one-thread : (calls : List Call) → flat_map thread_lines (calls ∷ []) ++ end_line ∷ [] ≡ thread_line ∷ (map call_words calls ++ end_line ∷ [])
+one-thread calls = ap (λ (ls : List Words). ls ++ end_line ∷ []) (append-nil (thread_line ∷ map call_words calls))
+
+taken_of : (lines : List Words) (s : Script) (is : IsScript s) → AreLinesOf lines s → Taken lines s is.calls
+taken_of lines s is are =
+    elim are [
+      | inl with ↦ record {
+        shape = Some s.shape;
+        fit = is.shape;
+        spelled = with ∙ rw is.one (ap (λ (ls : List Words). oak_line ∷ shape_line s.shape ∷ ls) (one-thread is.calls));
+        sizes = own-sizes s.shape.passes s.shape.chunks s.shape.entries s.shape.headers s.shape.blocks (is.passes ∙ ap (λ (ts : List (List Call)). length ts + 1) is.one);
+      }
+      | inr without ↦ record {
+        shape = None;
+        fit = tt;
+        spelled = without.0 ∙ rw is.one (ap (λ (ls : List Words). oak_line ∷ ls) (one-thread is.calls));
+        sizes = without.1 ∙ ap (λ (ts : List (List Call)). default_sizes (length ts)) is.one;
+      }
+    ]
 
 pub script_fine : (text : List ℕ) (s : Script) → Spells text s → HasNoFault (text_words text)
-script_fine text s sp = subst HasNoFault (sym (spelled-so text s sp)) (no_fault sp.script.calls (are_calls s sp.script))
+script_fine text s sp =
+    let t = taken_of (text_words text) s sp.script sp.lines in
+    subst HasNoFault (sym t.spelled) (no_fault t.shape sp.script.calls t.fit (are_calls s sp.script))
 
 pub script_of : (text : List ℕ) → HasNoFault (text_words text) → (s : Script) × Spells text s
 script_of text none =
     let f = found (text_words text) none in
-    let s : Script = record { shape = default_sizes 1; threads = f.calls ∷ [] } in
-    (s, record { script = record { calls = f.calls; one = refl; shape = refl; each = f.are.each; few = f.are.few; scans = f.are.scans }; lines = f.spelled ∙ sym (one_thread f.calls) })
+    let s : Script = record { shape = sizes_for f.shape 1; threads = f.calls ∷ [] } in (
+      s,
+      record {
+        script = record {
+          calls = f.calls;
+          one = refl;
+          passes = sizes-passes f.shape 1;
+          shape = sizes-fit f.shape 1 (omega arith) f.fit;
+          each = f.are.each;
+          few = f.are.few;
+          scans = f.are.scans;
+        };
+        lines = subst (λ (ls : List Words). AreLinesOf ls s) (sym f.spelled) (ended_lines f.shape f.calls s refl refl);
+      },
+    )
 
 same-parts : (a b : Sizes) (x y : List (List Call)) → a ≡ b → x ≡ y → (let s : Script = record { shape = a; threads = x } in let t : Script = record { shape = b; threads = y } in s ≡ t)
 same-parts a b x y e f = rw (e, f) refl
@@ -42,8 +90,10 @@ same-script s t e f = same-parts s.shape t.shape s.threads t.threads e f
 
 pub one_script : (text : List ℕ) (s t : Script) → Spells text s → Spells text t → s ≡ t
 one_script text s t a b =
-    let calls = same-calls a.script.calls b.script.calls (are_calls s a.script) (are_calls t b.script) (sym (spelled-so text s a) ∙ spelled-so text t b) in
-    same-script s t (a.script.shape ∙ sym b.script.shape) (a.script.one ∙ ap (λ (c : List Call). c ∷ []) calls ∙ sym b.script.one)
+    let x = taken_of (text_words text) s a.script a.lines in
+    let y = taken_of (text_words text) t b.script b.lines in
+    let same = same-lines x.shape y.shape a.script.calls b.script.calls x.fit y.fit (are_calls s a.script) (are_calls t b.script) (sym x.spelled ∙ y.spelled) in
+    same-script s t (x.sizes ∙ same.0 1 ∙ sym y.sizes) (a.script.one ∙ ap (λ (c : List Call). c ∷ []) same.1 ∙ sym b.script.one)
 
 -- ---- faults
 

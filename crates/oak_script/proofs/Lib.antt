@@ -13,7 +13,11 @@ pub mod PastLemmas
 pub mod StepLemmas
 pub mod EndLemmas
 pub mod WordLemmas
+pub mod ShapeLemmas
 pub mod CallLemmas
+pub mod SizesLemmas
+pub mod SecondLemmas
 pub mod InjectiveLemmas
+pub mod SpelledLemmas
 pub mod ScriptLemmas
 pub mod LawLemmas

@@ -1,5 +1,5 @@
 -- What a decimal word spells.
-use Rattle.std.proofs.Common.{◌≡◌, ℕ, ◌^◌, ◌<◌, ◌≤◌, ◌⊎◌, Bool, true, false, ◌&&◌, not, eqb, ltb, List, [], ◌∷◌, length, get_or, Result, Ok, Err, refl, sym, ap, ◌∙◌, arith, inl, inr}
+use Rattle.std.proofs.Common.{◌≡◌, ℕ, ◌^◌, ◌<◌, ◌≤◌, ◌⊎◌, Bool, true, false, ◌&&◌, not, eqb, ltb, leb, List, [], ◌∷◌, length, get_or, Result, Ok, Err, refl, sym, ap, subst, ◌∙◌, arith, inl, inr}
 use Rattle.std.specs.Prelude.{IfSome, is_some}
 use Rattle.std.specs.Result.{result_ok, OkIff}
 use Rattle.std.specs.List.{list_all}
@@ -14,7 +14,7 @@ use Rattle.std.proofs.lemmas.Fmt.{decimal-digits_value, digits_decimal, digits_v
 use Rattle.std.specs.Str.{IsUtf8}
 use Rattle.std.proofs.lemmas.Str.{IsUtf8-from_ascii}
 use Rattle.std.proofs.lemmas.Fmt.{IsAscii-from_digits}
-use Rattle.oak_script.specs.Numbers.{is_decimal, is_number}
+use Rattle.oak_script.specs.Numbers.{is_decimal, is_number, is_number_in}
 
 own : IsNumeralModel (λ ds. all_ascii_digits ds ≡ true) (digits_value 10)
 own = numerals_by_value _ tells_all_ascii_digits
@@ -89,16 +89,30 @@ written n lt =
     once (inl pos) e = absurd (omega (arith, first_decimal n pos lt))
     once (inr zero_) e = let z : n ≡ 0 = omega arith in rw z (ap length (decimal_digit 0 (omega arith)))
 
--- a number is written so
-pub read : (w : List ℕ) → is_number w ≡ true → (n : ℕ) × (decimal n ≡ w) × (n < 2 ^ 64)
-read w e =
+-- the number that a word spells is its digits' value
+pub read_value : (w : List ℕ) → is_number w ≡ true → (decimal (digits_value 10 w) ≡ w) × (digits_value 10 w < 2 ^ 64)
+read_value w e =
     let p = and-both (is_decimal w) (ltb (digits_value 10 w) (2 ^ 64)) e in
     let d = decided w p.0 in
     let lt = lt-from (digits_value 10 w) p.1 in
-    (digits_value 10 w, decimal-digits_value own w d.digits d.some d.canonical lt, lt)
+    (decimal-digits_value own w d.digits d.some d.canonical lt, lt)
+
+-- a number is written so
+pub read : (w : List ℕ) → is_number w ≡ true → (n : ℕ) × (decimal n ≡ w) × (n < 2 ^ 64)
+read w e = let r = read_value w e in (digits_value 10 w, r.0, r.1)
+
+pub value_written : (n : ℕ) → n < 2 ^ 64 → digits_value 10 (decimal n) ≡ n
+value_written n lt = digits_value-decimal own n lt
 
 pub decimal-injective : (m n : ℕ) → m < 2 ^ 64 → n < 2 ^ 64 → decimal m ≡ decimal n → m ≡ n
 decimal-injective m n hm hn e = sym (digits_value-decimal own m hm) ∙ ap (digits_value 10) e ∙ digits_value-decimal own n hn
 
 pub is_utf8 : (w : List ℕ) → is_decimal w ≡ true → IsUtf8 w
 is_utf8 w e = IsUtf8-from_ascii w (IsAscii-from_digits w (own.to w (decided w e).digits))
+
+-- what a word of a number says of a range
+pub in_range : (low high n : ℕ) (w : List ℕ) → n < 2 ^ 64 → decimal n ≡ w → is_number_in low high w ≡ (leb low n && leb n high)
+in_range low high n w lt e =
+    let is : is_number w ≡ true = subst (λ (v : List ℕ). is_number v ≡ true) e (written n lt).0 in
+    let value : digits_value 10 w ≡ n = subst (λ (v : List ℕ). digits_value 10 v ≡ n) e (value_written n lt) in
+    rw (is, value) refl

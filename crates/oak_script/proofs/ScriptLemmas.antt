@@ -1,82 +1,33 @@
--- A text has no fault exactly where it spells a script, and it spells one only.
-use Rattle.std.proofs.Common.{◌≡◌, ℕ, zero, suc, ◌+◌, ◌<◌, ◌≤◌, Bool, true, false, not, ◌||◌, ◌&&◌, cond, eqb, List, [], ◌∷◌, ◌++◌, length, map, Some, None, refl, ap, sym, subst, ◌∙◌, inl, inr, arith, append_assoc, codes}
+-- A text without a fault spells a script, and it spells one only.
+use Rattle.std.proofs.Common.{◌≡◌, ℕ, ◌+◌, ◌<◌, ◌≤◌, Bool, true, false, not, ◌||◌, ◌&&◌, cond, eqb, List, [], ◌∷◌, ◌++◌, length, map, drop, Option, Some, None, refl, ap, sym, subst, ◌∙◌, inl, inr, arith, append_assoc, codes}
 use Rattle.std.specs.List.{AllByRecursion, list_any}
+use Rattle.std.specs.Prelude.{IfSome}
 use Rattle.std.specs.Str.{bytes_eq}
 use Rattle.std.proofs.lemmas.Bool.{cases_Bool}
 use Rattle.std.proofs.lemmas.Bool.Decides.{nat_tests}
-use Rattle.std.proofs.lemmas.List.{map_push, length_push, length-append, append-nil, append_cancel_right}
-use Rattle.std.proofs.lemmas.List.Sums.{sum_by-cons, sum_by_push}
+use Rattle.std.proofs.lemmas.List.{length_push, length-append, append-nil, append_cancel_right}
 use Rattle.oak_script.specs.declared.faults.What.TheVariants as what
 use Rattle.oak_script.specs.declared.scripts.Call.{Call}
 use Rattle.oak_script.specs.declared.stages.Stage.{Stage}
-use Rattle.oak_script.specs.declared.stages.Stage.TheVariants.{Start, Headed, Opened, Ended}
+use Rattle.oak_script.specs.declared.stages.Stage.TheVariants.{Start, Headed, Shaped, Opened, Ended}
 use Rattle.oak_script.specs.declared.limits.TheConstants.{GREATEST_CALLS, GREATEST_SCANS}
 use Rattle.oak_script.specs.Lines.{Words}
-use Rattle.oak_script.specs.Grammar.{oak_line, thread_line, end_line, call_words, script_lines, CallFits, is_scan, scans_in}
+use Rattle.oak_model.specs.Limits.{Sizes}
+use Rattle.oak_script.specs.ShapeLine.{size_words, size_fields, are_sizes, SizesFit}
+use Rattle.oak_script.specs.Grammar.{oak_line, end_line, call_words, CallFits, is_scan, scans_in}
 use Rattle.oak_script.specs.Forms.{is_one, is_two, is_oak, is_thread, is_end, is_shape, is_call, is_scan_line}
-use Rattle.oak_script.specs.Faults.{Past, past_of, faults, faults_at, where_so, is_empty, is_bad_word, is_not_built, HasNoFault}
-use Rattle.oak_script.specs.Reading.{so_far, past_at, CallsFit, AreCalls, line_faults}
+use Rattle.oak_script.specs.Faults.{Past, past_of, faults, faults_at, where_so, is_empty, is_bad_word, is_not_built, is_bad_shape, HasNoFault}
+use Rattle.oak_script.specs.Reading.{so_far, past_at, sizes_for, CallsFit, AreCalls, line_faults}
 use Rattle.oak_script.proofs.WordLemmas.{word_is, none-so, none-both, not-true, and-parts}
-use Rattle.oak_script.proofs.CallLemmas.{or-false, call-spelled, call-read}
+use Rattle.oak_script.proofs.CallLemmas.{call-read}
+use Rattle.oak_script.proofs.ShapeLemmas.{sizes-read}
+use Rattle.oak_script.proofs.SizesLemmas.{sizes-same}
+use Rattle.oak_script.proofs.SecondLemmas.{shape-is}
 use Rattle.oak_script.proofs.InjectiveLemmas.{calls-injective}
-use Rattle.oak_script.proofs.PastLemmas.{past_so_far, call-thread, call-end, call-call, call-scan}
+use Rattle.oak_script.proofs.PastLemmas.{past_so_far, call-call, call-scan}
 use Rattle.oak_script.proofs.OpenLemmas.{line_counts, open-line}
-use Rattle.oak_script.proofs.PlaceLemmas.{faults_here, faults_behind, fine_more}
-use Rattle.oak_script.proofs.EndLemmas.{ended_fine}
-
-pub one_thread : (calls : List Call) → script_lines (calls ∷ []) ≡ so_far Ended calls
-one_thread calls = ap (λ (ls : List Words). oak_line ∷ (ls ++ end_line ∷ [])) (append-nil (thread_line ∷ map call_words calls))
-
-grown-by : (calls : List Call) (c : Call) → so_far Opened calls ++ call_words c ∷ [] ≡ so_far Opened (calls ++ c ∷ [])
-grown-by calls c = ap (λ (ls : List Words). oak_line ∷ thread_line ∷ ls) (sym (map_push call_words calls c))
-
-scans-push : (calls : List Call) (c : Call) → scans_in (calls ++ c ∷ []) ≡ scans_in calls + cond (is_scan c) 1 0
-scans-push calls c = sum_by_push (λ (d : Call). cond (is_scan d) 1 0) calls c
-
-scans-cons : (c : Call) (calls : List Call) → scans_in (c ∷ calls) ≡ cond (is_scan c) 1 0 + scans_in calls
-scans-cons c calls = sum_by-cons (λ (d : Call). cond (is_scan d) 1 0) c calls
-
--- ---- what is spelled has no fault
-
-not-equal : (m n : ℕ) → m < n → eqb m n ≡ false
-not-equal m n h = grind (arith, nat_tests)
-
-counts-fine : (done : List Call) (c : Call) → length done < GREATEST_CALLS → scans_in done + cond (is_scan c) 1 0 ≤ GREATEST_SCANS → line_counts done (call_words c) ≡ []
-counts-fine done c few scans =
-    rw (call-scan c, call-call c, not-equal (length done) GREATEST_CALLS few) (by (is_scan c) scans)
-  where
-    by : (b : Bool) → scans_in done + cond b 1 0 ≤ GREATEST_SCANS → where_so (b && eqb (scans_in done) GREATEST_SCANS) what.Scans ≡ []
-    by true h = rw (not-equal (scans_in done) GREATEST_SCANS (omega arith)) refl
-    by false h = refl
-
-spelled-fine : (all : List Words) (done calls : List Call) → so_far Opened done ++ (map call_words calls ++ end_line ∷ []) ≡ all
-    → ((k : ℕ) → k < length (so_far Opened done) → faults_at all k ≡ []) → AllByRecursion CallFits calls
-    → length done + length calls ≤ GREATEST_CALLS → scans_in done + scans_in calls ≤ GREATEST_SCANS → HasNoFault all
-spelled-fine all done [] split fine each few scans =
-    let none : faults (past_of (so_far Opened done)) (Some end_line) ≡ [] = ap (λ (p : Past). faults p (Some end_line)) (past_so_far Opened done) in
-    let more = fine_more all (so_far Opened done) end_line [] split fine none in
-    subst HasNoFault split (ended_fine done (λ k h. subst (λ (ls : List Words). faults_at ls k ≡ []) (sym split) (more k h)))
-spelled-fine all done (c ∷ calls) split fine each few scans =
-    let grown = grown-by done c in
-    let sum = scans-cons c calls in
-    let none : faults (past_of (so_far Opened done)) (Some (call_words c)) ≡ [] =
-    ap (λ (p : Past). faults p (Some (call_words c))) (past_so_far Opened done)
-    ∙ open-line done (call_words c) (call-thread c) (call-end c)
-    ∙ rw (call-spelled c each.0) (counts-fine done c (omega arith) (omega (arith, sum))) in
-    spelled-fine all (done ++ c ∷ []) calls
-    (subst (λ (ls : List Words). ls ++ (map call_words calls ++ end_line ∷ []) ≡ all) grown (rw append_assoc split))
-    (λ k h. fine_more all (so_far Opened done) (call_words c) (map call_words calls ++ end_line ∷ []) split fine none k (subst (λ (ls : List Words). k < length ls) (sym grown) h))
-    each.1 (omega (arith, length_push done c)) (omega (arith, sum, scans-push done c))
-
-pub no_fault : (calls : List Call) → AreCalls calls → HasNoFault (so_far Ended calls)
-no_fault calls are = spelled-fine (so_far Ended calls) [] calls refl two are.each (omega (arith, are.few)) (omega (arith, are.scans))
-  where
-    two : (k : ℕ) → k < 2 → faults_at (so_far Ended calls) k ≡ []
-    two zero h = refl
-    two (suc zero) h = refl
-    two (suc (suc k)) h = absurd (omega arith)
-
--- ---- what has no fault is spelled
+use Rattle.oak_script.proofs.PlaceLemmas.{faults_here, faults_behind}
+use Rattle.oak_script.proofs.SpelledLemmas.{grown-by, scans-push}
 
 one_is : (text : List ℕ) (line : Words) → is_one text line ≡ true → line ≡ text ∷ []
 one_is text [] e = absurd cc
@@ -91,11 +42,26 @@ two_are text other (w ∷ x ∷ []) e =
     rw (word_is w text p.0, word_is x other p.1) refl
 two_are text other (w ∷ x ∷ y ∷ more) e = absurd cc
 
-stands : (e s t l : Bool) → (e || not ((s && l) || (t || false))) ≡ false → s ≡ false → t ≡ true
-stands e true t l h f = absurd cc
-stands e false true l h f = refl
-stands true false false l h f = absurd cc
-stands false false false l h f = absurd cc
+stands : (e t : Bool) → (e || not (t || false)) ≡ false → t ≡ true
+stands e true h = refl
+stands true false h = absurd cc
+stands false false h = absurd cc
+
+-- line 2 that is not `thread`
+shapes : (e s t l : Bool) → (e || not ((s && l) || (t || false))) ≡ false → t ≡ false → (e ≡ false) × (s ≡ true) × (l ≡ true)
+shapes e s true l h n = absurd cc
+shapes true s false l h n = absurd cc
+shapes false true false true h n = (refl, refl, refl)
+shapes false true false false h n = absurd cc
+shapes false false false l h n = absurd cc
+
+sound : (s a : Bool) → (s && not a) ≡ false → s ≡ true → a ≡ true
+sound s true h is = refl
+sound true false h is = absurd cc
+sound false false h is = absurd cc
+
+eight : (n : ℕ) → eqb n 8 ≡ true → n ≡ 8
+eight n h = grind (arith, nat_tests)
 
 all-push : (calls : List Call) (c : Call) → AllByRecursion CallFits calls → CallFits c → AllByRecursion CallFits (calls ++ c ∷ [])
 all-push [] c each is = (is, tt)
@@ -131,40 +97,59 @@ taken Headed calls line fit e =
     let past = past_at Headed calls in
     let p = none-both (where_so (is_bad_word past (Some line)) what.Word) _ e in
     let q = none-both (where_so (is_not_built past (Some line)) what.NotBuilt) _ p.1 in
-    let shape = or-false (is_shape line) false (none-so (is_not_built past (Some line)) what.NotBuilt q.0) in
-    let thread = stands (list_any is_empty line) (is_shape line) (is_thread line) (eqb (length line) 8) (none-so (is_bad_word past (Some line)) what.Word p.0) shape.0 in
+    let r = none-both (where_so (is_bad_shape past (Some line)) what.Shape) _ q.1 in
+    let word = none-so (is_bad_word past (Some line)) what.Word p.0 in
+    elim (cases_Bool (is_thread line)) [
+      | inl thread ↦
+          let is = one_is (codes "thread") line thread in
+          record { next = Opened None; more = []; fit = (record { each = tt; few = omega arith; scans = omega arith }, tt); grown = rw is refl }
+      | inr other ↦
+          let w = shapes (list_any is_empty line) (is_shape line) (is_thread line) (eqb (length line) 8) word other in
+          let bad = none-so (is_bad_shape past (Some line)) what.Shape r.0 in
+          let are : are_sizes size_fields (drop 1 line) ≡ true = sound (is_shape line) (are_sizes size_fields (drop 1 line)) bad w.1 in
+          let sizes = sizes-read (drop 1 line) are in
+          let is = shape-is line sizes.0 (record { words = w.0; first = w.1; count = eight (length line) w.2 }) sizes.1 in
+          record { next = Shaped sizes.0; more = []; fit = (refl, sizes.2); grown = ap (λ (l : Words). oak_line ∷ l ∷ []) (sym is) }
+    ]
+taken (Shaped s) calls line fit e =
+    let past = past_at (Shaped s) calls in
+    let p = none-both (where_so (is_bad_word past (Some line)) what.Word) _ e in
+    let thread = stands (list_any is_empty line) (is_thread line) (none-so (is_bad_word past (Some line)) what.Word p.0) in
     let is = one_is (codes "thread") line thread in
-    record { next = Opened; more = []; fit = record { each = tt; few = omega arith; scans = omega arith }; grown = rw is refl }
-taken Opened calls line fit e =
-    let past = past_at Opened calls in
+    record { next = Opened (Some s); more = []; fit = (record { each = tt; few = omega arith; scans = omega arith }, fit.1); grown = rw is refl }
+taken (Opened shape) calls line fit e =
+    let past = past_at (Opened shape) calls in
     let p = none-both (where_so (is_bad_word past (Some line)) what.Word) _ e in
     let q = none-both (where_so (is_not_built past (Some line)) what.NotBuilt) _ p.1 in
     let thread : is_thread line ≡ false = none-so (is_not_built past (Some line)) what.NotBuilt q.0 in
     elim (cases_Bool (is_end line)) [
-      | inl end_ ↦ let is = one_is (codes "end") line end_ in record { next = Ended; more = calls; fit = fit; grown = rw is refl }
+      | inl end_ ↦ let is = one_is (codes "end") line end_ in record { next = Ended shape; more = calls; fit = fit; grown = rw is refl }
       | inr other ↦
-          let r = none-both (line_faults line) (line_counts calls line) (sym (open-line calls line thread other) ∙ e) in
+          let r = none-both (line_faults line) (line_counts calls line) (sym (open-line shape calls line thread other) ∙ e) in
           let c = call-read line r.0 in
           record {
-            next = Opened;
+            next = Opened shape;
             more = calls ++ c.0 ∷ [];
-            fit = take-call calls c.0 fit c.2 (subst (λ (l : Words). line_counts calls l ≡ []) (sym c.1) r.1);
-            grown = sym (grown-by calls c.0) ∙ ap (λ (l : Words). so_far Opened calls ++ l ∷ []) c.1;
+            fit = (take-call calls c.0 fit.0 c.2 (subst (λ (l : Words). line_counts calls l ≡ []) (sym c.1) r.1), fit.1);
+            grown = sym (grown-by shape calls c.0) ∙ ap (λ (l : Words). so_far (Opened shape) calls ++ l ∷ []) c.1;
           }
     ]
-taken Ended calls line fit e = absurd cc
+taken (Ended shape) calls line fit e = absurd cc
 
--- the calls of a text without a fault
+-- the shape and the calls of a text without a fault
 pub record Found (lines : List Words) : Type 0 where
+  pub shape : Option Sizes
   pub calls : List Call
+  pub fit : IfSome shape SizesFit
   pub are : AreCalls calls
-  pub spelled : lines ≡ so_far Ended calls
+  pub spelled : lines ≡ so_far (Ended shape) calls
 
 found-end : (stage : Stage) (calls : List Call) → CallsFit stage calls → faults (past_at stage calls) None ≡ [] → Found (so_far stage calls)
 found-end Start calls fit e = absurd cc
 found-end Headed calls fit e = absurd cc
-found-end Opened calls fit e = absurd cc
-found-end Ended calls fit e = record { calls = calls; are = fit; spelled = refl }
+found-end (Shaped s) calls fit e = absurd cc
+found-end (Opened shape) calls fit e = absurd cc
+found-end (Ended shape) calls fit e = record { shape = shape; calls = calls; fit = fit.1; are = fit.0; spelled = refl }
 
 found-from : (stage : Stage) (calls : List Call) (rest all : List Words) → so_far stage calls ++ rest ≡ all → CallsFit stage calls → HasNoFault all → Found all
 found-from stage calls [] all split fit none =
@@ -184,7 +169,14 @@ found all none = found-from Start [] all all refl refl none
 
 -- ---- only one script
 
-pub same-calls : (a b : List Call) → AreCalls a → AreCalls b → so_far Ended a ≡ so_far Ended b → a ≡ b
-same-calls a b ha hb e =
+same-body : (a b : List Call) → AreCalls a → AreCalls b → map call_words a ++ end_line ∷ [] ≡ map call_words b ++ end_line ∷ [] → a ≡ b
+same-body a b ha hb e = calls-injective a b ha.each hb.each (append_cancel_right (map call_words a) (map call_words b) (end_line ∷ []) e)
+
+pub same-lines : (x y : Option Sizes) (a b : List Call) → IfSome x SizesFit → IfSome y SizesFit → AreCalls a → AreCalls b → so_far (Ended x) a ≡ so_far (Ended y) b → ((n : ℕ) → sizes_for x n ≡ sizes_for y n) × (a ≡ b)
+same-lines None None a b fx fy ha hb e = let body : map call_words a ++ end_line ∷ [] ≡ map call_words b ++ end_line ∷ [] = cc in (λ n. refl, same-body a b ha hb body)
+same-lines None (Some t) a b fx fy ha hb e = absurd cc
+same-lines (Some s) None a b fx fy ha hb e = absurd cc
+same-lines (Some s) (Some t) a b fx fy ha hb e =
     let body : map call_words a ++ end_line ∷ [] ≡ map call_words b ++ end_line ∷ [] = cc in
-    calls-injective a b ha.each hb.each (append_cancel_right (map call_words a) (map call_words b) (end_line ∷ []) body)
+    let words : size_words s ≡ size_words t = cc in
+    (λ n. sizes-same s t n fx fy words, same-body a b ha hb body)

@@ -27,7 +27,7 @@ use Rattle.oak_script.proofs.NumberLemmas.{written, read, decimal-injective}
 pub word_is : (w text : List ℕ) → bytes_eq w text ≡ true → w ≡ text
 word_is w text e = (bytes_eq-Decides w text).0 e
 
-not-empty : (w : List ℕ) → 0 < length w → is_empty w ≡ false
+pub not-empty : (w : List ℕ) → 0 < length w → is_empty w ≡ false
 not-empty w h = grind (arith, nat_tests)
 
 some-in : (w : List ℕ) → is_empty w ≡ false → 0 < length w

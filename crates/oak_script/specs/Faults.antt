@@ -1,5 +1,5 @@
 -- The faults of a line behind the lines before it, and the first fault of a text.
-use Rattle.std.specs.Prelude.{◌≡◌, ℕ, zero, suc, ◌+◌, ◌*◌, ◌<◌, ◌≤◌, ◌==◌, ◌&&◌, ◌||◌, nat_lt, not, Bool, true, false, if◌then◌else◌, List, [], ◌∷◌, ◌++◌, length, take, slice_get, count_by, Option, Some, None, is_some}
+use Rattle.std.specs.Prelude.{◌≡◌, ℕ, zero, suc, ◌+◌, ◌*◌, ◌<◌, ◌≤◌, ◌==◌, ◌&&◌, ◌||◌, nat_lt, not, Bool, true, false, if◌then◌else◌, List, [], ◌∷◌, ◌++◌, length, take, drop, slice_get, count_by, Option, Some, None, is_some}
 use Rattle.std.specs.List.{list_any}
 use Rattle.oak_model.specs.declared.limits.TheConstants.{GREATEST_KEY, GREATEST_VALUE}
 use Rattle.oak_script.specs.declared.limits.TheConstants.{GREATEST_THREADS, GREATEST_CALLS, GREATEST_SCANS}
@@ -9,6 +9,7 @@ use Rattle.oak_script.specs.declared.faults.ScriptFault.{ScriptFault}
 use Rattle.oak_script.specs.declared.verbs.Verb.{Verb}
 use Rattle.oak_script.specs.Lines.{Words, text_words}
 use Rattle.oak_script.specs.Words.{is_name}
+use Rattle.oak_script.specs.ShapeLine.{size_fields, are_sizes}
 use Rattle.oak_script.specs.Forms.{Slot, KeySlot, ValueSlot, NameSlot, BoundSlot, RecipeSlot, verb_of, form, is_oak, is_thread, is_end, is_shape, is_call, is_scan_line, is_dash, is_hex, is_recipe}
 
 -- how many lines stand before a line, and how many of them are `thread`, `end`, call and scan lines
@@ -71,9 +72,13 @@ is_after_end p here = on_line (λ _. not (is_none p.ends)) here
 abbrev pub is_bad_word : Past → Here → Bool
 is_bad_word p here = on_line (λ line. list_any is_empty line || not (may_stand p line)) here
 
--- it is line 2 with the first word `shape`, or the second line that is the one word `thread`
+-- it is the second line that is the one word `thread`
 abbrev pub is_not_built : Past → Here → Bool
-is_not_built p here = on_line (λ line. (is_once p.lines && is_shape line) || (is_once p.threads && is_thread line)) here
+is_not_built p here = on_line (λ line. is_once p.threads && is_thread line) here
+
+-- a number of a `shape` line is not written as it should be, or is outside the limits
+abbrev pub is_bad_shape : Past → Here → Bool
+is_bad_shape p here = on_line (λ line. (is_once p.lines && is_shape line) && not (are_sizes size_fields (drop 1 line))) here
 
 -- the word in the place of a name is none
 abbrev pub is_bad_name : Slot → List ℕ → Bool
@@ -165,11 +170,12 @@ faults p here =
     ++ (where_so (is_after_end p here) what.AfterEnd
     ++ (where_so (is_bad_word p here) what.Word
     ++ (where_so (is_not_built p here) what.NotBuilt
+    ++ (where_so (is_bad_shape p here) what.Shape
     ++ (part_faults here
     ++ (where_so (is_thread_too_many p here) what.Threads
     ++ (where_so (is_call_too_many p here) what.Calls
     ++ (where_so (is_scan_too_many p here) what.Scans
-    ++ where_so (lacks_end p here) what.NoEnd)))))))
+    ++ where_so (lacks_end p here) what.NoEnd))))))))
 
 -- ---- the first fault
 

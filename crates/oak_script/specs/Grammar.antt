@@ -1,5 +1,5 @@
 -- The lines of a script.
-use Rattle.std.specs.Prelude.{◌≡◌, ℕ, ◌+◌, ◌<◌, ◌≤◌, ◌^◌, Bool, true, false, List, [], ◌∷◌, ◌++◌, length, map, count_by, codes, IfSome}
+use Rattle.std.specs.Prelude.{◌≡◌, ◌⊎◌, ℕ, ◌+◌, ◌<◌, ◌≤◌, ◌^◌, Bool, true, false, List, [], ◌∷◌, ◌++◌, length, map, count_by, codes, IfSome}
 use Rattle.std.specs.List.{AllByRecursion, flat_map}
 use Rattle.hex.specs.Hex.{encode_lower, IsBytes}
 use Rattle.oak_model.specs.declared.limits.TheConstants.{DEFAULT_CHUNKS, DEFAULT_ENTRIES, DEFAULT_HEADERS, DEFAULT_BLOCKS}
@@ -14,6 +14,7 @@ use Rattle.oak_script.specs.declared.scripts.Call.TheVariants.{Put, Get, PutNew,
 use Rattle.oak_script.specs.declared.scripts.Script.{Script}
 use Rattle.oak_script.specs.Lines.{Words, text_words}
 use Rattle.oak_script.specs.Words.{value_word, bound_word, recipe_words, is_name}
+use Rattle.oak_script.specs.ShapeLine.{shape_line, SizesFit}
 
 abbrev pub oak_line : Words
 oak_line = codes "oak" ∷ codes "1" ∷ []
@@ -39,9 +40,14 @@ call_words (Back low high) = codes "back" ∷ bound_word low ∷ bound_word high
 abbrev pub thread_lines : List Call → List Words
 thread_lines calls = thread_line ∷ map call_words calls
 
--- the lines of a script without a `shape` line
-abbrev pub script_lines : List (List Call) → List Words
-script_lines threads = oak_line ∷ (flat_map thread_lines threads ++ end_line ∷ [])
+-- the `shape` line, or none
+abbrev pub shape_lines : Bool → Sizes → List Words
+shape_lines true s = shape_line s ∷ []
+shape_lines false s = []
+
+-- the lines of a script, with its `shape` line or without it
+abbrev pub script_lines : Bool → Script → List Words
+script_lines shaped s = oak_line ∷ (shape_lines shaped s.shape ++ (flat_map thread_lines s.threads ++ end_line ∷ []))
 
 abbrev pub KeyFits : List ℕ → Type 0
 KeyFits k = IsKey k × IsBytes k
@@ -92,16 +98,21 @@ default_sizes threads = record {
   blocks = DEFAULT_BLOCKS;
 }
 
--- a script that is read today: one thread, and no `shape` line
+-- a script that is read today: one thread; it has a pass more than there are threads
 pub record IsScript (s : Script) : Type 0 where
   pub calls : List Call
   pub one : s.threads ≡ calls ∷ []
-  pub shape : s.shape ≡ default_sizes 1
+  pub passes : s.shape.passes ≡ length s.threads + 1
+  pub shape : SizesFit s.shape
   pub each : AllByRecursion CallFits calls
   pub few : length calls ≤ GREATEST_CALLS
   pub scans : scans_in calls ≤ GREATEST_SCANS
 
+-- these are the script's lines; its `shape` line may be missing where its sizes are the default ones
+abbrev pub AreLinesOf : List Words → Script → Type 0
+AreLinesOf lines s = (lines ≡ script_lines true s) ⊎ ((lines ≡ script_lines false s) × (s.shape ≡ default_sizes (length s.threads)))
+
 -- the text is cut into the lines of the script
 pub record Spells (text : List ℕ) (s : Script) : Type 0 where
   pub script : IsScript s
-  pub lines : text_words text ≡ script_lines s.threads
+  pub lines : AreLinesOf (text_words text) s

@@ -1,5 +1,6 @@
 pub mod Lines
 pub mod Words
+pub mod ShapeLine
 pub mod Grammar
 pub mod Places
 pub mod Stamps

@@ -1,5 +1,5 @@
 -- The text of a run.
-use Rattle.std.specs.Prelude.{ℕ, ◌+◌, List, [], ◌∷◌, ◌++◌, length, codes, ⊤}
+use Rattle.std.specs.Prelude.{ℕ, ◌+◌, List, [], ◌∷◌, ◌++◌, length, slice_index, codes, ⊤}
 use Rattle.std.specs.Option.{option_map_or}
 use Rattle.std.specs.List.{flat_map}
 use Rattle.std.specs.Fmt.{decimal}
@@ -13,6 +13,9 @@ use Rattle.oak_model.specs.declared.replies.Wrote.{Wrote}
 use Rattle.oak_model.specs.declared.replies.Wrote.TheVariants.{New, Over, Kept, Done, Removed, Absent, Full}
 use Rattle.oak_model.specs.declared.replies.Reply.{Reply}
 use Rattle.oak_model.specs.declared.replies.Reply.TheVariants as replies
+use Rattle.oak_model.specs.declared.shapes.Usage.{Usage}
+use Rattle.oak_model.specs.Class.{class_number}
+use Rattle.oak_model.specs.Limits.{Sizes}
 use Rattle.oak_script.specs.declared.scripts.Call.{Call}
 use Rattle.oak_script.specs.declared.scripts.Call.TheVariants.{Put, Get, PutNew, Compute, Upsert, Remove, Hold, Look, Scan, Back}
 use Rattle.oak_script.specs.Places.{Places, key_of}
@@ -141,5 +144,24 @@ pair_line pair = encode_lower pair.key ++ (codes " " ++ (value_word pair.value +
 abbrev pub map_text : List Pair → List ℕ
 map_text finals = codes "map " ++ (decimal (length finals) ++ (line_end ++ flat_map pair_line finals))
 
-abbrev pub run_text : Places → List (List Call) → List (List Reply) → List Pair → List ℕ
-run_text p threads replies finals = threads_text p 1 threads replies ++ map_text finals
+-- `NAME USED LIMIT`
+abbrev pub used_line : List ℕ → ℕ → ℕ → List ℕ
+used_line name used limit = name ++ (codes " " ++ (decimal used ++ (codes " " ++ (decimal limit ++ line_end))))
+
+-- the taken blocks of a class, and the shape's blocks of it
+abbrev pub class_line : Usage → Sizes → Class → List ℕ
+class_line u s c = used_line (class_word c) (slice_index u.blocks (class_number c)) (slice_index s.blocks (class_number c))
+
+-- `arena`, and what is used of the table, beside the shape's limits
+abbrev pub arena_text : Usage → Sizes → List ℕ
+arena_text u s =
+    codes "arena" ++ (line_end
+    ++ (class_line u s B16
+    ++ (class_line u s B64
+    ++ (class_line u s B256
+    ++ (class_line u s B1024
+    ++ (used_line (codes "headers") u.headers s.headers
+    ++ used_line (codes "chunks") u.chunks s.chunks))))))
+
+abbrev pub run_text : Places → List (List Call) → List (List Reply) → List Pair → Usage → Sizes → List ℕ
+run_text p threads replies finals usage sizes = threads_text p 1 threads replies ++ (map_text finals ++ arena_text usage sizes)

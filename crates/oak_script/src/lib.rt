@@ -13,6 +13,7 @@ mod places;
 mod reader;
 mod recipes;
 mod scripts;
+mod shape_lines;
 mod stages;
 mod stops;
 #[cfg(test)]

@@ -1,9 +1,10 @@
-ghost use Rattle.std.specs.Prelude.{◌≡◌, ◌≤◌, ◌+◌, ◌∷◌, [], length, true, false, if◌then◌else◌, OnOk, OnErr, IfOk, IfErr};
+ghost use Rattle.std.specs.Prelude.{◌≡◌, ◌≤◌, ◌+◌, ◌∷◌, [], length, true, false, if◌then◌else◌, OnOk, OnErr, IfOk, IfErr, IfSome};
 ghost use Rattle.oak_script.specs.declared.limits.TheConstants.{GREATEST_CALLS, GREATEST_THREADS};
 ghost use Rattle.oak_script.specs.declared.scripts.Script.{Script};
 ghost use Rattle.oak_script.specs.Lines.{lines_of, text_words};
-ghost use Rattle.oak_script.specs.Grammar.{IsScript, Spells, default_sizes, script_lines};
-ghost use Rattle.oak_script.specs.Reading.{so_far, CallsFit, AreCalls, AreFine, Took, StopsAt};
+ghost use Rattle.oak_script.specs.ShapeLine.{SizesFit};
+ghost use Rattle.oak_script.specs.Grammar.{IsScript, Spells, AreLinesOf, default_sizes};
+ghost use Rattle.oak_script.specs.Reading.{so_far, sizes_for, CallsFit, AreCalls, AreFine, Took, StopsAt};
 ghost use Rattle.oak_script.specs.Answers.{Tells, Gives, IsTold};
 
 use crate::calls::Calls;
@@ -19,7 +20,8 @@ use std::alloc::Global;
 fn default_shape(threads: u32) -> Shape
     requires least { 1 ≤ threads }
     requires greatest { threads ≤ GREATEST_THREADS }
-    ensures { result ≡ default_sizes threads }
+    ensures is { result ≡ default_sizes threads }
+    ensures fit { SizesFit result }
 {
     Shape {
         passes: threads + 1,
@@ -30,20 +32,53 @@ fn default_shape(threads: u32) -> Shape
     }
 }
 
+/// The shape that a script asks for by its `shape` line, or without one.
+fn shape_for(shape: Option<Shape>, threads: u32) -> Shape
+    requires least { 1 ≤ threads }
+    requires greatest { threads ≤ GREATEST_THREADS }
+    requires fit { IfSome shape SizesFit }
+    ensures is { result ≡ sizes_for shape threads }
+    ensures fit { SizesFit result }
+{
+    match shape {
+        Some(shape) => Shape {
+            passes: threads + 1,
+            ..shape
+        },
+        None => default_shape(threads),
+    }
+}
+
 /// The script of one thread.
-fn script_of_one(alloc: Global, calls: Vec<Call>) -> Result<Script, NoScript>
-    requires { AreCalls calls.items }
+fn script_of_one(alloc: Global, shape: Option<Shape>, calls: Vec<Call>) -> Result<Script, NoScript>
+    requires calls { AreCalls calls.items }
+    requires shape { IfSome shape SizesFit }
     ensures script { IfOk result IsScript }
     ensures threads { IfOk result (λ s. s.threads ≡ calls.items ∷ []) }
+    ensures shape { IfOk result (λ s. s.shape ≡ sizes_for shape 1) }
     ensures err { IfErr result (λ e. e ≡ NoScript.OutOfMemory) }
 {
     let mut threads = Vec::new(alloc);
     match threads.push(calls) {
         Ok(()) => Ok(Script {
-            shape: default_shape(1),
+            shape: shape_for(shape, 1),
             threads: Threads::of(threads),
         }),
         Err(_) => Err(NoScript::OutOfMemory),
+    }
+}
+
+/// What is told of a stop behind so many lines.
+fn told(number: u32, stop: Stop) -> NoScript
+    requires { number ≤ GREATEST_CALLS + 4 }
+    ensures { IsTold result stop (number + 1) }
+{
+    match stop {
+        Stop::Fault(what) => NoScript::Fault(ScriptFault {
+            line: number + 1,
+            what,
+        }),
+        Stop::OutOfMemory => NoScript::OutOfMemory,
     }
 }
 
@@ -86,25 +121,15 @@ impl<'a> Reader<'a> {
             None => Ok(false),
             Some(line) => {
                 let words = cut_words(self.alloc, line)?;
-                let stage = take_line(self.alloc, self.stage, &mut self.calls, &words)?;
-                self.stage = stage;
-                self.number += 1;
-                Ok(true)
+                match take_line(self.alloc, self.stage, &mut self.calls, &words) {
+                    Ok(stage) => {
+                        self.stage = stage;
+                        self.number += 1;
+                        Ok(true)
+                    }
+                    Err(stop) => Err(stop),
+                }
             }
-        }
-    }
-
-    /// What is told of a stop at the next line.
-    fn told(&self, stop: Stop) -> NoScript
-        requires { self.now.number ≤ GREATEST_CALLS + 3 }
-        ensures { IsTold result stop (self.now.number + 1) }
-    {
-        match stop {
-            Stop::Fault(what) => NoScript::Fault(ScriptFault {
-                line: self.number + 1,
-                what,
-            }),
-            Stop::OutOfMemory => NoScript::OutOfMemory,
         }
     }
 
@@ -115,15 +140,22 @@ impl<'a> Reader<'a> {
         requires fine { AreFine (so_far self.stage self.calls) }
         ensures exact { Tells result (so_far self.entry.stage self.entry.calls) }
         ensures script { IfOk result IsScript }
-        ensures lines { IfOk result (λ s. so_far self.entry.stage self.entry.calls ≡ script_lines s.threads) }
+        ensures lines { IfOk result (λ s. AreLinesOf (so_far self.entry.stage self.entry.calls) s) }
     {
-        match self.stage {
+        let Reader {
+            alloc,
+            number,
+            stage,
+            calls,
+            ..
+        } = self;
+        match stage {
             Stage::Start => Err(NoScript::Fault(ScriptFault {
                 line: 1,
                 what: What::Head,
             })),
-            Stage::Ended => script_of_one(self.alloc, self.calls.into_vec()),
-            _ => Err(self.told(Stop::Fault(What::NoEnd))),
+            Stage::Ended(shape) => script_of_one(alloc, shape, calls.into_vec()),
+            _ => Err(told(number, Stop::Fault(What::NoEnd))),
         }
     }
 }
@@ -137,7 +169,7 @@ fn read_lines(alloc: Global, text: &[u8]) -> Result<Script, NoScript>
         match reader.step() {
             Ok(true) => {}
             Ok(false) => break,
-            Err(stop) => return Err(reader.told(stop)),
+            Err(stop) => return Err(told(reader.number, stop)),
         }
     }
     reader.finish()

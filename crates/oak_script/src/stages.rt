@@ -1,5 +1,7 @@
-ghost use Rattle.std.specs.Prelude.{◌≡◌, ◌++◌, ◌∷◌, [], Some, map, true, false, OnOk, IfOk, IfErr};
-ghost use Rattle.oak_script.specs.Grammar.{call_words, thread_line, end_line};
+ghost use Rattle.std.specs.Prelude.{◌≡◌, ◌++◌, ◌∷◌, [], Some, None, map, true, false, OnOk, IfOk, IfErr};
+ghost use Rattle.oak_script.specs.Grammar.{call_words, oak_line, thread_line, end_line};
+ghost use Rattle.oak_script.specs.ShapeLine.{shape_line, SizesFit};
+ghost use Rattle.oak_script.specs.Forms.{is_thread};
 ghost use Rattle.oak_script.specs.Faults.{faults};
 ghost use Rattle.oak_script.specs.Stops.{Stops};
 ghost use Rattle.oak_script.specs.Reading.{so_far, past_at, CallsFit, AreCalls};
@@ -8,25 +10,28 @@ use crate::call_lines::read_call;
 use crate::calls::Calls;
 use crate::faults::What;
 use crate::forms::{has_empty_word, is_end, is_oak, is_shape, is_thread};
+use crate::shape_lines::shape_of;
 use crate::stops::Stop;
+use oak_model::Shape;
 use std::alloc::Global;
 
-/// How far a script was read.
+/// How far a script was read, and the shape that it asked for.
 #[derive(Clone, Copy, Debug, PartialEq, Eq)]
 pub enum Stage {
     Start,
     Headed,
-    Opened,
-    Ended,
+    Shaped(Shape),
+    Opened(Option<Shape>),
+    Ended(Option<Shape>),
 }
 
-/// Takes a line behind the `thread` line. Whether it was `end`.
+/// Takes a line behind the `thread` line. Whether it was `end`. Whether a `shape` line came makes no difference.
 fn take_open(alloc: Global, calls: &mut Calls, words: &[&[u8]]) -> Result<bool, Stop>
-    ensures fine { OnOk result (faults (past_at Stage.Opened calls.old) (Some (map (λ w. w.now) words.now)) ≡ []) }
+    ensures fine { OnOk result (faults (past_at (Stage.Opened None) calls.old) (Some (map (λ w. w.now) words.now)) ≡ []) }
     ensures more { IfOk result (λ e. e ≡ false → map call_words calls.new ≡ map call_words calls.old ++ map (λ w. w.now) words.now ∷ []) }
     ensures ended { IfOk result (λ e. e ≡ true → (calls.new ≡ calls.old) × (map (λ w. w.now) words.now ≡ end_line)) }
     ensures fit { IfOk result (λ e. e ≡ false → AreCalls calls.new) }
-    ensures err { IfErr result (λ e. Stops e (faults (past_at Stage.Opened calls.old) (Some (map (λ w. w.now) words.now)))) }
+    ensures err { IfErr result (λ e. Stops e (faults (past_at (Stage.Opened None) calls.old) (Some (map (λ w. w.now) words.now)))) }
 {
     if is_thread(words) {
         return Err(Stop::Fault(What::NotBuilt));
@@ -39,18 +44,35 @@ fn take_open(alloc: Global, calls: &mut Calls, words: &[&[u8]]) -> Result<bool, 
     Ok(false)
 }
 
-/// Takes line 2, which is `thread` as long as shapes are not built.
-fn take_second(words: &[&[u8]]) -> Result<(), Stop>
-    ensures thread { OnOk result (map (λ w. w.now) words.now ≡ thread_line) }
+/// The shape that a `shape` line asks for.
+fn shape_in(words: &[&[u8]]) -> Result<Shape, Stop>
+    requires { is_thread (map (λ w. w.now) words.now) ≡ false }
+    ensures line { IfOk result (λ s. map (λ w. w.now) words.now ≡ shape_line s) }
+    ensures fit { IfOk result SizesFit }
+    ensures fine { OnOk result (faults (past_at Stage.Headed []) (Some (map (λ w. w.now) words.now)) ≡ []) }
+    ensures err { IfErr result (λ e. Stops e (faults (past_at Stage.Headed []) (Some (map (λ w. w.now) words.now)))) }
+{
+    if has_empty_word(words) || !is_shape(words) || words.len() != 8 {
+        return Err(Stop::Fault(What::Word));
+    }
+    match shape_of(&words[1..]) {
+        Some(shape) => Ok(shape),
+        None => Err(Stop::Fault(What::Shape)),
+    }
+}
+
+/// Takes line 2, which is a `shape` line or `thread`.
+fn take_second(words: &[&[u8]]) -> Result<Stage, Stop>
+    ensures fine { OnOk result (faults (past_at Stage.Headed []) (Some (map (λ w. w.now) words.now)) ≡ []) }
+    ensures grown { IfOk result (λ next. so_far next [] ≡ oak_line ∷ map (λ w. w.now) words.now ∷ []) }
+    ensures fit { IfOk result (λ next. CallsFit next []) }
     ensures err { IfErr result (λ e. Stops e (faults (past_at Stage.Headed []) (Some (map (λ w. w.now) words.now)))) }
 {
     if is_thread(words) {
-        return Ok(());
+        return Ok(Stage::Opened(None));
     }
-    if words.len() == 8 && is_shape(words) && !has_empty_word(words) {
-        return Err(Stop::Fault(What::NotBuilt));
-    }
-    Err(Stop::Fault(What::Word))
+    let shape = shape_in(words)?;
+    Ok(Stage::Shaped(shape))
 }
 
 /// Takes the next line.
@@ -74,17 +96,21 @@ pub fn take_line(
                 Err(Stop::Fault(What::Head))
             }
         }
-        Stage::Headed => {
-            take_second(words)?;
-            Ok(Stage::Opened)
-        }
-        Stage::Opened => {
-            if take_open(alloc, calls, words)? {
-                Ok(Stage::Ended)
+        Stage::Headed => take_second(words),
+        Stage::Shaped(shape) => {
+            if is_thread(words) {
+                Ok(Stage::Opened(Some(shape)))
             } else {
-                Ok(Stage::Opened)
+                Err(Stop::Fault(What::Word))
             }
         }
-        Stage::Ended => Err(Stop::Fault(What::AfterEnd)),
+        Stage::Opened(shape) => {
+            if take_open(alloc, calls, words)? {
+                Ok(Stage::Ended(shape))
+            } else {
+                Ok(Stage::Opened(shape))
+            }
+        }
+        Stage::Ended(_) => Err(Stop::Fault(What::AfterEnd)),
     }
 }

@@ -1,5 +1,6 @@
 use crate::faults::{NoScript, ScriptFault, What};
 use crate::reader::read_script;
+use oak_model::Shape;
 use std::alloc::{AllocError, Global};
 use std::test::Fail;
 
@@ -39,12 +40,6 @@ fn tells_the_first_fault(rt: HostRuntime) -> Result<(), Fail> {
         ("oak 1\nend\n", 2, What::Word),
         ("oak 1\nthread x\nend\n", 2, What::Word),
         ("oak 1\nthread\nend\nend\n", 4, What::AfterEnd),
-        ("oak 1\nshape 4 4 16 2 0 0\nthread\nend\n", 2, What::Word),
-        (
-            "oak 1\nshape 4 4 16 2 0 0 0\nthread\nend\n",
-            2,
-            What::NotBuilt,
-        ),
         ("oak 1\nthread\nthread\nend\n", 3, What::NotBuilt),
         ("oak 1\nthread\nput 6B 01\nend\n", 3, What::Hex),
         ("oak 1\nthread\nput 6b  01\nend\n", 3, What::Word),
@@ -114,6 +109,110 @@ fn tells_the_first_fault(rt: HostRuntime) -> Result<(), Fail> {
         let text = repeated(alloc, "oak 1\nthread\n", piece, times, "end\n")?;
         let want = fault.map(|(line, what)| ScriptFault { line, what });
         assert_eq!(rt; told(alloc, &text)?, want, "{times} lines");
+    }
+    Ok(())
+}
+
+#[test]
+fn tells_the_first_fault_of_a_shape(rt: HostRuntime) -> Result<(), Fail> {
+    let alloc = rt.alloc();
+    // The line, and what follows it before `thread`.
+    let faulty = [
+        ("shape", "", 2, What::Word),
+        ("shape 4 4 16 2 0 0", "", 2, What::Word),
+        ("shape 04 4 16 2 0 0", "", 2, What::Word),
+        ("shape 4 4 16 2 0 0 0 0", "", 2, What::Word),
+        ("shape 4 4 16  2 0 0", "", 2, What::Word),
+        ("shape 4 4 16 2 0 0 0 ", "", 2, What::Word),
+        ("shapes 4 4 16 2 0 0 0", "", 2, What::Word),
+        ("Shape 4 4 16 2 0 0 0", "", 2, What::Word),
+        ("shape 04 4 16 2 0 0 0", "", 2, What::Shape),
+        ("shape +4 4 16 2 0 0 0", "", 2, What::Shape),
+        ("shape 4 -4 16 2 0 0 0", "", 2, What::Shape),
+        ("shape 4 4 0x10 2 0 0 0", "", 2, What::Shape),
+        ("shape 4 4 16 2 00 0 0", "", 2, What::Shape),
+        ("shape 4 4 16 2 0 - 0", "", 2, What::Shape),
+        ("shape 4 4 16 2 0 0 0\r", "", 2, What::Shape),
+        ("shape 0 4 16 2 0 0 0", "", 2, What::Shape),
+        ("shape 1025 4 16 2 0 0 0", "", 2, What::Shape),
+        ("shape 4 3 16 2 0 0 0", "", 2, What::Shape),
+        ("shape 4 257 16 2 0 0 0", "", 2, What::Shape),
+        ("shape 4 4 0 2 0 0 0", "", 2, What::Shape),
+        ("shape 4 4 65537 2 0 0 0", "", 2, What::Shape),
+        ("shape 4 4 16 65537 0 0 0", "", 2, What::Shape),
+        ("shape 4 4 16 2 65537 0 0", "", 2, What::Shape),
+        ("shape 4 4 16 2 0 16385 0", "", 2, What::Shape),
+        ("shape 4 4 16 2 0 0 4097", "", 2, What::Shape),
+        ("shape 4294967300 4 16 2 0 0 0", "", 2, What::Shape),
+        (
+            "shape 18446744073709551620 4 16 2 0 0 0",
+            "",
+            2,
+            What::Shape,
+        ),
+        ("shape 0 4 16 2 0 0 0", "end\n", 2, What::Shape),
+        ("shape 4 4 16 2 0 0 0", "end\n", 3, What::Word),
+        ("shape 4 4 16 2 0 0 0", "get 6b\n", 3, What::Word),
+        (
+            "shape 4 4 16 2 0 0 0",
+            "shape 4 4 16 2 0 0 0\n",
+            3,
+            What::Word,
+        ),
+        ("thread", "shape 4 4 16 2 0 0 0\n", 3, What::Word),
+        ("shape 4 4 16 2 0 0 0", "thread\n", 4, What::NotBuilt),
+    ];
+    for (shape, behind, line, what) in faulty {
+        let text = format!(in alloc; "oak 1\n{shape}\n{behind}thread\nend\n")?;
+        assert_eq!(rt;
+            told(alloc, text.as_bytes())?,
+            Some(ScriptFault { line, what }),
+            "{text:?}"
+        );
+    }
+    let line = ScriptFault {
+        line: 3,
+        what: What::NoEnd,
+    };
+    assert_eq!(rt; told(alloc, b"oak 1\nshape 4 4 16 2 0 0 0\n")?, Some(line));
+    Ok(())
+}
+
+/// The shape of the script that a text is, or none where it is no script.
+fn shape_of(alloc: Global, text: &[u8]) -> Result<Option<Shape>, AllocError> {
+    match read_script(alloc, text) {
+        Ok(script) => Ok(Some(script.shape)),
+        Err(NoScript::Fault(_)) => Ok(None),
+        Err(NoScript::OutOfMemory) => Err(AllocError),
+    }
+}
+
+#[test]
+fn reads_the_shape(rt: HostRuntime) -> Result<(), Fail> {
+    let alloc = rt.alloc();
+    let shapes = [
+        ("", 256, 64, 8_192, [16_384, 4_096, 1_024, 512]),
+        (
+            "shape 256 64 8192 16384 4096 1024 512\n",
+            256,
+            64,
+            8_192,
+            [16_384, 4_096, 1_024, 512],
+        ),
+        ("shape 9 8 7 66 55 44 33\n", 9, 8, 7, [66, 55, 44, 33]),
+        ("shape 1 4 1 0 0 0 0\n", 1, 4, 1, [0, 0, 0, 0]),
+        (
+            "shape 1024 256 65536 65536 65536 16384 4096\n",
+            1_024,
+            256,
+            65_536,
+            [65_536, 65_536, 16_384, 4_096],
+        ),
+    ];
+    for (line, chunks, entries, headers, blocks) in shapes {
+        let text = format!(in alloc; "oak 1\n{line}thread\nget 6b\nend\n")?;
+        let want = Shape::make(2, chunks, entries, headers, blocks)?;
+        assert_eq!(rt; shape_of(alloc, text.as_bytes())?, Some(want), "{text:?}");
     }
     Ok(())
 }

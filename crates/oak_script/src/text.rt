@@ -3,11 +3,11 @@ ghost use Rattle.std.specs.String.{string_bytes};
 ghost use Rattle.oak_script.specs.Words.{value_word};
 ghost use Rattle.oak_script.specs.Places.{written_upto};
 ghost use Rattle.oak_script.specs.Stamps.{place_among};
-ghost use Rattle.oak_script.specs.Text.{RepliesAnswer, class_word, lack_word, place_in, placed_text, full_text, wrote_text, shown_text, read_line, pairs_text, reply_text, call_name, thread_text, threads_text, pair_line, map_text, run_text};
+ghost use Rattle.oak_script.specs.Text.{RepliesAnswer, class_word, lack_word, place_in, placed_text, full_text, wrote_text, shown_text, read_line, pairs_text, reply_text, call_name, thread_text, threads_text, pair_line, map_text, used_line, class_line, arena_text, run_text};
 
 use crate::places::Stamps;
 use crate::scripts::{Call, Script};
-use oak_model::{Class, Key, Lack, OutOfMemory, Pair, Reply, Value, Wrote};
+use oak_model::{Class, Key, Lack, OutOfMemory, Pair, Reply, Shape, Usage, Value, Wrote};
 use std::alloc::{AllocError, Global};
 
 fn put(out: &mut Vec<u8>, text: &str) -> Result<(), OutOfMemory>
@@ -236,7 +236,54 @@ fn put_map(alloc: Global, out: &mut Vec<u8>, finals: &[Pair]) -> Result<(), OutO
     Ok(())
 }
 
-/// The text of a run: the reply to each call, and the final map. A reply's place is the number of
+/// `NAME USED LIMIT`
+fn put_used(
+    alloc: Global,
+    out: &mut Vec<u8>,
+    name: &str,
+    used: u32,
+    limit: u32,
+) -> Result<(), OutOfMemory>
+    ensures { OnOk result (out.new.items ≡ out.old.items ++ used_line name.now used limit) }
+{
+    let line = format!(in alloc; "{name} {used} {limit}\n")?;
+    put(out, line.as_str())
+}
+
+/// The taken blocks of a class, and the shape's blocks of it.
+fn put_class(
+    alloc: Global,
+    out: &mut Vec<u8>,
+    usage: &Usage,
+    shape: &Shape,
+    class: Class,
+) -> Result<(), OutOfMemory>
+    ensures { OnOk result (out.new.items ≡ out.old.items ++ class_line usage.now shape.now class) }
+{
+    let (used, limit) = (usage.blocks[class.number()], shape.blocks[class.number()]);
+    put_used(alloc, out, class_word(class), used, limit)
+}
+
+/// `arena`, and what is used of the table, beside the shape's limits
+fn put_arena(
+    alloc: Global,
+    out: &mut Vec<u8>,
+    usage: &Usage,
+    shape: &Shape,
+) -> Result<(), OutOfMemory>
+    ensures { OnOk result (out.new.items ≡ out.old.items ++ arena_text usage.now shape.now) }
+{
+    put(out, "arena\n")?;
+    put_class(alloc, out, usage, shape, Class::B16)?;
+    put_class(alloc, out, usage, shape, Class::B64)?;
+    put_class(alloc, out, usage, shape, Class::B256)?;
+    put_class(alloc, out, usage, shape, Class::B1024)?;
+    put_used(alloc, out, "headers", usage.headers, shape.headers)?;
+    put_used(alloc, out, "chunks", usage.chunks, shape.chunks)?;
+    Ok(())
+}
+
+/// The text of a run: the reply to each call, the final map, and what is used of the table. A reply's place is the number of
 /// the writes of its key, over all threads, whose stamp is at most the reply's `at`. It is refused
 /// only for want of memory.
 pub fn print_run(
@@ -244,14 +291,16 @@ pub fn print_run(
     script: &Script,
     replies: &[Vec<Reply>],
     finals: &[Pair],
+    usage: &Usage,
 ) -> Result<Vec<u8>, OutOfMemory>
     requires { RepliesAnswer script.now.threads (map (λ v. v.items) replies.now) }
-    ensures { IfOk result (λ v. v.items ≡ run_text (written_upto script.now.threads (map (λ v. v.items) replies.now)) script.now.threads (map (λ v. v.items) replies.now) finals.now) }
+    ensures { IfOk result (λ v. v.items ≡ run_text (written_upto script.now.threads (map (λ v. v.items) replies.now)) script.now.threads (map (λ v. v.items) replies.now) finals.now usage.now script.now.shape) }
 {
     let stamps = Stamps::of(alloc, script, replies)?;
     let mut out = Vec::new(alloc);
     put_threads(alloc, &mut out, &stamps, script.threads.as_slice(), replies)?;
     put_map(alloc, &mut out, finals)?;
+    put_arena(alloc, &mut out, usage, &script.shape)?;
     Ok(out)
 }
 

@@ -1,25 +1,40 @@
--- The text that is printed has the places of the histories.
-use Rattle.std.proofs.Common.{◌≡◌, ℕ, List, ◌∙◌, sym, ap}
+-- The text that is printed has the places of the closed map's histories.
+use Rattle.std.proofs.Common.{◌≡◌, ℕ, ◌∷◌, [], List, ◌∙◌, sym, ap, subst}
 use Rattle.oak_model.specs.declared.replies.Pair.{Pair}
 use Rattle.oak_model.specs.declared.replies.Reply.{Reply}
+use Rattle.oak_model.specs.declared.shapes.Usage.{Usage}
 use Rattle.oak_model.specs.History.{Histories, place_of}
 use Rattle.oak_script.specs.declared.scripts.Call.{Call}
+use Rattle.oak_script.specs.declared.scripts.Script.{Script}
 use Rattle.oak_script.specs.Places.{Places, written_upto}
 use Rattle.oak_script.specs.Text.{RepliesAnswer, run_text}
-use Rattle.oak_run.specs.RunFits.{PlainFits}
+use Rattle.oak_run.specs.ClosedRuns.{closing_of}
+use Rattle.oak_run.specs.LoneRun.{RunsScript}
 use Rattle.oak_run.proofs.PlaceLaws.{same-places}
 use Rattle.oakmap.specs.RunOf.{PrintsRun}
 
-pub prints-run : (threads : List (List Call)) (replies : List (List Reply)) (finals : List Pair) (text : List ℕ) → RepliesAnswer threads replies → (h : Histories) × PlainFits h threads replies finals
-    → text ≡ run_text (written_upto threads replies) threads replies finals → PrintsRun threads text
-prints-run threads replies finals text answered f is =
-    let h = f.0 in
-    let places : (λ (k : List ℕ) (at : ℕ). place_of (h k) at) ≡ written_upto threads replies = λ i k at. same-places h f.1.threads threads replies f.1.of_calls f.1.of_replies f.1.replies.once k at i in
-    record {
-      replies = replies;
-      finals = finals;
-      history = h;
-      answered = answered;
-      fits = f.1;
-      printed = is ∙ ap (λ (p : Places). run_text p threads replies finals) (sym places);
-    }
+module _ (script : Script) (said : List (List Reply)) (finals : List Pair) (used : Usage) (runs : RunsScript script said finals used) where
+  -- each reply is of a kind that its call can have
+  pub answers : RepliesAnswer script.threads said
+  answers =
+      let of_said = subst (λ (ys : List (List Reply)). RepliesAnswer (runs.calls ∷ []) ys) (sym runs.replies_are) runs.run.fits.answered in
+      subst (λ (cs : List (List Call)). RepliesAnswer cs said) (sym runs.calls_are) of_said
+
+  abbrev history : Histories
+  history = (closing_of runs.run.closed).history
+
+  places : (k : List ℕ) (at : ℕ) → place_of (history k) at ≡ written_upto script.threads said k at
+  places k at =
+      let fits = runs.run.fits in
+      same-places history fits.threads script.threads said (fits.of_calls ∙ sym runs.calls_are) (fits.of_replies ∙ sym runs.replies_are) fits.replies.once k at
+
+  pub prints-run : (text : List ℕ) → text ≡ run_text (written_upto script.threads said) script.threads said finals used script.shape → PrintsRun script text
+  prints-run text is =
+      let same : (λ (k : List ℕ) (at : ℕ). place_of (history k) at) ≡ written_upto script.threads said = λ i k at. places k at i in
+      record {
+        said = said;
+        finals = finals;
+        used = used;
+        runs = runs;
+        printed = is ∙ ap (λ (p : Places). run_text p script.threads said finals used script.shape) (sym same);
+      }

@@ -1,6 +1,8 @@
-ghost use Rattle.std.specs.Prelude.{◌≡◌, ◌≤◌, ◌⊎◌, ℕ, List, map, length, IfOk, Some, true};
+ghost use Rattle.std.specs.Prelude.{◌≡◌, ◌<◌, ◌≤◌, ◌⊎◌, ◌^◌, ℕ, List, map, length, IfOk, Some, true};
+ghost use Rattle.std.specs.List.{AllByRecursion};
 ghost use Rattle.std.specs.String.{string_bytes};
 ghost use Rattle.std.specs.Io.KnownBytes.{Keeps};
+ghost use Rattle.oak_script.specs.declared.limits.TheConstants.{GREATEST_THREADS};
 ghost use Rattle.oak_script.specs.declared.scripts.Script.{Script};
 ghost use Rattle.oak_script.specs.Faults.{IsFirstFault};
 ghost use Rattle.oak_script.specs.Grammar.{IsScript, Spells};
@@ -15,21 +17,40 @@ use oak_run::run_script;
 use oak_script::{NoScript, Script, ScriptFault, print_run, read_script};
 use outside::{ReadStop, Sink, Source, read_whole, write_whole};
 use std::alloc::{AllocError, Global};
+use std::sync::Wait;
+use value_ops::Recipe;
 
 /// Runs the command that the words name, and answers the status of the process: 0 where the text of a
-/// run of the script that came was written; 2 exactly where the words are not the one word `run`; 3
-/// exactly where the input is no script or longer than 16,777,216 bytes; 4 and 5 only where the source,
-/// or the sink while the run's text was written, counted a fault; 6 where no memory was found. With 2,
-/// 3 and 4 one line says why.
-pub fn top<S: Source, K: Sink>(alloc: Global, words: &[String], source: &mut S, sink: &mut K) -> u8
+/// run of the script that came, over a map of its shape, was written; 2 exactly where the words are not
+/// the one word `run`; 3 exactly where the input is no script or longer than 16,777,216 bytes; 4 and 5
+/// only where the source, or the sink while the run's text was written, counted a fault; 6 where no
+/// memory was found. With 2, 3 and 4 one line says why. A thread of the script computes by one of the
+/// recipes.
+pub fn top<R: Wait + AllocGlobal, S: Source, K: Sink>(
+    rt: &R,
+    words: &[String],
+    source: &mut S,
+    sink: &mut K,
+    recipes: Vec<Box<dyn Recipe + Send>>,
+) -> u8
+    requires enough { GREATEST_THREADS ≤ length recipes.items }
+    requires counts { AllByRecursion (λ r. calls r < 2 ^ 63) recipes.items }
     ensures { (s : Status) × (result ≡ code_of s) × Ended s (is_run (map (λ w. string_bytes w) words.now))
         (record { left = S.left source.old; faults = S.faults source.old }) (record { left = S.left source.new; faults = S.faults source.new })
         (record { written = K.written sink.old; faults = K.faults sink.old }) (record { written = K.written sink.new; faults = K.faults sink.new }) }
 {
-    run(alloc, words, source, sink).code()
+    run(rt, words, source, sink, recipes).code()
 }
 
-fn run<S: Source, K: Sink>(alloc: Global, words: &[String], source: &mut S, sink: &mut K) -> Status
+fn run<R: Wait + AllocGlobal, S: Source, K: Sink>(
+    rt: &R,
+    words: &[String],
+    source: &mut S,
+    sink: &mut K,
+    recipes: Vec<Box<dyn Recipe + Send>>,
+) -> Status
+    requires enough { GREATEST_THREADS ≤ length recipes.items }
+    requires counts { AllByRecursion (λ r. calls r < 2 ^ 63) recipes.items }
     ensures { Ended result (is_run (map (λ w. string_bytes w) words.now))
         (record { left = S.left source.old; faults = S.faults source.old }) (record { left = S.left source.new; faults = S.faults source.new })
         (record { written = K.written sink.old; faults = K.faults sink.old }) (record { written = K.written sink.new; faults = K.faults sink.new }) }
@@ -38,7 +59,7 @@ fn run<S: Source, K: Sink>(alloc: Global, words: &[String], source: &mut S, sink
         say(sink, b"oakmap: usage: oakmap run\n");
         return Status::Usage;
     }
-    let text = match read_whole(alloc, source, GREATEST_INPUT) {
+    let text = match read_whole(rt.alloc(), source, GREATEST_INPUT) {
         Ok(text) => text,
         Err(ReadStop::Failed) => {
             say(sink, b"oakmap: read fault\n");
@@ -50,7 +71,7 @@ fn run<S: Source, K: Sink>(alloc: Global, words: &[String], source: &mut S, sink
         }
         Err(ReadStop::OutOfMemory) => return Status::NoMemory,
     };
-    answer(alloc, &text, sink)
+    answer(rt, &text, sink, recipes)
 }
 
 /// Whether the words are the one word `run`.
@@ -71,12 +92,19 @@ fn say<K: Sink>(sink: &mut K, line: &[u8])
 }
 
 /// Answers an input that was read to its end.
-fn answer<K: Sink>(alloc: Global, text: &[u8], sink: &mut K) -> Status
+fn answer<R: Wait + AllocGlobal, K: Sink>(
+    rt: &R,
+    text: &[u8],
+    sink: &mut K,
+    recipes: Vec<Box<dyn Recipe + Send>>,
+) -> Status
+    requires enough { GREATEST_THREADS ≤ length recipes.items }
+    requires counts { AllByRecursion (λ r. calls r < 2 ^ 63) recipes.items }
     ensures { Answered result text.now (record { written = K.written sink.old; faults = K.faults sink.old }) (record { written = K.written sink.new; faults = K.faults sink.new }) }
 {
-    match read_script(alloc, text) {
-        Ok(script) => put_run(alloc, &script, sink),
-        Err(NoScript::Fault(fault)) => refuse(alloc, fault, sink),
+    match read_script(rt.alloc(), text) {
+        Ok(script) => put_run(rt, &script, sink, recipes),
+        Err(NoScript::Fault(fault)) => refuse(rt.alloc(), fault, sink),
         Err(NoScript::OutOfMemory) => Status::NoMemory,
     }
 }
@@ -103,11 +131,18 @@ fn fault_text(alloc: Global, fault: ScriptFault) -> Result<String, AllocError>
 }
 
 /// Runs a script, and writes the text of the run.
-fn put_run<K: Sink>(alloc: Global, script: &Script, sink: &mut K) -> Status
-    requires { IsScript script.now }
+fn put_run<R: Wait + AllocGlobal, K: Sink>(
+    rt: &R,
+    script: &Script,
+    sink: &mut K,
+    recipes: Vec<Box<dyn Recipe + Send>>,
+) -> Status
+    requires script { IsScript script.now }
+    requires enough { GREATEST_THREADS ≤ length recipes.items }
+    requires counts { AllByRecursion (λ r. calls r < 2 ^ 63) recipes.items }
     ensures { (input : List ℕ) → Spells input script.now → Answered result input (record { written = K.written sink.old; faults = K.faults sink.old }) (record { written = K.written sink.new; faults = K.faults sink.new }) }
 {
-    let text = match run_text(alloc, script) {
+    let text = match run_text(rt, script, recipes) {
         Ok(text) => text,
         Err(_) => return Status::NoMemory,
     };
@@ -118,12 +153,18 @@ fn put_run<K: Sink>(alloc: Global, script: &Script, sink: &mut K) -> Status
 }
 
 /// The text of a run of the script.
-fn run_text(alloc: Global, script: &Script) -> Result<Vec<u8>, OutOfMemory>
-    requires { IsScript script.now }
-    ensures { IfOk result (λ v. PrintsRun script.now.threads v.items) }
+fn run_text<R: Wait + AllocGlobal>(
+    rt: &R,
+    script: &Script,
+    recipes: Vec<Box<dyn Recipe + Send>>,
+) -> Result<Vec<u8>, OutOfMemory>
+    requires script { IsScript script.now }
+    requires enough { GREATEST_THREADS ≤ length recipes.items }
+    requires counts { AllByRecursion (λ r. calls r < 2 ^ 63) recipes.items }
+    ensures { IfOk result (λ v. PrintsRun script.now v.items) }
 {
-    let ran = run_script(alloc, script)?;
-    print_run(alloc, script, &ran.replies, &ran.finals)
+    let ran = run_script(rt, script, recipes)?;
+    print_run(rt.alloc(), script, &ran.replies, &ran.finals, &ran.usage)
 }
 
 /// A script that comes without a fault is run, unless memory runs out.

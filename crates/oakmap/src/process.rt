@@ -4,16 +4,20 @@ ghost use Rattle.oakmap.specs.declared.status.Status.{Status};
 ghost use Rattle.oakmap.specs.Ended.{Input, Output, Ended, code_of};
 
 use crate::ending::top;
+use crate::recipes::add;
 use crate::status::Status;
+use oak_script::GREATEST_THREADS;
 use outside::{Sink, Source};
 use std::env::Env;
 use std::io;
 use std::process::ExitCode;
+use std::sync::Wait;
+use value_ops::StepRecipe;
 
-/// The whole program: [`top`] on the words behind the program's name, and its status as that of the
-/// process. A word that is not UTF-8 is none that the program takes, and ends with 2; where there is no
-/// memory for the words it ends with 6.
-pub fn program<R: Env + AllocGlobal, S: Source, K: Sink>(
+/// The whole program: [`top`] on the words behind the program's name, with a recipe for each thread that a
+/// script may have, and its status as that of the process. A word that is not UTF-8 is none that the program
+/// takes, and ends with 2; where there is no memory for the words or the recipes it ends with 6.
+pub fn program<R: Wait + Env + AllocGlobal, S: Source, K: Sink>(
     rt: &R,
     source: &mut S,
     sink: &mut K,
@@ -27,7 +31,16 @@ pub fn program<R: Env + AllocGlobal, S: Source, K: Sink>(
         Err(error) if error.kind() == io::ErrorKind::InvalidData => Vec::new(rt.alloc()),
         Err(_) => return ExitCode::from(Status::NoMemory.code()),
     };
-    ExitCode::from(top(rt.alloc(), &words, source, sink))
+    let mut recipes = Vec::new(rt.alloc());
+    for _ in 0..GREATEST_THREADS {
+        let Ok(recipe) = Box::new(rt.alloc(), StepRecipe::make()) else {
+            return ExitCode::from(Status::NoMemory.code());
+        };
+        if add(&mut recipes, recipe).is_err() {
+            return ExitCode::from(Status::NoMemory.code());
+        }
+    }
+    ExitCode::from(top(rt, &words, source, sink, recipes))
 }
 
 /// The words behind the program's name.

@@ -93,6 +93,62 @@ t1.1 new @1
 t1.2 = 7631 @1
 map 1
 6b31 7631
+arena
+b16 2 16384
+b64 0 4096
+b256 0 1024
+b1024 0 512
+headers 1 8192
+chunks 1 256
+";
+
+/// A table of two blocks of 16 bytes: the second put lacks one, until the first key is removed.
+fn small_thread(alloc: Global) -> Result<Thread, OutOfMemory>
+    ensures { IfOk result (λ t. CallsAnswered t.calls.items t.replies.items) }
+{
+    let mut thread = Thread::new(alloc);
+    thread.add(
+        put_call(alloc, &[0x61], &[1])?,
+        Reply::Wrote(Wrote::New { at: 1 }),
+    )?;
+    thread.add(
+        put_call(alloc, &[0x62], &[2])?,
+        Reply::Wrote(Wrote::Full(Lack::Block(Class::B16))),
+    )?;
+    thread.add(
+        Call::Get {
+            key: Key::make(alloc, &[0x61])?,
+        },
+        shown(alloc, &[0x61], &[1], 1)?,
+    )?;
+    thread.add(
+        Call::Remove {
+            key: Key::make(alloc, &[0x61])?,
+        },
+        Reply::Wrote(Wrote::Removed { at: 2 }),
+    )?;
+    thread.add(
+        put_call(alloc, &[0x62], &[2])?,
+        Reply::Wrote(Wrote::New { at: 3 }),
+    )?;
+    Ok(thread)
+}
+
+const SMALL_TEXT: &str = "\
+t1.1 new @1
+t1.2 full b16
+t1.3 = 01 @1
+t1.4 removed @2
+t1.5 new @1
+map 1
+62 02
+arena
+b16 2 2
+b64 0 0
+b256 0 0
+b1024 0 0
+headers 1 16
+chunks 1 4
 ";
 
 /// The writes of the key `a` with the stamps 2 and 9, and what stands between them and behind them.
@@ -278,6 +334,13 @@ t3.6 full room
 map 2
 62 0aff
 63 -
+arena
+b16 6 66
+b64 5 55
+b256 4 44
+b1024 3 33
+headers 2 7
+chunks 1 9
 ";
 
 #[test]
@@ -290,14 +353,41 @@ fn prints_every_reply(rt: HostRuntime) -> Result<(), Fail> {
     };
     let replies = vec![in alloc; replies]?;
     let finals = vec![in alloc; pair(alloc, b"k1", b"v1", 1)?]?;
-    let text = print_run(alloc, &script, replies.as_slice(), finals.as_slice())?;
+    let usage = Usage {
+        blocks: [2, 0, 0, 0],
+        headers: 1,
+        chunks: 1,
+    };
+    let text = print_run(
+        alloc,
+        &script,
+        replies.as_slice(),
+        finals.as_slice(),
+        &usage,
+    )?;
     assert_eq!(rt; text.as_slice(), SHORT_TEXT.as_bytes());
+
+    let Thread { calls, replies } = small_thread(alloc)?;
+    let script = Script {
+        shape: Shape::make(2, 4, 4, 16, [2, 0, 0, 0])?,
+        threads: Threads::of(vec![in alloc; calls]?),
+    };
+    let replies = vec![in alloc; replies]?;
+    let finals = vec![in alloc; pair(alloc, &[0x62], &[2], 3)?]?;
+    let text = print_run(
+        alloc,
+        &script,
+        replies.as_slice(),
+        finals.as_slice(),
+        &usage,
+    )?;
+    assert_eq!(rt; text.as_slice(), SMALL_TEXT.as_bytes());
 
     let first = first_thread(alloc)?;
     let second = second_thread(alloc)?;
     let full = full_thread(alloc)?;
     let script = Script {
-        shape: Shape::make(4, 256, 64, 8_192, [16_384, 4_096, 1_024, 512])?,
+        shape: Shape::make(4, 9, 8, 7, [66, 55, 44, 33])?,
         threads: Threads::of(vec![in alloc; first.calls, second.calls, full.calls]?),
     };
     let replies = vec![in alloc; first.replies, second.replies, full.replies]?;
@@ -305,7 +395,18 @@ fn prints_every_reply(rt: HostRuntime) -> Result<(), Fail> {
         pair(alloc, b"b", &[0x0a, 0xff], 6)?,
         pair(alloc, b"c", b"", 1)?,
     ]?;
-    let text = print_run(alloc, &script, replies.as_slice(), finals.as_slice())?;
+    let usage = Usage {
+        blocks: [6, 5, 4, 3],
+        headers: 2,
+        chunks: 1,
+    };
+    let text = print_run(
+        alloc,
+        &script,
+        replies.as_slice(),
+        finals.as_slice(),
+        &usage,
+    )?;
     assert_eq!(rt; text.as_slice(), LONG_TEXT.as_bytes());
     Ok(())
 }

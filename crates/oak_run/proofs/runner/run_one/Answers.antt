@@ -1,5 +1,13 @@
-use Rattle.oak_run.proofs.ThreadLaws.{plain-fits}
+use Rattle.oak_map.specs.Maps.{sizes, state}
+use Rattle.oak_run.proofs.LoneEnds.{lone_run}
+use Rattle.oak_run.proofs.OnlyThreads.{only_still}
 use Rattle.oak_run.proofs.runner.run_one.Goals as goal
 
-pub returns-clause-fits : goal.returns-clause-fits
-returns-clause-fits c = rw (c.in_ok-push.ensures.items, c.new-replies.ensures.items) (plain-fits c.run_thread.new.lasts c.args.calls.now c.in_ok-thread.thread.items c.in_ok-finals.finals.items c.in_ok-thread.ensures c.in_ok-finals.ensures.range c.in_ok-finals.ensures.order)
+pub end-ended-requires-clause-only : goal.end-ended-requires-clause-only
+end-ended-requires-clause-only g c = only_still (state c.in_ok-map.pass) (state c.run_calls-answered.new.pass) c.run_calls-answered.ensures.numbers c.in_ok-map.ensures.only
+
+pub returns : goal.returns
+returns g c = record {
+  runs = lone_run (sizes c.in_ok-map.map) c.args.shape.now (state c.in_ok-map.pass) (state c.run_calls-answered.new.pass) c.args.thread.now c.in_ok-replies.replies.items c.in_ok-finals.finals.items c.in_ok-finals.usage
+      c.in_ok-map.ensures.sizes c.in_ok-map.ensures.only c.in_ok-map.ensures.unwritten c.in_ok-replies.ensures.fits c.in_ok-replies.ensures.lone c.in_ok-finals.ensures.ends;
+}

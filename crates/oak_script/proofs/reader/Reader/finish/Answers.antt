@@ -7,7 +7,7 @@ returns-in-Start-clause-exact c = rw c.in-Start.is no_line
 pub returns-in-Ended-clause-exact : goal.returns-in-Ended-clause-exact
 returns-in-Ended-clause-exact c =
     let fine = rw c.in-Ended.is at c.requires.fine in
-    rw c.in-Ended.is (tells_made c.script_of_one.result _ (ended_fine c.args.self.calls fine) c.script_of_one.ensures.err)
+    rw c.in-Ended.is (tells_made c.script_of_one.result _ (ended_fine c.in-Ended.shape c.args.self.calls fine) c.script_of_one.ensures.err)
 
 pub returns-in_default-clause-exact : goal.returns-in_default-clause-exact
 returns-in_default-clause-exact c = unfinished c.args.self.stage c.args.self.calls c.told.result c.args.self.number c.in_default.not-Start c.in_default.not-Ended c.requires.count c.requires.fine c.told.ensures

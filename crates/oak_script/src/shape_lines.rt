@@ -1,0 +1,73 @@
+ghost use Rattle.std.specs.Prelude.{◌≡◌, ◌≤◌, ◌<◌, ◌∷◌, [], ℕ, length, map, slice_index, IfSome, is_some};
+ghost use Rattle.std.specs.Fmt.{decimal};
+ghost use Rattle.oak_model.specs.declared.limits.TheConstants.{CLASSES, GREATEST_BLOCKS};
+ghost use Rattle.oak_model.specs.declared.shapes.ShapeField.TheVariants.{Blocks};
+ghost use Rattle.oak_model.specs.Class.{classes};
+ghost use Rattle.oak_script.specs.Numbers.{is_number_in};
+ghost use Rattle.oak_script.specs.ShapeLine.{size_words, size_fields, are_sizes, SizesFit};
+
+use crate::numbers::number_of;
+use oak_model::{
+    CLASSES, GREATEST_BLOCKS, GREATEST_CHUNKS, GREATEST_ENTRIES, GREATEST_HEADERS, LEAST_ENTRIES,
+    Shape,
+};
+
+/// The number of this range that a word spells.
+fn size_of(word: &[u8], least: u32, greatest: u32) -> Option<u32>
+    ensures spelled { IfSome result (λ n. decimal n ≡ word.now) }
+    ensures least { IfSome result (λ n. least ≤ n) }
+    ensures greatest { IfSome result (λ n. n ≤ greatest) }
+    ensures found { is_some result ≡ is_number_in least greatest word.now }
+{
+    let number = number_of(word)?;
+    if u64::from(least) <= number && number <= u64::from(greatest) {
+        Some(number as u32)
+    } else {
+        None
+    }
+}
+
+/// The numbers of blocks that four words spell.
+fn blocks_of(words: &[&[u8]]) -> Option<[u32; CLASSES]>
+    requires { length words.now ≡ 4 }
+    ensures spelled { IfSome result (λ bs. map decimal bs ≡ map (λ w. w.now) words.now) }
+    ensures classes { IfSome result (λ bs. length bs ≡ CLASSES) }
+    ensures greatest { IfSome result (λ bs. (c : ℕ) → c < CLASSES → slice_index bs c ≤ slice_index GREATEST_BLOCKS c) }
+    ensures found { is_some result ≡ are_sizes (map Blocks classes) (map (λ w. w.now) words.now) }
+{
+    match words {
+        [b16, b64, b256, b1024] => {
+            let b16 = size_of(b16, 0, GREATEST_BLOCKS[0])?;
+            let b64 = size_of(b64, 0, GREATEST_BLOCKS[1])?;
+            let b256 = size_of(b256, 0, GREATEST_BLOCKS[2])?;
+            let b1024 = size_of(b1024, 0, GREATEST_BLOCKS[3])?;
+            Some([b16, b64, b256, b1024])
+        }
+        _ => None,
+    }
+}
+
+/// The shape that the seven words behind `shape` ask for. How many passes it has they do not say.
+pub fn shape_of(words: &[&[u8]]) -> Option<Shape>
+    requires { length words.now ≡ 7 }
+    ensures spelled { IfSome result (λ s. size_words s ≡ map (λ w. w.now) words.now) }
+    ensures fit { IfSome result SizesFit }
+    ensures found { is_some result ≡ are_sizes size_fields (map (λ w. w.now) words.now) }
+{
+    match words {
+        [chunks, entries, headers, blocks @ ..] => {
+            let chunks = size_of(chunks, 1, GREATEST_CHUNKS)?;
+            let entries = size_of(entries, LEAST_ENTRIES, GREATEST_ENTRIES)?;
+            let headers = size_of(headers, 1, GREATEST_HEADERS)?;
+            let blocks = blocks_of(blocks)?;
+            Some(Shape {
+                passes: 1,
+                chunks,
+                entries,
+                headers,
+                blocks,
+            })
+        }
+        _ => None,
+    }
+}
