@@ -1,21 +1,37 @@
 #!/usr/bin/env bash
-# Makes each allocation of a small run fail in turn, and asserts that the program then ends with 6 and no output.
+# Makes each allocation of small runs fail in turn, and asserts that the program then ends with 6 and no output, or with
+# 0 and the whole text: some buffers grow to less where more is not found.
 #
-# usage: bench/fail_allocations.sh [FIRST]
+# usage: bench/fail_allocations.sh
 #
-# The script is examples/first.oak. In the first run the allocation number FIRST fails, or the first one, in each next
-# run the one behind it, until a run has no such allocation: that one must end with 0 and the whole text. Each run is
-# one of `rt try`, which needs no proof and builds the program anew: so this takes some minutes for ten allocations.
+# The runs are those of the scripts in examples/, by bin/oakmap, which proves and builds the program first where it was
+# not yet. Printed is for each how many allocations it has, and how many of them the program can't do without.
 . "$(dirname "$(readlink -f "${BASH_SOURCE[0]}")")/common.sh"
-take_number FIRST 6 1 "$@"
-first=$number
+program=$home/crates/oakmap_program/out/oakmap_program
 
-cd "$home/crates/oakmap_program" || exit 1
-allocation=$first
-until rt try --fail-alloc "$allocation" -- run <"$home/examples/first.oak" >"$room/text" 2>"$room/log"; status=$?; ((status == 0)); do
-    ((status == 6)) || fail "status $status where allocation $allocation failed: $(tail -n 1 "$room/log")"
-    [[ ! -s $room/text ]] || fail "status 6 with output where allocation $allocation failed"
-    allocation=$((allocation + 1))
+"$home/bin/oakmap" run <"$home/examples/first.oak" >"$room/text" || fail "the program does not run"
+cc -shared -fPIC -O1 -o "$room/fail.so" "$home/bench/fail_allocation.c" -ldl || fail "the failing allocator does not compile"
+head -c 8 /dev/zero >"$room/count"
+
+# Runs the script with the allocation number $2 failing, or none where it is 0.
+run_failing() {
+    COUNT_ALLOCATIONS=$room/count FAIL_ALLOCATION=$2 LD_PRELOAD=$room/fail.so "$program" run <"$1" >"$room/text"
+}
+
+for script in "$home"/examples/*.oak; do
+    name=$(basename "$script" .oak)
+    run_failing "$script" 0 || fail "$name does not run"
+    cmp -s "$room/text" "${script%.oak}.txt" || fail "$name has another text"
+    all=$(od -An -t u8 "$room/count" | tr -d ' ')
+    needed=0
+    for ((number = 1; number <= all; number++)); do
+        run_failing "$script" "$number"
+        status=$?
+        if ((status == 6)) && [[ ! -s $room/text ]]; then
+            needed=$((needed + 1))
+        elif ((status != 0)) || ! cmp -s "$room/text" "${script%.oak}.txt"; then
+            fail "$name ended with $status and another text where allocation $number failed"
+        fi
+    done
+    printf '%s: %d allocations; without one of %d the program ends with 6, without another with the whole text\n' "$name" "$all" "$needed"
 done
-cmp -s "$room/text" "$home/examples/first.txt" || fail "status 0 with another text where allocation $allocation was to fail"
-printf '%d runs without an allocation ended with 6, and the one behind them, at allocation %d, with 0\n' $((allocation - first)) "$allocation"
