@@ -12,7 +12,7 @@ use Rattle.oak_core.specs.PassState.{of_key}
 use Rattle.oak_core.proofs.Teaching.{of_key-cases}
 
 -- each of a key's writes is one of all, and of the key
-of_key_has : (k : ℕ) (ws : List KeyedWrite) (w : KeyedWrite) → Has w (of_key k ws) → Has w ws × (key_number w.key ≡ k)
+pub of_key_has : (k : ℕ) (ws : List KeyedWrite) (w : KeyedWrite) → Has w (of_key k ws) → Has w ws × (key_number w.key ≡ k)
 unfolding of_key
 of_key_has k [] w = λ h. absurd h
 of_key_has k (x ∷ xs) w = of_key-cases k x xs (λ l. Has w l → Has w (x ∷ xs) × (key_number w.key ≡ k)) (λ e h. first e (of_key_has k xs w) h) (λ _ h. let r = of_key_has k xs w h in (inr r.0, r.1))
@@ -22,7 +22,7 @@ of_key_has k (x ∷ xs) w = of_key-cases k x xs (λ l. Has w l → Has w (x ∷ 
     first e rest (inr later) = let r = rest later in (inr r.0, r.1)
 
 -- two of one call are the same
-one_call : (ws : List KeyedWrite) (v w : KeyedWrite) → CallsRise ws → Has v ws → Has w ws → v.write.call ≡ w.write.call → v ≡ w
+pub one_call : (ws : List KeyedWrite) (v w : KeyedWrite) → CallsRise ws → Has v ws → Has w ws → v.write.call ≡ w.write.call → v ≡ w
 one_call [] v w rise a b e = absurd a
 one_call (x ∷ xs) v w rise (inl a) (inl b) e = a ∙ sym b
 one_call (x ∷ xs) v w rise (inl a) (inr b) e = let l = each_has (λ (u : KeyedWrite). x.write.call < u.write.call) xs w rise.0 b in let q = ap (λ (u : KeyedWrite). u.write.call) a in absurd (omega arith)
@@ -30,7 +30,7 @@ one_call (x ∷ xs) v w rise (inr a) (inl b) e = let l = each_has (λ (u : Keyed
 one_call (x ∷ xs) v w rise (inr a) (inr b) e = one_call xs v w rise.1 a b e
 
 -- the write at a place is one of the list
-at_write : (ws : List KeyedWrite) (i : ℕ) (v : Write) → slice_get (writes_of ws) i ≡ Some v → (u : KeyedWrite) × Has u ws × (u.write ≡ v)
+pub at_write : (ws : List KeyedWrite) (i : ℕ) (v : Write) → slice_get (writes_of ws) i ≡ Some v → (u : KeyedWrite) × Has u ws × (u.write ≡ v)
 at_write [] i v e = absurd cc
 at_write (x ∷ xs) zero v e = (x, inl refl, cc)
 at_write (x ∷ xs) (suc i) v e = let r = at_write xs i v e in (r.0, inr r.1, r.2)
@@ -41,7 +41,7 @@ unfolding of_key
 part_each k n [] each = tt
 part_each k n (x ∷ xs) each = of_key-cases k x xs (λ l. Each (λ (u : KeyedWrite). n < u.write.call) l) (λ _. (each.0, part_each k n xs each.1)) (λ _. part_each k n xs each.1)
 
-part_rises : (k : ℕ) (ws : List KeyedWrite) → CallsRise ws → CallsRise (of_key k ws)
+pub part_rises : (k : ℕ) (ws : List KeyedWrite) → CallsRise ws → CallsRise (of_key k ws)
 unfolding of_key
 part_rises k [] rise = tt
 part_rises k (x ∷ xs) rise = of_key-cases k x xs CallsRise (λ _. (part_each k x.write.call xs rise.0, part_rises k xs rise.1)) (λ _. part_rises k xs rise.1)

@@ -52,10 +52,10 @@ use Rattle.oak_run.proofs.OwnWrites.{own_rise, seen_is_own}
 
 -- the histories by keys, where a key is one and where it is none
 
-at_key : (hs : ℕ → List KeyedWrite) (q : List ℕ) → is_key q ≡ true → histories hs q ≡ writes_of (hs (key_number q))
+pub at_key : (hs : ℕ → List KeyedWrite) (q : List ℕ) → is_key q ≡ true → histories hs q ≡ writes_of (hs (key_number q))
 at_key hs q e = ap (λ (b : Bool). cond b (writes_of (hs (key_number q))) []) e
 
-at_other : (hs : ℕ → List KeyedWrite) (q : List ℕ) → is_key q ≡ false → histories hs q ≡ []
+pub at_other : (hs : ℕ → List KeyedWrite) (q : List ℕ) → is_key q ≡ false → histories hs q ≡ []
 at_other hs q e = ap (λ (b : Bool). cond b (writes_of (hs (key_number q))) []) e
 
 pub behind_legal : (v : PassState) (hs : ℕ → List KeyedWrite) → GoesBehind v hs → (q : List ℕ) → IsLegal (histories hs q)
@@ -65,7 +65,7 @@ behind_legal v hs b q = elim (cases_Bool (is_key q)) [
 ]
 
 -- a write in the histories is of a key
-key_there : (hs : ℕ → List KeyedWrite) (q : List ℕ) (i : ℕ) (w : Write) → slice_get (histories hs q) i ≡ Some w → is_key q ≡ true
+pub key_there : (hs : ℕ → List KeyedWrite) (q : List ℕ) (i : ℕ) (w : Write) → slice_get (histories hs q) i ≡ Some w → is_key q ≡ true
 key_there hs q i w there = elim (cases_Bool (is_key q)) [
   | inl e ↦ e
   | inr e ↦ absurd (nothing i (subst (λ (l : History). slice_get l i ≡ Some w) (at_other hs q e) there))

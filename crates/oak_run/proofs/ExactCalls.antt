@@ -1,4 +1,4 @@
--- A call of a lone thread that puts was `Full` exactly by what its map lacked, and the words that it left are those of a step of its own.
+-- A call of a lone thread that puts was `Full` exactly by what its map lacked, and the words that it left are those of a step of its own, and settled where it was `Full`.
 use Rattle.std.proofs.Common.{◌≡◌, ℕ, ◌<◌, ◌⊎◌, true, true≢false, List, Some, None, inl, inr, ⊎_elim, sym, refl, ap, ◌∙◌, subst}
 use Rattle.oak_model.specs.declared.cells.CellCall.{CellCall}
 use Rattle.oak_model.specs.declared.cells.CellCall.TheVariants.{Get, Put, PutNew, Compute, Upsert, Remove}
@@ -110,4 +110,5 @@ module _ (c : Closed) (n : ℕ) (a : Ask) (y : Wrote) (v u : PassState) (only : 
     left = left_words c u after later run.1.leaves;
     of_call = own_words z n a.key a.cell v u after run.1.leaves y one.met so.fits (so.alone only.alone);
     full = lacks;
+    settled = run.1.does.settled;
   }

@@ -1,4 +1,4 @@
--- A hold names the life that the pass saw, and a look is a turn that fits: the bytes are of that life, or its removal stands in the history.
+-- A hold names the life that the pass saw, and later states of the pass know that life too.
 use Rattle.std.proofs.Common.{◌≡◌, ℕ, ◌≤◌, true, List, length, Some, None, refl, sym, ap, ◌∙◌, subst, arith}
 use Rattle.std.specs.Prelude.{IsSome, take}
 use Rattle.std.proofs.lemmas.List.{take-append-le, take_at}

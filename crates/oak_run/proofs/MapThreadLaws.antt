@@ -67,11 +67,11 @@ pub findings-push : (c : Closing) (thread n m : ℕ) (names : Names) (ts : List 
 findings-push c thread n m names [] t e fits last = let same : m ≡ n = omega arith in (subst (λ (k : ℕ). FindingFits c thread k names t) same last, tt)
 findings-push c thread n m names (x ∷ xs) t e fits last = (fits.0, findings-push c thread (suc n) m (names_after names x) xs t (omega arith) fits.1 last)
 
-writes-append : (xs ys : List KeyedWrite) → writes_of (xs ++ ys) ≡ writes_of xs ++ writes_of ys
+pub writes-append : (xs ys : List KeyedWrite) → writes_of (xs ++ ys) ≡ writes_of xs ++ writes_of ys
 writes-append [] ys = refl
 writes-append (x ∷ xs) ys = ap (λ (h : History). x.write ∷ h) (writes-append xs ys)
 
-marked-append : (xs ys : History) → map mark_of (xs ++ ys) ≡ map mark_of xs ++ map mark_of ys
+pub marked-append : (xs ys : History) → map mark_of (xs ++ ys) ≡ map mark_of xs ++ map mark_of ys
 marked-append [] ys = refl
 marked-append (x ∷ xs) ys = ap (λ (ms : List Mark). mark_of x ∷ ms) (marked-append xs ys)
 

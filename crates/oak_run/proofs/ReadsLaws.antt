@@ -64,6 +64,10 @@ leaves_reads call v w l = record {
   mine = ap (λ (q : Knowledge). q.mine) l.knowledge;
 }
 
+-- it keeps all that the pass had seen
+pub leaves_seen : (call : ℕ) (v w : PassState) → Leaves call v w → Begins v.knowledge.seen w.knowledge.seen
+leaves_seen call v w l = begins_same v.knowledge.seen w.knowledge.seen (ap (λ (q : Knowledge). q.seen) l.knowledge)
+
 -- a lone pass that wrote all there is had seen it all at an earlier moment behind its writes
 pub seen_settled : (z : Sizes) (words : List ℕ) (v w : PassState) → HadMoment z v → IsAlone v → OnlyReads v w → Ends z words w → w.numbers.number ≡ 1 → Each (λ (j : Joined). j.mine ≡ []) w.numbers.joined → (k : ℕ) → seen_of k v.knowledge ≡ seen_of k w.knowledge
 seen_settled z words v w had alone reads closed number idle k =

@@ -1,4 +1,4 @@
--- A look is a turn that fits: its bytes are of the life that the name stands for, or its removal stands in the history.
+-- A look is a turn that fits: its bytes are of the life that its name stands for, or the removal of that life stands in the history, or the name stands for nothing.
 use Rattle.std.proofs.Common.{◌≡◌, ℕ, ◌≤◌, false, cond, Bool, List, [], length, Option, Some, None, refl, sym, ap, ◌∙◌, subst, arith}
 use Rattle.std.specs.Prelude.{IsSome, IsSomeAnd, IfSome, take}
 use Rattle.oak_model.specs.declared.replies.Reply.TheVariants as replies

@@ -16,7 +16,7 @@ use Rattle.oak_core.specs.declared.states.PassState.{PassState}
 use Rattle.oak_core.specs.MayWrite.{IsNewCall}
 use Rattle.oak_script.specs.declared.scripts.Call.{Call}
 use Rattle.oak_run.specs.declared.looks.HeldView.{HeldView}
-use Rattle.oak_run.specs.CallTurns.{times_told}
+use Rattle.oak_run.specs.CallTurns.{times_computed, times_told}
 use Rattle.oak_run.specs.HeldNames.{CallDid, IsHeld, KeepsViews, TurnsNames}
 use Rattle.oak_run.specs.LoneCalls.{CallGoes, LoneCall, LoneCalls}
 use Rattle.oak_run.specs.MapThreads.{ThreadFits}
@@ -60,6 +60,10 @@ told_once (replies.Held at) = omega arith
 told_once replies.Gone = omega arith
 told_once replies.Unheld = omega arith
 told_once (replies.Pairs pairs) = omega arith
+
+pub computed_push : (ys : List Reply) (y : Reply) → times_computed (ys ++ y ∷ []) ≡ times_computed ys + times_told y
+computed_push [] y = omega arith
+computed_push (x ∷ ys) y = let more = computed_push ys y in omega arith
 
 -- ---- behind one more call
 

@@ -1,5 +1,5 @@
 -- What a script's call does on the map: v is the state of its pass before, w the one behind.
-use Rattle.std.specs.Prelude.{◌≡◌, ℕ, List, Option, Result, Ok, Err, IfOk}
+use Rattle.std.specs.Prelude.{◌≡◌, ℕ, ◌+◌, List, [], ◌∷◌, Option, Result, Ok, Err, IfOk}
 use Rattle.oak_model.specs.declared.memory.OutOfMemory.{OutOfMemory}
 use Rattle.oak_model.specs.declared.replies.Reply.{Reply}
 use Rattle.oak_model.specs.declared.replies.Reply.TheVariants as replies
@@ -33,3 +33,8 @@ TellsCopy k (Err e) at y = y ≡ Err e
 abbrev pub times_told : Reply → ℕ
 times_told (replies.Wrote (Done at)) = 1
 times_told y = 0
+
+-- how often a thread with these replies computed
+abbrev pub times_computed : List Reply → ℕ
+times_computed [] = 0
+times_computed (y ∷ ys) = times_told y + times_computed ys

@@ -15,7 +15,8 @@ use Rattle.oak_core.specs.declared.states.Finding.{Finding}
 use Rattle.oak_core.specs.Closing.{closed_history, closed_key, closed_state}
 use Rattle.lone_counts.specs.LoneTable.{retired_in}
 use Rattle.lone_counts.specs.Maps.{IsMapOf}
-use Rattle.oak_map.specs.LonePuts.{FullAsLacks, HasNoRoomFor}
+use Rattle.oak_map.specs.LonePuts.{FullAsLacks, HasNoRoomFor, IsReply}
+use Rattle.rebalance.specs.LoneCalls.{IsSettled}
 use Rattle.oak_script.specs.declared.scripts.Call.{Call}
 use Rattle.oak_script.specs.declared.scripts.Call.TheVariants.{Put, Get, PutNew, Compute, Upsert, Remove, Hold, Look, Scan, Back}
 use Rattle.oak_run.specs.Told.{Ask}
@@ -46,12 +47,13 @@ DidMore (Removed at) = ⊤
 DidMore (Absent at) = ⊥
 DidMore (Full lack) = ⊤
 
--- For each map of what the keys held before the call it is `Full` as that map lacks, and else by the room that the call left. A step of the call itself left these words, where it did more than read; of one that kept what it found they say nothing.
+-- For each map of what the keys held before the call it is `Full` as that map lacks, and else by the room that the call left. A step of the call itself left these words, where it did more than read; of one that kept what it found they say nothing. Where it is `Full` they are settled.
 pub record FullExactly (c : Closed) (n : ℕ) (a : Ask) (y : Wrote) : Type 0 where
   pub words : List ℕ
   pub left : LeftWords c words
   pub of_call : DidMore y → left.last.call ≡ n
   pub full : (m : List Pair) → IsMapOf (map_before c n) m → FullAsLacks (closed_key c) m (retired_in (closed_key c) words) a.key (HasNoRoomFor (closed_key c) a.key words) (map_before c n a.key) (state_after (map_before c n a.key) a.cell) y
+  pub settled : (IsReply y → ⊥) → IsSettled (closed_key c) words
 
 abbrev pub PutExactly : Closed → ℕ → Ask → Reply → Type 0
 PutExactly c n a y = (x : Wrote) × (y ≡ replies.Wrote x) × FullExactly c n a x

@@ -16,6 +16,9 @@ pub mod ClosedRuns
 pub mod MapTurns
 pub mod MapThreads
 pub mod Reads
+pub mod SplitPasses
+pub mod Workers
+pub mod ThreadsRun
 pub mod Arguments
 pub mod LoneCalls
 pub mod CallTurns
@@ -23,4 +26,5 @@ pub mod HeldNames
 pub mod Gathering
 pub mod Working
 pub mod FullsExactly
-pub mod LoneRun
+pub mod EndsRun
+pub mod ScriptRun

@@ -3,10 +3,16 @@
 
 mod asks;
 mod copies;
+mod ends;
+mod joins;
 mod laws;
+mod lone;
 mod looks;
 mod runner;
 mod scans;
+mod several;
+mod splits;
+mod threads;
 mod worker;
 
 pub use laws::one_text;

@@ -1,119 +1,93 @@
-//! A run of a script over the map.
-ghost use Rattle.std.specs.Prelude.{◌≡◌, ◌<◌, ◌≤◌, ◌^◌, ◌∷◌, [], IfOk, length, map as mapped};
+//! A run of a script over a map.
+ghost use Rattle.std.specs.Prelude.{◌≡◌, ◌<◌, ◌≤◌, ◌^◌, IfOk, length, map as mapped};
 ghost use Rattle.std.specs.List.{AllByRecursion};
-ghost use Rattle.oak_script.specs.declared.limits.TheConstants.{GREATEST_CALLS};
 ghost use Rattle.oak_script.specs.Grammar.{IsScript};
-ghost use Rattle.oak_map.specs.Maps.{IsReady, call_of, sizes, state};
-ghost use Rattle.oak_run.specs.Arguments.{HasArguments};
-ghost use Rattle.oak_run.specs.LoneRun.{EndsRun, LoneRun, RunsScript};
-ghost use Rattle.oak_run.specs.Reads.{IsOnlyThread};
+ghost use Rattle.oak_run.specs.ScriptRun.{RunsScript, RunsThreads};
 
-use crate::scans::scanned;
-use crate::worker::run_calls;
-use oak_map::{MapPass, OakMap, Way};
-use oak_model::{OutOfMemory, Pair, Reply, Shape, Usage};
+use crate::lone::run_one;
+use crate::several::run_several;
+use crate::worker::Answered;
+use oak_core::Closed;
+use oak_model::{OutOfMemory, Pair, Reply};
 use oak_script::{Call, Script};
+use outside::Gate;
+use std::alloc::Global;
 use std::sync::Wait;
+use std::thread::Threads;
 use value_ops::Recipe;
 
 /// What a run answered: for each thread the reply to each of its calls; the keys that are present at the
-/// end with their values, in the order of the keys; and what of the table is in use then.
-#[derive(Debug, Drop)]
+/// end with their values, in the order of the keys; for each thread how often its recipe computed; and the
+/// closed map.
+#[derive(Drop)]
 pub struct Ran {
     pub replies: Vec<Vec<Reply>>,
     pub finals: Vec<Pair>,
-    pub usage: Usage,
+    pub recipe_calls: Vec<u64>,
+    pub closed: Closed,
 }
 
-/// Runs a script of one thread over a map of its shape, the first call on a map without keys. The thread
-/// computes by the first of the recipes.
-pub fn run_script<R: Wait + AllocGlobal>(
+/// Runs a script of one to sixteen threads beside each other over a map of its shape, the first calls on a map
+/// without keys. Each thread has the pass with its number, from 1 on, and computes by the recipe at its place.
+/// The gate is asked before each call, and once behind each thread's last. A thread that finds no memory for a
+/// reply stops; then nothing is answered but that.
+pub fn run_script<R: Threads + Wait + AllocGlobal + Sync, G: Gate>(
     rt: &R,
     script: &Script,
+    gate: &G,
     recipes: Vec<Box<dyn Recipe + Send>>,
 ) -> Result<Ran, OutOfMemory>
     requires script { IsScript script.now }
-    requires some { 0 < length recipes.items }
+    requires enough { length script.now.threads ≤ length recipes.items }
     requires counts { AllByRecursion (λ r. calls r < 2 ^ 63) recipes.items }
-    ensures runs { IfOk result (λ r. RunsScript script.now (mapped (λ v. v.items) r.replies.items) r.finals.items r.usage) }
+    ensures runs { IfOk result (λ r. RunsScript script.now (mapped (λ v. v.items) r.replies.items) r.finals.items r.recipe_calls.items r.closed) }
 {
-    let alloc = rt.alloc();
-    let mut recipes = recipes;
-    let recipe = recipes.remove(0);
-    let (thread, finals, usage) = match script.threads.as_slice() {
-        [thread] => run_one(rt, &script.shape, thread, recipe)?,
-        _ => unreachable!(),
-    };
-    let mut replies = Vec::new(alloc);
-    replies.push(thread)?;
+    let (answers, finals, closed) = run_threads(rt, script, gate, recipes)?;
+    let (replies, recipe_calls) = parted(rt.alloc(), answers)?;
     Ok(Ran {
         replies,
         finals,
-        usage,
+        recipe_calls,
+        closed,
     })
 }
 
-/// Runs the calls of the one thread: its replies, the last pairs, and what is in use.
-fn run_one<R: Wait + AllocGlobal>(
+/// Runs the threads of a script, a single one by a pass that is alone.
+fn run_threads<R: Threads + Wait + AllocGlobal + Sync, G: Gate>(
     rt: &R,
-    shape: &Shape,
-    thread: &[Call],
-    mut recipe: Box<dyn Recipe + Send>,
-) -> Result<(Vec<Reply>, Vec<Pair>, Usage), OutOfMemory>
-    requires passes { shape.now.passes ≡ 2 }
-    requires counts { calls recipe < 2 ^ 63 }
-    requires few { length thread.now ≤ GREATEST_CALLS }
-    requires arguments { AllByRecursion HasArguments thread.now }
-    ensures runs { IfOk result (λ r. LoneRun shape.now thread.now r.0.items r.1.items r.2) }
+    script: &Script,
+    gate: &G,
+    mut recipes: Vec<Box<dyn Recipe + Send>>,
+) -> Result<(Vec<Answered>, Vec<Pair>, Closed), OutOfMemory>
+    requires script { IsScript script.now }
+    requires enough { length script.now.threads ≤ length recipes.items }
+    requires counts { AllByRecursion (λ r. calls r < 2 ^ 63) recipes.items }
+    ensures runs { IfOk result (λ r. RunsThreads script.now.shape script.now.threads r.0.items r.1.items r.2) }
 {
-    let alloc = rt.alloc();
-    let (map, mut pass) = begin(rt, shape)?;
-    let answered = run_calls(rt, alloc, &map, &mut pass, &mut recipe, thread);
-    let ended = end(rt, map, pass);
-    let replies = answered?;
-    let (finals, usage) = ended?;
-    Ok((replies, finals, usage))
-}
-
-/// A map without keys, with one pass. It has the number 1, and is alone, as the first pass is joined into
-/// it.
-fn begin<R: Wait + AllocGlobal>(rt: &R, shape: &Shape) -> Result<(OakMap, MapPass), OutOfMemory>
-    requires passes { shape.now.passes ≡ 2 }
-    ensures sizes { IfOk result (λ t. sizes t.0 ≡ shape.now) }
-    ensures ready { IfOk result (λ t. IsReady t.0 t.1) }
-    ensures unused { IfOk result (λ t. call_of t.1 ≡ 0) }
-    ensures only { IfOk result (λ t. IsOnlyThread (state t.1)) }
-    ensures unwritten { IfOk result (λ t. (state t.1).knowledge.mine ≡ []) }
-{
-    let (map, mut first) = match OakMap::create(rt, shape) {
-        Ok(made) => made,
-        Err(e) => return Err(e),
-    };
-    match map.split(rt, &mut first) {
-        Ok(mut pass) => {
-            map.join(&mut pass, first);
-            Ok((map, pass))
-        }
-        Err(_) => {
-            let _closed = map.close(first);
-            Err(OutOfMemory)
-        }
+    let threads = script.threads.as_slice();
+    if threads.len() != 1 {
+        return run_several(rt, &script.shape, gate, threads, recipes);
     }
+    let recipe = recipes.remove(0);
+    let (answered, finals, closed) = run_one(rt, &script.shape, gate, &threads[0], recipe)?;
+    let mut answers = Vec::new(rt.alloc());
+    answers.push(answered)?;
+    Ok((answers, finals, closed))
 }
 
-/// Settles the map, scans all of it and closes it.
-fn end<R: Wait + AllocGlobal>(
-    rt: &R,
-    map: OakMap,
-    mut pass: MapPass,
-) -> Result<(Vec<Pair>, Usage), OutOfMemory>
-    requires ready { IsReady map pass }
-    requires only { IsOnlyThread (state pass) }
-    ensures ends { IfOk result (λ r. EndsRun (sizes map) (state pass) r.0.items r.1) }
+/// The replies of each thread, and how often its recipe computed.
+fn parted(alloc: Global, answers: Vec<Answered>) -> Result<(Vec<Vec<Reply>>, Vec<u64>), OutOfMemory>
+    ensures { IfOk result (λ r. (r.0.items ≡ mapped (λ a. a.replies) answers.items) × (r.1.items ≡ mapped (λ a. a.computed) answers.items)) }
 {
-    map.settle(rt, &mut pass);
-    let finals = scanned(rt, rt.alloc(), &map, &mut pass, &None, &None, Way::Up);
-    let closed = map.close(pass);
-    let usage = closed.usage();
-    Ok((finals?, usage))
+    let mut replies = Vec::with_capacity(alloc, answers.len())?;
+    let mut recipe_calls = Vec::with_capacity(alloc, answers.len())?;
+    for answered in answers {
+        let Answered {
+            replies: of_thread,
+            computed,
+        } = answered;
+        replies.push(of_thread)?;
+        recipe_calls.push(computed)?;
+    }
+    Ok((replies, recipe_calls))
 }

@@ -8,15 +8,16 @@ ghost use Rattle.oak_run.specs.Arguments.{HasArguments};
 ghost use Rattle.oak_run.specs.CallTurns.{times_told};
 ghost use Rattle.oak_run.specs.HeldNames.{CallDid, KeepsViews};
 ghost use Rattle.oak_run.specs.LoneCalls.{LoneCalls};
-ghost use Rattle.oak_run.specs.MapThreads.{ThreadFits};
 ghost use Rattle.oak_run.specs.Views.{Names};
+ghost use Rattle.oak_run.specs.Workers.{AnswersThread};
 
 use crate::asks::{compute, get, put, put_new, remove, upsert};
 use crate::looks::{HeldViews, hold, look};
 use crate::scans::scanned;
 use oak_map::{MapPass, OakMap, Way};
-use oak_model::{OutOfMemory, Pairs, Reply};
+use oak_model::{OutOfMemory, Pairs, Reply, Wrote};
 use oak_script::Call;
+use outside::Gate;
 use std::alloc::Global;
 use std::collections::BTreeMap;
 use std::sync::Wait;
@@ -72,16 +73,36 @@ fn reply_to<R: Wait>(
     }
 }
 
-/// Makes the calls of a thread, one by one, and keeps its replies. Where memory is lacking for a reply it
-/// stops, and the pass can be joined or closed all the same.
-pub fn run_calls<R: Wait>(
+/// What a thread answered: the reply to each of its calls, and how often its recipe computed.
+#[derive(Debug, Drop)]
+pub struct Answered {
+    pub replies: Vec<Reply>,
+    pub computed: u64,
+}
+
+/// How often a call with this reply computed.
+fn times_in(reply: &Reply) -> u64
+    ensures { result ≡ times_told reply.now }
+{
+    match reply {
+        Reply::Wrote(Wrote::Done { at: _ }) => 1,
+        _ => 0,
+    }
+}
+
+/// Makes the calls of the thread with this number, one by one, and keeps its replies. The gate is asked
+/// before each call, and once behind the last. Where memory is lacking for a reply it stops, and the pass
+/// can be joined or closed all the same.
+pub fn run_calls<R: Wait, G: Gate>(
     rt: &R,
     alloc: Global,
     map: &OakMap,
     pass: &mut MapPass,
     recipe: &mut Box<dyn Recipe + Send>,
+    gate: &G,
+    number: u32,
     thread: &[Call],
-) -> Result<Vec<Reply>, OutOfMemory>
+) -> Result<Answered, OutOfMemory>
     requires ready { IsReady map.now pass.old }
     requires unused { call_of pass.old ≡ 0 }
     requires unwritten { (state pass.old).knowledge.mine ≡ [] }
@@ -90,17 +111,22 @@ pub fn run_calls<R: Wait>(
     requires arguments { AllByRecursion HasArguments thread.now }
     ensures ready { IsReady map.now pass.new }
     ensures numbers { (state pass.new).numbers ≡ (state pass.old).numbers }
-    ensures fits { IfOk result (λ v. ThreadFits (state pass.new) thread.now v.items) }
-    ensures lone { IfOk result (λ v. LoneCalls (sizes map.now) 1 (state pass.old) thread.now v.items (state pass.new)) }
+    ensures answers { IfOk result (λ a. AnswersThread (state pass.new) thread.now a) }
+    ensures rose { IfOk result (λ a. calls recipe.new ≡ calls recipe.old + a.computed) }
+    ensures lone { IfOk result (λ a. LoneCalls (sizes map.now) 1 (state pass.old) thread.now a.replies.items (state pass.new)) }
 {
     let mut holds = BTreeMap::new(alloc);
     let mut replies = Vec::with_capacity(alloc, thread.len())?;
-    let mut number = 0u32;
+    let mut computed = 0u64;
+    let mut call_number = 0u32;
     for call in thread {
-        number += 1;
-        pass.turn(number);
+        call_number += 1;
+        pass.turn(call_number);
+        gate.pass_by(number, call_number);
         let reply = reply_to(rt, alloc, map, pass, recipe, &mut holds, call)?;
+        computed += times_in(&reply);
         replies.push(reply)?;
     }
-    Ok(replies)
+    gate.pass_by(number, call_number + 1);
+    Ok(Answered { replies, computed })
 }

@@ -1,6 +1,6 @@
--- A line spells one call only.
-use Rattle.std.proofs.Common.{◌≡◌, List, [], ◌∷◌, map, Option, Some, refl, ap, sym, ◌∙◌}
-use Rattle.std.specs.List.{AllByRecursion}
+-- A line spells one call only, and lines spell the calls of one list of threads only.
+use Rattle.std.proofs.Common.{◌≡◌, true, List, [], ◌∷◌, ◌++◌, map, Option, Some, refl, ap, sym, ◌∙◌}
+use Rattle.std.specs.List.{AllByRecursion, flat_map}
 use Rattle.hex.specs.Hex.{encode_lower}
 use Rattle.oak_script.specs.declared.scripts.Call.{Call}
 use Rattle.oak_script.specs.declared.scripts.Call.TheVariants.{Put, Get, PutNew, Compute, Upsert, Remove, Hold, Look, Scan, Back}
@@ -8,9 +8,10 @@ use Rattle.oak_script.specs.declared.verbs.Verb.{Verb}
 use Rattle.oak_script.specs.declared.verbs.Verb.TheVariants as verb
 use Rattle.oak_script.specs.Lines.{Words}
 use Rattle.oak_script.specs.Words.{value_word, bound_word, recipe_words}
-use Rattle.oak_script.specs.Grammar.{call_words, CallFits}
-use Rattle.oak_script.specs.Forms.{verb_of}
+use Rattle.oak_script.specs.Grammar.{thread_line, call_words, thread_lines, CallFits}
+use Rattle.oak_script.specs.Forms.{verb_of, is_thread}
 use Rattle.oak_script.proofs.HexWords.{written-injective}
+use Rattle.oak_script.proofs.PastLemmas.{call-thread}
 use Rattle.oak_script.proofs.WordLemmas.{value-injective, bound-injective, recipe-injective, first_word}
 
 abbrev verb_in : Call → Verb
@@ -96,13 +97,36 @@ same-call a b _ _ _ s = absurd cc
 call-injective : (a b : Call) → CallFits a → CallFits b → call_words a ≡ call_words b → a ≡ b
 call-injective a b ha hb e = same-call a b ha hb e (same-verb (verb_in a) (verb_in b) (sym (verb_tells a) ∙ ap (λ (ws : Words). verb_of (first_word ws)) e ∙ verb_tells b))
 
-pub calls-injective : (a b : List Call) → AllByRecursion CallFits a → AllByRecursion CallFits b → map call_words a ≡ map call_words b → a ≡ b
-calls-injective [] [] ha hb e = refl
-calls-injective [] (y ∷ b) ha hb e = absurd cc
-calls-injective (x ∷ a) [] ha hb e = absurd cc
-calls-injective (x ∷ a) (y ∷ b) ha hb e =
-    let first : call_words x ≡ call_words y = cc in
-    let others : map call_words a ≡ map call_words b = cc in
-    let p = call-injective x y ha.0 hb.0 first in
-    let q = calls-injective a b ha.1 hb.1 others in
+thread-line : (line : Words) → line ≡ thread_line → is_thread line ≡ true
+thread-line line e = rw e refl
+
+no-call : (c : Call) (a b : List Words) → thread_line ∷ a ≡ call_words c ∷ b → ⊥
+no-call c a b e =
+    let same : call_words c ≡ thread_line = cc in
+    let is = thread-line (call_words c) same in
+    let no = call-thread c in
     cc
+
+-- the calls of a thread end where the next `thread` line stands
+split-calls : (a b : List Call) (more rest : List (List Call)) → AllByRecursion CallFits a → AllByRecursion CallFits b → map call_words a ++ flat_map thread_lines more ≡ map call_words b ++ flat_map thread_lines rest → (a ≡ b) × (flat_map thread_lines more ≡ flat_map thread_lines rest)
+split-calls [] [] more rest ha hb e = (refl, e)
+split-calls [] (y ∷ b) [] rest ha hb e = absurd cc
+split-calls [] (y ∷ b) (t ∷ more) rest ha hb e = absurd (no-call y _ _ e)
+split-calls (x ∷ a) [] more [] ha hb e = absurd cc
+split-calls (x ∷ a) [] more (t ∷ rest) ha hb e = absurd (no-call x _ _ (sym e))
+split-calls (x ∷ a) (y ∷ b) more rest ha hb e =
+    let first : call_words x ≡ call_words y = cc in
+    let others : map call_words a ++ flat_map thread_lines more ≡ map call_words b ++ flat_map thread_lines rest = cc in
+    let p = call-injective x y ha.0 hb.0 first in
+    let q = split-calls a b more rest ha.1 hb.1 others in
+    (rw (p, q.0) refl, q.1)
+
+pub threads-injective : (a b : List (List Call)) → AllByRecursion (AllByRecursion CallFits) a → AllByRecursion (AllByRecursion CallFits) b → flat_map thread_lines a ≡ flat_map thread_lines b → a ≡ b
+threads-injective [] [] ha hb e = refl
+threads-injective [] (u ∷ b) ha hb e = absurd cc
+threads-injective (t ∷ a) [] ha hb e = absurd cc
+threads-injective (t ∷ a) (u ∷ b) ha hb e =
+    let body : map call_words t ++ flat_map thread_lines a ≡ map call_words u ++ flat_map thread_lines b = cc in
+    let p = split-calls t u a b ha.0 hb.0 body in
+    let q = threads-injective a b ha.1 hb.1 p.1 in
+    rw (p.0, q) refl

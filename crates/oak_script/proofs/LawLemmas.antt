@@ -1,8 +1,6 @@
 -- Each text is a script's or has a first fault, and none is both.
-use Rattle.std.proofs.Common.{◌≡◌, ℕ, zero, suc, ◌+◌, ◌<◌, ◌≤◌, ◌⊎◌, List, [], ◌∷◌, ◌++◌, length, map, Option, Some, None, Result, Ok, Err, refl, ap, sym, subst, ◌∙◌, inl, inr, arith}
+use Rattle.std.proofs.Common.{◌≡◌, ℕ, zero, suc, ◌+◌, ◌<◌, ◌≤◌, ◌⊎◌, List, [], ◌∷◌, length, Option, Some, None, Result, Ok, Err, refl, ap, sym, subst, ◌∙◌, inl, inr, arith}
 use Rattle.std.specs.Prelude.{IfOk, IfSome}
-use Rattle.std.specs.List.{flat_map}
-use Rattle.std.proofs.lemmas.List.{append-nil}
 use Rattle.std.proofs.lemmas.Bool.{cases_lt}
 use Rattle.oak_model.specs.Limits.{Sizes}
 use Rattle.oak_script.specs.declared.faults.What.{What}
@@ -13,8 +11,8 @@ use Rattle.oak_script.specs.declared.stages.Stage.TheVariants.{Ended}
 use Rattle.oak_script.specs.declared.faults.NoScript.{NoScript}
 use Rattle.oak_script.specs.declared.faults.NoScript.TheVariants.{Fault, OutOfMemory}
 use Rattle.oak_script.specs.Lines.{Words, text_words}
-use Rattle.oak_script.specs.ShapeLine.{shape_line, SizesFit}
-use Rattle.oak_script.specs.Grammar.{oak_line, thread_line, end_line, call_words, thread_lines, default_sizes, IsScript, AreLinesOf, Spells}
+use Rattle.oak_script.specs.ShapeLine.{SizesFit}
+use Rattle.oak_script.specs.Grammar.{IsScript, AreLinesOf, Spells}
 use Rattle.oak_script.specs.Faults.{faults_at, IsFirstAt, IsFirstFault, HasNoFault}
 use Rattle.oak_script.specs.Reading.{so_far, sizes_for, AreCalls}
 use Rattle.oak_script.specs.Answers.{Tells, Gives}
@@ -25,60 +23,53 @@ use Rattle.oak_script.proofs.ScriptLemmas.{found, same-lines}
 
 -- ---- scripts
 
-are_calls : (s : Script) (is : IsScript s) → AreCalls is.calls
-are_calls s is = record { each = is.each; few = is.few; scans = is.scans }
+are_calls : (s : Script) → IsScript s → AreCalls s.threads
+are_calls s is = record { each = is.each; threads_few = is.threads_few; few = is.few; scans = is.scans }
 
 -- the lines of a script as a reader takes them
-record Taken (lines : List Words) (s : Script) (calls : List Call) : Type 0 where
+record Taken (lines : List Words) (s : Script) : Type 0 where
   shape : Option Sizes
   fit : IfSome shape SizesFit
-  spelled : lines ≡ so_far (Ended shape) calls
-  sizes : s.shape ≡ sizes_for shape 1
+  spelled : lines ≡ so_far (Ended shape) s.threads
+  sizes : s.shape ≡ sizes_for shape (length s.threads)
 
-own-sizes : (p c e h : ℕ) (bs : List ℕ) → p ≡ 2 → (let s : Sizes = record { passes = p; chunks = c; entries = e; headers = h; blocks = bs } in s ≡ sizes_for (Some s) 1)
-own-sizes p c e h bs two = rw two refl
+own-sizes : (p c e h : ℕ) (bs : List ℕ) (n : ℕ) → p ≡ n + 1 → (let s : Sizes = record { passes = p; chunks = c; entries = e; headers = h; blocks = bs } in s ≡ sizes_for (Some s) n)
+own-sizes p c e h bs n is = rw is refl
 
-one-thread : (calls : List Call) → flat_map thread_lines (calls ∷ []) ++ end_line ∷ [] ≡ thread_line ∷ (map call_words calls ++ end_line ∷ [])
-one-thread calls = ap (λ (ls : List Words). ls ++ end_line ∷ []) (append-nil (thread_line ∷ map call_words calls))
-
-taken_of : (lines : List Words) (s : Script) (is : IsScript s) → AreLinesOf lines s → Taken lines s is.calls
+taken_of : (lines : List Words) (s : Script) → IsScript s → AreLinesOf lines s → Taken lines s
 taken_of lines s is are =
     elim are [
       | inl with ↦ record {
         shape = Some s.shape;
         fit = is.shape;
-        spelled = with ∙ rw is.one (ap (λ (ls : List Words). oak_line ∷ shape_line s.shape ∷ ls) (one-thread is.calls));
-        sizes = own-sizes s.shape.passes s.shape.chunks s.shape.entries s.shape.headers s.shape.blocks (is.passes ∙ ap (λ (ts : List (List Call)). length ts + 1) is.one);
+        spelled = with;
+        sizes = own-sizes s.shape.passes s.shape.chunks s.shape.entries s.shape.headers s.shape.blocks (length s.threads) is.passes;
       }
-      | inr without ↦ record {
-        shape = None;
-        fit = tt;
-        spelled = without.0 ∙ rw is.one (ap (λ (ls : List Words). oak_line ∷ ls) (one-thread is.calls));
-        sizes = without.1 ∙ ap (λ (ts : List (List Call)). default_sizes (length ts)) is.one;
-      }
+      | inr without ↦ record { shape = None; fit = tt; spelled = without.0; sizes = without.1 }
     ]
 
 pub script_fine : (text : List ℕ) (s : Script) → Spells text s → HasNoFault (text_words text)
 script_fine text s sp =
     let t = taken_of (text_words text) s sp.script sp.lines in
-    subst HasNoFault (sym t.spelled) (no_fault t.shape sp.script.calls t.fit (are_calls s sp.script))
+    subst HasNoFault (sym t.spelled) (no_fault t.shape s.threads sp.script.some t.fit (are_calls s sp.script))
 
 pub script_of : (text : List ℕ) → HasNoFault (text_words text) → (s : Script) × Spells text s
 script_of text none =
     let f = found (text_words text) none in
-    let s : Script = record { shape = sizes_for f.shape 1; threads = f.calls ∷ [] } in (
+    let n = length f.threads in
+    let s : Script = record { shape = sizes_for f.shape n; threads = f.threads } in (
       s,
       record {
         script = record {
-          calls = f.calls;
-          one = refl;
-          passes = sizes-passes f.shape 1;
-          shape = sizes-fit f.shape 1 (omega arith) f.fit;
+          some = f.some;
+          threads_few = f.are.threads_few;
+          passes = sizes-passes f.shape n;
+          shape = sizes-fit f.shape n f.are.threads_few f.fit;
           each = f.are.each;
           few = f.are.few;
           scans = f.are.scans;
         };
-        lines = subst (λ (ls : List Words). AreLinesOf ls s) (sym f.spelled) (ended_lines f.shape f.calls s refl refl);
+        lines = subst (λ (ls : List Words). AreLinesOf ls s) (sym f.spelled) (ended_lines f.shape f.threads s refl refl);
       },
     )
 
@@ -92,8 +83,8 @@ pub one_script : (text : List ℕ) (s t : Script) → Spells text s → Spells t
 one_script text s t a b =
     let x = taken_of (text_words text) s a.script a.lines in
     let y = taken_of (text_words text) t b.script b.lines in
-    let same = same-lines x.shape y.shape a.script.calls b.script.calls x.fit y.fit (are_calls s a.script) (are_calls t b.script) (sym x.spelled ∙ y.spelled) in
-    same-script s t (x.sizes ∙ same.0 1 ∙ sym y.sizes) (a.script.one ∙ ap (λ (c : List Call). c ∷ []) same.1 ∙ sym b.script.one)
+    let same = same-lines x.shape y.shape s.threads t.threads a.script.some b.script.some x.fit y.fit (are_calls s a.script) (are_calls t b.script) (sym x.spelled ∙ y.spelled) in
+    same-script s t (x.sizes ∙ same.0 (length s.threads) ∙ ap (λ (ts : List (List Call)). sizes_for y.shape (length ts)) same.1 ∙ sym y.sizes) same.1
 
 -- ---- faults
 

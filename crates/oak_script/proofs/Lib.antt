@@ -7,6 +7,8 @@ pub mod StopLemmas
 pub mod LineLemmas
 pub mod FormLemmas
 pub mod OpenLemmas
+pub mod ThreadLemmas
+pub mod ThreadSizes
 pub mod CutLemmas
 pub mod PlaceLemmas
 pub mod PastLemmas

@@ -72,10 +72,6 @@ is_after_end p here = on_line (λ _. not (is_none p.ends)) here
 abbrev pub is_bad_word : Past → Here → Bool
 is_bad_word p here = on_line (λ line. list_any is_empty line || not (may_stand p line)) here
 
--- it is the second line that is the one word `thread`
-abbrev pub is_not_built : Past → Here → Bool
-is_not_built p here = on_line (λ line. is_once p.threads && is_thread line) here
-
 -- a number of a `shape` line is not written as it should be, or is outside the limits
 abbrev pub is_bad_shape : Past → Here → Bool
 is_bad_shape p here = on_line (λ line. (is_once p.lines && is_shape line) && not (are_sizes size_fields (drop 1 line))) here
@@ -169,13 +165,12 @@ faults p here =
     where_so (is_bad_head p here) what.Head
     ++ (where_so (is_after_end p here) what.AfterEnd
     ++ (where_so (is_bad_word p here) what.Word
-    ++ (where_so (is_not_built p here) what.NotBuilt
     ++ (where_so (is_bad_shape p here) what.Shape
     ++ (part_faults here
     ++ (where_so (is_thread_too_many p here) what.Threads
     ++ (where_so (is_call_too_many p here) what.Calls
     ++ (where_so (is_scan_too_many p here) what.Scans
-    ++ where_so (lacks_end p here) what.NoEnd))))))))
+    ++ where_so (lacks_end p here) what.NoEnd)))))))
 
 -- ---- the first fault
 

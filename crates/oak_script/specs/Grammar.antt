@@ -8,7 +8,7 @@ use Rattle.oak_model.specs.declared.recipes.RecipeKind.TheVariants.{Add, Xor, Re
 use Rattle.oak_model.specs.Key.{IsKey}
 use Rattle.oak_model.specs.Value.{IsValue}
 use Rattle.oak_model.specs.Limits.{Sizes}
-use Rattle.oak_script.specs.declared.limits.TheConstants.{GREATEST_CALLS, GREATEST_SCANS}
+use Rattle.oak_script.specs.declared.limits.TheConstants.{GREATEST_THREADS, GREATEST_CALLS, GREATEST_SCANS}
 use Rattle.oak_script.specs.declared.scripts.Call.{Call}
 use Rattle.oak_script.specs.declared.scripts.Call.TheVariants.{Put, Get, PutNew, Compute, Upsert, Remove, Hold, Look, Scan, Back}
 use Rattle.oak_script.specs.declared.scripts.Script.{Script}
@@ -88,6 +88,10 @@ is_scan (Back low high) = true
 abbrev pub scans_in : List Call → ℕ
 scans_in calls = count_by is_scan calls
 
+-- the calls of all threads, those of one thread behind those of the other
+abbrev pub all_calls : List (List Call) → List Call
+all_calls threads = flat_map (λ calls. calls) threads
+
 -- the sizes of a script without a `shape` line
 abbrev pub default_sizes : ℕ → Sizes
 default_sizes threads = record {
@@ -98,15 +102,15 @@ default_sizes threads = record {
   blocks = DEFAULT_BLOCKS;
 }
 
--- a script that is read today: one thread; it has a pass more than there are threads
+-- a script: its threads, calls and scans are within the limits, and it has a pass more than there are threads
 pub record IsScript (s : Script) : Type 0 where
-  pub calls : List Call
-  pub one : s.threads ≡ calls ∷ []
+  pub some : 0 < length s.threads
+  pub threads_few : length s.threads ≤ GREATEST_THREADS
   pub passes : s.shape.passes ≡ length s.threads + 1
   pub shape : SizesFit s.shape
-  pub each : AllByRecursion CallFits calls
-  pub few : length calls ≤ GREATEST_CALLS
-  pub scans : scans_in calls ≤ GREATEST_SCANS
+  pub each : AllByRecursion (AllByRecursion CallFits) s.threads
+  pub few : length (all_calls s.threads) ≤ GREATEST_CALLS
+  pub scans : scans_in (all_calls s.threads) ≤ GREATEST_SCANS
 
 -- these are the script's lines; its `shape` line may be missing where its sizes are the default ones
 abbrev pub AreLinesOf : List Words → Script → Type 0

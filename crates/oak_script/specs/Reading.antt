@@ -1,7 +1,7 @@
 -- What a reader of lines has taken.
-use Rattle.std.specs.Prelude.{◌≡◌, ℕ, suc, ◌+◌, ◌<◌, ◌≤◌, ◌==◌, ◌&&◌, ◌||◌, not, List, [], ◌∷◌, ◌++◌, length, map, Option, Some, None, IfSome, ⊤}
-use Rattle.std.specs.List.{list_any, AllByRecursion}
-use Rattle.oak_script.specs.declared.limits.TheConstants.{GREATEST_CALLS, GREATEST_SCANS}
+use Rattle.std.specs.Prelude.{◌≡◌, ℕ, suc, ◌+◌, ◌<◌, ◌≤◌, ◌==◌, ◌&&◌, ◌||◌, not, List, [], ◌∷◌, ◌++◌, length, Option, Some, None, IfSome, ⊤}
+use Rattle.std.specs.List.{list_any, flat_map, AllByRecursion}
+use Rattle.oak_script.specs.declared.limits.TheConstants.{GREATEST_THREADS, GREATEST_CALLS, GREATEST_SCANS}
 use Rattle.oak_script.specs.declared.faults.What.{What}
 use Rattle.oak_script.specs.declared.faults.What.TheVariants as what
 use Rattle.oak_script.specs.declared.scripts.Call.{Call}
@@ -13,7 +13,7 @@ use Rattle.oak_script.specs.declared.stages.Stage.TheVariants.{Start, Headed, Sh
 use Rattle.oak_script.specs.Lines.{Words, words_of}
 use Rattle.oak_model.specs.Limits.{Sizes}
 use Rattle.oak_script.specs.ShapeLine.{shape_line, SizesFit}
-use Rattle.oak_script.specs.Grammar.{oak_line, thread_line, end_line, call_words, CallFits, is_scan, scans_in, default_sizes}
+use Rattle.oak_script.specs.Grammar.{oak_line, end_line, thread_lines, CallFits, is_scan, scans_in, all_calls, default_sizes}
 use Rattle.oak_script.specs.Forms.{form, fills, is_call}
 use Rattle.oak_script.specs.Faults.{Past, past_of, is_empty, where_so, slot_faults, part_faults, faults, faults_at}
 use Rattle.oak_script.specs.Stops.{Stops}
@@ -26,50 +26,73 @@ call_faults v ws = where_so (not (fills (form v) ws)) what.Word ++ slot_faults (
 abbrev pub line_faults : Words → List What
 line_faults line = where_so (list_any is_empty line || not (is_call line)) what.Word ++ part_faults (Some line)
 
+-- the faults of one thread more
+abbrev pub thread_faults : List (List Call) → List What
+thread_faults threads = where_so (length threads == GREATEST_THREADS) what.Threads
+
 -- the faults of one call more
-abbrev pub count_faults : List Call → Call → List What
-count_faults calls call =
-    where_so (length calls == GREATEST_CALLS) what.Calls
-    ++ where_so (is_scan call && (scans_in calls == GREATEST_SCANS)) what.Scans
+abbrev pub count_faults : List (List Call) → Call → List What
+count_faults threads call =
+    where_so (length (all_calls threads) == GREATEST_CALLS) what.Calls
+    ++ where_so (is_scan call && (scans_in (all_calls threads) == GREATEST_SCANS)) what.Scans
 
-pub record AreCalls (calls : List Call) : Type 0 where
-  pub each : AllByRecursion CallFits calls
-  pub few : length calls ≤ GREATEST_CALLS
-  pub scans : scans_in calls ≤ GREATEST_SCANS
+-- the calls of threads that a script may have, or of the first of them
+pub record AreCalls (threads : List (List Call)) : Type 0 where
+  pub each : AllByRecursion (AllByRecursion CallFits) threads
+  pub threads_few : length threads ≤ GREATEST_THREADS
+  pub few : length (all_calls threads) ≤ GREATEST_CALLS
+  pub scans : scans_in (all_calls threads) ≤ GREATEST_SCANS
 
--- the lines up to `thread`, with the `shape` line or without it
+-- so many calls, and so many scans among them
+pub record AreCounted (threads : List (List Call)) (calls scans : ℕ) : Type 0 where
+  pub are : AreCalls threads
+  pub calls_are : calls ≡ length (all_calls threads)
+  pub scans_are : scans ≡ scans_in (all_calls threads)
+
+-- the last thread has a call more
+abbrev pub with_call : List (List Call) → Call → List (List Call)
+with_call [] call = []
+with_call (calls ∷ []) call = (calls ++ call ∷ []) ∷ []
+with_call (calls ∷ next ∷ more) call = calls ∷ with_call (next ∷ more) call
+
+-- the lines before the first `thread` line, with the `shape` line or without it
 abbrev pub opening : Option Sizes → List Words
-opening None = oak_line ∷ thread_line ∷ []
-opening (Some s) = oak_line ∷ shape_line s ∷ thread_line ∷ []
+opening None = oak_line ∷ []
+opening (Some s) = oak_line ∷ shape_line s ∷ []
 
 -- the lines that were taken
-abbrev pub so_far : Stage → List Call → List Words
-so_far Start calls = []
-so_far Headed calls = oak_line ∷ []
-so_far (Shaped s) calls = oak_line ∷ shape_line s ∷ []
-so_far (Opened shape) calls = opening shape ++ map call_words calls
-so_far (Ended shape) calls = (opening shape ++ map call_words calls) ++ end_line ∷ []
+abbrev pub so_far : Stage → List (List Call) → List Words
+so_far Start threads = []
+so_far Headed threads = oak_line ∷ []
+so_far (Shaped s) threads = oak_line ∷ shape_line s ∷ []
+so_far (Opened shape) threads = opening shape ++ flat_map thread_lines threads
+so_far (Ended shape) threads = (opening shape ++ flat_map thread_lines threads) ++ end_line ∷ []
 
 -- how many `shape` lines were taken
 abbrev pub shapes_in : Option Sizes → ℕ
 shapes_in None = 0
 shapes_in (Some s) = 1
 
--- what the rows ask of them
-abbrev pub past_at : Stage → List Call → Past
-past_at Start calls = record { lines = 0; threads = 0; ends = 0; calls = 0; scans = 0 }
-past_at Headed calls = record { lines = 1; threads = 0; ends = 0; calls = 0; scans = 0 }
-past_at (Shaped s) calls = record { lines = 2; threads = 0; ends = 0; calls = 0; scans = 0 }
-past_at (Opened shape) calls = record { lines = suc (suc (shapes_in shape + length calls)); threads = 1; ends = 0; calls = length calls; scans = scans_in calls }
-past_at (Ended shape) calls = record { lines = suc (suc (suc (shapes_in shape + length calls))); threads = 1; ends = 1; calls = length calls; scans = scans_in calls }
+-- how many lines the threads have, and so many more
+abbrev pub lines_in : List (List Call) → ℕ → ℕ
+lines_in [] more = more
+lines_in (calls ∷ threads) more = suc (length calls + lines_in threads more)
 
--- calls come behind the `thread` line alone, and sizes fit
-abbrev pub CallsFit : Stage → List Call → Type 0
-CallsFit Start calls = calls ≡ []
-CallsFit Headed calls = calls ≡ []
-CallsFit (Shaped s) calls = (calls ≡ []) × SizesFit s
-CallsFit (Opened shape) calls = AreCalls calls × IfSome shape SizesFit
-CallsFit (Ended shape) calls = AreCalls calls × IfSome shape SizesFit
+-- what the rows ask of them
+abbrev pub past_at : Stage → List (List Call) → Past
+past_at Start threads = record { lines = 0; threads = 0; ends = 0; calls = 0; scans = 0 }
+past_at Headed threads = record { lines = 1; threads = 0; ends = 0; calls = 0; scans = 0 }
+past_at (Shaped s) threads = record { lines = 2; threads = 0; ends = 0; calls = 0; scans = 0 }
+past_at (Opened shape) threads = record { lines = suc (lines_in threads (shapes_in shape)); threads = length threads; ends = 0; calls = length (all_calls threads); scans = scans_in (all_calls threads) }
+past_at (Ended shape) threads = record { lines = suc (suc (lines_in threads (shapes_in shape))); threads = length threads; ends = 1; calls = length (all_calls threads); scans = scans_in (all_calls threads) }
+
+-- threads come behind the first `thread` line alone, and sizes fit
+abbrev pub CallsFit : Stage → List (List Call) → Type 0
+CallsFit Start threads = threads ≡ []
+CallsFit Headed threads = threads ≡ []
+CallsFit (Shaped s) threads = (threads ≡ []) × SizesFit s
+CallsFit (Opened shape) threads = (0 < length threads) × AreCalls threads × IfSome shape SizesFit
+CallsFit (Ended shape) threads = (0 < length threads) × AreCalls threads × IfSome shape SizesFit
 
 -- the sizes that a script asks for by its `shape` line, or without one
 abbrev pub sizes_for : Option Sizes → ℕ → Sizes

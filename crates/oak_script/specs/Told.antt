@@ -1,13 +1,12 @@
 -- How a fault is told.
 use Rattle.std.specs.Prelude.{ℕ, List, codes}
 use Rattle.oak_script.specs.declared.faults.What.{What}
-use Rattle.oak_script.specs.declared.faults.What.TheVariants.{Head, AfterEnd, Word, NotBuilt, Shape, Name, Hex, Key, Value, Recipe, Threads, Calls, Scans, NoEnd}
+use Rattle.oak_script.specs.declared.faults.What.TheVariants.{Head, AfterEnd, Word, Shape, Name, Hex, Key, Value, Recipe, Threads, Calls, Scans, NoEnd}
 
 abbrev pub what_text : What → List ℕ
 what_text Head = codes "head"
 what_text AfterEnd = codes "after end"
 what_text Word = codes "word"
-what_text NotBuilt = codes "not built"
 what_text Shape = codes "shape"
 what_text Name = codes "name"
 what_text Hex = codes "hex"

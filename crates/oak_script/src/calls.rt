@@ -1,10 +1,10 @@
-ghost use Rattle.std.specs.Prelude.{◌≡◌, ◌++◌, ◌∷◌, [], OnOk, IfErr};
+ghost use Rattle.std.specs.Prelude.{◌≡◌, ◌<◌, ◌++◌, ◌∷◌, [], map, length, OnOk, OnErr, IfErr};
 ghost use Rattle.oak_script.specs.Grammar.{CallFits, is_scan};
 ghost use Rattle.oak_script.specs.Stops.{Stops};
-ghost use Rattle.oak_script.specs.Reading.{AreCalls, count_faults};
+ghost use Rattle.oak_script.specs.Reading.{AreCalls, with_call, thread_faults, count_faults};
 
 use crate::faults::What;
-use crate::limits::{GREATEST_CALLS, GREATEST_SCANS};
+use crate::limits::{GREATEST_CALLS, GREATEST_SCANS, GREATEST_THREADS};
 use crate::scripts::Call;
 use crate::stops::Stop;
 use std::alloc::Global;
@@ -16,24 +16,36 @@ fn is_scan(call: &Call) -> bool
     matches!(call, Call::Scan { .. } | Call::Back { .. })
 }
 
-/// The calls of a script so far, with the number of scans among them.
+/// Adds a call to the last of some threads.
+fn push_to_last(threads: &mut Vec<Vec<Call>>, call: Call) -> Result<(), Stop>
+    requires some { 0 < length threads.old.items }
+    ensures ok { OnOk result (map (λ v. v.items) threads.new.items ≡ with_call (map (λ v. v.items) threads.old.items) call) }
+    ensures same { OnErr result (map (λ v. v.items) threads.new.items ≡ map (λ v. v.items) threads.old.items) }
+    ensures err { IfErr result (λ e. e ≡ Stop.OutOfMemory) }
+{
+    let last = threads.len() - 1;
+    threads[last].push(call)?;
+    Ok(())
+}
+
+/// The calls of a script so far, thread by thread, with the number of them and of the scans among them.
 #[derive(Drop)]
 pub struct Calls {
-    calls: Vec<Call>,
+    threads: Vec<Vec<Call>>,
+    calls: usize,
     scans: usize,
 }
 
 impl Model for Calls {
-    ghost use Rattle.std.specs.Prelude.{◌≡◌, List};
+    ghost use Rattle.std.specs.Prelude.{List, map};
     ghost use Rattle.oak_script.specs.declared.scripts.Call.{Call};
-    ghost use Rattle.oak_script.specs.Grammar.{scans_in};
-    ghost use Rattle.oak_script.specs.Reading.{AreCalls};
+    ghost use Rattle.oak_script.specs.Reading.{AreCounted};
 
-    ghost Value = { List Call };
+    ghost Value = { List (List Call) };
 
-    ghost view = { λ c. c.calls.items };
+    ghost view = { λ c. map (λ v. v.items) c.threads.items };
 
-    ghost invariant = { λ c. (c.scans ≡ scans_in c.calls.items) × AreCalls c.calls.items };
+    ghost invariant = { λ c. AreCounted (map (λ v. v.items) c.threads.items) c.calls c.scans };
 }
 
 impl Calls {
@@ -41,36 +53,53 @@ impl Calls {
         ensures { result ≡ [] }
     {
         Calls {
-            calls: Vec::new(alloc),
+            threads: Vec::new(alloc),
+            calls: 0,
             scans: 0,
         }
     }
 
-    /// Adds a call, unless it is one call or one scan too many.
+    /// Begins the next thread, unless it is one too many.
+    pub fn begin_thread(&mut self, alloc: Global) -> Result<(), Stop>
+        ensures ok { OnOk result (self.new ≡ self.old ++ [] ∷ []) }
+        ensures fine { OnOk result (thread_faults self.old ≡ []) }
+        ensures fit { OnOk result (AreCalls self.new) }
+        ensures err { IfErr result (λ e. Stops e (thread_faults self.old)) }
+    {
+        if self.threads.len() == GREATEST_THREADS {
+            return Err(Stop::Fault(What::Threads));
+        }
+        self.threads.push(Vec::new(alloc))?;
+        Ok(())
+    }
+
+    /// Adds a call to the last thread, unless it is one call or one scan too many.
     pub fn push(&mut self, call: Call) -> Result<(), Stop>
-        requires { CallFits call }
-        ensures ok { OnOk result (self.new ≡ self.old ++ call ∷ []) }
+        requires some { 0 < length self.old }
+        requires call { CallFits call }
+        ensures ok { OnOk result (self.new ≡ with_call self.old call) }
         ensures fine { OnOk result (count_faults self.old call ≡ []) }
         ensures fit { OnOk result (AreCalls self.new) }
         ensures err { IfErr result (λ e. Stops e (count_faults self.old call)) }
     {
-        if self.calls.len() == GREATEST_CALLS {
+        if self.calls == GREATEST_CALLS {
             return Err(Stop::Fault(What::Calls));
         }
         let is_scan = is_scan(&call);
         if is_scan && self.scans == GREATEST_SCANS {
             return Err(Stop::Fault(What::Scans));
         }
-        self.calls.push(call)?;
+        push_to_last(&mut self.threads, call)?;
+        self.calls += 1;
         if is_scan {
             self.scans += 1;
         }
         Ok(())
     }
 
-    pub fn into_vec(self) -> Vec<Call>
-        ensures { result.items ≡ self }
+    pub fn into_vec(self) -> Vec<Vec<Call>>
+        ensures { map (λ v. v.items) result.items ≡ self }
     {
-        self.calls
+        self.threads
     }
 }

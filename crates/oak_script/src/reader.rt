@@ -1,4 +1,4 @@
-ghost use Rattle.std.specs.Prelude.{◌≡◌, ◌≤◌, ◌+◌, ◌∷◌, [], length, true, false, if◌then◌else◌, OnOk, OnErr, IfOk, IfErr, IfSome};
+ghost use Rattle.std.specs.Prelude.{◌≡◌, ◌<◌, ◌≤◌, ◌+◌, [], length, map, true, false, if◌then◌else◌, OnOk, OnErr, IfOk, IfErr, IfSome};
 ghost use Rattle.oak_script.specs.declared.limits.TheConstants.{GREATEST_CALLS, GREATEST_THREADS};
 ghost use Rattle.oak_script.specs.declared.scripts.Script.{Script};
 ghost use Rattle.oak_script.specs.Lines.{lines_of, text_words};
@@ -49,28 +49,24 @@ fn shape_for(shape: Option<Shape>, threads: u32) -> Shape
     }
 }
 
-/// The script of one thread.
-fn script_of_one(alloc: Global, shape: Option<Shape>, calls: Vec<Call>) -> Result<Script, NoScript>
-    requires calls { AreCalls calls.items }
+/// The script of these threads.
+fn script_of(shape: Option<Shape>, threads: Vec<Vec<Call>>) -> Script
+    requires some { 0 < length threads.items }
+    requires calls { AreCalls (map (λ v. v.items) threads.items) }
     requires shape { IfSome shape SizesFit }
-    ensures script { IfOk result IsScript }
-    ensures threads { IfOk result (λ s. s.threads ≡ calls.items ∷ []) }
-    ensures shape { IfOk result (λ s. s.shape ≡ sizes_for shape 1) }
-    ensures err { IfErr result (λ e. e ≡ NoScript.OutOfMemory) }
+    ensures script { IsScript result }
+    ensures threads { result.threads ≡ map (λ v. v.items) threads.items }
+    ensures shape { result.shape ≡ sizes_for shape (length threads.items) }
 {
-    let mut threads = Vec::new(alloc);
-    match threads.push(calls) {
-        Ok(()) => Ok(Script {
-            shape: shape_for(shape, 1),
-            threads: Threads::of(threads),
-        }),
-        Err(_) => Err(NoScript::OutOfMemory),
+    Script {
+        shape: shape_for(shape, threads.len() as u32),
+        threads: Threads::of(threads),
     }
 }
 
 /// What is told of a stop behind so many lines.
 fn told(number: u32, stop: Stop) -> NoScript
-    requires { number ≤ GREATEST_CALLS + 4 }
+    requires { number ≤ GREATEST_CALLS + GREATEST_THREADS + 3 }
     ensures { IsTold result stop (number + 1) }
 {
     match stop {
@@ -143,7 +139,6 @@ impl<'a> Reader<'a> {
         ensures lines { IfOk result (λ s. AreLinesOf (so_far self.entry.stage self.entry.calls) s) }
     {
         let Reader {
-            alloc,
             number,
             stage,
             calls,
@@ -154,7 +149,7 @@ impl<'a> Reader<'a> {
                 line: 1,
                 what: What::Head,
             })),
-            Stage::Ended(shape) => script_of_one(alloc, shape, calls.into_vec()),
+            Stage::Ended(shape) => Ok(script_of(shape, calls.into_vec())),
             _ => Err(told(number, Stop::Fault(What::NoEnd))),
         }
     }

@@ -1,5 +1,6 @@
-ghost use Rattle.std.specs.Prelude.{◌≡◌, ◌++◌, ◌∷◌, [], Some, None, map, true, false, OnOk, IfOk, IfErr};
-ghost use Rattle.oak_script.specs.Grammar.{call_words, oak_line, thread_line, end_line};
+ghost use Rattle.std.specs.Prelude.{◌≡◌, ◌<◌, ◌++◌, ◌∷◌, [], Some, None, map, length, true, false, OnOk, IfOk, IfErr};
+ghost use Rattle.std.specs.List.{flat_map};
+ghost use Rattle.oak_script.specs.Grammar.{oak_line, end_line, thread_lines};
 ghost use Rattle.oak_script.specs.ShapeLine.{shape_line, SizesFit};
 ghost use Rattle.oak_script.specs.Forms.{is_thread};
 ghost use Rattle.oak_script.specs.Faults.{faults};
@@ -25,16 +26,18 @@ pub enum Stage {
     Ended(Option<Shape>),
 }
 
-/// Takes a line behind the `thread` line. Whether it was `end`. Whether a `shape` line came makes no difference.
+/// Takes a line behind the first `thread` line. Whether it was `end`. Whether a `shape` line came makes no difference.
 fn take_open(alloc: Global, calls: &mut Calls, words: &[&[u8]]) -> Result<bool, Stop>
+    requires some { 0 < length calls.old }
     ensures fine { OnOk result (faults (past_at (Stage.Opened None) calls.old) (Some (map (λ w. w.now) words.now)) ≡ []) }
-    ensures more { IfOk result (λ e. e ≡ false → map call_words calls.new ≡ map call_words calls.old ++ map (λ w. w.now) words.now ∷ []) }
+    ensures more { IfOk result (λ e. e ≡ false → flat_map thread_lines calls.new ≡ flat_map thread_lines calls.old ++ map (λ w. w.now) words.now ∷ []) }
     ensures ended { IfOk result (λ e. e ≡ true → (calls.new ≡ calls.old) × (map (λ w. w.now) words.now ≡ end_line)) }
-    ensures fit { IfOk result (λ e. e ≡ false → AreCalls calls.new) }
+    ensures fit { IfOk result (λ e. e ≡ false → (0 < length calls.new) × AreCalls calls.new) }
     ensures err { IfErr result (λ e. Stops e (faults (past_at (Stage.Opened None) calls.old) (Some (map (λ w. w.now) words.now)))) }
 {
     if is_thread(words) {
-        return Err(Stop::Fault(What::NotBuilt));
+        calls.begin_thread(alloc)?;
+        return Ok(false);
     }
     if is_end(words) {
         return Ok(true);
@@ -62,13 +65,15 @@ fn shape_in(words: &[&[u8]]) -> Result<Shape, Stop>
 }
 
 /// Takes line 2, which is a `shape` line or `thread`.
-fn take_second(words: &[&[u8]]) -> Result<Stage, Stop>
+fn take_second(alloc: Global, calls: &mut Calls, words: &[&[u8]]) -> Result<Stage, Stop>
+    requires { calls.old ≡ [] }
     ensures fine { OnOk result (faults (past_at Stage.Headed []) (Some (map (λ w. w.now) words.now)) ≡ []) }
-    ensures grown { IfOk result (λ next. so_far next [] ≡ oak_line ∷ map (λ w. w.now) words.now ∷ []) }
-    ensures fit { IfOk result (λ next. CallsFit next []) }
+    ensures grown { IfOk result (λ next. so_far next calls.new ≡ oak_line ∷ map (λ w. w.now) words.now ∷ []) }
+    ensures fit { IfOk result (λ next. CallsFit next calls.new) }
     ensures err { IfErr result (λ e. Stops e (faults (past_at Stage.Headed []) (Some (map (λ w. w.now) words.now)))) }
 {
     if is_thread(words) {
+        calls.begin_thread(alloc)?;
         return Ok(Stage::Opened(None));
     }
     let shape = shape_in(words)?;
@@ -96,9 +101,10 @@ pub fn take_line(
                 Err(Stop::Fault(What::Head))
             }
         }
-        Stage::Headed => take_second(words),
+        Stage::Headed => take_second(alloc, calls, words),
         Stage::Shaped(shape) => {
             if is_thread(words) {
+                calls.begin_thread(alloc)?;
                 Ok(Stage::Opened(Some(shape)))
             } else {
                 Err(Stop::Fault(What::Word))

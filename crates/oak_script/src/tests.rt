@@ -40,7 +40,14 @@ fn tells_the_first_fault(rt: HostRuntime) -> Result<(), Fail> {
         ("oak 1\nend\n", 2, What::Word),
         ("oak 1\nthread x\nend\n", 2, What::Word),
         ("oak 1\nthread\nend\nend\n", 4, What::AfterEnd),
-        ("oak 1\nthread\nthread\nend\n", 3, What::NotBuilt),
+        ("oak 1\nthread\nend\nthread\nend\n", 4, What::AfterEnd),
+        ("oak 1\nthread\nthread x\nend\n", 3, What::Word),
+        (
+            "oak 1\nthread\nget 6b\nthread\nget 6b3\nend\n",
+            5,
+            What::Hex,
+        ),
+        ("oak 1\nthread\nget 6b\nthread\n", 5, What::NoEnd),
         ("oak 1\nthread\nput 6B 01\nend\n", 3, What::Hex),
         ("oak 1\nthread\nput 6b  01\nend\n", 3, What::Word),
         ("oak 1\nthread\nput 6b3 01\nend\n", 3, What::Hex),
@@ -160,7 +167,6 @@ fn tells_the_first_fault_of_a_shape(rt: HostRuntime) -> Result<(), Fail> {
             What::Word,
         ),
         ("thread", "shape 4 4 16 2 0 0 0\n", 3, What::Word),
-        ("shape 4 4 16 2 0 0 0", "thread\n", 4, What::NotBuilt),
     ];
     for (shape, behind, line, what) in faulty {
         let text = format!(in alloc; "oak 1\n{shape}\n{behind}thread\nend\n")?;
@@ -214,5 +220,151 @@ fn reads_the_shape(rt: HostRuntime) -> Result<(), Fail> {
         let want = Shape::make(2, chunks, entries, headers, blocks)?;
         assert_eq!(rt; shape_of(alloc, text.as_bytes())?, Some(want), "{text:?}");
     }
+    Ok(())
+}
+
+#[test]
+fn tells_one_thread_too_many(rt: HostRuntime) -> Result<(), Fail> {
+    let alloc = rt.alloc();
+    let shaped = "oak 1\nshape 4 4 16 2 0 0 0\n";
+    // What stands before the threads, a thread, how many of them there are, and what stands behind them.
+    let many = [
+        ("oak 1\n", "", 0, "end\n", Some((2, What::Word))),
+        (shaped, "", 0, "end\n", Some((3, What::Word))),
+        ("oak 1\n", "thread\n", 2, "end\n", None),
+        ("oak 1\n", "thread\n", 16, "end\n", None),
+        ("oak 1\n", "thread\n", 16, "get 6b\nend", None),
+        (shaped, "thread\n", 16, "end\n", None),
+        (
+            "oak 1\n",
+            "thread\n",
+            17,
+            "end\n",
+            Some((18, What::Threads)),
+        ),
+        (
+            "oak 1\n",
+            "thread\n",
+            20,
+            "end\n",
+            Some((18, What::Threads)),
+        ),
+        (shaped, "thread\n", 17, "end\n", Some((19, What::Threads))),
+        ("oak 1\n", "thread\nget 6b\n", 16, "end\n", None),
+        (
+            "oak 1\n",
+            "thread\nget 6b\n",
+            17,
+            "end\n",
+            Some((34, What::Threads)),
+        ),
+        (
+            "oak 1\n",
+            "thread\n",
+            16,
+            "thread \nend\n",
+            Some((18, What::Word)),
+        ),
+        (
+            "oak 1\n",
+            "thread\n",
+            16,
+            "thread",
+            Some((18, What::Threads)),
+        ),
+        ("oak 1\n", "thread\n", 16, "", Some((18, What::NoEnd))),
+        (
+            "oak 1\n",
+            "thread\n",
+            16,
+            "end\nthread\n",
+            Some((19, What::AfterEnd)),
+        ),
+    ];
+    for (front, piece, times, back, fault) in many {
+        let text = repeated(alloc, front, piece, times, back)?;
+        let want = fault.map(|(line, what)| ScriptFault { line, what });
+        assert_eq!(rt;
+            told(alloc, &text)?,
+            want,
+            "{front:?}, {times} times {piece:?}, {back:?}"
+        );
+    }
+    Ok(())
+}
+
+#[test]
+fn counts_the_calls_of_all_threads(rt: HostRuntime) -> Result<(), Fail> {
+    let alloc = rt.alloc();
+    // The calls of two threads: a line and how often it stands in the one, and the same of the other.
+    let many = [
+        ("get 6b\n", 131_072, "get 6b\n", 131_072, None),
+        (
+            "get 6b\n",
+            131_072,
+            "get 6b\n",
+            131_073,
+            Some((262_148, What::Calls)),
+        ),
+        ("get 6b\n", 262_144, "get 6b\n", 0, None),
+        (
+            "get 6b\n",
+            262_144,
+            "look a\n",
+            1,
+            Some((262_148, What::Calls)),
+        ),
+        ("scan - -\n", 16, "back - -\n", 16, None),
+        ("scan - -\n", 16, "back - -\n", 17, Some((36, What::Scans))),
+        ("back - -\n", 32, "scan - -\n", 1, Some((36, What::Scans))),
+    ];
+    for (first, before, second, behind, fault) in many {
+        let mut text = repeated(alloc, "oak 1\nthread\n", first, before, "thread\n")?;
+        text.extend_from_slice(&repeated(alloc, "", second, behind, "end\n")?)?;
+        let want = fault.map(|(line, what)| ScriptFault { line, what });
+        assert_eq!(rt;
+            told(alloc, &text)?,
+            want,
+            "{before} times {first:?}, {behind} times {second:?}"
+        );
+    }
+    Ok(())
+}
+
+/// How many calls each thread of the script that a text is has, or none where it is no script.
+fn calls_of(alloc: Global, text: &[u8]) -> Result<Option<Vec<usize>>, AllocError> {
+    match read_script(alloc, text) {
+        Ok(script) => {
+            let mut counts = Vec::new(alloc);
+            for calls in script.threads.as_slice() {
+                counts.push(calls.len())?;
+            }
+            Ok(Some(counts))
+        }
+        Err(NoScript::Fault(_)) => Ok(None),
+        Err(NoScript::OutOfMemory) => Err(AllocError),
+    }
+}
+
+#[test]
+fn gives_each_thread_its_calls(rt: HostRuntime) -> Result<(), Fail> {
+    let alloc = rt.alloc();
+    let text = b"oak 1\nthread\nput 61 01\nget 61\nthread\nthread\nremove 61\nend\n";
+    let counts = [2, 0, 1].to_vec(alloc)?;
+    assert_eq!(rt; calls_of(alloc, text)?, Some(counts));
+    let shape = Shape::make(4, 256, 64, 8_192, [16_384, 4_096, 1_024, 512])?;
+    assert_eq!(rt; shape_of(alloc, text)?, Some(shape));
+
+    let text = repeated(
+        alloc,
+        "oak 1\nshape 9 8 7 6 5 4 3\n",
+        "thread\nget 6b\n",
+        16,
+        "end\n",
+    )?;
+    let counts = vec![in alloc; 1; 16]?;
+    assert_eq!(rt; calls_of(alloc, &text)?, Some(counts));
+    let shape = Shape::make(17, 9, 8, 7, [6, 5, 4, 3])?;
+    assert_eq!(rt; shape_of(alloc, &text)?, Some(shape));
     Ok(())
 }

@@ -12,7 +12,7 @@ use Rattle.oak_script.proofs.LawLemmas.{script_not_fault}
 use Rattle.oakmap.specs.declared.status.TheConstants.{GREATEST_INPUT}
 use Rattle.oakmap.specs.declared.status.Status.{Status}
 use Rattle.oakmap.specs.declared.status.Status.TheVariants.{Done, Usage, NoScript, ReadFault, WriteFault, NoMemory}
-use Rattle.oakmap.specs.Ended.{Input, Output, Ended, Unrisen}
+use Rattle.oakmap.specs.Ends.{Input, Output, Ends, Unrisen, code_of}
 
 pub calm : (before now : ℕ) → Unrisen before now → Rose before now → ⊥
 calm before now u r = omega (arith, u.0, u.1)
@@ -37,13 +37,13 @@ faultless : (script : Script) (input text : List ℕ) (f : ScriptFault) → Spel
 faultless script input text f spelled same fault = script_not_fault text script f spelled (subst (λ (t : List ℕ). IsFirstFault t f) same fault)
 
 pub complete : (s : Status) (source source_after : Input) (sink sink_after : Output) (text : List ℕ) (script : Script)
-    → Ended s true source source_after sink sink_after → source.left ≡ Some text → length text ≤ GREATEST_INPUT → Spells text script
-    → Unrisen source.faults source_after.faults → Unrisen sink.faults sink_after.faults → (s ≡ Done) ⊎ (s ≡ NoMemory)
-complete Done source source_after sink sink_after text script e known short spelled u v = inl refl
+    → Ends s true source source_after sink sink_after → source.left ≡ Some text → length text ≤ GREATEST_INPUT → Spells text script
+    → Unrisen source.faults source_after.faults → Unrisen sink.faults sink_after.faults → (code_of s ≡ 0) ⊎ (code_of s ≡ 6)
+complete (Done closed) source source_after sink sink_after text script e known short spelled u v = inl refl
 complete NoMemory source source_after sink sink_after text script e known short spelled u v = inr refl
 complete Usage source source_after sink sink_after text script e known short spelled u v = absurd cc
 complete ReadFault source source_after sink sink_after text script e known short spelled u v = absurd (calm _ _ u e.1)
-complete WriteFault source source_after sink sink_after text script e known short spelled u v = absurd (calm _ _ v e.1.2.0)
+complete (WriteFault closed) source source_after sink sink_after text script e known short spelled u v = absurd (calm _ _ v e.1.2.0)
 complete NoScript source source_after sink sink_after text script e known short spelled u v =
     elim e.1 [
       | inl long ↦ absurd (not_past source.left source_after.left text long.0.bytes known short long.0.past)

@@ -3,7 +3,7 @@ use Rattle.std.proofs.Common.{◌≡◌, ℕ, ◌<◌, List, length, Some, refl,
 use Rattle.outside.specs.Whole.{ReadsToEnd}
 use Rattle.oakmap.specs.declared.status.TheConstants.{GREATEST_INPUT}
 use Rattle.oakmap.specs.declared.status.Status.TheVariants.{Done, Usage, NoScript, ReadFault, WriteFault, NoMemory}
-use Rattle.oakmap.specs.Ended.{Input}
+use Rattle.oakmap.specs.Ends.{Input}
 use Rattle.oakmap.specs.InputLength.{LengthIsAccepted, LengthIsRefused}
 use Rattle.oakmap.proofs.Complete.{calm, all_read, not_past}
 
@@ -25,8 +25,8 @@ pub refused : LengthIsRefused
 refused NoMemory source source_after sink sink_after text e known long calmly = inl refl
 refused Usage source source_after sink sink_after text e known long calmly = absurd cc
 refused ReadFault source source_after sink sink_after text e known long calmly = absurd (calm _ _ calmly e.1)
-refused Done source source_after sink sink_after text e known long calmly = absurd (too_short source source_after text e.1.0 known long e.1.1)
-refused WriteFault source source_after sink sink_after text e known long calmly = absurd (too_short source source_after text e.1.0 known long e.1.1)
+refused (Done closed) source source_after sink sink_after text e known long calmly = absurd (too_short source source_after text e.1.0 known long e.1.1)
+refused (WriteFault closed) source source_after sink sink_after text e known long calmly = absurd (too_short source source_after text e.1.0 known long e.1.1)
 refused NoScript source source_after sink sink_after text e known long calmly =
     elim e.1 [
       | inl past ↦ inr (refl, record { long = past.0; says = past.1 })

@@ -3,7 +3,7 @@ use Rattle.std.specs.Prelude.{◌≡◌, ◌<◌, ◌≤◌, ◌⊎◌, ℕ, Boo
 use Rattle.oakmap.specs.declared.status.Status.{Status}
 use Rattle.oakmap.specs.declared.status.Status.TheVariants.{NoScript, NoMemory}
 use Rattle.oakmap.specs.Messages.{long_line}
-use Rattle.oakmap.specs.Ended.{Input, Output, Ended, Answers, TooLong, Says, Unrisen}
+use Rattle.oakmap.specs.Ends.{Input, Output, Ends, Answers, TooLong, Says, Unrisen}
 
 -- the program did not take the input for its length, and said so
 pub record SaysTooLong (source source_after : Input) (sink sink_after : Output) : Type 0 where
@@ -13,10 +13,10 @@ pub record SaysTooLong (source source_after : Input) (sink sink_after : Output) 
 -- an input of at most 16,777,216 bytes that is refused has a fault in its text
 abbrev pub LengthIsAccepted : Type 0
 LengthIsAccepted = (run : Bool) (source source_after : Input) (sink sink_after : Output) (text : List ℕ)
-    → Ended NoScript run source source_after sink sink_after → source.left ≡ Some text → length text ≤ 16777216 → Answers NoScript source source_after sink sink_after
+    → Ends NoScript run source source_after sink sink_after → source.left ≡ Some text → length text ≤ 16777216 → Answers NoScript source source_after sink sink_after
 
 -- an input of more is refused for its length, unless memory runs out or the source fails
 abbrev pub LengthIsRefused : Type 0
 LengthIsRefused = (s : Status) (source source_after : Input) (sink sink_after : Output) (text : List ℕ)
-    → Ended s true source source_after sink sink_after → source.left ≡ Some text → 16777216 < length text → Unrisen source.faults source_after.faults
+    → Ends s true source source_after sink sink_after → source.left ≡ Some text → 16777216 < length text → Unrisen source.faults source_after.faults
     → (s ≡ NoMemory) ⊎ ((s ≡ NoScript) × SaysTooLong source source_after sink sink_after)

@@ -1,4 +1,4 @@
 pub mod Messages
 pub mod RunOf
-pub mod Ended
+pub mod Ends
 pub mod InputLength

@@ -1,25 +1,31 @@
--- The texts of a script's runs.
+-- The texts of a script's runs, each beside the map that was closed behind it.
 use Rattle.std.specs.Prelude.{◌≡◌, ℕ, List}
 use Rattle.oak_model.specs.declared.replies.Pair.{Pair}
 use Rattle.oak_model.specs.declared.replies.Reply.{Reply}
-use Rattle.oak_model.specs.declared.shapes.Usage.{Usage}
 use Rattle.oak_model.specs.History.{place_of}
+use Rattle.oak_core.specs.declared.closing.Closed.{Closed}
 use Rattle.oak_script.specs.declared.scripts.Script.{Script}
 use Rattle.oak_script.specs.Grammar.{Spells}
+use Rattle.oak_script.specs.Places.{Places}
 use Rattle.oak_script.specs.Text.{run_text}
-use Rattle.oak_run.specs.ClosedRuns.{closing_of}
-use Rattle.oak_run.specs.LoneRun.{RunsScript}
+use Rattle.oak_run.specs.ClosedRuns.{closed_usage, closing_of}
+use Rattle.oak_run.specs.ScriptRun.{RunsScript}
 
--- The text is that of a run of this script over a map of its shape. The places are those of the replies' numbers in the histories of the closed map.
-pub record PrintsRun (script : Script) (text : List ℕ) : Type 0 where
+-- for a key and a number, how many writes of the key's history in this map have a stamp of at most the number
+abbrev pub places_in : Closed → Places
+places_in closed k at = place_of ((closing_of closed).history k) at
+
+-- The text is that of a run of this script over the map that was closed behind it: of replies and last pairs that fit it, with
+-- the places of its histories, and with what is used of it.
+pub record PrintsRun (script : Script) (closed : Closed) (text : List ℕ) : Type 0 where
   pub said : List (List Reply)
   pub finals : List Pair
-  pub used : Usage
-  pub runs : RunsScript script said finals used
-  pub printed : text ≡ run_text (λ k at. place_of ((closing_of runs.run.closed).history k) at) script.threads said finals used script.shape
+  pub computed : List ℕ
+  pub runs : RunsScript script said finals computed closed
+  pub printed : text ≡ run_text (places_in closed) script.threads said finals (closed_usage closed) script.shape
 
--- the input is a script's text, and the text is that of a run of this script
-pub record IsRunOf (input text : List ℕ) : Type 0 where
+-- the input is a script's text, and the text is that of a run of this script over the closed map
+pub record IsRunOf (closed : Closed) (input text : List ℕ) : Type 0 where
   pub script : Script
   pub spelled : Spells input script
-  pub run : PrintsRun script text
+  pub run : PrintsRun script closed text

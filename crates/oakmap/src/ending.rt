@@ -2,56 +2,71 @@ ghost use Rattle.std.specs.Prelude.{◌≡◌, ◌<◌, ◌≤◌, ◌⊎◌, �
 ghost use Rattle.std.specs.List.{AllByRecursion};
 ghost use Rattle.std.specs.String.{string_bytes};
 ghost use Rattle.std.specs.Io.KnownBytes.{Keeps};
+ghost use Rattle.oak_core.specs.declared.closing.Closed.{Closed};
 ghost use Rattle.oak_script.specs.declared.limits.TheConstants.{GREATEST_THREADS};
 ghost use Rattle.oak_script.specs.declared.scripts.Script.{Script};
 ghost use Rattle.oak_script.specs.Faults.{IsFirstFault};
 ghost use Rattle.oak_script.specs.Grammar.{IsScript, Spells};
+ghost use Rattle.oak_run.specs.ScriptRun.{RunsScript};
 ghost use Rattle.oakmap.specs.declared.status.Status.{Status};
 ghost use Rattle.oakmap.specs.Messages.{script_fault_line};
 ghost use Rattle.oakmap.specs.RunOf.{PrintsRun};
-ghost use Rattle.oakmap.specs.Ended.{Input, Output, Unrisen, Ended, Answered, Says, code_of, is_run};
+ghost use Rattle.oakmap.specs.Ends.{Input, Output, Unrisen, Ends, Answered, Says, closed_of, code_of, is_run};
 
+use crate::ended::Ended;
 use crate::status::{GREATEST_INPUT, Status};
+use oak_core::Closed;
 use oak_model::OutOfMemory;
-use oak_run::run_script;
+use oak_run::{Ran, run_script};
 use oak_script::{NoScript, Script, ScriptFault, print_run, read_script};
-use outside::{ReadStop, Sink, Source, read_whole, write_whole};
+use outside::{Gate, ReadStop, Sink, Source, read_whole, write_whole};
 use std::alloc::{AllocError, Global};
 use std::sync::Wait;
+use std::thread::Threads;
 use value_ops::Recipe;
 
-/// Runs the command that the words name, and answers the status of the process: 0 where the text of a
-/// run of the script that came, over a map of its shape, was written; 2 exactly where the words are not
-/// the one word `run`; 3 exactly where the input is no script or longer than 16,777,216 bytes; 4 and 5
-/// only where the source, or the sink while the run's text was written, counted a fault; 6 where no
-/// memory was found. With 2, 3 and 4 one line says why. A thread of the script computes by one of the
-/// recipes.
-pub fn top<R: Wait + AllocGlobal, S: Source, K: Sink>(
+/// Runs the command that the words name: the threads of the script that came, beside each other over one map
+/// of its shape. Thread i, from 1 on, computes by the i-th recipe, and asks the gate before each of its calls
+/// and once behind the last. The answer has the status of the process:
+///
+/// - 0: the run's text was written. Its replies, with their places, and its final map fit the closed map, which is
+///   answered too, and so do the used numbers.
+/// - 2: exactly where the words are not the one word `run`.
+/// - 3: exactly where the input is no script, or longer than 16,777,216 bytes.
+/// - 4: only where the source counted a fault.
+/// - 5: only where the sink counted a fault while the run's text was written. Of a text as with 0, some first bytes
+///   or none were written, and the closed map is answered too.
+/// - 6: no memory was found, and nothing was written.
+///
+/// With 2, 3 and 4 one line says why.
+pub fn top<R: Threads + Wait + AllocGlobal + Sync, S: Source, K: Sink, G: Gate>(
     rt: &R,
     words: &[String],
     source: &mut S,
     sink: &mut K,
+    gate: &G,
     recipes: Vec<Box<dyn Recipe + Send>>,
-) -> u8
+) -> Ended
     requires enough { GREATEST_THREADS ≤ length recipes.items }
     requires counts { AllByRecursion (λ r. calls r < 2 ^ 63) recipes.items }
-    ensures { (s : Status) × (result ≡ code_of s) × Ended s (is_run (map (λ w. string_bytes w) words.now))
+    ensures { (s : Status) × (result.status ≡ code_of s) × (result.closed ≡ closed_of s) × Ends s (is_run (map (λ w. string_bytes w) words.now))
         (record { left = S.left source.old; faults = S.faults source.old }) (record { left = S.left source.new; faults = S.faults source.new })
         (record { written = K.written sink.old; faults = K.faults sink.old }) (record { written = K.written sink.new; faults = K.faults sink.new }) }
 {
-    run(rt, words, source, sink, recipes).code()
+    run(rt, words, source, sink, gate, recipes).told()
 }
 
-fn run<R: Wait + AllocGlobal, S: Source, K: Sink>(
+fn run<R: Threads + Wait + AllocGlobal + Sync, S: Source, K: Sink, G: Gate>(
     rt: &R,
     words: &[String],
     source: &mut S,
     sink: &mut K,
+    gate: &G,
     recipes: Vec<Box<dyn Recipe + Send>>,
 ) -> Status
     requires enough { GREATEST_THREADS ≤ length recipes.items }
     requires counts { AllByRecursion (λ r. calls r < 2 ^ 63) recipes.items }
-    ensures { Ended result (is_run (map (λ w. string_bytes w) words.now))
+    ensures { Ends result (is_run (map (λ w. string_bytes w) words.now))
         (record { left = S.left source.old; faults = S.faults source.old }) (record { left = S.left source.new; faults = S.faults source.new })
         (record { written = K.written sink.old; faults = K.faults sink.old }) (record { written = K.written sink.new; faults = K.faults sink.new }) }
 {
@@ -71,7 +86,7 @@ fn run<R: Wait + AllocGlobal, S: Source, K: Sink>(
         }
         Err(ReadStop::OutOfMemory) => return Status::NoMemory,
     };
-    answer(rt, &text, sink, recipes)
+    answer(rt, &text, sink, gate, recipes)
 }
 
 /// Whether the words are the one word `run`.
@@ -92,10 +107,11 @@ fn say<K: Sink>(sink: &mut K, line: &[u8])
 }
 
 /// Answers an input that was read to its end.
-fn answer<R: Wait + AllocGlobal, K: Sink>(
+fn answer<R: Threads + Wait + AllocGlobal + Sync, K: Sink, G: Gate>(
     rt: &R,
     text: &[u8],
     sink: &mut K,
+    gate: &G,
     recipes: Vec<Box<dyn Recipe + Send>>,
 ) -> Status
     requires enough { GREATEST_THREADS ≤ length recipes.items }
@@ -103,7 +119,7 @@ fn answer<R: Wait + AllocGlobal, K: Sink>(
     ensures { Answered result text.now (record { written = K.written sink.old; faults = K.faults sink.old }) (record { written = K.written sink.new; faults = K.faults sink.new }) }
 {
     match read_script(rt.alloc(), text) {
-        Ok(script) => put_run(rt, &script, sink, recipes),
+        Ok(script) => put_run(rt, &script, sink, gate, recipes),
         Err(NoScript::Fault(fault)) => refuse(rt.alloc(), fault, sink),
         Err(NoScript::OutOfMemory) => Status::NoMemory,
     }
@@ -131,10 +147,11 @@ fn fault_text(alloc: Global, fault: ScriptFault) -> Result<String, AllocError>
 }
 
 /// Runs a script, and writes the text of the run.
-fn put_run<R: Wait + AllocGlobal, K: Sink>(
+fn put_run<R: Threads + Wait + AllocGlobal + Sync, K: Sink, G: Gate>(
     rt: &R,
     script: &Script,
     sink: &mut K,
+    gate: &G,
     recipes: Vec<Box<dyn Recipe + Send>>,
 ) -> Status
     requires script { IsScript script.now }
@@ -142,34 +159,50 @@ fn put_run<R: Wait + AllocGlobal, K: Sink>(
     requires counts { AllByRecursion (λ r. calls r < 2 ^ 63) recipes.items }
     ensures { (input : List ℕ) → Spells input script.now → Answered result input (record { written = K.written sink.old; faults = K.faults sink.old }) (record { written = K.written sink.new; faults = K.faults sink.new }) }
 {
-    let text = match run_text(rt, script, recipes) {
-        Ok(text) => text,
+    let (text, closed) = match run_text(rt, script, gate, recipes) {
+        Ok(made) => made,
         Err(_) => return Status::NoMemory,
     };
     match write_whole(sink, &text) {
-        Ok(()) => Status::Done,
-        Err(_) => Status::WriteFault,
+        Ok(()) => Status::Done(closed),
+        Err(_) => Status::WriteFault(closed),
     }
 }
 
-/// The text of a run of the script.
-fn run_text<R: Wait + AllocGlobal>(
+/// The text of a run of the script, and the map of the run, which was closed behind it.
+fn run_text<R: Threads + Wait + AllocGlobal + Sync, G: Gate>(
     rt: &R,
     script: &Script,
+    gate: &G,
     recipes: Vec<Box<dyn Recipe + Send>>,
-) -> Result<Vec<u8>, OutOfMemory>
+) -> Result<(Vec<u8>, Closed), OutOfMemory>
     requires script { IsScript script.now }
     requires enough { GREATEST_THREADS ≤ length recipes.items }
     requires counts { AllByRecursion (λ r. calls r < 2 ^ 63) recipes.items }
-    ensures { IfOk result (λ v. PrintsRun script.now v.items) }
+    ensures { IfOk result (λ t. PrintsRun script.now t.1 t.0.items) }
 {
-    let ran = run_script(rt, script, recipes)?;
-    print_run(rt.alloc(), script, &ran.replies, &ran.finals, &ran.usage)
+    let ran = run_script(rt, script, gate, recipes)?;
+    let text = text_of(rt.alloc(), script, &ran)?;
+    Ok((text, ran.closed))
+}
+
+/// The text of a run that came to an end.
+pub(crate) fn text_of(alloc: Global, script: &Script, ran: &Ran) -> Result<Vec<u8>, OutOfMemory>
+    requires run { RunsScript script.now (map (λ v. v.items) ran.now.replies.items) ran.now.finals.items ran.now.recipe_calls.items ran.now.closed }
+    ensures { IfOk result (λ v. PrintsRun script.now ran.now.closed v.items) }
+{
+    print_run(
+        alloc,
+        script,
+        &ran.replies,
+        &ran.finals,
+        &ran.closed.usage(),
+    )
 }
 
 /// A script that comes without a fault is run, unless memory runs out.
 pub fn completeness()
     ensures { (s : Status) (source source_after : Input) (sink sink_after : Output) (text : List ℕ) (script : Script)
-        → Ended s true source source_after sink sink_after → source.left ≡ Some text → length text ≤ GREATEST_INPUT → Spells text script
-        → Unrisen source.faults source_after.faults → Unrisen sink.faults sink_after.faults → (s ≡ Status.Done) ⊎ (s ≡ Status.NoMemory) }
+        → Ends s true source source_after sink sink_after → source.left ≡ Some text → length text ≤ GREATEST_INPUT → Spells text script
+        → Unrisen source.faults source_after.faults → Unrisen sink.faults sink_after.faults → (code_of s ≡ 0) ⊎ (code_of s ≡ 6) }
 {}

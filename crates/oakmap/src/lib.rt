@@ -1,7 +1,8 @@
-//! The program `oakmap` as a library: `oakmap run` reads a script from standard input, runs it over the
-//! map, and prints every reply, the final map and what the map's table has in use.
+//! The program `oakmap` as a library: `oakmap run` reads a script from standard input, runs its
+//! threads beside each other over one map, and prints every reply, the final map and what the map's table has in use.
 #![tactic(auto)]
 
+mod ended;
 mod ending;
 mod lengths;
 mod process;
@@ -10,6 +11,7 @@ mod status;
 #[cfg(test)]
 mod tests;
 
+pub use ended::Ended;
 pub use ending::{completeness, top};
 pub use lengths::length_limit;
 pub use process::program;

@@ -1,28 +1,30 @@
 ghost use Rattle.std.specs.Prelude.{◌≡◌, Bool};
 ghost use Rattle.std.specs.Process.{exit_status};
 ghost use Rattle.oakmap.specs.declared.status.Status.{Status};
-ghost use Rattle.oakmap.specs.Ended.{Input, Output, Ended, code_of};
+ghost use Rattle.oakmap.specs.Ends.{Input, Output, Ends, code_of};
 
 use crate::ending::top;
 use crate::recipes::add;
 use crate::status::Status;
 use oak_script::GREATEST_THREADS;
-use outside::{Sink, Source};
+use outside::{Gate, Sink, Source};
 use std::env::Env;
 use std::io;
 use std::process::ExitCode;
 use std::sync::Wait;
+use std::thread::Threads;
 use value_ops::StepRecipe;
 
-/// The whole program: [`top`] on the words behind the program's name, with a recipe for each thread that a
-/// script may have, and its status as that of the process. A word that is not UTF-8 is none that the program
+/// The whole program: [`top`] on the words behind the program's name, with this gate and a recipe for each
+/// thread that a script may have, and its status as that of the process. A word that is not UTF-8 is none that the program
 /// takes, and ends with 2; where there is no memory for the words or the recipes it ends with 6.
-pub fn program<R: Wait + Env + AllocGlobal, S: Source, K: Sink>(
+pub fn program<R: Threads + Wait + Env + AllocGlobal + Sync, S: Source, K: Sink, G: Gate>(
     rt: &R,
     source: &mut S,
     sink: &mut K,
+    gate: &G,
 ) -> ExitCode
-    ensures { (s : Status) × (run : Bool) × (exit_status result ≡ code_of s) × Ended s run
+    ensures { (s : Status) × (run : Bool) × (exit_status result ≡ code_of s) × Ends s run
         (record { left = S.left source.old; faults = S.faults source.old }) (record { left = S.left source.new; faults = S.faults source.new })
         (record { written = K.written sink.old; faults = K.faults sink.old }) (record { written = K.written sink.new; faults = K.faults sink.new }) }
 {
@@ -40,7 +42,7 @@ pub fn program<R: Wait + Env + AllocGlobal, S: Source, K: Sink>(
             return ExitCode::from(Status::NoMemory.code());
         }
     }
-    ExitCode::from(top(rt, &words, source, sink, recipes))
+    ExitCode::from(top(rt, &words, source, sink, gate, recipes).status)
 }
 
 /// The words behind the program's name.

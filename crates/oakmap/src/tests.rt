@@ -4,18 +4,22 @@ ghost use Rattle.std.specs.List.{AllByRecursion};
 ghost use Rattle.oak_script.specs.declared.limits.TheConstants.{GREATEST_THREADS};
 
 mod answers;
+mod counting;
+mod gates;
 mod small_shapes;
 mod statuses;
+mod threads;
 mod words;
 
 use crate::ending::top;
 use crate::recipes::add;
 use oak_script::GREATEST_THREADS;
-use outside::{MemorySink, SureSource};
+use outside::{FreeGate, Gate, MemorySink, Source, SureSource};
 use std::alloc::Global;
 use std::process::Abort;
 use std::sync::Wait;
 use std::test::Fail;
+use std::thread::Threads;
 use value_ops::{Recipe, StepRecipe};
 
 /// The words of a text.
@@ -54,21 +58,83 @@ fn sink_of(alloc: Global, fails: &[u64]) -> Result<MemorySink, Fail> {
     Ok(MemorySink::make(room, Vec::from_slice(alloc, fails)?))
 }
 
-/// Runs `oakmap run` on the text, and asserts the status and what was written.
-fn expect<R: Wait + AllocGlobal + Abort>(
+/// Calls the program with these words, and asserts the status, and that a map was closed exactly with 0 and 5.
+fn end<R: Threads + Wait + AllocGlobal + Abort + Sync, S: Source, G: Gate>(
+    rt: &R,
+    words: &str,
+    source: &mut S,
+    sink: &mut MemorySink,
+    gate: &G,
+    status: u8,
+) -> Result<(), Fail> {
+    let alloc = rt.alloc();
+    let words = words_in(alloc, words)?;
+    let ended = top(rt, &words, source, sink, gate, recipes_of(alloc)?);
+    assert_eq!(rt; ended.status, status);
+    assert_eq!(rt; ended.closed.is_some(), matches!(status, 0 | 5));
+    Ok(())
+}
+
+/// Runs `oakmap run` on the text under the gate, and asserts the status: what was written.
+fn written<R: Threads + Wait + AllocGlobal + Abort + Sync, G: Gate>(
+    rt: &R,
+    text: &str,
+    gate: &G,
+    status: u8,
+) -> Result<MemorySink, Fail> {
+    let alloc = rt.alloc();
+    let mut source = SureSource::make(bytes_of(alloc, text)?);
+    let mut sink = sink_of(alloc, &[])?;
+    end(rt, "run", &mut source, &mut sink, gate, status)?;
+    Ok(sink)
+}
+
+/// Runs `oakmap run` on the text under the gate, and asserts the status and what was written.
+fn expect_under<R: Threads + Wait + AllocGlobal + Abort + Sync, G: Gate>(
+    rt: &R,
+    text: &str,
+    gate: &G,
+    status: u8,
+    says: &str,
+) -> Result<(), Fail> {
+    let alloc = rt.alloc();
+    let sink = written(rt, text, gate, status)?;
+    let said = format!(in alloc; "{says}/")?;
+    let wanted = bytes_of(alloc, said.as_str())?;
+    assert_eq!(rt; sink.written(), wanted.as_slice(), "{text}");
+    Ok(())
+}
+
+/// The same under a gate that holds no thread.
+fn expect<R: Threads + Wait + AllocGlobal + Abort + Sync>(
     rt: &R,
     text: &str,
     status: u8,
     says: &str,
 ) -> Result<(), Fail> {
-    let alloc = rt.alloc();
-    let mut source = SureSource::make(bytes_of(alloc, text)?);
-    let mut sink = sink_of(alloc, &[])?;
-    let words = words_in(alloc, "run")?;
-    let ended = top(rt, &words, &mut source, &mut sink, recipes_of(alloc)?);
-    assert_eq!(rt; ended, status, "{text}");
-    let said = format!(in alloc; "{says}/")?;
-    let wanted = bytes_of(alloc, said.as_str())?;
-    assert_eq!(rt; sink.written(), wanted.as_slice(), "{text}");
-    Ok(())
+    expect_under(rt, text, &FreeGate, status, says)
+}
+
+/// What is used of a table: blocks of 16, 64, 256 and 1,024 bytes, headers, chunks.
+type Used = [u32; 6];
+
+/// The text of a run over a table of the default shape, of which this is used at the end.
+fn used_text(alloc: Global, says: &str, used: Used) -> Result<String, Fail> {
+    let [b16, b64, b256, b1024, headers, chunks] = used;
+    let text = format!(in alloc;
+        "{says}/arena/b16 {b16} 16384/b64 {b64} 4096/b256 {b256} 1024/b1024 {b1024} 512/\
+         headers {headers} 8192/chunks {chunks} 256"
+    )?;
+    Ok(text)
+}
+
+/// Runs the script, whose text has to end with the table of the default shape.
+fn expect_used<R: Threads + Wait + AllocGlobal + Abort + Sync>(
+    rt: &R,
+    text: &str,
+    says: &str,
+    used: Used,
+) -> Result<(), Fail> {
+    let says = used_text(rt.alloc(), says, used)?;
+    expect(rt, text, 0, says.as_str())
 }

@@ -2,11 +2,11 @@
 #![tactic(auto)]
 
 use oakmap::program;
-use outside::{StdSink, StdSource};
+use outside::{FreeGate, StdSink, StdSource};
 use std::process::ExitCode;
 
 fn main(rt: HostRuntime) -> ExitCode {
     let mut source = StdSource::make(rt.stdin());
     let mut sink = StdSink::make(rt.stdout());
-    program(&rt, &mut source, &mut sink)
+    program(&rt, &mut source, &mut sink, &FreeGate)
 }

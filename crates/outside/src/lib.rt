@@ -1,10 +1,12 @@
-//! Where a program's bytes come from and go to: sources and sinks that count their faults.
+//! Where a program's bytes come from and go to: sources and sinks that count their faults. And the gate
+//! that the threads of a run pass.
 //!
 //! A refusal is not taken on trust. Each object keeps a count of its faults, and a call may answer
 //! [`Failed`] only where that count rose, or stands at its last value, 2^64 - 1.
 #![tactic(auto)]
 
 mod fault_plan;
+mod gate;
 mod memory_sink;
 mod memory_source;
 mod std_sink;
@@ -20,6 +22,7 @@ ghost use Rattle.std.specs.Io.KnownBytes.{ReadConsumes};
 ghost use Rattle.outside.specs.Cause.{HasCause};
 ghost use Rattle.outside.specs.Taken.{WriteTakes};
 
+pub use gate::{FreeGate, Gate};
 pub use memory_sink::MemorySink;
 pub use memory_source::MemorySource;
 pub use std_sink::StdSink;

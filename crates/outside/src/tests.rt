@@ -1,5 +1,6 @@
 use crate::{
-    Failed, MemorySink, MemorySource, ReadStop, Sink, Source, SureSource, read_whole, write_whole,
+    Failed, FreeGate, Gate, MemorySink, MemorySource, ReadStop, Sink, Source, SureSource,
+    read_whole, write_whole,
 };
 use std::test::Fail;
 
@@ -108,5 +109,26 @@ fn bytes_are_written_whole_or_in_part(rt: HostRuntime) -> Result<(), Fail> {
         assert_eq!(rt; write_whole(&mut sink, text.as_bytes()), answer);
         assert_eq!(rt; sink.written(), written.as_bytes());
     }
+    Ok(())
+}
+
+/// Asks a gate as a thread of so many calls does. How often it was let by.
+fn passed<G: Gate>(gate: &G, thread: u32, calls: u32) -> u32 {
+    let mut count = 0;
+    for call in 0..calls {
+        gate.pass_by(thread, call + 1);
+        count = call + 1;
+    }
+    count
+}
+
+#[test]
+fn a_free_gate_lets_all_by(rt: HostRuntime) -> Result<(), Fail> {
+    let gate = FreeGate;
+    for (thread, calls) in [(1, 1), (2, 3), (16, 1_000)] {
+        assert_eq!(rt; passed(&gate, thread, calls), calls);
+    }
+    gate.pass_by(u32::MAX, u32::MAX);
+    assert_eq!(rt; gate, FreeGate);
     Ok(())
 }

@@ -343,6 +343,65 @@ headers 2 7
 chunks 1 9
 ";
 
+/// A thread that puts a value under a key of its own.
+fn put_thread(alloc: Global, key: &[u8], value: &[u8]) -> Result<Thread, OutOfMemory>
+    requires key { IsKey key.now }
+    requires value { IsValue value.now }
+    ensures { IfOk result (λ t. CallsAnswered t.calls.items t.replies.items) }
+{
+    let mut thread = Thread::new(alloc);
+    thread.add(
+        put_call(alloc, key, value)?,
+        Reply::Wrote(Wrote::New { at: 1 }),
+    )?;
+    Ok(thread)
+}
+
+const TWO_THREADS_TEXT: &str = "\
+t1.1 new @1
+t2.1 new @1
+map 2
+61 01
+62 02
+arena
+b16 4 16384
+b64 0 4096
+b256 0 1024
+b1024 0 512
+headers 2 8192
+chunks 1 256
+";
+
+#[test]
+fn prints_the_replies_of_two_threads(rt: HostRuntime) -> Result<(), Fail> {
+    let alloc = rt.alloc();
+    let first = put_thread(alloc, &[0x61], &[1])?;
+    let second = put_thread(alloc, &[0x62], &[2])?;
+    let script = Script {
+        shape: Shape::make(3, 256, 64, 8_192, [16_384, 4_096, 1_024, 512])?,
+        threads: Threads::of(vec![in alloc; first.calls, second.calls]?),
+    };
+    let replies = vec![in alloc; first.replies, second.replies]?;
+    let finals = vec![in alloc;
+        pair(alloc, &[0x61], &[1], 1)?,
+        pair(alloc, &[0x62], &[2], 1)?,
+    ]?;
+    let usage = Usage {
+        blocks: [4, 0, 0, 0],
+        headers: 2,
+        chunks: 1,
+    };
+    let text = print_run(
+        alloc,
+        &script,
+        replies.as_slice(),
+        finals.as_slice(),
+        &usage,
+    )?;
+    assert_eq!(rt; text.as_slice(), TWO_THREADS_TEXT.as_bytes());
+    Ok(())
+}
+
 #[test]
 fn prints_every_reply(rt: HostRuntime) -> Result<(), Fail> {
     let alloc = rt.alloc();

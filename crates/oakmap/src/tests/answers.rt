@@ -1,12 +1,7 @@
 //! Scripts of the default shape, each with the text of its run.
 
-use super::expect;
-use std::process::Abort;
-use std::sync::Wait;
+use super::{Used, expect, expect_used};
 use std::test::Fail;
-
-/// What is used of a table: blocks of 16, 64, 256 and 1,024 bytes, headers, chunks.
-type Used = [u32; 6];
 
 /// A script without its first two lines and its last, the text of its run up to the final map, and what is
 /// used at its end; with a slash for a line's end.
@@ -97,21 +92,6 @@ const ROWS: [(&str, &str, Used); 16] = [
         [2, 0, 0, 0, 1, 1],
     ),
 ];
-
-/// Runs the script, whose text has to end with the table of the default shape.
-fn expect_used<R: Wait + AllocGlobal + Abort>(
-    rt: &R,
-    text: &str,
-    says: &str,
-    used: Used,
-) -> Result<(), Fail> {
-    let [b16, b64, b256, b1024, headers, chunks] = used;
-    let says = format!(in rt.alloc();
-        "{says}/arena/b16 {b16} 16384/b64 {b64} 4096/b256 {b256} 1024/b1024 {b1024} 512/\
-         headers {headers} 8192/chunks {chunks} 256"
-    )?;
-    expect(rt, text, 0, says.as_str())
-}
 
 #[test]
 fn answers_with_ample_memory(rt: HostRuntime) -> Result<(), Fail> {

@@ -2,11 +2,12 @@
 
 use super::{bytes_of, sink_of};
 use crate::process::program;
-use outside::SureSource;
+use outside::{FreeGate, SureSource};
 use std::env::{Env, FillError};
 use std::process::{Abort, ExitCode};
 use std::sync::Wait;
 use std::test::Fail;
+use std::thread::Threads;
 
 /// The words with which a process was called, its name first.
 #[derive(Clone, Copy)]
@@ -16,6 +17,8 @@ struct Called<R> {
 }
 
 impl<R: Wait> Wait for Called<R> {}
+
+impl<R: Threads> Threads for Called<R> {}
 
 impl<R> Env for Called<R> {
     fn arg(&self, i: usize, buf: &mut [u8]) -> Result<usize, FillError> {
@@ -60,7 +63,7 @@ fn takes_the_words_behind_its_name(rt: HostRuntime) -> Result<(), Fail> {
         let mut source = SureSource::make(bytes_of(alloc, "oak 1/thread/end/")?);
         let mut sink = sink_of(alloc, &[])?;
         let called = Called { rt: &rt, words };
-        let ended = program(&(called, alloc), &mut source, &mut sink);
+        let ended = program(&(called, alloc), &mut source, &mut sink, &FreeGate);
         assert!(rt; ended == ExitCode::from(status));
         let wanted = bytes_of(alloc, says)?;
         assert_eq!(rt; sink.written(), wanted.as_slice());

@@ -1,9 +1,16 @@
-use Rattle.std.proofs.Common.{◌≡◌}
+use Rattle.std.proofs.Common.{◌≡◌, arith}
 use Rattle.oak_script.specs.Lines.{text_words}
 use Rattle.oak_script.specs.Reading.{so_far}
+use Rattle.oak_script.proofs.PastLemmas.{lines-few}
 use Rattle.oak_script.proofs.PlaceLemmas.{goes_on}
 use Rattle.oak_script.proofs.EndLemmas.{told_exact}
 use Rattle.oak_script.proofs.reader.read_lines.Goals as goal
+
+pub told-requires : goal.told-requires
+told-requires c =
+    let r = c.lines.reader in
+    let i = c.lines.invariant in
+    omega (arith, c.in-Err.ensures.same, i.goes.count, lines-few r.stage r.calls i.fit)
 
 pub lines-preserved : goal.lines-preserved
 lines-preserved c =

@@ -1,8 +1,12 @@
-use Rattle.std.proofs.Common.{◌≡◌, List, ℕ, ◌∷◌, map, take, rules}
+use Rattle.std.proofs.Common.{◌≡◌, List, ℕ, ◌∷◌, map, take, rules, arith}
 use denote.Ref.{Bor}
 use Rattle.oak_script.specs.Lines.{Words, words_of}
+use Rattle.oak_script.proofs.PastLemmas.{lines-few}
 use Rattle.oak_script.proofs.StepLemmas.{step_stops, step_took}
 use Rattle.oak_script.proofs.reader.Reader.step.Goals as goal
+
+pub overflow_add-self : goal.overflow_add-self
+overflow_add-self c = let s = c.args.self.now in omega (arith, c.requires.count, lines-few s.stage s.calls c.requires.fit)
 
 pub returns-in-Ok-clause-went : goal.returns-in-Ok-clause-went
 returns-in-Ok-clause-went c _ =

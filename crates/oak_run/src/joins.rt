@@ -1,0 +1,72 @@
+//! The workers' passes, joined again behind their threads.
+ghost use Rattle.std.specs.Prelude.{◌≡◌, ◌++◌, ◌∷◌, ◌&&◌, [], ⊤, IfOk, MatchBool, Some, map as mapped};
+ghost use Rattle.std.specs.List.{AllByRecursion};
+ghost use Rattle.oak_core.specs.PassState.{both_state};
+ghost use Rattle.oak_map.specs.Maps.{IsReady, state};
+ghost use Rattle.oak_run.specs.SplitPasses.{joined_passes};
+
+use crate::threads::Worker;
+use crate::worker::Answered;
+use oak_map::{MapPass, OakMap};
+use oak_model::OutOfMemory;
+use std::alloc::Global;
+
+/// Joins a worker's pass into the first, and hands on what the worker answered.
+fn join_worker(map: &OakMap, first: &mut MapPass, worker: Worker) -> Option<Answered>
+    requires ready { IsReady map.now first.old }
+    requires other { IsReady map.now worker.pass }
+    ensures ready { IsReady map.now first.new }
+    ensures joined { state first.new ≡ both_state (state first.old) (state worker.pass) }
+    ensures answered { result ≡ worker.answered }
+{
+    let Worker {
+        pass,
+        recipe: _,
+        answered,
+    } = worker;
+    map.join(first, pass);
+    answered
+}
+
+/// Adds what a worker answered to the answers. It is false where there is nothing, or no memory for it.
+fn keep(answers: &mut Vec<Answered>, answered: Option<Answered>) -> bool
+    ensures { MatchBool result (mapped (λ a. Some a) answers.new.items ≡ mapped (λ a. Some a) answers.old.items ++ answered ∷ []) ⊤ }
+{
+    match answered {
+        Some(answered) => answers.push(answered).is_ok(),
+        None => false,
+    }
+}
+
+fn both(a: bool, b: bool) -> bool
+    ensures { result ≡ a && b }
+{
+    a && b
+}
+
+/// Joins the passes of all workers, in their order, into the first, however the threads ended. The answers are
+/// those of all workers, in their order.
+pub fn join_all(
+    alloc: Global,
+    map: &OakMap,
+    first: &mut MapPass,
+    mut workers: Vec<Worker>,
+) -> Result<Vec<Answered>, OutOfMemory>
+    requires ready { IsReady map.now first.old }
+    requires each { AllByRecursion (λ w. IsReady map.now w.pass) workers.items }
+    ensures ready { IsReady map.now first.new }
+    ensures joined { state first.new ≡ joined_passes (state first.old) (mapped (λ w. state w.pass) workers.items) }
+    ensures answers { IfOk result (λ v. mapped (λ w. w.answered) workers.items ≡ mapped (λ a. Some a) v.items) }
+{
+    let mut answers = Vec::new(alloc);
+    let mut whole = true;
+    let count = workers.len();
+    for _i in 0..count {
+        let worker = workers.remove(0);
+        let answered = join_worker(map, first, worker);
+        let kept = keep(&mut answers, answered);
+        whole = both(kept, whole);
+    }
+    workers.destroy_empty();
+    if whole { Ok(answers) } else { Err(OutOfMemory) }
+}
