@@ -27,7 +27,8 @@ __attribute__((constructor)) static void begin(void) {
     failing = number ? strtoull(number, NULL, 10) : 0;
 }
 
-static int fails(void) { return ++*count == failing; }
+/* Several threads may allocate beside each other. */
+static int fails(void) { return __atomic_add_fetch(count, 1, __ATOMIC_SEQ_CST) == failing; }
 
 void *malloc(size_t size) {
     if (!next_malloc) next_malloc = (void *(*)(size_t))dlsym(RTLD_NEXT, "malloc");
