@@ -1,6 +1,6 @@
 //! Where the words of the arena lie, counted from its first word on: the bits of each class, and behind
 //! them the bytes of each class.
-ghost use Rattle.std.specs.Prelude.{◌≡◌, ◌<◌, ◌≤◌, ◌*◌, slice_index};
+ghost use Rattle.std.specs.Prelude.{◌≡◌, ◌<◌, ◌≤◌, ◌*◌};
 ghost use Rattle.oak_model.specs.Class.{class_number};
 ghost use Rattle.oak_model.specs.Counts.{below};
 ghost use Rattle.arena_core.specs.Arena.{bit_words, byte_words, block_words, arena_words};

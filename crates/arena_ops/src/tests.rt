@@ -1,8 +1,7 @@
-ghost use Rattle.std.specs.Prelude.{◌≡◌, ◌<◌, ◌+◌, suc, [], length, slice_index};
+ghost use Rattle.std.specs.Prelude.{◌≡◌, ◌<◌, suc, [], length, slice_index};
 ghost use Rattle.oak_model.specs.Class.{class_number};
 ghost use Rattle.arena_core.specs.Arena.{block_words};
 ghost use Rattle.oak_core.specs.Passes.{IsPassOf, Stays, state, key};
-ghost use Rattle.oak_core.specs.PassState.{HoldsNothing, IsAlone};
 ghost use Rattle.arena_ops.specs.Stack.{IsStack, KeepsRest};
 
 use crate::{NoBlock, give, store, take};

@@ -1,5 +1,5 @@
 //! How a key compares with that of an entry.
-ghost use Rattle.std.specs.Prelude.{◌≡◌, ℕ, ◌*◌, ◌<◌, List, [], ◌∷◌, ◌++◌, length};
+ghost use Rattle.std.specs.Prelude.{◌≡◌, ℕ, ◌*◌, ◌<◌, [], ◌∷◌, length};
 ghost use Rattle.std.specs.Ordering.{nat_cmp};
 ghost use Rattle.oak_model.specs.Key.{key_cmp};
 ghost use Rattle.chunk_ops.specs.Reads.{Reads, LoadsKey, Compares, met_block};

@@ -1,5 +1,5 @@
 //! The entry of a key.
-ghost use Rattle.std.specs.Prelude.{◌≡◌, ℕ, ◌-◌, ◌<◌, ◌≤◌, MatchOption, MatchResult};
+ghost use Rattle.std.specs.Prelude.{◌≡◌, ◌-◌, ◌<◌, ◌≤◌, MatchOption, MatchResult};
 ghost use Rattle.chunk_core.specs.LinkedEntries.{entries_in, prefix_in};
 ghost use Rattle.chunk_ops.specs.Bits.{bits};
 ghost use Rattle.chunk_ops.specs.Found.{IsAt, IsBetween, IsEntryOf, HasNot, IsFound, CountsFirst, search_loads};

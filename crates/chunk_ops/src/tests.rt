@@ -1,7 +1,7 @@
-ghost use Rattle.std.specs.Prelude.{◌≡◌, ◌<◌};
+ghost use Rattle.std.specs.Prelude.{◌<◌};
 ghost use Rattle.oak_model.specs.Key.{IsKey};
 ghost use Rattle.oak_core.specs.Passes.{IsPassOf, Stays, state, key as sizes};
-ghost use Rattle.oak_core.specs.PassState.{HoldsNothing, IsAlone};
+ghost use Rattle.oak_core.specs.PassState.{HoldsNothing};
 ghost use Rattle.chunk_ops.specs.PinRecords.{HasRoomPin};
 ghost use Rattle.chunk_ops.specs.TestStates.{HoldsAPin, IsIdleAgain};
 

@@ -1,5 +1,5 @@
 //! A table that no pass steps on any more.
-ghost use Rattle.std.specs.Prelude.{◌≡◌, ℕ, ◌<◌, length};
+ghost use Rattle.std.specs.Prelude.{◌≡◌, ◌<◌};
 ghost use Rattle.std.specs.Slots.{slots_len, IsFull};
 ghost use Rattle.oak_core.specs.Memory.{word_count};
 

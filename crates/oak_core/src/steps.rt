@@ -1,6 +1,6 @@
 //! One call for each kind of step on a word of the table. Each makes that one step by the word's
 //! number and the operand, and answers the number found; a store answers nothing.
-ghost use Rattle.std.specs.Prelude.{◌≡◌, ◌<◌, ℕ};
+ghost use Rattle.std.specs.Prelude.{◌<◌, ℕ};
 ghost use Rattle.oak_model.specs.declared.classes.Class.{Class};
 ghost use Rattle.oak_model.specs.Class.{class_number};
 ghost use Rattle.arena_core.specs.Blocks.{HoldsBlock};

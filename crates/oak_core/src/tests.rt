@@ -1,6 +1,4 @@
 ghost use Rattle.std.specs.Prelude.{◌≡◌, ◌<◌, length, slice_index};
-ghost use Rattle.std.specs.Thread.{IsSync};
-ghost use Rattle.oak_core.specs.Memory.{word_count};
 ghost use Rattle.oak_core.specs.PassState.{HoldsNothing, IsAlone};
 ghost use Rattle.oak_core.specs.Opening.{first_state};
 ghost use Rattle.oak_core.specs.Passes.{IsPassOf, Stays, state, key, call_of, scratch_of};

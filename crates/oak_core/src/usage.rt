@@ -1,5 +1,5 @@
 //! What is used of a closed table.
-ghost use Rattle.std.specs.Prelude.{◌≡◌, ◌<◌, ◌≤◌, ◌*◌, slice_index};
+ghost use Rattle.std.specs.Prelude.{◌≡◌, ◌<◌, ◌*◌, slice_index};
 ghost use Rattle.oak_core.specs.Memory.{memory, word_count};
 ghost use Rattle.oak_core.specs.Closing.{closed_key, closed_words};
 ghost use Rattle.oak_core.specs.Usage.{used_blocks, used_headers, used_chunks, usage_of, is_free, is_open};

@@ -2,7 +2,6 @@
 //! wants, and ends the loan. It is called with the pass on the map's table.
 ghost use Rattle.std.specs.Prelude.{◌≡◌, ◌<◌, IfSome, length};
 ghost use Rattle.oak_model.specs.Key.{IsKey};
-ghost use Rattle.oak_model.specs.Value.{IsValue};
 ghost use Rattle.oak_core.specs.PassState.{HoldsNothing};
 ghost use Rattle.oak_core.specs.Passes.{IsPassOf, Stays, call_of as table_call, state as table_state};
 ghost use Rattle.oak_core.specs.Scratch.{StaysButSlots};

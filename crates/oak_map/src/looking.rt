@@ -1,5 +1,4 @@
 //! A look at a key.
-ghost use Rattle.std.specs.Prelude.{◌≡◌};
 ghost use Rattle.oak_model.specs.Key.{IsKey};
 ghost use Rattle.oak_core.specs.AloneWords.{Runs};
 ghost use Rattle.oak_core.specs.Passes.{Stays};

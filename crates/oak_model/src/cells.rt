@@ -1,6 +1,5 @@
-ghost use Rattle.std.specs.Prelude.{◌≡◌, IfOk, OnOk};
+ghost use Rattle.std.specs.Prelude.{◌≡◌, IfOk};
 ghost use Rattle.std.specs.Option.{option_map};
-ghost use Rattle.oak_model.specs.Recipe.{IsArgument, recipe_result};
 ghost use Rattle.oak_model.specs.Cell.{reply_of, state_after, HasArgument};
 
 use crate::memory::OutOfMemory;

@@ -1,4 +1,4 @@
-ghost use Rattle.std.specs.Prelude.{◌≡◌, ℕ, map, bit_xor};
+ghost use Rattle.std.specs.Prelude.{◌≡◌, map, bit_xor};
 ghost use Rattle.oak_model.specs.Recipe.{IsArgument, recipe_result, add_result};
 
 /// How a compute makes the new bytes of a value from the old ones.

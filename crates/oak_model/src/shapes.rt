@@ -1,4 +1,4 @@
-ghost use Rattle.std.specs.Prelude.{◌≡◌, ◌≤◌, ◌<◌, ℕ, true, false, MatchOption, MatchResult, IsOkAnd, IfOk};
+ghost use Rattle.std.specs.Prelude.{◌≡◌, ◌<◌, true, false, MatchOption, MatchResult, IsOkAnd, IfOk};
 ghost use Rattle.oak_model.specs.Limits.{IsInLimits};
 
 use crate::classes::Class;

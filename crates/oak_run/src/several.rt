@@ -1,5 +1,5 @@
 //! A run of several threads: a pass is split off for each, and joined again behind them all.
-ghost use Rattle.std.specs.Prelude.{◌≡◌, ◌+◌, ◌<◌, ◌≤◌, ◌≢◌, ◌^◌, [], ⊤, All, IfOk, MatchBool, ℕ, length, map as mapped, slice_index_or};
+ghost use Rattle.std.specs.Prelude.{◌≡◌, ◌+◌, ◌<◌, ◌≤◌, ◌≢◌, ◌^◌, [], ⊤, IfOk, MatchBool, length, map as mapped};
 ghost use Rattle.std.specs.List.{AllByRecursion};
 ghost use Rattle.oak_core.specs.PassState.{IsAlone};
 ghost use Rattle.oak_map.specs.Maps.{IsReady, sizes, state};

@@ -1,4 +1,4 @@
-ghost use Rattle.std.specs.Prelude.{◌≡◌, ◌≤◌, ◌<◌, ◌∷◌, [], ℕ, length, map, slice_index, IfSome, is_some};
+ghost use Rattle.std.specs.Prelude.{◌≡◌, ◌≤◌, ◌<◌, ℕ, length, map, slice_index, IfSome, is_some};
 ghost use Rattle.std.specs.Fmt.{decimal};
 ghost use Rattle.oak_model.specs.declared.limits.TheConstants.{CLASSES, GREATEST_BLOCKS};
 ghost use Rattle.oak_model.specs.declared.shapes.ShapeField.TheVariants.{Blocks};

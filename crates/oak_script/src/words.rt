@@ -1,12 +1,12 @@
-ghost use Rattle.std.specs.Prelude.{◌≡◌, ◌<◌, ◌≤◌, ◌∷◌, [], ◌==◌, ◌&&◌, length, OnOk, IfOk, IfErr, IfSome, true};
+ghost use Rattle.std.specs.Prelude.{◌≡◌, ◌<◌, [], ◌==◌, ◌&&◌, length, OnOk, IfOk, IfErr, IfSome, true};
 ghost use Rattle.std.specs.List.{list_all};
 ghost use Rattle.std.specs.Str.{bytes_eq};
 ghost use Rattle.hex.specs.Hex.{IsBytes};
 ghost use Rattle.oak_model.specs.Key.{IsKey};
 ghost use Rattle.oak_model.specs.Value.{IsValue};
 ghost use Rattle.oak_script.specs.Words.{value_word, bound_word, is_name_byte, is_name};
-ghost use Rattle.oak_script.specs.Grammar.{KeyFits, ValueFits};
-ghost use Rattle.oak_script.specs.Forms.{is_dash, is_hex_digit, is_hex, KeySlot, ValueSlot, NameSlot, BoundSlot};
+ghost use Rattle.oak_script.specs.Grammar.{KeyFits};
+ghost use Rattle.oak_script.specs.Forms.{is_hex_digit, is_hex, KeySlot, ValueSlot, NameSlot, BoundSlot};
 ghost use Rattle.oak_script.specs.Faults.{word_faults};
 ghost use Rattle.oak_script.specs.Stops.{Stops, ReadsWord};
 

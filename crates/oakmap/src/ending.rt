@@ -1,7 +1,6 @@
 ghost use Rattle.std.specs.Prelude.{◌≡◌, ◌<◌, ◌≤◌, ◌⊎◌, ◌^◌, ℕ, List, map, length, IfOk, Some, true};
 ghost use Rattle.std.specs.List.{AllByRecursion};
 ghost use Rattle.std.specs.String.{string_bytes};
-ghost use Rattle.std.specs.Io.KnownBytes.{Keeps};
 ghost use Rattle.oak_core.specs.declared.closing.Closed.{Closed};
 ghost use Rattle.oak_script.specs.declared.limits.TheConstants.{GREATEST_THREADS};
 ghost use Rattle.oak_script.specs.declared.scripts.Script.{Script};

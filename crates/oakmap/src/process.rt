@@ -1,7 +1,7 @@
 ghost use Rattle.std.specs.Prelude.{◌≡◌, Bool};
 ghost use Rattle.std.specs.Process.{exit_status};
 ghost use Rattle.oakmap.specs.declared.status.Status.{Status};
-ghost use Rattle.oakmap.specs.Ends.{Input, Output, Ends, code_of};
+ghost use Rattle.oakmap.specs.Ends.{Ends, code_of};
 
 use crate::ending::top;
 use crate::recipes::add;

@@ -1,7 +1,7 @@
 //! The packed word of a header or a room: how many pins stand on it, the state that it is in, and how often it was taken back.
 #![tactic(auto, unfolding(crate::specs::PinWord::packed, crate::specs::PinWord::generation_of, crate::specs::PinWord::state_of, crate::specs::PinWord::count_of))]
 
-ghost use Rattle.std.specs.Prelude.{◌≡◌, ◌<◌, ◌≤◌, ◌+◌, ◌-◌, ◌*◌, ◌^◌};
+ghost use Rattle.std.specs.Prelude.{◌≡◌, ◌<◌, ◌+◌, ◌-◌, ◌*◌, ◌^◌};
 ghost use Rattle.pin_word.specs.PinWord.{packed, generation_of, state_of, count_of};
 
 /// What one more in the state adds to a word.

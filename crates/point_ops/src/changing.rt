@@ -1,7 +1,6 @@
 //! Changes of a present value, under the lock of its header.
-ghost use Rattle.std.specs.Prelude.{◌≡◌, ◌<◌, ◌+◌, ◌-◌, ◌^◌, ℕ, List, length, IfOk, IfErr, None, Some, ◌⊎◌};
+ghost use Rattle.std.specs.Prelude.{◌≡◌, ◌<◌, ◌+◌, ◌-◌, ◌^◌, ℕ, List, IfOk, IfErr, None, Some, ◌⊎◌};
 ghost use Rattle.oak_model.specs.declared.writes.Kind.TheVariants as kinds;
-ghost use Rattle.oak_model.specs.Class.{class_of};
 ghost use Rattle.oak_model.specs.Recipe.{recipe_result};
 ghost use Rattle.oak_model.specs.Value.{IsValue};
 ghost use Rattle.arena_core.specs.HeldBlocks.{no_blocks};
@@ -13,7 +12,7 @@ ghost use Rattle.oak_core.specs.MayWrite.{IsNewCall};
 ghost use Rattle.oak_core.specs.Passes.{IsPassOf, Stays, state, key as sizes, call_of};
 ghost use Rattle.oak_core.specs.Scratch.{StaysButScratch};
 ghost use Rattle.chunk_ops.specs.PinRecords.{HasEntry, HasRoomPin, OnlyMeets};
-ghost use Rattle.value_ops.specs.OneHeader.{IsOneBlock, IsOneHeader};
+ghost use Rattle.value_ops.specs.OneHeader.{IsOneBlock};
 ghost use Rattle.value_ops.specs.Pinning.{KnowsLife};
 ghost use Rattle.point_ops.specs.Changes.{NoLockBy, OverHalts};
 ghost use Rattle.oak_core.specs.AloneWords.{Runs};

@@ -1,5 +1,5 @@
 //! Computes of a value by a recipe.
-ghost use Rattle.std.specs.Prelude.{◌≡◌, ◌<◌, ◌⊎◌, ◌+◌, ◌-◌, ◌^◌, ℕ, List, Some, IfOk, IfErr, None};
+ghost use Rattle.std.specs.Prelude.{◌≡◌, ◌<◌, ◌⊎◌, ◌+◌, ◌-◌, ◌^◌, IfOk, IfErr, None};
 ghost use Rattle.oak_model.specs.declared.cells.CellCall.TheVariants.{Compute, Upsert};
 ghost use Rattle.oak_model.specs.declared.writes.Kind.TheVariants as kinds;
 ghost use Rattle.oak_model.specs.Value.{IsValue};
@@ -9,7 +9,7 @@ ghost use Rattle.chunk_core.specs.PinnedRooms.{span_of};
 ghost use Rattle.header_core.specs.HeaderHolds.{no_headers};
 ghost use Rattle.oak_core.specs.CallSteps.{Learns};
 ghost use Rattle.oak_core.specs.MayWrite.{IsNewCall};
-ghost use Rattle.oak_core.specs.Passes.{IsPassOf, Stays, state, key as sizes, call_of};
+ghost use Rattle.oak_core.specs.Passes.{IsPassOf, state, key as sizes, call_of};
 ghost use Rattle.oak_core.specs.PassState.{HoldsNothing, IsAlone};
 ghost use Rattle.chunk_ops.specs.AskedRanges.{CoversKey};
 ghost use Rattle.chunk_ops.specs.PinRecords.{HasRoomPin, room_pin};

@@ -1,5 +1,5 @@
 //! Stores slots into held rooms.
-ghost use Rattle.std.specs.Prelude.{◌≡◌, ℕ, ◌+◌, ◌<◌, ◌≤◌, take};
+ghost use Rattle.std.specs.Prelude.{◌≡◌, ◌+◌, ◌<◌, ◌≤◌, take};
 ghost use Rattle.oak_model.specs.declared.limits.TheConstants.{GREATEST_ENTRIES};
 ghost use Rattle.rebalance.specs.Filled.{Fills, StoresSlots, slots_from, write_slot, next_of, first_of, link_to, IsLinked, Appends};
 ghost use Rattle.rebalance.specs.Slots.{AllNamed};

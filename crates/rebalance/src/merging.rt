@@ -1,5 +1,5 @@
 //! A chunk and the one above it, taken and merged.
-ghost use Rattle.std.specs.Prelude.{◌≡◌, ℕ, List, [], ◌∷◌, take, Option};
+ghost use Rattle.std.specs.Prelude.{◌≡◌, ℕ, List, take, Option};
 ghost use Rattle.oak_model.specs.Key.{IsKey};
 ghost use Rattle.chunk_core.specs.declared.holds.HeldRoom.{HeldRoom};
 ghost use Rattle.chunk_core.specs.declared.holds.MovingRange.{MovingRange};

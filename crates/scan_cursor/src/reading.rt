@@ -1,5 +1,5 @@
 //! One key that is read: through its room, or by the life that its entry named.
-ghost use Rattle.std.specs.Prelude.{◌≡◌, List, ℕ};
+ghost use Rattle.std.specs.Prelude.{List, ℕ};
 ghost use Rattle.oak_model.specs.Key.{IsKey, AreBytes};
 ghost use Rattle.chunk_core.specs.PinnedRooms.{span_of};
 ghost use Rattle.oak_core.specs.AloneWords.{Runs};

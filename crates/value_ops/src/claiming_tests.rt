@@ -5,7 +5,6 @@ ghost use Rattle.arena_core.specs.Blocks.{HoldsBlock};
 ghost use Rattle.arena_core.specs.HeldBlocks.{no_blocks};
 ghost use Rattle.header_core.specs.declared.states.TheConstants.{OWNED};
 ghost use Rattle.header_core.specs.HeaderHolds.{no_headers, in_state};
-ghost use Rattle.oak_core.specs.PassState.{HoldsNothing};
 ghost use Rattle.oak_core.specs.Passes.{IsPassOf, Stays, state, key};
 ghost use Rattle.value_ops.specs.OneHeader.{IsOneHeader, IsOneBlock, KeepsElse};
 

@@ -1,6 +1,6 @@
 ghost use Rattle.std.specs.Prelude.{◌≡◌, ◌<◌, None, Some, IfSome, IfNone, length};
 ghost use Rattle.oak_model.specs.declared.classes.Class.TheVariants.{B16};
-ghost use Rattle.oak_model.specs.Class.{class_number, class_of};
+ghost use Rattle.oak_model.specs.Class.{class_number};
 ghost use Rattle.arena_core.specs.Blocks.{HoldsBlock};
 ghost use Rattle.arena_core.specs.HeldBlocks.{no_blocks};
 ghost use Rattle.header_core.specs.declared.states.TheConstants.{OWNED};
