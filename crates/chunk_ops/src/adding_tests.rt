@@ -17,7 +17,7 @@ use crate::{
 };
 use arena_ops::{give, store_bytes, take};
 use oak_core::{Block, OakTable, Pass};
-use oak_model::{Class, Hint, Shape};
+use oak_model::{Class, Hint, NO_HINT, Shape};
 use std::alloc::Global;
 use std::process::Abort;
 use std::test::Fail;
@@ -84,7 +84,7 @@ fn add_key(
     let Some(block) = key_block(rt, table, pass, key) else {
         return Err(AddHalt::Busy);
     };
-    match pin_for(table, pass, key, Hint { room: None }) {
+    match pin_for(table, pass, key, NO_HINT) {
         Ok(pin) => add_pinned(table, pass, pin, block, key),
         Err(Moved) => {
             give(table, pass, block);
@@ -171,7 +171,7 @@ fn beside_is(
     ensures own { Stays pass.old pass.new }
     ensures idle { IsIdleAgain (state pass.old) (state pass.new) }
 {
-    let Ok(pin) = pin_last(table, pass, None, Hint { room: None }) else {
+    let Ok(pin) = pin_last(table, pass, None, NO_HINT) else {
         assert!(rt; false);
         return;
     };
@@ -188,7 +188,7 @@ fn found_of(rt: &impl Abort, table: &OakTable, pass: &mut Pass, key: &[u8]) -> F
     ensures own { Stays pass.old pass.new }
     ensures idle { IsIdleAgain (state pass.old) (state pass.new) }
 {
-    let Ok(pin) = pin_for(table, pass, key, Hint { room: None }) else {
+    let Ok(pin) = pin_for(table, pass, key, NO_HINT) else {
         assert!(rt; false);
         return Found::Missing;
     };

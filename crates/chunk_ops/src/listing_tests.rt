@@ -7,7 +7,7 @@ ghost use Rattle.chunk_ops.specs.TestStates.{IsIdleAgain, StillPinned};
 use crate::adding_tests::adds_at;
 use crate::{EntryNo, RoomPin, StoredKey, count_entries, entry_key, pin_last, unpin};
 use oak_core::{OakTable, Pass};
-use oak_model::{Hint, Shape};
+use oak_model::{NO_HINT, Shape};
 use std::process::Abort;
 use std::test::Fail;
 
@@ -33,7 +33,7 @@ fn room_has(rt: &impl Abort, table: &OakTable, pass: &mut Pass, bytes: &[u8])
     ensures own { Stays pass.old pass.new }
     ensures idle { IsIdleAgain (state pass.old) (state pass.new) }
 {
-    let Ok(pin) = pin_last(table, pass, None, Hint { room: None }) else {
+    let Ok(pin) = pin_last(table, pass, None, NO_HINT) else {
         assert!(rt; false);
         return;
     };

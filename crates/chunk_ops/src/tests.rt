@@ -10,7 +10,7 @@ use crate::{
 };
 use chunk_core::OPEN;
 use oak_core::{OakTable, Pass, load};
-use oak_model::{Hint, Shape};
+use oak_model::{Hint, NO_HINT, Shape};
 use pin_word::pack;
 use std::process::Abort;
 use std::test::Fail;
@@ -44,7 +44,7 @@ fn last_keys(rt: &impl Abort, table: &OakTable, pass: &mut Pass)
     ensures own { Stays pass.old pass.new }
     ensures idle { IsIdleAgain (state pass.old) (state pass.new) }
 {
-    match pin_last(table, pass, None, Hint { room: None }) {
+    match pin_last(table, pass, None, NO_HINT) {
         Ok(pin) => all_keys(rt, table, pass, pin),
         Err(Moved) => assert!(rt; false),
     }

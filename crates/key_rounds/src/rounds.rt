@@ -20,7 +20,7 @@ use crate::removing::remove;
 use crate::setting::set;
 use chunk_ops::{RoomPin, pin_for, unpin};
 use oak_core::{OakTable, Pass};
-use oak_model::Hint;
+use oak_model::NO_HINT;
 
 /// How many calls a round makes.
 const CALLS: u32 = 3;
@@ -87,7 +87,7 @@ fn round(table: &OakTable, pass: &mut Pass, key: &[u8], call: u32, number: u64) 
     ensures wrote { WroteBy (call_of pass.new) (state pass.new) }
 {
     next_call(pass, call);
-    let Ok(pin) = pin_for(table, pass, key, Hint { room: None }) else {
+    let Ok(pin) = pin_for(table, pass, key, NO_HINT) else {
         return 0;
     };
     let read = life(table, pass, &pin, key, call, number);

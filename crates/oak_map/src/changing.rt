@@ -12,8 +12,8 @@ ghost use Rattle.point_ops.specs.Parts.{WroteFits};
 ghost use Rattle.point_ops.specs.Replies.{HoldsAsBefore};
 ghost use Rattle.oak_map.specs.Maps.{IsReady, call_of, pass_of, sizes, state};
 
-use crate::map::{MapPass, NO_HINT, OakMap};
-use oak_model::Wrote;
+use crate::map::{MapPass, OakMap};
+use oak_model::{NO_HINT, Wrote};
 use point_ops::{try_compute, try_remove};
 use std::sync::Wait;
 use std::thread;

@@ -7,8 +7,8 @@ ghost use Rattle.value_ops.specs.Views.{KnowsView};
 ghost use Rattle.oak_map.specs.Finding.{PinsKey, PinsView, TriesKey};
 ghost use Rattle.oak_map.specs.Lending.{FindsAbsent, FindsOver};
 
-use crate::map::NO_HINT;
 use oak_core::{OakTable, Pass};
+use oak_model::NO_HINT;
 use point_ops::{Got, try_get};
 use std::sync::Wait;
 use std::thread;

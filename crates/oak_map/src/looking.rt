@@ -8,7 +8,8 @@ ghost use Rattle.point_ops.specs.LoneReplies.{GotAlone};
 ghost use Rattle.point_ops.specs.Replies.{HoldsAsBefore};
 ghost use Rattle.oak_map.specs.Maps.{IsReady, StayAll, call_of, pass_of, sizes, state};
 
-use crate::map::{MapPass, NO_HINT, OakMap};
+use crate::map::{MapPass, OakMap};
+use oak_model::NO_HINT;
 use point_ops::{Got, try_get};
 use std::sync::Wait;
 use std::thread;

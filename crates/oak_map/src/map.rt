@@ -18,11 +18,8 @@ ghost use Rattle.oak_map.specs.Rests.{with_pass};
 ghost use Rattle.oak_map.specs.contracts.map.MapPass.{the_row};
 
 use oak_core::{Closed, OakTable, Pass, SplitFault};
-use oak_model::{Hint, OutOfMemory, Shape};
+use oak_model::{OutOfMemory, Shape};
 use std::sync::Wait;
-
-/// No room is tried before the others.
-pub(crate) const NO_HINT: Hint = Hint { room: None };
 
 /// A map, shared by its passes.
 pub struct OakMap {

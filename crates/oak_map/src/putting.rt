@@ -14,8 +14,8 @@ ghost use Rattle.oak_map.specs.Putting.{StaysButRoom};
 ghost use Rattle.oak_map.specs.Replying.{PutFits};
 
 use crate::making_room::make_way;
-use crate::map::{MapPass, NO_HINT, OakMap};
-use oak_model::Wrote;
+use crate::map::{MapPass, OakMap};
+use oak_model::{NO_HINT, Wrote};
 use point_ops::{try_put, try_put_if_absent, try_upsert};
 use std::sync::Wait;
 use value_ops::Recipe;

@@ -29,7 +29,7 @@ pub use limits::{
 pub use memory::OutOfMemory;
 pub use names::Name;
 pub use recipes::{RecipeKind, apply_kind};
-pub use replies::{Hint, Lack, Pair, Pairs, Reply, Wrote};
+pub use replies::{Hint, Lack, NO_HINT, Pair, Pairs, Reply, Wrote};
 pub use shapes::{BadShape, Shape, ShapeField, Usage};
 pub use values::{Value, is_value};
 pub use writes::{Kind, Write};

@@ -85,3 +85,6 @@ pub enum Reply {
 pub struct Hint {
     pub room: Option<u32>,
 }
+
+/// The hint that names no room: none is tried before the others.
+pub const NO_HINT: Hint = Hint { room: None };

@@ -11,14 +11,12 @@ ghost use Rattle.point_ops.specs.TestStates.{HasView, IsReady, IsReadyAgain};
 use crate::test_rows::{Ask, ROWS, Row, Said};
 use crate::{Got, Halt, try_compute, try_get, try_put, try_put_if_absent, try_remove, try_upsert};
 use oak_core::{OakTable, Pass};
-use oak_model::{Class, Hint, RecipeKind, Shape, Usage, Wrote};
+use oak_model::{Class, NO_HINT, RecipeKind, Shape, Usage, Wrote};
 use std::alloc::Global;
 use std::process::Abort;
 use std::test::Fail;
 use std::thread::{Threads, join_mut};
 use value_ops::{NoRead, Recipe, StepRecipe, ValueView};
-
-const NO_HINT: Hint = Hint { room: None };
 
 /// The pass's next call.
 pub(crate) fn turn(pass: &mut Pass, call: u32)

@@ -6,10 +6,8 @@ ghost use Rattle.point_ops.specs.TestStates.{IsReady, IsReadyAgain};
 ghost use Rattle.point_rounds.specs.declared.rounds.TheConstants.{MOST_PUTS};
 
 use oak_core::{OakTable, Pass};
-use oak_model::{Hint, Wrote};
+use oak_model::{NO_HINT, Wrote};
 use point_ops::{Got, try_get, try_put};
-
-const NO_HINT: Hint = Hint { room: None };
 
 /// So many puts behind the first have numbers enough for their calls.
 pub const MOST_PUTS: u32 = 4_000_000_000;

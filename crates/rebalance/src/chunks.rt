@@ -18,12 +18,9 @@ use crate::holding::{freeze_pinned, hold_frozen, open_held};
 use crate::ranges::has_key;
 use chunk_ops::{RoomPin, StoredKey, pin_for, unpin};
 use oak_core::{OakTable, Pass};
-use oak_model::{GREATEST_ENTRIES, Hint};
+use oak_model::{GREATEST_ENTRIES, NO_HINT};
 use std::sync::Wait;
 use std::thread;
-
-/// No room is tried before the others.
-const NO_HINT: Hint = Hint { room: None };
 
 /// Freezes the pinned room, undoes the pin and holds the room alone. `false` comes only where another pass
 /// has frozen it; the pin is undone then too. It waits until no pin stands on the room.

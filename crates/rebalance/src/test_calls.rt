@@ -10,13 +10,11 @@ ghost use Rattle.point_ops.specs.declared.halts.Halt.{Halt};
 
 use crate::{NoRoom, Split, compact, merge, settle, split};
 use oak_core::{OakTable, Pass};
-use oak_model::{Hint, Wrote};
+use oak_model::{NO_HINT, Wrote};
 use point_ops::{Got, Halt, try_get, try_put, try_remove};
 use std::process::Abort;
 use std::sync::Wait;
 use value_ops::ValueView;
-
-const NO_HINT: Hint = Hint { room: None };
 
 /// What is asked.
 #[derive(Clone, Copy, Debug, PartialEq, Eq)]

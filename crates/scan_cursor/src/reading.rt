@@ -10,9 +10,9 @@ ghost use Rattle.chunk_ops.specs.PinRecords.{HasRoomPin, UnderPin, WordsStay, ro
 ghost use Rattle.scan_cursor.specs.Reading.{LeavesHere, LooksUp, ReadsHere};
 ghost use Rattle.scan_cursor.specs.Views.{IsKnown, KnowsLast, Later, View, view_of};
 
-use crate::spots::NO_HINT;
 use chunk_ops::{Content, Found, RoomPin, content, find, pin_for, unpin};
 use oak_core::{OakTable, Pass};
+use oak_model::NO_HINT;
 use value_ops::{BadPin, PinnedValue, pin_at};
 
 /// What a read of a key came to: it is present, and its value is pinned; it is absent; or its room was moved, or its

@@ -13,10 +13,7 @@ use crate::marks::Mark;
 use crate::ways::Way;
 use chunk_ops::{KeyBytes, Moved, RoomPin, high_key, low_key, pin_for, pin_last};
 use oak_core::{OakTable, Pass};
-use oak_model::Hint;
-
-/// No room is tried before the others.
-pub(crate) const NO_HINT: Hint = Hint { room: None };
+use oak_model::NO_HINT;
 
 /// Pins the room in which the scan goes on: the one that has the mark's key, or, where a scan that goes down is past
 /// that, the one with the keys next below it.

@@ -8,13 +8,11 @@ ghost use Rattle.oak_core.specs.Scratch.{StaysButSlots};
 ghost use Rattle.point_ops.specs.TestStates.{IsReady, IsReadyAgain};
 
 use oak_core::{OakTable, Pass};
-use oak_model::{Hint, Wrote};
+use oak_model::{NO_HINT, Wrote};
 use point_ops::{Halt, try_put, try_remove};
 use rebalance::{Split, split};
 use std::process::Abort;
 use std::sync::Wait;
-
-const NO_HINT: Hint = Hint { room: None };
 
 /// The pass's next call.
 pub(crate) fn turn(pass: &mut Pass, call: u32)
