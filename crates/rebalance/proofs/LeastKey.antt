@@ -1,5 +1,5 @@
 -- The least key, and the range that has it.
-use Rattle.std.proofs.Common.{◌≡◌, ◌≢◌, ℕ, zero, suc, ◌+◌, ◌-◌, ◌^◌, ◌<◌, ◌≤◌, List, [], ◌∷◌, length, refl, arith, mul-le-mul_right}
+use Rattle.std.proofs.Common.{◌≡◌, ◌≢◌, ℕ, zero, suc, ◌+◌, ◌-◌, ◌^◌, ◌<◌, ◌≤◌, List, [], ◌∷◌, length, refl, sym, subst, arith, mul-le-mul_right}
 use Rattle.std.specs.Ordering.{ordering_then}
 use Rattle.std.specs.declared.cmp.Ordering.TheVariants.{Less}
 use Rattle.oak_model.specs.declared.limits.TheConstants.{GREATEST_KEY}
@@ -31,17 +31,21 @@ unfolding digits_number
 first_least n zero xs le = let z = no_digits n in (refl, omega arith)
 first_least n (suc x) xs le = let z = no_digits n in let p = power_pos n in let f : 2 ≤ suc x + 1 = omega arith in let m = mul-le-mul_right (257 ^ n) f in absurd (omega arith)
 
--- so no key is below it
+-- no key is below the one byte 0
+pub none_below : (k : List ℕ) → 0 < length k → key_cmp k (0 ∷ []) ≢ Less
+none_below [] some = absurd (omega arith)
+none_below (x ∷ xs) some = cmp-cases x 0 (λ o. ordering_then o (key_cmp xs []) ≢ Less) (λ lt e. absurd (omega arith)) (λ _ e. none_last xs e) (λ _ e. cc)
+  where
+    none_last : (ys : List ℕ) → key_cmp ys [] ≢ Less
+    none_last [] e = cc
+    none_last (y ∷ ys) e = cc
+
+-- so none is below what is not above that
 not_below : (n : ℕ) (k l : List ℕ) → 0 < length k → digits_number (suc (suc n)) l ≤ digits_number (suc (suc n)) (0 ∷ []) → key_cmp k l ≢ Less
 unfolding digits_number
 not_below n [] l some le = absurd (omega arith)
 not_below n (y ∷ ys) [] some le = λ e. cc
-not_below n (y ∷ ys) (x ∷ []) some le = cmp-cases y x (λ o. ordering_then o (key_cmp ys []) ≢ Less)
-    (λ lt e. let f = first_least (suc n) x [] le in absurd (omega (arith, f.0))) (λ _ e. none_last ys e) (λ _ e. cc)
-  where
-    none_last : (xs : List ℕ) → key_cmp xs [] ≢ Less
-    none_last [] e = cc
-    none_last (x ∷ xs) e = cc
+not_below n (y ∷ ys) (x ∷ []) some le = let f = first_least (suc n) x [] le in subst (λ (b : ℕ). key_cmp (y ∷ ys) (b ∷ []) ≢ Less) (sym f.0) (none_below (y ∷ ys) some)
 not_below n k (x ∷ z ∷ zs) some le = let f = first_least (suc n) x (z ∷ zs) le in let g = f.1 in let p = power_pos n in let h : 1 ≤ z + 1 = omega arith in let m = mul-le-mul_right (257 ^ n) h in absurd (omega arith)
 
 -- no key has a smaller number than the one byte 0

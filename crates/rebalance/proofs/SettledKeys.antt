@@ -1,6 +1,5 @@
 -- The keys that are swept while one chunk after the other is merged.
 use Rattle.std.proofs.Common.{◌≡◌, ◌≢◌, ℕ, List, [], ◌∷◌, refl, sym, ap, ◌∙◌, subst, arith, Some, None}
-use Rattle.std.specs.Ordering.{ordering_then}
 use Rattle.std.specs.declared.cmp.Ordering.{Ordering}
 use Rattle.std.specs.declared.cmp.Ordering.TheVariants.{Less, Equal, Greater}
 use Rattle.oak_model.specs.Key.{IsKey, IsKeyBefore, key_cmp}
@@ -9,9 +8,9 @@ use Rattle.oak_core.specs.declared.states.Numbers.{Numbers}
 use Rattle.oak_core.specs.declared.states.PassState.{PassState}
 use Rattle.oak_core.specs.PassState.{HoldsNothing}
 use Rattle.oak_core.proofs.CallSteps.{begins_same, met_both, met_none}
-use Rattle.chunk_ops.proofs.OrderLaws.{cmp-cases}
 use Rattle.rebalance.specs.Calls.{Leaves, SweepsKey}
 use Rattle.rebalance.specs.Merging.{SweepsBelow, SweepsUpTo}
+use Rattle.rebalance.proofs.LeastKey.{none_below}
 use Rattle.rebalance.proofs.SweptKeys.{sweeps_since, sweeps_until}
 
 -- nothing was done
@@ -38,16 +37,8 @@ pub idle_still : (call : ℕ) (v w : PassState) → HoldsNothing v → Leaves ca
 idle_still call v w idle l = record { hand = ap (λ (n : Numbers). n.hand) l.numbers ∙ idle.hand; blocks = l.blocks ∙ idle.blocks; headers = l.headers ∙ idle.headers; rooms = l.rooms ∙ idle.rooms }
 
 -- no key is below the least one
-none_below : (k : List ℕ) → IsKey k → IsKeyBefore k (0 ∷ []) → ⊥
-none_below [] is e = absurd (omega (arith, is.0))
-none_below (x ∷ xs) is e = cmp-cases x 0 (λ o. ordering_then o (key_cmp xs []) ≢ Less) (λ lt e. absurd (omega arith)) (λ _ e. none_last xs e) (λ _ e. cc) e
-  where
-    none_last : (ys : List ℕ) → key_cmp ys [] ≢ Less
-    none_last [] e = cc
-    none_last (y ∷ ys) e = cc
-
 pub least_below : (key : List ℕ) (v : PassState) → key ≡ 0 ∷ [] → SweepsBelow key v v
-least_below key v least k is before = absurd (none_below k is (subst (IsKeyBefore k) least before))
+least_below key v least k is before = absurd (none_below k is.0 (subst (IsKeyBefore k) least before))
 
 pub least_is_key : (key : List ℕ) → key ≡ 0 ∷ [] → IsKey key
 least_is_key key least = subst IsKey (sym least) (omega arith, omega arith)
