@@ -2,6 +2,7 @@
 ghost use Rattle.std.specs.Prelude.{◌≡◌, ◌<◌, ◌^◌, IfOk, length};
 ghost use Rattle.std.specs.List.{AllByRecursion};
 ghost use Rattle.oak_script.specs.declared.limits.TheConstants.{GREATEST_THREADS};
+ghost use Rattle.oak_script.specs.Grammar.{IsScript};
 
 mod answers;
 mod counting;
@@ -11,9 +12,10 @@ mod statuses;
 mod threads;
 mod words;
 
-use crate::ending::top;
+use crate::ending::{text_of, top};
 use crate::recipes::add;
-use oak_script::GREATEST_THREADS;
+use oak_run::{Ran, run_script};
+use oak_script::{GREATEST_THREADS, NoScript, Script, read_script};
 use outside::{FreeGate, Gate, MemorySink, Source, SureSource};
 use std::alloc::Global;
 use std::process::Abort;
@@ -40,6 +42,12 @@ fn bytes_of(alloc: Global, text: &str) -> Result<Vec<u8>, Fail> {
     Ok(bytes)
 }
 
+/// The bytes of a text that has a slash between its lines.
+fn lines_of(alloc: Global, text: &str) -> Result<Vec<u8>, Fail> {
+    let text = format!(in alloc; "{text}/")?;
+    bytes_of(alloc, text.as_str())
+}
+
 /// A recipe for each thread that a script may have.
 fn recipes_of(alloc: Global) -> Result<Vec<Box<dyn Recipe + Send>>, Fail>
     ensures enough { IfOk result (λ v. length v.items ≡ GREATEST_THREADS) }
@@ -50,6 +58,30 @@ fn recipes_of(alloc: Global) -> Result<Vec<Box<dyn Recipe + Send>>, Fail>
         add(&mut recipes, Box::new(alloc, StepRecipe::make())?)?;
     }
     Ok(recipes)
+}
+
+/// The script that a text is, which has a slash for each line feed.
+fn script_of(alloc: Global, text: &str) -> Result<Script, Fail>
+    ensures { IfOk result IsScript }
+{
+    match read_script(alloc, &bytes_of(alloc, text)?) {
+        Ok(script) => Ok(script),
+        Err(NoScript::Fault(fault)) => Err(Fail::new(fault)),
+        Err(NoScript::OutOfMemory) => Err(Fail::new("out of memory")),
+    }
+}
+
+/// Runs the script that the text is under the gate: what the run answered, and its text.
+fn run_of<R: Threads + Wait + AllocGlobal + Sync, G: Gate>(
+    rt: &R,
+    text: &str,
+    gate: &G,
+) -> Result<(Ran, Vec<u8>), Fail> {
+    let alloc = rt.alloc();
+    let script = script_of(alloc, text)?;
+    let ran = run_script(rt, &script, gate, recipes_of(alloc)?)?;
+    let text = text_of(alloc, &script, &ran)?;
+    Ok((ran, text))
 }
 
 /// A sink with room for more than any text here, which fails at these calls.
@@ -99,9 +131,7 @@ fn expect_under<R: Threads + Wait + AllocGlobal + Abort + Sync, G: Gate>(
 ) -> Result<(), Fail> {
     let alloc = rt.alloc();
     let sink = written(rt, text, gate, status)?;
-    let said = format!(in alloc; "{says}/")?;
-    let wanted = bytes_of(alloc, said.as_str())?;
-    assert_eq!(rt; sink.written(), wanted.as_slice(), "{text}");
+    assert_eq!(rt; sink.written(), lines_of(alloc, says)?.as_slice(), "{text}");
     Ok(())
 }
 

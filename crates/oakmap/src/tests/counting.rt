@@ -1,11 +1,6 @@
 //! Threads that count on one key: each call adds one, and the first of all puts the key.
-ghost use Rattle.std.specs.Prelude.{IfOk};
-ghost use Rattle.oak_script.specs.Grammar.{IsScript};
 
-use super::{Used, bytes_of, recipes_of, used_text, written};
-use crate::ending::text_of;
-use oak_run::run_script;
-use oak_script::{NoScript, Script, read_script};
+use super::{Used, run_of, used_text, written};
 use outside::FreeGate;
 use std::alloc::Global;
 use std::test::Fail;
@@ -86,30 +81,13 @@ fn judge(alloc: Global, text: &[u8], threads: usize, calls: usize, rest: &str) -
     }
 }
 
-/// The script that a text is, which has a slash for each line feed.
-fn script_of(alloc: Global, text: &str) -> Result<Script, Fail>
-    ensures { IfOk result IsScript }
-{
-    match read_script(alloc, &bytes_of(alloc, text)?) {
-        Ok(script) => Ok(script),
-        Err(NoScript::Fault(fault)) => Err(Fail::new(fault)),
-        Err(NoScript::OutOfMemory) => Err(Fail::new("out of memory")),
-    }
-}
-
 #[test]
 fn two_threads_count_two_thousand_times(rt: HostRuntime) -> Result<(), Fail> {
     let alloc = rt.alloc();
-    let script = script_of(alloc, counting(alloc, 2, 1_000)?.as_str())?;
-    let ran = run_script(&rt, &script, &FreeGate, recipes_of(alloc)?)?;
+    let script = counting(alloc, 2, 1_000)?;
+    let (ran, text) = run_of(&rt, script.as_str(), &FreeGate)?;
     let rest = used_text(alloc, "map 1/6b 00000000000007d0", USED)?;
-    judge(
-        alloc,
-        &text_of(alloc, &script, &ran)?,
-        2,
-        1_000,
-        rest.as_str(),
-    )?;
+    judge(alloc, &text, 2, 1_000, rest.as_str())?;
     match ran.recipe_calls.as_slice() {
         [first, second] => assert_eq!(rt; first.saturating_add(*second), 1_999),
         _ => assert!(rt; false),

@@ -1,6 +1,6 @@
 //! Runs whose threads are held in turn, so that they can't come to their ends one after another.
 
-use super::{Used, bytes_of, expect_under, used_text, written};
+use super::{Used, expect_under, lines_of, run_of, used_text, written};
 use outside::{FreeGate, Gate};
 use std::hint::spin_loop;
 use std::process::Abort;
@@ -78,9 +78,11 @@ fn expect_held<R: Threads + Wait + AllocGlobal + Abort + Sync>(
     (held, until): (Asked, Asked),
     says: &str,
 ) -> Result<(), Fail> {
+    let alloc = rt.alloc();
     let gate = HoldingGate::make(held, until);
-    expect_under(rt, text, &gate, 0, says)?;
-    assert!(rt; gate.has_held(), "{text}");
+    let (_ran, text) = run_of(rt, text, &gate)?;
+    assert_eq!(rt; text, lines_of(alloc, says)?);
+    assert!(rt; gate.has_held(), "{says}");
     Ok(())
 }
 
@@ -113,8 +115,7 @@ fn a_scan_beside_a_put_has_two_texts(rt: HostRuntime) -> Result<(), Fail> {
     let mut lawful = false;
     for says in SCANS {
         let says = used_text(alloc, says, USED_BY_SCAN)?;
-        let said = format!(in alloc; "{says}/")?;
-        lawful = lawful || sink.written() == bytes_of(alloc, said.as_str())?.as_slice();
+        lawful = lawful || sink.written() == lines_of(alloc, says.as_str())?.as_slice();
     }
     assert!(rt; lawful);
     Ok(())
