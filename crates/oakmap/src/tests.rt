@@ -71,7 +71,7 @@ fn script_of(alloc: Global, text: &str) -> Result<Script, Fail>
     }
 }
 
-/// Runs the script that the text is under the gate: what the run answered, and its text.
+/// Runs the text's script under the gate: what the run answered, and the text of the run.
 fn run_of<R: Threads + Wait + AllocGlobal + Sync, G: Gate>(
     rt: &R,
     text: &str,

@@ -71,7 +71,7 @@ impl Gate for HoldingGate {
 /// other, passes both gates.
 const GATES: [(Asked, Asked); 2] = [((1, 1), (2, 2)), ((2, 1), (1, 2))];
 
-/// Runs the script under the gate that holds so, and asserts that it did, and what was written.
+/// Runs the script under the gate that holds so, and asserts that it did, and the text of the run.
 fn expect_held<R: Threads + Wait + AllocGlobal + Abort + Sync>(
     rt: &R,
     text: &str,
