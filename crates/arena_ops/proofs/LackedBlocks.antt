@@ -1,5 +1,5 @@
 -- A search that found no block shows that its class is lacking.
-use Rattle.std.proofs.Common.{◌≡◌, ℕ, ◌%◌, ◌/◌, ◌<◌, ◌≤◌, List, length, sym, ap, ◌∙◌, subst, None, inl}
+use Rattle.std.proofs.Common.{◌≡◌, ℕ, ◌+◌, ◌%◌, ◌/◌, ◌<◌, ◌≤◌, List, length, sym, ap, ◌∙◌, subst, None, inl}
 use Rattle.std.specs.Int.{bit_at}
 use Rattle.std.proofs.lemmas.Nat.Bits.{bit_at-zero}
 use mathlib.Core.Option.{some}
@@ -14,18 +14,18 @@ use Rattle.arena_core.specs.HeldBlocks.{no_blocks, had_bits}
 use Rattle.oak_model.proofs.Lists.{each_map}
 use Rattle.oak_core.specs.declared.states.Finding.{Finding}
 use Rattle.oak_core.specs.declared.states.PassState.{PassState}
-use Rattle.oak_core.specs.Finding.{had, IsLoadOf}
+use Rattle.oak_core.specs.Finding.{had, had_placed, IsLoadOf}
 use Rattle.oak_core.specs.Lack.{FoundSet, KeySwept, Lacks}
 use Rattle.oak_core.proofs.FoundThere.{found_behind}
 use Rattle.oak_core.proofs.Lacked.{lacks_then}
 use Rattle.arena_ops.specs.Looking.{bit_spot}
 use Rattle.arena_ops.specs.Taking.{FindsNone}
 
-module _ (z : Sizes) (call : ℕ) (c : Class) (v w : PassState) (idle : v.blocks ≡ no_blocks) (found : FindsNone z call c v w) where
-  -- the pass held no block
+module _ (z : Sizes) (call : ℕ) (c : Class) (v w : PassState) (idle : v.blocks ≡ no_blocks) (bare : (k i : ℕ) → had_placed k i v.headers ≡ 0) (found : FindsNone z call c v w) where
+  -- the pass held no block, and had none in a header
   had_none : (b : ℕ) → had (bit_spot c b) v ≡ 0
   unfolding Rattle.oak_model.specs.Counts.total
-  had_none b = ap (had_bits (class_number c) (b / 64)) idle
+  had_none b = (λ i. had_bits (class_number c) (b / 64) (idle i) + bare (class_number c) (b / 64) i)
 
   set_for_all : (b : ℕ) → b < blocks z (class_number c) → FoundSet z (length v.findings.met) (length w.findings.met) w.findings.met c b
   set_for_all b lt = let f = found.set b lt tt in
@@ -33,5 +33,5 @@ module _ (z : Sizes) (call : ℕ) (c : Class) (v w : PassState) (idle : v.blocks
 
   -- so where the call swept every key before it, and met nothing of another call, it may be noted
   pub class_lacks : (began : ℕ) → began ≤ length v.findings.met → ((i : ℕ) (f : Finding) → began ≤ i → get_elem? v.findings.met i ≡ some f → f.call ≡ call)
-      → ((k : List ℕ) → IsKey k → KeySwept began (length v.findings.met) v.findings.swept k) → Lacks z call (Block c) began (length w.findings.met) w.findings
-  class_lacks began le own swept = lacks_then z call v w found.more found.after (each_map (IsLoadOf z call) (λ (f : Finding). f.call ≡ call) found.more (λ f l. l.0) found.looks) (Block c) began le own swept (None, λ b lt. inl (set_for_all b lt))
+      → ((k : List ℕ) → IsKey k → KeySwept began (length v.findings.met) v.findings.swept k) → Lacks z call (Block c) None began (length w.findings.met) w.findings
+  class_lacks began le own swept = lacks_then z call v w found.more found.after (each_map (IsLoadOf z call) (λ (f : Finding). f.call ≡ call) found.more (λ f l. l.0) found.looks) (Block c) None began le own swept (λ b lt. inl (set_for_all b lt))

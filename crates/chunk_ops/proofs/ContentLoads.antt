@@ -65,9 +65,9 @@ pub record LifeTold (z : Sizes) (call : ℕ) (key : List ℕ) (n : ℕ) (v w : P
   pub learns : Learns call v w
   pub inside : header_in n < z.headers
   pub known : 0 < knows_life (header_in n) (generation_in n) w.knowledge
-  pub life : KnowsLifeOf key n w.knowledge
+  pub life : KnowsLifeOf call key n w.knowledge
   pub last : NotPast (key_number key) n w.knowledge
-  pub loaded : w.knowledge.loaded ≡ v.knowledge.loaded ++ record { key = key; home = n } ∷ []
+  pub loaded : w.knowledge.loaded ≡ v.knowledge.loaded ++ record { call = call; key = key; home = n } ∷ []
 
 module _ (z : Sizes) (call r i n : ℕ) (v w : PassState) (p : HasRoomPin z r v) (key : List ℕ) (h : HasEntry r i key v) (t : Told z call (load (in_rooms (at_value r i))) v n w) where
   found : entry_key i (room_pin v).entries ≡ Some key
@@ -114,7 +114,7 @@ module _ (z : Sizes) (call r i n : ℕ) (v w : PassState) (p : HasRoomPin z r v)
       named = let e = home_is n names in record { names = ap names_header e ∙ names; header = ap header_in e; generation = ap generation_in e }
 
       k : KnowsKeyOf (header_in n) (generation_in n) key w.knowledge
-      k = loaded_key z behind rule t.seat w here (header_in n) (generation_in n) named key (subst (λ (h : ℕ). KnowsLifeOf key h w.knowledge) (sym (home_is n names)) (told_life names).life)
+      k = loaded_key z behind rule t.seat w here (header_in n) (generation_in n) named call key (subst (λ (h : ℕ). KnowsLifeOf call key h w.knowledge) (sym (home_is n names)) (told_life names).life)
 
       known_is_key : IsKeyOf (key_number k.known) k.known
       known_is_key = (life z behind rule t.seat w here (header_in n) (generation_in n) (told_life names).inside k.known k.is).key_is
@@ -136,9 +136,9 @@ module _ (z : Sizes) (call r i n : ℕ) (v w : PassState) (p : HasRoomPin z r v)
     named = record {
       step = step_alone z call (load (in_rooms (at_value r i))) v n w t;
       home = e;
-      taught = l.loaded ∙ ap (λ (k : ℕ). v.knowledge.loaded ++ record { key = key; home = k } ∷ []) e;
+      taught = l.loaded ∙ ap (λ (k : ℕ). v.knowledge.loaded ++ record { call = call; key = key; home = k } ∷ []) e;
     };
-    life = subst (λ (k : ℕ). KnowsLifeOf key k w.knowledge) e l.life;
+    life = subst (λ (k : ℕ). KnowsLifeOf call key k w.knowledge) e l.life;
     known = subst (λ (j : ℕ × ℕ). key_known j.0 j.1 w.knowledge ≡ Some key) (λ k. (s.1 k, s.2 k)) (told_known s.0);
     last = subst (λ (k : ℕ). NotPast (key_number key) k w.knowledge) e l.last;
   }

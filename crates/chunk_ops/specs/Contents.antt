@@ -35,12 +35,12 @@ pub record FindsContent (z : Sizes) (call r i : ℕ) (c : Content) (v w : PassSt
 pub record EntryNamed (z : Sizes) (call r i : ℕ) (key : List ℕ) (h g : ℕ) (v w : PassState) : Type 0 where
   pub step : StepOfCall z call (load (in_rooms (at_value r i))) v w
   pub home : step.number ≡ home_of h g
-  pub taught : step.to.knowledge.loaded ≡ step.from.knowledge.loaded ++ record { key = key; home = home_of h g } ∷ []
+  pub taught : step.to.knowledge.loaded ≡ step.from.knowledge.loaded ++ record { call = call; key = key; home = home_of h g } ∷ []
 
 -- so the pass knows that life of the key, and its key by it, and has not seen the key go past it
 pub record FindsLife (z : Sizes) (call r i : ℕ) (key : List ℕ) (h g : ℕ) (v w : PassState) : Type 0 where
   pub named : EntryNamed z call r i key h g v w
-  pub life : KnowsLifeOf key (home_of h g) w.knowledge
+  pub life : KnowsLifeOf call key (home_of h g) w.knowledge
   pub known : key_known h g w.knowledge ≡ Some key
   pub last : NotPast (key_number key) (home_of h g) w.knowledge
 

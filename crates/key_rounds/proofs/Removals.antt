@@ -41,9 +41,9 @@ use Rattle.value_ops.proofs.OneHeaderLaws.{given_headers, given_none}
 use Rattle.value_ops.proofs.LockRows.{generation_of_row, stamp_of_row}
 
 -- a lock of a header of which the pass knew the life of the key, from an entry, is a lock of the key
-pub lock_key : (z : Sizes) (call h g : ℕ) (v w : PassState) → LocksHeader z call h g v w → (k known : List ℕ) → KnowsLifeOf k (home_of h g) v.knowledge → key_known h g v.knowledge ≡ Some known → key_number known ≡ key_number k
+pub lock_key : (z : Sizes) (call h g : ℕ) (v w : PassState) → LocksHeader z call h g v w → (k known : List ℕ) → KnowsLifeOf call k (home_of h g) v.knowledge → key_known h g v.knowledge ≡ Some known → key_number known ≡ key_number k
 lock_key z call h g v w l k known has e = let t = l.told in let u : PassState = grown l.before v in
-    let own : KnowsKeyOf h g k u.knowledge = loaded_key z t.table t.rule t.seat u t.here h g (named_at z t.table t.rule t.seat u t.here h g l.inside known e) k has in ap key_number (ap key_or (sym e ∙ own.is)) ∙ own.number
+    let own : KnowsKeyOf h g k u.knowledge = loaded_key z t.table t.rule t.seat u t.here h g (named_at z t.table t.rule t.seat u t.here h g l.inside known e) call k has in ap key_number (ap key_or (sym e ∙ own.is)) ∙ own.number
 
 pub lock_of : (z : Sizes) (h g : ℕ) (v : PassState) (k known before : List ℕ) (stamp : ℕ) → key_number known ≡ key_number k → LockOf z known h g before stamp v → LockOf z k h g before stamp v
 lock_of z h g v k known before stamp e l = record { lock = l.lock; key_is = l.key_is ∙ e; value = l.value; stamp_is = l.stamp_is }
@@ -63,7 +63,7 @@ pub life_unnamed : (k : List ℕ) (h g stamp : ℕ) (v : PassState) → BuriesLi
 life_unnamed k h g stamp v b = record { header = b.header; held = b.held; buried = b.buried; unnamed = b.named_is }
 
 -- so it is a lock of the key of the entry; the header and the generation are named twice, as the two calls name them
-pub locks_life : (z : Sizes) (call : ℕ) (k : List ℕ) (h g hl gl : ℕ) (v w : PassState) → KnowsLifeOf k (home_of h g) v.knowledge → 0 < knows_life h g v.knowledge → LocksHeader z call h g v w
+pub locks_life : (z : Sizes) (call : ℕ) (k : List ℕ) (h g hl gl : ℕ) (v w : PassState) → KnowsLifeOf call k (home_of h g) v.knowledge → 0 < knows_life h g v.knowledge → LocksHeader z call h g v w
     → ((of : List ℕ) → key_known h g v.knowledge ≡ Some of → LocksKey z call of hl gl v w) → (before : List ℕ) × (stamp : ℕ) × LockOf z k hl gl before stamp w
 locks_life z call k h g hl gl v w has some l keys = let known = life_key h g v.knowledge some in let locks = keys known.0 known.1 in
     (locks.before, locks.stamp, lock_of z hl gl w k known.0 locks.before locks.stamp (lock_key z call h g v w l k known.0 has known.1) locks.lock)

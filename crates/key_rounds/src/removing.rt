@@ -45,7 +45,7 @@ fn remove_at(
 )
     requires own { IsPassOf table.now pass.old }
     requires pinned { HasRoomPin (key table.now) pin.now.room (state pass.old) }
-    requires entry { (k : List ℕ) × HasEntry pin.now.room entry.0 k (state pass.old) × KnowsLifeOf k (home_of header generation) (state pass.old).knowledge }
+    requires entry { (k : List ℕ) × HasEntry pin.now.room entry.0 k (state pass.old) × KnowsLifeOf (call_of pass.old) k (home_of header generation) (state pass.old).knowledge }
     requires inside { header < (key table.now).headers }
     requires known { 0 < knows_life header generation (state pass.old).knowledge }
     requires blocks { (state pass.old).blocks ≡ no_blocks }

@@ -1,5 +1,5 @@
 -- The steps, splits and joins of the running table are those of the definitions.
-use Rattle.std.proofs.Common.{arith, shl_exact, ◌*◌, ◌%◌, ◌≡◌, ℕ, ◌<◌, ◌^◌, false, [], ◌∷◌, length, sym, refl, ap, ◌∙◌, subst, Some}
+use Rattle.std.proofs.Common.{arith, shl_exact, ◌*◌, ◌%◌, ◌≡◌, ℕ, ◌<◌, ◌^◌, false, [], ◌∷◌, length, sym, refl, ap, ◌∙◌, subst, Option, Some}
 use Rattle.std.specs.Prelude.{bit_or}
 use Rattle.std.specs.Int.{bit_at}
 use Rattle.std.proofs.lemmas.Nat.Bits.{bit_at-pow_same, bit_at-pow_other}
@@ -58,8 +58,8 @@ module _ (z : Sizes) (call : ℕ) (slots id : ℕ) (me : Me (Unit {0}) PassState
       (λ n w told j q. subst (λ (i : ℕ). Told z call (give_number i) me.0 n w) (same_power k j (sym e ∙ q)) told)
 
   -- the call is noted with what it lacks
-  pub allows_note : (lack : Lack) (began : ℕ) → Lacks z call lack began (length me.0.findings.met) me.0.findings → Allows (Holds z) slots id me 0 (λ n. n) (λ n m. Notes z call lack me.0 m.0 × KeepsSeat me m)
-  allows_note lack began may = allows_at (note_full lack began) (λ n w. Notes z call lack me.0 w) 0 (λ n. n) (first_word z) refl may
+  pub allows_note : (lack : Lack) (spare : Option ℕ) (began : ℕ) → Lacks z call lack spare began (length me.0.findings.met) me.0.findings → Allows (Holds z) slots id me 0 (λ n. n) (λ n m. Notes z call lack me.0 m.0 × KeepsSeat me m)
+  allows_note lack spare began may = allows_at (note_full lack began) (λ n w. Notes z call lack me.0 w) 0 (λ n. n) (first_word z) refl (spare, may)
       (λ n w told. record { began = began; number = n; told = told; after = told.after ∙ ap (λ (k : ℕ). full_state call lack (finding z call at_given (Some k) k told.table.words me.0) me.0) told.finds })
 
 pub splits : (z : Sizes) (id : ℕ) (v : PassState) → MaySplit v → Splits (Holds z) id v (left_state v) (right_state v)

@@ -72,7 +72,7 @@ module _ (z : Sizes) (call : ℕ) (v : PassState) (n : ℕ) (w : PassState) (p :
   heard_now = ap (λ (q : Knowledge). q.heard) taught_now
 
   pub count_learns : Learns call v w
-  count_learns = load_learns z call (in_rooms (at_count p.room)) v n w t true (OfRoom p') taught_now sights_are
+  count_learns = load_learns z call (in_rooms (at_count p.room)) v n w t true (OfRoom p') taught_now true sights_are
 
   -- a key of the range that no entry below the count has
   module _ (k : ℕ) (misses : Misses (pin_with (memory z t.table.words).rooms (content (memory z t.table.words).arena.bytes) n p) k) where

@@ -1,5 +1,5 @@
 -- Noting a call keeps the rule.
-use Rattle.std.proofs.Common.{◌≡◌, ℕ, false, map, length, set, sym, refl, subst, Some}
+use Rattle.std.proofs.Common.{◌≡◌, ℕ, false, map, length, set, sym, refl, subst, Option, Some}
 use mathlib.Core.Option.{some}
 use lib.ListN.{get_elem?}
 use Rattle.oak_model.specs.declared.replies.Lack.{Lack}
@@ -23,7 +23,7 @@ use Rattle.oak_core.proofs.KeyBundles.{keys_now, keys_idle, rooms_still}
 use Rattle.oak_core.proofs.PinsKnown.{pins_same}
 
 module _ (z : Sizes) (s : TableState) (call seat : ℕ) (v : PassState) (r : Rule z s) (here : get_elem? s.states seat ≡ some v) (going : v.numbers.spent ≡ false) (lack : Lack) (began : ℕ)
-    (may : Lacks z call lack began (length v.findings.met) v.findings) where
+    (may : (spare : Option ℕ) × Lacks z call lack spare began (length v.findings.met) v.findings) where
   abbrev m : Memory
   m = memory z s.words
 
@@ -40,7 +40,7 @@ module _ (z : Sizes) (s : TableState) (call seat : ℕ) (v : PassState) (r : Rul
   note_keeps = stepped_rule z s call seat v r here going (note_full lack began) tt (r.words.small (index z at_given))
       (subst (λ (g : ℕ). NumbersStand z g (map numbers_of (set s.states seat w))) given_is (subst (NumbersStand z m.given) (sym (map_set_same numbers_of s.states seat v w here refl)) r.numbers))
       (subst (λ (g : ℕ). FindingsStand z g (map findings_of (set s.states seat w))) given_is
-      (findings_stay z s call seat v r here going at_given n w refl (fulls_noted z call lack began (finding z call at_given (Some n) n s.words v) v may (r.findings seat v.findings (at_map findings_of s.states seat v here)).noted) tt refl))
+      (findings_stay z s call seat v r here going at_given n w refl (fulls_noted z call lack may.0 began (finding z call at_given (Some n) n s.words v) v may.1 (r.findings seat v.findings (at_map findings_of s.states seat v here)).noted) tt refl))
       (subst HistoriesStand (sym (map_set_same knowledge_of s.states seat v w here refl)) r.histories)
       (blocks_stay z s call seat v r here going w refl refl)
       (headers_stay z s call seat v r here going w refl refl)

@@ -68,7 +68,7 @@ module _ (z : Sizes) (s : TableState) (call seat : ℕ) (v : PassState) (r : Rul
     w = state_after z call (load (in_rooms (at_value p.room i))) s v
 
     floor_keeps : names_header n ≡ 0 → Rule z (table_after z call (load (in_rooms (at_value p.room i))) seat v s)
-    floor_keeps floor = let knows = floor_knowledge z m s.states r.rooms r.covers r.keys seat v here p is good i key found n refl floor qs in
+    floor_keeps floor = let knows = floor_knowledge z m s.states r.rooms r.covers r.keys seat v here p is good i key found n refl floor call qs in
         roomless_rule z s call seat v r here going (in_rooms (at_value p.room i)) inside refl (load_taught z s call seat v r here going (in_rooms (at_value p.room i)) (of_key_to key n) knows (rooms_still z m s.states seat v w here refl)
         (floor_step_heard z m s.states r.rooms r.covers r.keys seat v here p is good i key found n refl floor w r.histories r.heard knows refl refl))
 
@@ -82,10 +82,10 @@ module _ (z : Sizes) (s : TableState) (call seat : ℕ) (v : PassState) (r : Rul
     }
       where
         life : KnownLife
-        life = record { key = key; home = n }
+        life = record { call = call; key = key; home = n }
 
-        knows : w.knowledge ≡ record v.knowledge { loaded = v.knowledge.loaded ++ record { key = key; home = n } ∷ [] }
-        knows = life_knowledge z m s.states r.rooms r.covers r.keys seat v here p is good i key found n refl names qs
+        knows : w.knowledge ≡ record v.knowledge { loaded = v.knowledge.loaded ++ record { call = call; key = key; home = n } ∷ [] }
+        knows = life_knowledge z m s.states r.rooms r.covers r.keys seat v here p is good i key found n refl names call qs
 
         there : 0 < homes_in n (history_now s.states (key_number key))
         there = life_there z m s.states r.rooms r.covers r.keys seat v here p is good i key found n refl names
@@ -102,11 +102,11 @@ module _ (z : Sizes) (s : TableState) (call seat : ℕ) (v : PassState) (r : Rul
         same : (k : ℕ) → history_now (set s.states seat w) k ≡ history_now s.states k
         same = history_seen s.states seat v w here r.histories seen
 
-        loaded : w.knowledge.loaded ≡ v.knowledge.loaded ++ record { key = key; home = n } ∷ []
+        loaded : w.knowledge.loaded ≡ v.knowledge.loaded ++ record { call = call; key = key; home = n } ∷ []
         loaded = ap (λ (q : Knowledge). q.loaded) knows
 
         stands : LoadedStand (history_now s.states) w.knowledge
-        stands = subst (LoadedStand (history_now s.states)) (sym knows) (life_loaded z m s.states r.rooms r.covers r.keys seat v here p is good i key found n refl names)
+        stands = subst (LoadedStand (history_now s.states)) (sym knows) (life_loaded z m s.states r.rooms r.covers r.keys seat v here p is good i key found n refl names call)
 
     found_keeps : Rule z (table_after z call (load (in_rooms (at_value p.room i))) seat v s)
     found_keeps = ⊎_elim floor_keeps life_keeps (named_or n)

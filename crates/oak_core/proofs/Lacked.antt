@@ -1,5 +1,5 @@
 -- What a call lacks is shown by what was met, and by all that is met and swept further on.
-use Rattle.std.proofs.Common.{◌≡◌, ℕ, ◌-◌, ◌≤◌, List, [], ◌∷◌, ◌++◌, length, sym, refl, ap, subst, arith, ⊎_elim, inl, inr, Some}
+use Rattle.std.proofs.Common.{◌≡◌, ℕ, ◌-◌, ◌≤◌, List, [], ◌∷◌, ◌++◌, length, sym, refl, ap, subst, arith, ⊎_elim, inl, inr, Option, Some}
 use mathlib.Core.Option.{some}
 use mathlib.Core.Logic.{dite}
 use native.Mathlib.Decide.{dec_lt}
@@ -59,15 +59,15 @@ module _ (z : Sizes) (behind ended : ℕ) (met more : List Finding) where
       longer_at : {from to word : ℕ} {P : ℕ → ℕ → Type 0} → FoundBehind from to met word P → FoundBehind from to (met ++ more) word P
       longer_at f = record { place = f.place; from = f.from; to = f.to; finding = f.finding; there = at_longer met more f.place f.finding f.there; word_is = f.word_is; number = f.number; found_is = f.found_is; shows = f.shows }
 
-  lack_longer : ended ≤ length met → (lack : Lack) → LackFound z behind ended met lack → LackFound z behind ended (met ++ more) lack
-  lack_longer le (Block c) h = (h.0, λ b lt. ⊎_elim (λ (t : FoundSet z behind ended met c b). inl (found_longer _ _ t)) (λ (t : (h.0 ≡ Some b) × FoundHeld z behind ended met c b). inr (t.0, found_longer _ _ t.1)) (h.1 b lt))
-  lack_longer le Header h = λ k lt. ⊎_elim (λ (t : FoundTaken z behind ended met k). inl (found_longer _ _ t))
+  lack_longer : ended ≤ length met → (lack : Lack) (spare : Option ℕ) → LackFound z behind ended met lack spare → LackFound z behind ended (met ++ more) lack spare
+  lack_longer le (Block c) spare h = λ b lt. ⊎_elim (λ (t : FoundSet z behind ended met c b). inl (found_longer _ _ t)) (λ (t : (spare ≡ Some b) × FoundHeld z behind ended met c b). inr (t.0, found_longer _ _ t.1)) (h b lt)
+  lack_longer le Header spare h = λ k lt. ⊎_elim (λ (t : FoundTaken z behind ended met k). inl (found_longer _ _ t))
       (λ (t : FoundRenewed z behind ended met k). inr (record { one = found_longer _ _ t.one; other = found_longer _ _ t.other; apart = t.apart })) (h k lt)
-  lack_longer le Room h = (h.0, record { room = h.1.room; inside = h.1.inside; whole = whole_longer le h.1.room h.0 h.1.whole; others = λ r lt ne. found_longer _ _ (h.1.others r lt ne) })
+  lack_longer le Room spare h = (h.0, record { room = h.1.room; inside = h.1.inside; whole = whole_longer le h.1.room h.0 h.1.whole; others = λ r lt ne. found_longer _ _ (h.1.others r lt ne) })
 
 -- it stays so when more is met and swept
-pub lacks_longer : (z : Sizes) (call : ℕ) (lack : Lack) (began ended : ℕ) (fs fs' : Findings) → Begins fs.met fs'.met → Begins fs.swept fs'.swept → Lacks z call lack began ended fs → Lacks z call lack began ended fs'
-lacks_longer z call lack began ended fs fs' m s l = record {
+pub lacks_longer : (z : Sizes) (call : ℕ) (lack : Lack) (spare : Option ℕ) (began ended : ℕ) (fs fs' : Findings) → Begins fs.met fs'.met → Begins fs.swept fs'.swept → Lacks z call lack spare began ended fs → Lacks z call lack spare began ended fs'
+lacks_longer z call lack spare began ended fs fs' m s l = record {
   behind = l.behind;
   from = l.from;
   to = l.to;
@@ -81,11 +81,11 @@ lacks_longer z call lack began ended fs fs' m s l = record {
     to = c.to;
     inside = c.inside;
   };
-  found = subst (λ (x : List Finding). LackFound z l.behind ended x lack) (sym m.1) (lack_longer z l.behind ended fs.met m.0 l.met lack l.found);
+  found = subst (λ (x : List Finding). LackFound z l.behind ended x lack spare) (sym m.1) (lack_longer z l.behind ended fs.met m.0 l.met lack spare l.found);
 }
 
 each_longer : (z : Sizes) (fs fs' : Findings) → Begins fs.met fs'.met → Begins fs.swept fs'.swept → (ns : List Full) → Each (λ (n : Full). Lacked z n.call n.lack fs) ns → Each (λ (n : Full). Lacked z n.call n.lack fs') ns
-each_longer z fs fs' m s ns h = each_map (λ (n : Full). Lacked z n.call n.lack fs) (λ (n : Full). Lacked z n.call n.lack fs') ns (λ n q. (q.0, q.1, lacks_longer z n.call n.lack q.0 q.1 fs fs' m s q.2)) h
+each_longer z fs fs' m s ns h = each_map (λ (n : Full). Lacked z n.call n.lack fs) (λ (n : Full). Lacked z n.call n.lack fs') ns (λ n q. (q.0, q.1, q.2, lacks_longer z n.call n.lack q.0 q.1 q.2 fs fs' m s q.3)) h
 
 -- one more finding
 pub fulls_met : (z : Sizes) (fs fs' : Findings) (f : Finding) → fs' ≡ record fs { met = fs.met ++ f ∷ [] } → FullsStand z fs → FullsStand z fs'
@@ -96,18 +96,18 @@ pub fulls_more : (z : Sizes) (fs fs' : Findings) (f : Finding) → fs'.met ≡ f
 fulls_more z fs fs' f met swept fulls h = subst (Each (λ (n : Full). Lacked z n.call n.lack fs')) (sym fulls) (each_longer z fs fs' (f ∷ [], met) swept fs.fulls h)
 
 -- one more finding, and a call noted that lacks what was found before
-pub fulls_noted : (z : Sizes) (call : ℕ) (lack : Lack) (began : ℕ) (f : Finding) (v : PassState) → Lacks z call lack began (length v.findings.met) v.findings → FullsStand z v.findings → FullsStand z (full_state call lack f v).findings
-fulls_noted z call lack began f v l h = let fs : Findings = (full_state call lack f v).findings in
+pub fulls_noted : (z : Sizes) (call : ℕ) (lack : Lack) (spare : Option ℕ) (began : ℕ) (f : Finding) (v : PassState) → Lacks z call lack spare began (length v.findings.met) v.findings → FullsStand z v.findings → FullsStand z (full_state call lack f v).findings
+fulls_noted z call lack spare began f v l h = let fs : Findings = (full_state call lack f v).findings in
     each_append (λ (n : Full). Lacked z n.call n.lack fs) v.findings.fulls (record { call = call; lack = lack } ∷ [])
     (each_longer z v.findings fs (f ∷ [], refl) (begins_self v.findings.swept) v.findings.fulls h)
-    ((began, length v.findings.met, lacks_longer z call lack began (length v.findings.met) v.findings fs (f ∷ [], refl) (begins_self v.findings.swept) l), tt)
+    ((spare, began, length v.findings.met, lacks_longer z call lack spare began (length v.findings.met) v.findings fs (f ∷ [], refl) (begins_self v.findings.swept) l), tt)
 
 -- A call that met nothing of another call lacks what it found with nothing free behind a moment at which it had swept every key, where from then on it only met more.
 module _ (z : Sizes) (call : ℕ) (v w : PassState) (more : List Finding) (after : w ≡ grown more v) (calls : Each (λ (f : Finding). f.call ≡ call) more) where
-  pub lacks_then : (lack : Lack) (began : ℕ) → began ≤ length v.findings.met → ((i : ℕ) (f : Finding) → began ≤ i → get_elem? v.findings.met i ≡ some f → f.call ≡ call)
-      → ((k : List ℕ) → IsKey k → KeySwept began (length v.findings.met) v.findings.swept k) → LackFound z (length v.findings.met) (length w.findings.met) w.findings.met lack
-      → Lacks z call lack began (length w.findings.met) w.findings
-  lacks_then lack began le own swept found = record {
+  pub lacks_then : (lack : Lack) (spare : Option ℕ) (began : ℕ) → began ≤ length v.findings.met → ((i : ℕ) (f : Finding) → began ≤ i → get_elem? v.findings.met i ≡ some f → f.call ≡ call)
+      → ((k : List ℕ) → IsKey k → KeySwept began (length v.findings.met) v.findings.swept k) → LackFound z (length v.findings.met) (length w.findings.met) w.findings.met lack spare
+      → Lacks z call lack spare began (length w.findings.met) w.findings
+  lacks_then lack spare began le own swept found = record {
     behind = length v.findings.met;
     from = le;
     to = let l = grown_length v w more after in omega arith;

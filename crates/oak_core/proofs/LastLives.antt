@@ -62,15 +62,15 @@ pub record KnowsKeyOf (h g : ℕ) (key : List ℕ) (q : Knowledge) : Type 0 wher
   pub is : key_known h g q ≡ Some known
   pub number : key_number known ≡ key_number key
 
-pub loaded_key : (z : Sizes) (s : TableState) (r : Rule z s) (seat : ℕ) (v : PassState) → get_elem? s.states seat ≡ some v → (h g : ℕ) → NamesAt h g → (key : List ℕ) → KnowsLifeOf key (home_of h g) v.knowledge → KnowsKeyOf h g key v.knowledge
-loaded_key z s r seat v here h g at key has = record {
+pub loaded_key : (z : Sizes) (s : TableState) (r : Rule z s) (seat : ℕ) (v : PassState) → get_elem? s.states seat ≡ some v → (h g : ℕ) → NamesAt h g → (call : ℕ) (key : List ℕ) → KnowsLifeOf call key (home_of h g) v.knowledge → KnowsKeyOf h g key v.knowledge
+loaded_key z s r seat v here h g at call key has = record {
   known = found.0;
   is = found.1;
   number = home_key s.states r.callers r.keys.legal (home_of h g) (key_number found.0) (key_number key) at.names (known_is (map knowledge_of s.states) r.histories r.keys.legal r.keys.loaded seat v.knowledge q_here h g found.0 found.1).there stands.1;
 }
   where
     life : KnownLife
-    life = record { key = key; home = home_of h g }
+    life = record { call = call; key = key; home = home_of h g }
 
     q_here : get_elem? (map knowledge_of s.states) seat ≡ some v.knowledge
     q_here = at_map knowledge_of s.states seat v here

@@ -22,6 +22,8 @@ pub mod KnownKeys
 pub mod KnownWrites
 pub mod UnnamedHeaders
 pub mod NewLives
+pub mod StaleSights
+pub mod LoadedIn
 pub mod NamedLives
 pub mod SetValue
 pub mod LockKeys

@@ -55,7 +55,7 @@ module _ (z : Sizes) (call h old : ℕ) (v : PassState) (n : ℕ) (w : PassState
 
   -- a lock adds nothing but a lesson on one key
   pub lock_learns : Learns call v w
-  lock_learns = step_learns z call (on_headers (lock_header h old)) v n w t test (lock_taught h old (m.headers.stamp h) v.knowledge) knows_now sights_now (ap (λ (y : PassState). y.numbers) t.after) (ap (λ (y : PassState). y.findings.fulls) t.after)
+  lock_learns = step_learns z call (on_headers (lock_header h old)) v n w t test (lock_taught h old (m.headers.stamp h) v.knowledge) knows_now test sights_now (ap (λ (y : PassState). y.numbers) t.after) (ap (λ (y : PassState). y.findings.fulls) t.after)
       (ap (λ (y : PassState). y.findings.swept) t.after) (begins_same v.findings.gones w.findings.gones (ap (λ (y : PassState). y.findings.gones) t.after))
 
   -- the header was live, and the pass knew the key of its life

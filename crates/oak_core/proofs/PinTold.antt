@@ -66,7 +66,7 @@ module _ (z : Sizes) (call h g : ℕ) (v : PassState) (n : ℕ) (w : PassState) 
 
   pub pin_learns : Learns call v w
   pin_learns = step_learns z call (on_headers (pin_header h g)) v n w t (finds_over h g (m.headers.pin h) v.knowledge) (over_taught h g qs v.knowledge) pin_knows
-      (ap (λ (x : PassState). x.findings.sights) t.after) (ap (λ (x : PassState). x.numbers) t.after) (ap (λ (x : PassState). x.findings.fulls) t.after) (ap (λ (x : PassState). x.findings.swept) t.after)
+      false (ap (λ (x : PassState). x.findings.sights) t.after) (ap (λ (x : PassState). x.numbers) t.after) (ap (λ (x : PassState). x.findings.fulls) t.after) (ap (λ (x : PassState). x.findings.swept) t.after)
       (gones_more (finds_over h g (m.headers.pin h) v.knowledge) call (key_or (key_known h g v.knowledge)) (home_of h g) v.findings w.findings (ap (λ (x : PassState). x.findings.gones) t.after))
 
   -- where it finds none over, the pass only has the pin, and the finding more
@@ -76,7 +76,7 @@ module _ (z : Sizes) (call h g : ℕ) (v : PassState) (n : ℕ) (w : PassState) 
         headers = record v.headers { pin = Some (record { header = h; wanted = g; found = (memory z t.table.words).headers.pin h; place = (memory z t.table.words).headers.place h; stamp = (memory z t.table.words).headers.stamp h; words = content (memory z t.table.words).arena.bytes ((memory z t.table.words).headers.place h) }) };
       }
   pin_quiet none = t.after ∙ (λ i. record v {
-    findings = record v.findings { met = v.findings.met ++ finding z call (in_headers (at_pin h)) (Some (found z (on_headers (pin_header h g)) t.table)) (header_effect (pin_header h g) (found z (on_headers (pin_header h g)) t.table)) t.table.words v ∷ []; sights = sights_with (not_over i) call (over_taught h g qs v.knowledge) v.findings; gones = gones_with (not_over i) call (key_or (key_known h g v.knowledge)) (home_of h g) v.findings };
+    findings = record v.findings { met = v.findings.met ++ finding z call (in_headers (at_pin h)) (Some (found z (on_headers (pin_header h g)) t.table)) (header_effect (pin_header h g) (found z (on_headers (pin_header h g)) t.table)) t.table.words v ∷ []; gones = gones_with (not_over i) call (key_or (key_known h g v.knowledge)) (home_of h g) v.findings };
     knowledge = taught_where (not_over i) (over_taught h g qs v.knowledge) qs v.knowledge;
     headers = record v.headers { pin = Some (record { header = h; wanted = g; found = m.headers.pin h; place = m.headers.place h; stamp = m.headers.stamp h; words = content m.arena.bytes (m.headers.place h) }) };
   })
@@ -95,12 +95,6 @@ module _ (z : Sizes) (call h g : ℕ) (v : PassState) (n : ℕ) (w : PassState) 
 
     learned : w.knowledge ≡ taught_by (of_key_to key over_stamp) (map knowledge_of t.table.states) v.knowledge
     learned = pin_knows ∙ over_knowledge call m qs v h g key knows (ap (is_over g) word_is ∙ over)
-
-    abbrev sight : Sight
-    sight = record { call = call; taught = of_key_to key over_stamp; met = length v.findings.met }
-
-    pub over_sighted : SightedSince (key_number key) over_stamp v.findings w.findings
-    over_sighted = (sight ∷ [], ap (λ (x : PassState). x.findings.sights) t.after ∙ (λ i. sights_with (shown i) call (of_key_to (key_or (knows i)) (removed_at (home_of h g) (history (key_number (key_or (knows i))) qs) - 1)) v.findings), record { sight = sight; there = inl refl; just = reach_here key over_stamp })
 
     abbrev gone : Gone
     gone = record { call = call; home = home_of h g; key = key }

@@ -21,7 +21,7 @@ use Rattle.oak_core.specs.Step.{load, state_after, found}
 use Rattle.oak_core.specs.TableState.{TableState}
 use Rattle.oak_core.specs.Sights.{sights_with, gones_with}
 use Rattle.oak_core.specs.Splitting.{Loads}
-use Rattle.oak_core.specs.StampLoads.{shows_stamp, stamp_taught}
+use Rattle.oak_core.specs.StampLoads.{counts_stamp, stamp_taught}
 use Rattle.oak_core.specs.ValueLoads.{shows_floor, value_taught}
 use Rattle.oak_core.proofs.Words.{index_apart, given_before, arena_before, header_before}
 
@@ -45,7 +45,7 @@ plain_or_taught P plain counts values stamps (in_rooms (at_next k i)) = plain (i
 
 -- behind a load the pass knows, and has of rooms, what it did
 pub record LoadTeachesNothing (call : ℕ) (p : Spot) (m : Memory) (qs : List Knowledge) (v : PassState) : Type 0 where
-  pub knowledge : knows_by_load p m qs v ≡ v.knowledge
+  pub knowledge : knows_by_load call p m qs v ≡ v.knowledge
   pub sights : sights_by_load p call m v ≡ v.findings.sights
   pub rooms : rooms_by_load p m v ≡ v.rooms
 
@@ -91,7 +91,7 @@ gones_with_grow call fs false key home = begins_self fs.gones
 -- so it is by a load
 pub sights_grow : (p : Spot) (call : ℕ) (m : Memory) (v : PassState) → Begins v.findings.sights (sights_by_load p call m v)
 sights_grow p call m v = plain_or_taught (λ q. Begins v.findings.sights (sights_by_load q call m v)) (λ q is. subst (Begins v.findings.sights) (sym (still q is)) (begins_self v.findings.sights)) (λ k. counted k v.rooms.pin)
-    (λ k i. sights_with_grow call v.findings (shows_floor k i (m.rooms.value k i) v.rooms.pin) (value_taught k i (m.rooms.value k i) v.rooms.pin)) (λ h. sights_with_grow call v.findings (shows_stamp h v.headers.pin v.knowledge) (stamp_taught h (m.headers.stamp h) v.headers.pin v.knowledge)) p
+    (λ k i. sights_with_grow call v.findings (shows_floor k i (m.rooms.value k i) v.rooms.pin) (value_taught k i (m.rooms.value k i) v.rooms.pin)) (λ h. sights_with_grow call v.findings (counts_stamp call h v.headers.pin v.knowledge) (stamp_taught h (m.headers.stamp h) v.headers.pin v.knowledge)) p
   where
     still : (q : Spot) → IsPlain q → sights_by_load q call m v ≡ v.findings.sights
     still q is = (plain_teaches call m [] v q is).sights

@@ -18,14 +18,14 @@ use Rattle.oak_core.specs.Memory.{Memory, Spot, in_headers, in_rooms, memory, in
 use Rattle.oak_core.specs.PassState.{knowledge_of}
 use Rattle.oak_core.specs.Sights.{sights_with}
 use Rattle.oak_core.specs.Splitting.{Loads}
-use Rattle.oak_core.specs.StampLoads.{finds_life, shows_stamp, stamp_taught}
+use Rattle.oak_core.specs.StampLoads.{finds_life, finds_now, shows_stamp, stamp_taught}
 use Rattle.oak_core.proofs.PlainLoads.{LoadTeachesNothing, quiet_state}
 use Rattle.oak_core.proofs.Words.{index_apart}
 
 -- an entry that was not found
 pub unfound_teaches : (call r i : ℕ) (m : Memory) (qs : List Knowledge) (v : PassState) → pinned_key r i v.rooms.pin ≡ None → LoadTeachesNothing call (in_rooms (at_value r i)) m qs v
 unfound_teaches call r i m qs v none = let n : ℕ = m.rooms.value r i in record {
-  knowledge = ap (λ (o : Option (List ℕ)). record (taught_where (is_known o && (names_header n == 0)) (of_key_to (key_or o) n) qs v.knowledge) { loaded = cond (is_known o && (names_header n == 1)) (v.knowledge.loaded ++ record { key = key_or o; home = n } ∷ []) v.knowledge.loaded }) none;
+  knowledge = ap (λ (o : Option (List ℕ)). record (taught_where (is_known o && (names_header n == 0)) (of_key_to (key_or o) n) qs v.knowledge) { loaded = cond (is_known o && (names_header n == 1)) (v.knowledge.loaded ++ record { call = call; key = key_or o; home = n } ∷ []) v.knowledge.loaded }) none;
   sights = ap (λ (o : Option (List ℕ)). sights_with (is_known o && (names_header n == 0)) call (of_key_to (key_or o) n) v.findings) none;
   rooms = refl;
 }
@@ -34,7 +34,7 @@ unfound_teaches call r i m qs v none = let n : ℕ = m.rooms.value r i in record
 pub unshown_teaches : (call h : ℕ) (m : Memory) (qs : List Knowledge) (v : PassState) → shows_stamp h v.headers.pin v.knowledge ≡ false → LoadTeachesNothing call (in_headers (at_stamp h)) m qs v
 unshown_teaches call h m qs v other = record {
   knowledge = ap (λ (b : Bool). taught_where b (stamp_taught h (m.headers.stamp h) v.headers.pin v.knowledge) qs v.knowledge) other;
-  sights = ap (λ (b : Bool). sights_with b call (stamp_taught h (m.headers.stamp h) v.headers.pin v.knowledge) v.findings) other;
+  sights = ap (λ (b : Bool). sights_with (b && finds_now call v.headers.pin v.knowledge) call (stamp_taught h (m.headers.stamp h) v.headers.pin v.knowledge) v.findings) other;
   rooms = refl;
 }
 

@@ -30,7 +30,7 @@ use Rattle.oak_core.specs.Owners.{HeadersAreHeld}
 use Rattle.oak_core.specs.PassState.{history, knowledge_of, headers_held, rooms_held}
 use Rattle.oak_core.specs.Rule.{HistoriesStand}
 use Rattle.oak_core.specs.Sights.{sights_with}
-use Rattle.oak_core.specs.StampLoads.{stamp_key, wanted_of, finds_life, shows_stamp, knows_stamp, sights_stamp}
+use Rattle.oak_core.specs.StampLoads.{stamp_key, wanted_of, counts_stamp, finds_life, finds_now, shows_stamp, knows_stamp, sights_stamp}
 use Rattle.oak_core.proofs.HomeWords.{NamesAt}
 use Rattle.oak_core.proofs.KeyLoads.{live_heard, removed_heard}
 use Rattle.oak_core.proofs.KnownHeaders.{none_fresh}
@@ -72,8 +72,12 @@ module _ (z : Sizes) (m : Memory) (is_key_word : ℕ → ℕ) (vs : List PassSta
   pub stamp_knowledge : (state_of p.found ≡ LIVE) ⊎ (state_of p.found ≡ DEAD) → (qs : List Knowledge) → knows_stamp p.header n v.headers.pin qs v.knowledge ≡ taught_by (of_key_to key n) qs v.knowledge
   stamp_knowledge o qs = λ i. taught_where (shown o i) (of_key_to (key_or (key_is i)) n) qs v.knowledge
 
-  pub stamp_sights : (state_of p.found ≡ LIVE) ⊎ (state_of p.found ≡ DEAD) → (call : ℕ) → sights_stamp p.header n call v.headers.pin v.knowledge v.findings ≡ v.findings.sights ++ record { call = call; taught = of_key_to key n; met = length v.findings.met } ∷ []
-  stamp_sights o call = λ i. sights_with (shown o i) call (of_key_to (key_or (key_is i)) n) v.findings
+  counted : (state_of p.found ≡ LIVE) ⊎ (state_of p.found ≡ DEAD) → (call : ℕ) → finds_now call (Some p) v.knowledge ≡ true → counts_stamp call p.header v.headers.pin v.knowledge ≡ true
+  counted o call now = true_both (shows_stamp p.header v.headers.pin v.knowledge) (finds_now call v.headers.pin v.knowledge) (shown o) (ap (λ (t : Option PinnedHeader). finds_now call t v.knowledge) is ∙ now)
+
+  -- and the stamp counts as found for the key where the life is the key's, or was within the call
+  pub stamp_sights : (state_of p.found ≡ LIVE) ⊎ (state_of p.found ≡ DEAD) → (call : ℕ) → finds_now call (Some p) v.knowledge ≡ true → sights_stamp p.header n call v.headers.pin v.knowledge v.findings ≡ v.findings.sights ++ record { call = call; taught = of_key_to key n; met = length v.findings.met } ∷ []
+  stamp_sights o call now = λ i. sights_with (counted o call now i) call (of_key_to (key_or (key_is i)) n) v.findings
 
   -- under a good pin what it found is there, and the key's entry names the header
   module _ (found : state_of p.found ≡ LIVE) where

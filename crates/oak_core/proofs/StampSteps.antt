@@ -7,7 +7,7 @@ use Rattle.oak_core.specs.CallSteps.{Learns}
 use Rattle.oak_core.specs.Learning.{taught_where}
 use Rattle.oak_core.specs.Memory.{in_headers, memory}
 use Rattle.oak_core.specs.PassState.{knowledge_of}
-use Rattle.oak_core.specs.StampLoads.{shows_stamp, stamp_taught}
+use Rattle.oak_core.specs.StampLoads.{counts_stamp, shows_stamp, stamp_taught}
 use Rattle.oak_core.specs.Step.{load, Told}
 use Rattle.oak_core.proofs.TaughtSteps.{load_learns}
 
@@ -17,4 +17,4 @@ module _ (z : Sizes) (call h : ℕ) (v : PassState) (n : ℕ) (w : PassState) (t
   stamp_knows = ap (λ (x : PassState). x.knowledge) t.after
 
   pub stamp_learns : Learns call v w
-  stamp_learns = load_learns z call (in_headers (at_stamp h)) v n w t (shows_stamp h v.headers.pin v.knowledge) (stamp_taught h ((memory z t.table.words).headers.stamp h) v.headers.pin v.knowledge) stamp_knows (ap (λ (x : PassState). x.findings.sights) t.after)
+  stamp_learns = load_learns z call (in_headers (at_stamp h)) v n w t (shows_stamp h v.headers.pin v.knowledge) (stamp_taught h ((memory z t.table.words).headers.stamp h) v.headers.pin v.knowledge) stamp_knows (counts_stamp call h v.headers.pin v.knowledge) (ap (λ (x : PassState). x.findings.sights) t.after)

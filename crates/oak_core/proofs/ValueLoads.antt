@@ -52,8 +52,8 @@ module _ (z : Sizes) (m : Memory) (vs : List PassState) (rooms : RoomsStand z m.
     no_life : shows_life p.room i n v.rooms.pin ≡ false
     no_life = and_right (is_known (pinned_key p.room i v.rooms.pin)) (names_header n == 1) (ne_eqb (names_header n) 1 (λ e. absurd (omega arith)))
 
-    pub floor_knowledge : (qs : List Knowledge) → knows_value p.room i n v.rooms.pin qs v.knowledge ≡ taught_by (of_key_to key n) qs v.knowledge
-    floor_knowledge qs = λ j. record (taught_where (shown j) (of_key_to (key_or (pinned j)) n) qs v.knowledge) { loaded = cond (no_life j) (v.knowledge.loaded ++ life_shown p.room i n v.rooms.pin ∷ []) v.knowledge.loaded }
+    pub floor_knowledge : (call : ℕ) (qs : List Knowledge) → knows_value call p.room i n v.rooms.pin qs v.knowledge ≡ taught_by (of_key_to key n) qs v.knowledge
+    floor_knowledge call qs = λ j. record (taught_where (shown j) (of_key_to (key_or (pinned j)) n) qs v.knowledge) { loaded = cond (no_life j) (v.knowledge.loaded ++ life_shown call p.room i n v.rooms.pin ∷ []) v.knowledge.loaded }
 
     pub floor_sights : (call : ℕ) → sights_value p.room i n call v.rooms.pin v.findings ≡ v.findings.sights ++ record { call = call; taught = of_key_to key n; met = length v.findings.met } ∷ []
     floor_sights call = λ j. sights_with (shown j) call (of_key_to (key_or (pinned j)) n) v.findings
@@ -71,8 +71,8 @@ module _ (z : Sizes) (m : Memory) (vs : List PassState) (rooms : RoomsStand z m.
     no_floor : shows_floor p.room i n v.rooms.pin ≡ false
     no_floor = and_right (is_known (pinned_key p.room i v.rooms.pin)) (names_header n == 0) (ne_eqb (names_header n) 0 (λ e. absurd (omega arith)))
 
-    pub life_knowledge : (qs : List Knowledge) → knows_value p.room i n v.rooms.pin qs v.knowledge ≡ record v.knowledge { loaded = v.knowledge.loaded ++ record { key = key; home = n } ∷ [] }
-    life_knowledge qs = λ j. record (taught_where (no_floor j) (of_key_to (key_or (pinned j)) n) qs v.knowledge) { loaded = cond (life j) (v.knowledge.loaded ++ record { key = key_or (pinned j); home = n } ∷ []) v.knowledge.loaded }
+    pub life_knowledge : (call : ℕ) (qs : List Knowledge) → knows_value call p.room i n v.rooms.pin qs v.knowledge ≡ record v.knowledge { loaded = v.knowledge.loaded ++ record { call = call; key = key; home = n } ∷ [] }
+    life_knowledge call qs = λ j. record (taught_where (no_floor j) (of_key_to (key_or (pinned j)) n) qs v.knowledge) { loaded = cond (life j) (v.knowledge.loaded ++ record { call = call; key = key_or (pinned j); home = n } ∷ []) v.knowledge.loaded }
 
     pub life_sights : (call : ℕ) → sights_value p.room i n call v.rooms.pin v.findings ≡ v.findings.sights
     life_sights call = ap (λ (b : Bool). sights_with b call (value_taught p.room i n v.rooms.pin) v.findings) no_floor
@@ -82,7 +82,7 @@ module _ (z : Sizes) (m : Memory) (vs : List PassState) (rooms : RoomsStand z m.
     pub life_there : 0 < homes_in n (history_now vs (key_number key))
     life_there = last_home n 0 (history_now vs (key_number key)) (λ e. none_named n names e) ((keys.states (key_number key)).named n word names).home
 
-    pub life_loaded : LoadedStand (history_now vs) (record v.knowledge { loaded = v.knowledge.loaded ++ record { key = key; home = n } ∷ [] })
-    life_loaded = each_append (λ (l : KnownLife). (names_header l.home ≡ 1) × (0 < homes_in l.home (history_now vs (key_number l.key))) × IsKeyOf (key_number l.key) l.key) v.knowledge.loaded (record { key = key; home = n } ∷ [])
+    pub life_loaded : (call : ℕ) → LoadedStand (history_now vs) (record v.knowledge { loaded = v.knowledge.loaded ++ record { call = call; key = key; home = n } ∷ [] })
+    life_loaded call = each_append (λ (l : KnownLife). (names_header l.home ≡ 1) × (0 < homes_in l.home (history_now vs (key_number l.key))) × IsKeyOf (key_number l.key) l.key) v.knowledge.loaded (record { call = call; key = key; home = n } ∷ [])
         (keys.loaded seat v.knowledge (at_map knowledge_of vs seat v here))
         ((names, life_there, is_key_there z m vs rooms parts seat v here p is good i key found), tt)

@@ -50,8 +50,8 @@ module _ (z : Sizes) (call : ℕ) (v : PassState) (i n : ℕ) (w : PassState) (p
   pub value_word : word_now z (memory z t.table.words) t.table.states (key_number key) ≡ n + 1
   value_word = value_there z m t.table.states t.rule.rooms t.rule.covers t.seat v t.here p is good i key found ∙ ap (λ (k : ℕ). k + 1) value_found
 
-  knows_now : w.knowledge ≡ knows_value p.room i n v.rooms.pin qs v.knowledge
-  knows_now = ap (λ (y : PassState). y.knowledge) t.after ∙ ap (λ (c : ℕ). knows_value p.room i c v.rooms.pin qs v.knowledge) value_found
+  knows_now : w.knowledge ≡ knows_value call p.room i n v.rooms.pin qs v.knowledge
+  knows_now = ap (λ (y : PassState). y.knowledge) t.after ∙ ap (λ (c : ℕ). knows_value call p.room i c v.rooms.pin qs v.knowledge) value_found
 
   sights_now : w.findings.sights ≡ sights_value p.room i n call v.rooms.pin v.findings
   sights_now = ap (λ (y : PassState). y.findings.sights) t.after ∙ ap (λ (c : ℕ). sights_value p.room i c call v.rooms.pin v.findings) value_found
@@ -59,7 +59,7 @@ module _ (z : Sizes) (call : ℕ) (v : PassState) (i n : ℕ) (w : PassState) (p
   -- a floor
   module _ (floor : names_header n ≡ 0) where
     learned : w.knowledge ≡ taught_by (of_key_to key n) (map knowledge_of t.table.states) v.knowledge
-    learned = knows_now ∙ floor_knowledge z m t.table.states t.rule.rooms t.rule.covers t.rule.keys t.seat v t.here p is good i key found n value_found floor qs
+    learned = knows_now ∙ floor_knowledge z m t.table.states t.rule.rooms t.rule.covers t.rule.keys t.seat v t.here p is good i key found n value_found floor call qs
 
     sighted : w.findings.sights ≡ v.findings.sights ++ record { call = call; taught = of_key_to key n; met = length v.findings.met } ∷ []
     sighted = sights_now ∙ floor_sights z m t.table.states t.rule.rooms t.rule.covers t.rule.keys t.seat v t.here p is good i key found n value_found floor call
@@ -68,7 +68,7 @@ module _ (z : Sizes) (call : ℕ) (v : PassState) (i n : ℕ) (w : PassState) (p
     floor_small = names_low n floor (subst (λ (k : ℕ). k < 2 ^ 64) t.finds (t.rule.words.small (index z (in_rooms (at_value p.room i)))))
 
     pub floor_learns : Learns call v w
-    floor_learns = load_learns z call (in_rooms (at_value p.room i)) v n w t true (of_key_to key n) learned sighted
+    floor_learns = load_learns z call (in_rooms (at_value p.room i)) v n w t true (of_key_to key n) learned true sighted
 
     pub floor_reads : ReadsLast (key_number key) n None v w
     floor_reads = let s = (t.rule.keys.states (key_number key)).floor n value_word floor in
@@ -77,16 +77,16 @@ module _ (z : Sizes) (call : ℕ) (v : PassState) (i n : ℕ) (w : PassState) (p
   -- a header
   module _ (names : names_header n ≡ 1) where
     abbrev life : KnownLife
-    life = record { key = key; home = n }
+    life = record { call = call; key = key; home = n }
 
-    pub loads : w.knowledge ≡ record v.knowledge { loaded = v.knowledge.loaded ++ record { key = key; home = n } ∷ [] }
-    loads = knows_now ∙ life_knowledge z m t.table.states t.rule.rooms t.rule.covers t.rule.keys t.seat v t.here p is good i key found n value_found names qs
+    pub loads : w.knowledge ≡ record v.knowledge { loaded = v.knowledge.loaded ++ record { call = call; key = key; home = n } ∷ [] }
+    loads = knows_now ∙ life_knowledge z m t.table.states t.rule.rooms t.rule.covers t.rule.keys t.seat v t.here p is good i key found n value_found names call qs
 
     unsighted : w.findings.sights ≡ v.findings.sights
     unsighted = sights_now ∙ life_sights z m t.table.states t.rule.rooms t.rule.covers t.rule.keys t.seat v t.here p is good i key found n value_found names call
 
     -- the pass knows the life by it
-    pub life_of : KnowsLifeOf key n w.knowledge
+    pub life_of : KnowsLifeOf call key n w.knowledge
     life_of = subst (λ (q : Knowledge). Has life q.loaded) (sym loads) (has_later v.knowledge.loaded (life ∷ []) life (inl refl))
 
     pub life_known : 0 < knows_life (header_in n) (generation_in n) w.knowledge

@@ -1,11 +1,16 @@
 -- What a step notes of the word that it found.
-use Rattle.std.specs.Prelude.{◌≡◌, ℕ, ◌<◌, false, List, [], ◌∷◌, ◌++◌, slice_set, Option, Some}
+use Rattle.std.specs.Prelude.{◌≡◌, ℕ, ◌+◌, ◌*◌, ◌/◌, ◌%◌, ◌^◌, ◌<◌, false, List, [], ◌∷◌, ◌++◌, slice_set, Option, Some}
 use mathlib.Core.Option.{some}
 use lib.ListN.{get_elem?}
-use Rattle.oak_model.specs.Counts.{Each}
+use Rattle.oak_model.specs.Counts.{Each, one_at, total}
 use Rattle.oak_model.specs.Limits.{Sizes}
 use Rattle.arena_core.specs.Arena.{ArenaSpot, at_bits}
 use Rattle.arena_core.specs.HeldBlocks.{had_bits}
+use Rattle.arena_core.specs.Place.{block_in, class_in}
+use Rattle.header_core.specs.declared.holds.HeaderHolds.{HeaderHolds}
+use Rattle.header_core.specs.declared.holds.HeldAs.{HeldAs}
+use Rattle.header_core.specs.declared.holds.HeldAs.TheVariants.{Owned, Fresh, Locked, Buried}
+use Rattle.header_core.specs.declared.holds.HeldHeader.{HeldHeader}
 use Rattle.header_core.specs.Headers.{HeaderSpot, at_pin}
 use Rattle.header_core.specs.HeaderHolds.{had_header}
 use Rattle.chunk_core.specs.Rooms.{RoomSpot, at_room_pin, at_latch}
@@ -15,8 +20,19 @@ use Rattle.oak_core.specs.declared.states.PassState.{PassState}
 use Rattle.oak_core.specs.PassState.{is_alone}
 use Rattle.oak_core.specs.Memory.{Spot, at_given, in_arena, in_headers, in_rooms, index, rooms_at}
 
+-- a header that is not being filled anymore has its block
+abbrev pub has_block : HeldAs → ℕ
+has_block Owned = 0
+has_block Fresh = 1
+has_block (Locked at) = 1
+has_block Buried = 1
+
+-- the bits, in the word i of the bits of a class, of the blocks of the headers that the pass has fresh, has locked or buries
+abbrev pub had_placed : ℕ → ℕ → HeaderHolds → ℕ
+had_placed c i a = total (λ (r : HeldHeader). has_block r.held_as * one_at (class_in r.place) c * one_at (block_in r.place / 64) i * 2 ^ (block_in r.place % 64)) a.held
+
 abbrev pub had_in_arena : ArenaSpot → PassState → ℕ
-had_in_arena (at_bits c i) v = had_bits c i v.blocks
+had_in_arena (at_bits c i) v = had_bits c i v.blocks + had_placed c i v.headers
 had_in_arena _ v = 0
 
 abbrev pub had_in_headers : HeaderSpot → PassState → ℕ
@@ -28,7 +44,7 @@ had_in_rooms (at_room_pin r) v = had_room r v.rooms
 had_in_rooms (at_latch r) v = had_latch r v.rooms
 had_in_rooms _ v = 0
 
--- what the pass has at the word: of a word of bits those of its blocks; of a pin word or a latch 1 where it has it
+-- what the pass has at the word: of a word of bits those of its blocks, held or in a header of its own; of a pin word or a latch 1 where it has it
 abbrev pub had : Spot → PassState → ℕ
 had at_given v = 0
 had (in_arena p) v = had_in_arena p v

@@ -45,9 +45,8 @@ knows_by_header call (unlock_header h kind) m qs v = wrote_over v.numbers.number
 knows_by_header call (mark_dead h) m qs v = wrote_removal v.numbers.number call (held_header h v.headers.held) qs v.knowledge
 knows_by_header call _ m qs v = v.knowledge
 
--- which numbers it found for which keys
+-- which numbers it found for which keys: a pin finds none, but the load of the stamp word under it
 abbrev pub sights_by_header : ℕ → HeaderStep → Memory → List Knowledge → PassState → List Sight
-sights_by_header call (pin_header h g) m qs v = sights_with (finds_over h g (m.headers.pin h) v.knowledge) call (over_taught h g qs v.knowledge) v.findings
 sights_by_header call (lock_header h old) m qs v = sights_with (locks_known h old (m.headers.pin h) v.knowledge) call (lock_taught h old (m.headers.stamp h) v.knowledge) v.findings
 sights_by_header call _ m qs v = v.findings.sights
 

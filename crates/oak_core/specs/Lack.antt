@@ -60,29 +60,29 @@ pub record FoundRenewed (z : Sizes) (behind ended : ℕ) (met : List Finding) (h
 abbrev pub FoundHeld : Sizes → ℕ → ℕ → List Finding → Class → ℕ → Type 0
 FoundHeld z behind ended met c b = FoundBehind behind ended met (index z (in_arena (at_bits (class_number c) (b / 64)))) (λ n _. bit_at n (b % 64) ≡ 1)
 
--- each block of the class was found taken; one of them, the spare one, may be the call's own, which it holds for its value
+-- each block of the class was found taken; one of them, the spare one, may be the call's own, which it has for its value
 abbrev pub BlocksTaken : Sizes → ℕ → ℕ → List Finding → Class → Option ℕ → Type 0
 BlocksTaken z behind ended met c spare = (b : ℕ) → b < blocks z (class_number c) → FoundSet z behind ended met c b ⊎ ((spare ≡ Some b) × FoundHeld z behind ended met c b)
 
--- What is lacking was found with nothing free: each block of the class, each header, or each room but the one that covers some key, which the pass held with a value in each of its entries. Of which class the spare block may be, and which key it is, the call says that was refused.
-abbrev pub LackFound : Sizes → ℕ → ℕ → List Finding → Lack → Type 0
-LackFound z behind ended met (Block c) = (spare : Option ℕ) × BlocksTaken z behind ended met c spare
-LackFound z behind ended met Header = (h : ℕ) → h < z.headers → FoundTaken z behind ended met h ⊎ FoundRenewed z behind ended met h
-LackFound z behind ended met Room = (k : ℕ) × RoomLackFound z behind ended met k
+-- What is lacking was found with nothing free: each block of the class but the spare one, where there is one, each header, or each room but the one that covers some key, which the pass held with a value in each of its entries. When there may be a spare block, and which key it is, the call says that was refused.
+abbrev pub LackFound : Sizes → ℕ → ℕ → List Finding → Lack → Option ℕ → Type 0
+LackFound z behind ended met (Block c) spare = BlocksTaken z behind ended met c spare
+LackFound z behind ended met Header spare = (h : ℕ) → h < z.headers → FoundTaken z behind ended met h ⊎ FoundRenewed z behind ended met h
+LackFound z behind ended met Room spare = (k : ℕ) × RoomLackFound z behind ended met k
 
 -- The findings from the place `began` on and before `ended` are the call's. Ranges that it swept before `behind` cover every key, and from there on it found nothing free of what it lacks.
-pub record Lacks (z : Sizes) (call : ℕ) (lack : Lack) (began ended : ℕ) (fs : Findings) : Type 0 where
+pub record Lacks (z : Sizes) (call : ℕ) (lack : Lack) (spare : Option ℕ) (began ended : ℕ) (fs : Findings) : Type 0 where
   pub behind : ℕ
   pub from : began ≤ behind
   pub to : behind ≤ ended
   pub met : ended ≤ length fs.met
   pub of_call : (i : ℕ) (f : Finding) → began ≤ i → i < ended → get_elem? fs.met i ≡ some f → f.call ≡ call
   pub covered : (k : List ℕ) → IsKey k → KeySwept began behind fs.swept k
-  pub found : LackFound z behind ended fs.met lack
+  pub found : LackFound z behind ended fs.met lack spare
 
 -- a part of what the pass met shows that the call lacked it
 abbrev pub Lacked : Sizes → ℕ → Lack → Findings → Type 0
-Lacked z call lack fs = (began : ℕ) × (ended : ℕ) × Lacks z call lack began ended fs
+Lacked z call lack fs = (spare : Option ℕ) × (began : ℕ) × (ended : ℕ) × Lacks z call lack spare began ended fs
 
 -- the pass had the findings for each call that it noted as refused
 abbrev pub FullsStand : Sizes → Findings → Type 0

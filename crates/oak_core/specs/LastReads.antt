@@ -20,9 +20,9 @@ pub record ReadsLast (k at : ℕ) (s : State) (v w : PassState) : Type 0 where
   pub sighted : SightedSince k at v.findings w.findings
   pub ends : EndsAs k at s w.knowledge
 
--- the pass loaded the life from an entry of the key
-abbrev pub KnowsLifeOf : List ℕ → ℕ → Knowledge → Type 0
-KnowsLifeOf key home q = Has (record { key = key; home = home }) q.loaded
+-- the call of the pass loaded the life from an entry of the key
+abbrev pub KnowsLifeOf : ℕ → List ℕ → ℕ → Knowledge → Type 0
+KnowsLifeOf call key home q = Has (record { call = call; key = key; home = home }) q.loaded
 
 -- what the pass has seen of the key does not go past the life
 abbrev pub NotPast : ℕ → ℕ → Knowledge → Type 0

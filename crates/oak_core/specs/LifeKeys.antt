@@ -1,5 +1,5 @@
 -- The key of a life, as a pass knows it: from an entry that it loaded, or from a write that it has seen.
-use Rattle.std.specs.Prelude.{ℕ, ◌==◌, cond, Bool, true, false, List, [], ◌∷◌, Option, Some, None}
+use Rattle.std.specs.Prelude.{ℕ, ◌==◌, ◌&&◌, cond, Bool, true, false, List, [], ◌∷◌, Option, Some, None}
 use Rattle.chunk_core.specs.ValueWord.{names_life}
 use Rattle.oak_core.specs.declared.states.KeyedWrite.{KeyedWrite}
 use Rattle.oak_core.specs.declared.states.KnownLife.{KnownLife}
@@ -22,6 +22,11 @@ key_in_logs h g (l ∷ ls) = first_of (key_in_log h g l) (key_in_logs h g ls)
 unfoldable pub key_in_loaded : ℕ → ℕ → List KnownLife → Option (List ℕ)
 key_in_loaded h g [] = None
 key_in_loaded h g (l ∷ ls) = cond (names_life h g l.home == 1) (Some l.key) (key_in_loaded h g ls)
+
+-- whether the call loaded the life of the header at the generation from the entry of its key
+unfoldable pub loaded_in : ℕ → ℕ → ℕ → List KnownLife → Bool
+loaded_in call h g [] = false
+loaded_in call h g (l ∷ ls) = cond ((l.call == call) && (names_life h g l.home == 1)) true (loaded_in call h g ls)
 
 -- what the pass knows of the header at the generation
 abbrev pub key_known : ℕ → ℕ → Knowledge → Option (List ℕ)

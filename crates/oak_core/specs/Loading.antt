@@ -20,12 +20,12 @@ IsPlain (in_rooms (at_count r)) = ⊥
 IsPlain (in_rooms (at_value r i)) = ⊥
 IsPlain _ = Unit {0}
 
--- what the pass knows behind the load of a word, where these are the words of the table
-abbrev pub knows_by_load : Spot → Memory → List Knowledge → PassState → Knowledge
-knows_by_load (in_headers (at_stamp h)) m qs v = knows_stamp h (m.headers.stamp h) v.headers.pin qs v.knowledge
-knows_by_load (in_rooms (at_count r)) m qs v = knows_count m.rooms (content m.arena.bytes) r v.rooms.pin qs v.knowledge
-knows_by_load (in_rooms (at_value r i)) m qs v = knows_value r i (m.rooms.value r i) v.rooms.pin qs v.knowledge
-knows_by_load _ m qs v = v.knowledge
+-- what the pass knows behind the load of a word by the call, where these are the words of the table
+abbrev pub knows_by_load : ℕ → Spot → Memory → List Knowledge → PassState → Knowledge
+knows_by_load call (in_headers (at_stamp h)) m qs v = knows_stamp h (m.headers.stamp h) v.headers.pin qs v.knowledge
+knows_by_load call (in_rooms (at_count r)) m qs v = knows_count m.rooms (content m.arena.bytes) r v.rooms.pin qs v.knowledge
+knows_by_load call (in_rooms (at_value r i)) m qs v = knows_value call r i (m.rooms.value r i) v.rooms.pin qs v.knowledge
+knows_by_load call _ m qs v = v.knowledge
 
 -- which numbers it found for which keys
 abbrev pub sights_by_load : Spot → ℕ → Memory → PassState → List Sight

@@ -8,7 +8,7 @@ use Rattle.oak_core.specs.declared.states.Knowledge.{Knowledge}
 use Rattle.oak_core.specs.declared.states.Sight.{Sight}
 use Rattle.oak_core.specs.declared.states.Taught.{Taught}
 use Rattle.oak_core.specs.Learning.{of_key_to, taught_where}
-use Rattle.oak_core.specs.LifeKeys.{key_known, key_or, is_known}
+use Rattle.oak_core.specs.LifeKeys.{key_known, key_or, is_known, loaded_in}
 use Rattle.oak_core.specs.Sights.{sights_with}
 
 -- the pin is one of the header, and found it live or dead at the generation that it wanted
@@ -27,6 +27,15 @@ stamp_key h pin q = key_known h (wanted_of pin) q
 abbrev pub shows_stamp : ℕ → Option PinnedHeader → Knowledge → Bool
 shows_stamp h pin q = finds_life h pin && is_known (stamp_key h pin q)
 
+-- the pin found the life live, or the call had loaded it from the entry of its key
+abbrev pub finds_now : ℕ → Option PinnedHeader → Knowledge → Bool
+finds_now call None q = false
+finds_now call (Some p) q = not (not (state_of p.found == LIVE) && not (loaded_in call p.header p.wanted q.loaded))
+
+-- The number counts as found for the key in the call: the life is the key's, or was within the call. A life that is over, and that the call knows from elsewhere alone, says nothing of what its key is now.
+abbrev pub counts_stamp : (call h : ℕ) → Option PinnedHeader → Knowledge → Bool
+counts_stamp call h pin q = shows_stamp h pin q && finds_now call pin q
+
 abbrev pub stamp_taught : (h n : ℕ) → Option PinnedHeader → Knowledge → Taught
 stamp_taught h n pin q = of_key_to (key_or (stamp_key h pin q)) n
 
@@ -34,4 +43,4 @@ abbrev pub knows_stamp : (h n : ℕ) → Option PinnedHeader → List Knowledge 
 knows_stamp h n pin qs q = taught_where (shows_stamp h pin q) (stamp_taught h n pin q) qs q
 
 abbrev pub sights_stamp : (h n call : ℕ) → Option PinnedHeader → Knowledge → Findings → List Sight
-sights_stamp h n call pin q fs = sights_with (shows_stamp h pin q) call (stamp_taught h n pin q) fs
+sights_stamp h n call pin q fs = sights_with (counts_stamp call h pin q) call (stamp_taught h n pin q) fs

@@ -1,5 +1,5 @@
 -- The kinds of atomic step of one pass. A step names its word, what becomes of that word, what the step asks of the pass, and the pass's state after it, which may be read off the whole state of the table.
-use Rattle.std.specs.Prelude.{◌≡◌, ℕ, ◌^◌, ◌<◌, ◌⊎◌, ◌==◌, ◌&&◌, cond, Bool, true, false, nat_lt, List, [], ◌∷◌, map, ◌++◌, length, slice_index, slice_set, Some, None, bit_or}
+use Rattle.std.specs.Prelude.{◌≡◌, ℕ, ◌^◌, ◌<◌, ◌⊎◌, ◌==◌, ◌&&◌, cond, Bool, true, false, nat_lt, List, [], ◌∷◌, map, ◌++◌, length, slice_index, slice_set, Option, Some, None, bit_or}
 use Rattle.std.specs.Int.{bit_at}
 use mathlib.Core.Option.{some}
 use lib.ListN.{get_elem?}
@@ -171,7 +171,7 @@ May z call (on_arena a) v = MayArena z a v.blocks
 May z call (on_headers x) v = MayOnHeaders z x v × MayEnd call x v
 May z call (on_rooms x) v = MayOnRooms z call x v
 May z call (store_locked h c b k x) v = MayStoreLocked h c b k x v.headers
-May z call (note_full lack began) v = Lacks z call lack began (length v.findings.met) v.findings
+May z call (note_full lack began) v = (spare : Option ℕ) × Lacks z call lack spare began (length v.findings.met) v.findings
 
 -- the number that the step finds
 abbrev pub found : Sizes → Step → TableState → ℕ
@@ -219,7 +219,7 @@ state_after z call (load p) s v =
     let n = found z (load p) s in let m = memory z s.words in
     record v {
       findings = record v.findings { met = v.findings.met ++ finding z call p (Some n) n s.words v ∷ []; sights = sights_by_load p call m v };
-      knowledge = knows_by_load p m (map knowledge_of s.states) v;
+      knowledge = knows_by_load call p m (map knowledge_of s.states) v;
       rooms = rooms_by_load p m v;
     }
 state_after z call (give_number k) s v = let n = found z (give_number k) s in record (noted (leaving (finding z call at_given (Some n) (bit_or n (2 ^ k)) s.words v)) v) { numbers = numbered n k v.numbers }

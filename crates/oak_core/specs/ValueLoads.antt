@@ -23,11 +23,11 @@ shows_life r i n pin = is_known (pinned_key r i pin) && (names_header n == 1)
 abbrev pub value_taught : (r i n : ℕ) → Option PinnedRoom → Taught
 value_taught r i n pin = of_key_to (key_or (pinned_key r i pin)) n
 
-abbrev pub life_shown : (r i n : ℕ) → Option PinnedRoom → KnownLife
-life_shown r i n pin = record { key = key_or (pinned_key r i pin); home = n }
+abbrev pub life_shown : (call r i n : ℕ) → Option PinnedRoom → KnownLife
+life_shown call r i n pin = record { call = call; key = key_or (pinned_key r i pin); home = n }
 
-abbrev pub knows_value : (r i n : ℕ) → Option PinnedRoom → List Knowledge → Knowledge → Knowledge
-knows_value r i n pin qs q = record (taught_where (shows_floor r i n pin) (value_taught r i n pin) qs q) { loaded = cond (shows_life r i n pin) (q.loaded ++ life_shown r i n pin ∷ []) q.loaded }
+abbrev pub knows_value : (call r i n : ℕ) → Option PinnedRoom → List Knowledge → Knowledge → Knowledge
+knows_value call r i n pin qs q = record (taught_where (shows_floor r i n pin) (value_taught r i n pin) qs q) { loaded = cond (shows_life r i n pin) (q.loaded ++ life_shown call r i n pin ∷ []) q.loaded }
 
 abbrev pub sights_value : (r i n call : ℕ) → Option PinnedRoom → Findings → List Sight
 sights_value r i n call pin fs = sights_with (shows_floor r i n pin) call (value_taught r i n pin) fs

@@ -1,5 +1,5 @@
 //! Calls of the map that are refused for want of something, as their passes note them.
-ghost use Rattle.std.specs.Prelude.{◌≡◌, ℕ, ◌<◌, length};
+ghost use Rattle.std.specs.Prelude.{◌≡◌, ℕ, ◌<◌, length, Option};
 ghost use Rattle.atomic_table.specs.Table.{Allows};
 ghost use Rattle.oak_core.specs.AloneWords.{Runs};
 ghost use Rattle.oak_core.specs.Lack.{Lacks};
@@ -30,7 +30,7 @@ impl Pass {
     /// the words stay.
     pub fn note_full(&mut self, table: &OakTable, lack: Lack)
         requires own { IsPassOf table.now self.old }
-        requires lacks { (began : ℕ) × Lacks (key table.now) (call_of self.old) lack began (length (state self.old).findings.met) (state self.old).findings }
+        requires lacks { (spare : Option ℕ) × (began : ℕ) × Lacks (key table.now) (call_of self.old) lack spare began (length (state self.old).findings.met) (state self.old).findings }
         ensures own { Stays self.old self.new }
         ensures searches { SearchesStay self.old self.new }
         ensures noted { Notes (key table.now) (call_of self.old) lack (state self.old) (state self.new) }

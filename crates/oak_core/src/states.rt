@@ -68,8 +68,10 @@ pub struct KeyedWrite {
     pub write: Write,
 }
 
-/// A key, and the value word of one of its lives, as a pass loaded it from the key's linked entry.
+/// A key, and the value word of one of its lives, as a call of a pass loaded it from the key's linked
+/// entry.
 pub struct KnownLife {
+    pub call: u32,
     pub key: Key,
     pub home: u64,
 }

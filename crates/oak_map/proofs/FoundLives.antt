@@ -89,7 +89,6 @@ module _ (z : Sizes) (call : ℕ) (x : Viewed) (u v w : PassState) (s : Searches
       record {
         removal = n.learned.1.removal;
         over = subst (λ (y : PassState). FoundOverSince (home_of x.header x.generation) x.key y.findings w.findings) s.tries.after n.learned.1.over;
-        sighted = subst (λ (y : PassState). SightedSince (key_number x.key) n.learned.0 y.findings w.findings) s.tries.after n.learned.1.sighted;
       },
     )
 

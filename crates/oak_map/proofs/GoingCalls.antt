@@ -1,5 +1,7 @@
 -- How a call that puts goes on after a try without an answer, and how it gives up.
-use Rattle.std.proofs.Common.{◌≡◌, ℕ, Bool, true, false, List, length, refl, sym, subst, Option, Some, None, IfSome, IfNone, Result, Ok, ◌⊎◌, ⊎_elim, inl, inr}
+use Rattle.oak_core.specs.declared.states.Finding.{Finding}
+use Rattle.oak_core.specs.CallSteps.{MetMore}
+use Rattle.std.proofs.Common.{◌≤◌, length-append, ap, arith, ◌≡◌, ℕ, Bool, true, false, List, length, refl, sym, subst, Option, Some, None, IfSome, IfNone, Result, Ok, ◌⊎◌, ⊎_elim, inl, inr}
 use Rattle.oak_model.specs.declared.cells.CellCall.{CellCall}
 use Rattle.oak_model.specs.declared.classes.Class.{Class}
 use Rattle.oak_model.specs.declared.replies.Lack.{Lack}
@@ -17,7 +19,7 @@ use Rattle.oak_core.proofs.KnownReads.{read_since, read_stays}
 use Rattle.point_ops.specs.declared.halts.Halt.{Halt}
 use Rattle.point_ops.specs.declared.halts.Halt.TheVariants.{Busy, Moved, NoBlock, NoHeader}
 use Rattle.point_ops.specs.Needs.{Needs, NeedsNow}
-use Rattle.point_ops.specs.Halting.{Halts}
+use Rattle.point_ops.specs.Halting.{AllTaken, Halts}
 use Rattle.point_ops.specs.Replies.{GoesOn, Refuses}
 use Rattle.point_ops.proofs.Composed.{bare_in, sighted_in}
 use Rattle.rebalance.specs.declared.answers.NoRoom.{NoRoom}
@@ -27,7 +29,7 @@ use Rattle.rebalance.specs.Calls.{FindsNoRoom, Halves, Leaves, Loosens, Settles}
 use Rattle.rebalance.proofs.SweptKeys.{sweeps_since, sweeps_until}
 use Rattle.oak_map.specs.MakingRoom.{MakesWay}
 use Rattle.oak_map.specs.Putting.{Going, LastTry}
-use Rattle.oak_map.specs.Replying.{GivesUp, Tries}
+use Rattle.oak_map.specs.Replying.{GivesUp, ItsRoom, SpareOf, Tries}
 use Rattle.oak_map.proofs.LackingCalls.{blocks_found, headers_found, lacks_since}
 use Rattle.oak_map.proofs.Trying.{tries_both, tries_leaves, tries_none, tries_refused}
 
@@ -87,17 +89,26 @@ module _ (call : ℕ) (key : List ℕ) (ask : CellCall) (u v w t : PassState) (a
     needs = needs_with f.at lack f.before (state_after f.before ask) f.needs;
   }
 
+  spare_on : (lack : Lack) (spare : Option ℕ) → SpareOf lack spare call key ask v w → SpareOf lack spare call key ask u t
+  spare_on (Block c) None n = tt
+  spare_on (Block c) (Some i) n = (n.0, n.1, (n.2.0, bare_in call u v w t a.sights b.sights (key_number key) n.2.0 n.2.1))
+  spare_on Header spare n = n
+  spare_on Room spare n = n
+
 -- what it lacks is shown by its last try, once it has settled
 
-pub block_lacks : (z : Sizes) (call : ℕ) (key : List ℕ) (c : Class) (ask : CellCall) (u v w : PassState) → LastTry z call key (NoBlock c) true ask u v w → Lacks z call (Block c) (length u.findings.met) (length w.findings.met) w.findings
-block_lacks z call key c ask u v w t = lacks_since u v w z call (Block c) t.going.tries.goes.met (t.going.swept refl) t.refused.learns.met (begins_same v.findings.swept w.findings.swept t.refused.holds.swept) (blocks_found z call v w c t.halts.0)
+pub block_lacks : (z : Sizes) (call : ℕ) (c : Class) (spare : Option ℕ) (u v w : PassState) → Going call true u v → Refuses call v w → AllTaken z call c spare v w → Lacks z call (Block c) spare (length u.findings.met) (length w.findings.met) w.findings
+block_lacks z call c spare u v w g r all = lacks_since u v w z call (Block c) spare g.tries.goes.met (g.swept refl) r.learns.met (begins_same v.findings.swept w.findings.swept r.holds.swept) (blocks_found z call v w c spare all)
 
-pub header_lacks : (z : Sizes) (call : ℕ) (key : List ℕ) (ask : CellCall) (u v w : PassState) → LastTry z call key NoHeader true ask u v w → Lacks z call Header (length u.findings.met) (length w.findings.met) w.findings
-header_lacks z call key ask u v w t = lacks_since u v w z call Header t.going.tries.goes.met (t.going.swept refl) t.refused.learns.met (begins_same v.findings.swept w.findings.swept t.refused.holds.swept) (headers_found z call v w t.halts.0)
+pub header_lacks : (z : Sizes) (call : ℕ) (key : List ℕ) (ask : CellCall) (u v w : PassState) → LastTry z call key NoHeader true ask u v w → Lacks z call Header None (length u.findings.met) (length w.findings.met) w.findings
+header_lacks z call key ask u v w t = lacks_since u v w z call Header None t.going.tries.goes.met (t.going.swept refl) t.refused.learns.met (begins_same v.findings.swept w.findings.swept t.refused.holds.swept) (headers_found z call v w t.halts.0)
 
 -- or by the split behind it
-pub room_lacks : (z : Sizes) (call : ℕ) (key : List ℕ) (halt : Halt) (ask : CellCall) (u v w x : PassState) → LastTry z call key halt true ask u v w → FindsNoRoom z call key w x → Lacks z call Room (length u.findings.met) (length x.findings.met) x.findings
-room_lacks z call key halt ask u v w x t n = let g = going_tried z call key halt true ask u v w t in let l = n.compacts.leaves in lacks_since u w x z call Room g.tries.goes.met (g.swept refl) l.met l.swept (key_number key, n.lacks)
+pub room_lacks : (z : Sizes) (call : ℕ) (key : List ℕ) (halt : Halt) (ask : CellCall) (u v w x : PassState) → LastTry z call key halt true ask u v w → FindsNoRoom z call key w x → Lacks z call Room None (length u.findings.met) (length x.findings.met) x.findings
+room_lacks z call key halt ask u v w x t n = let g = going_tried z call key halt true ask u v w t in let l = n.compacts.leaves in lacks_since u w x z call Room None g.tries.goes.met (g.swept refl) l.met l.swept (key_number key, n.lacks)
+
+pub met_longer : (call : ℕ) (u w : PassState) → MetMore call u w → length u.findings.met ≤ length w.findings.met
+met_longer call u w m = let n = length-append u.findings.met m.more in let e = ap (λ (l : List Finding). length l) m.met in omega arith
 
 -- a refusal is one of either kind
 
@@ -113,12 +124,15 @@ none_where Q (Some x) false lack f h = tt
 -- The call began at u and was refused from v to w; it did more until x, and there it settled, or was noted, until y.
 module _ (z : Sizes) (call : ℕ) (key : List ℕ) (halt : Halt) (settled after : Bool) (ask : CellCall) (lack : Lack) (u v w x y : PassState) (o : Option Lack) (t : LastTry z call key halt settled ask u v w) (rest : Tries call w x)
     (full : settled ≡ true → (o ≡ Some lack) × Notes z call lack x y) (again : settled ≡ false → (o ≡ None) × (after ≡ true) × Settles z call x y) where
-  pub refused_full : NeedsNow call key ask lack v w → (settled ≡ true → Lacks z call lack (length u.findings.met) (length x.findings.met) x.findings) → IfSome o (λ l. GivesUp z call key ask l u y)
-  refused_full needs lacks = some_where (λ l. GivesUp z call key ask l u y) o settled lack (λ q. (full q).0) (λ q. (again q).0) (λ q. record {
+  pub refused_full : (spare : Option ℕ) → SpareOf lack spare call key ask v w → NeedsNow call key ask lack v w → (settled ≡ true → Lacks z call lack spare (length u.findings.met) (length x.findings.met) x.findings) → ItsRoom lack z key u x → IfSome o (λ l. GivesUp z call key ask l u y)
+  refused_full spare spared needs lacks room = some_where (λ l. GivesUp z call key ask l u y) o settled lack (λ q. (full q).0) (λ q. (again q).0) (λ q. record {
     last = x;
     tries = tries_both call u w x (going_tried z call key halt settled ask u v w t).tries rest;
     needs = needs_on call key ask u v w x t.going.tries.goes rest.goes lack needs;
+    spare = spare;
+    spared = spare_on call key ask u v w x t.going.tries.goes rest.goes lack spare spared;
     lacks = lacks q;
+    its_room = room;
     notes = (full q).1;
   })
 

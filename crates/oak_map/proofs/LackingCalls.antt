@@ -1,7 +1,5 @@
 -- What a try found with nothing free is lacked by the call that swept every key before it.
-use Rattle.std.proofs.Common.{◌≡◌, ℕ, ◌+◌, ◌-◌, ◌%◌, ⊎_elim, List, ◌++◌, length, length-append, sym, ap, refl, ◌∙◌, subst, arith, false, None, inl, inr}
-use Rattle.std.specs.Int.{bit_at}
-use Rattle.std.proofs.lemmas.Nat.Bits.{bit_at-zero}
+use Rattle.std.proofs.Common.{◌≡◌, ℕ, ◌+◌, ◌-◌, ◌⊎◌, ⊎_elim, List, ◌++◌, length, length-append, sym, ap, refl, ◌∙◌, subst, arith, false, Option, Some, None, inl, inr}
 use mathlib.Core.Option.{some}
 use lib.ListN.{get_elem?}
 use Rattle.pin_word.specs.PinWord.{generation_of}
@@ -18,15 +16,15 @@ use Rattle.oak_core.specs.declared.states.Swept.{Swept}
 use Rattle.oak_core.specs.CallSteps.{MetMore}
 use Rattle.oak_core.specs.Finding.{FoundThere, had}
 use Rattle.oak_core.specs.FoundBehind.{FoundBehind}
-use Rattle.oak_core.specs.Lack.{FoundRenewed, FoundSet, FoundTaken, KeySwept, LackFound, Lacks}
+use Rattle.oak_core.specs.Lack.{FoundHeld, FoundRenewed, FoundSet, FoundTaken, KeySwept, LackFound, Lacks}
 use Rattle.oak_core.specs.Memory.{Spot, in_headers, index}
 use Rattle.oak_core.specs.PassState.{bare_state}
 use Rattle.oak_core.specs.Usage.{is_free}
 use Rattle.oak_core.proofs.CallSteps.{met_both}
 use Rattle.oak_core.proofs.MetLists.{at_behind, at_inside, each_at, from_behind}
 use Rattle.arena_ops.specs.Looking.{bit_spot}
-use Rattle.point_ops.specs.FoundWords.{FoundApart, FoundWord}
-use Rattle.point_ops.specs.Halting.{AllTaken, NoneFree}
+use Rattle.point_ops.specs.FoundWords.{FoundApart, FoundHad, FoundWord}
+use Rattle.point_ops.specs.Halting.{AllTaken, IsTaken, NoneFree}
 use Rattle.rebalance.specs.Calls.{SweepsKey}
 use Rattle.oak_map.specs.Putting.{SweepsAll}
 
@@ -48,20 +46,30 @@ module _ (z : Sizes) (call : ℕ) (v w : PassState) where
     shows = shows;
   }
 
-  -- a pass that holds nothing has no bit, and no header
-  no_bit : (c : Class) (b : ℕ) → had (bit_spot c b) bare_state ≡ 0
-  unfolding Rattle.oak_model.specs.Counts.total
-  no_bit c b = refl
-
+  -- a pass that holds nothing has no header
   no_pin : (h : ℕ) → had (in_headers (at_pin h)) bare_state ≡ 0
   unfolding Rattle.oak_model.specs.Counts.total
   no_pin h = refl
 
-  set_found : (c : Class) (b : ℕ) → FoundWord z call (bit_spot c b) (λ n. bit_at n (b % 64) ≡ 1) v w → FoundSet z (length v.findings.met) (length w.findings.met) w.findings.met c b
-  set_found c b f = behind_begin (bit_spot c b) f.more f.met _ _ f.found (f.found.shows, subst (λ (n : ℕ). bit_at n (b % 64) ≡ 0) (sym (f.found.had_is ∙ no_bit c b)) (bit_at-zero (b % 64)))
+  had_behind : (p : Spot) (Q : ℕ → ℕ → Type 0) → FoundHad z call p Q v w → FoundBehind (length v.findings.met) (length w.findings.met) w.findings.met (index z p) Q
+  had_behind p Q f = record {
+    place = length v.findings.met + f.place;
+    from = omega arith;
+    to = let i = at_inside f.more f.place f.finding f.there in let e = ap (λ (l : List Finding). length l) f.met in let n = length-append v.findings.met f.more in omega arith;
+    finding = f.finding;
+    there = subst (λ (l : List Finding). get_elem? l (length v.findings.met + f.place) ≡ some f.finding) (sym f.met) (at_behind v.findings.met f.more f.place f.finding f.there);
+    word_is = f.word_is;
+    number = f.number;
+    found_is = f.found_is;
+    shows = f.shows;
+  }
 
-  pub blocks_found : (c : Class) → AllTaken z call c v w → LackFound z (length v.findings.met) (length w.findings.met) w.findings.met (Block c)
-  blocks_found c all = (None, λ b lt. inl (set_found c b (all b lt)))
+  block_found : (c : Class) (spare : Option ℕ) (b : ℕ) → IsTaken z call c spare b v w → FoundSet z (length v.findings.met) (length w.findings.met) w.findings.met c b ⊎ ((spare ≡ Some b) × FoundHeld z (length v.findings.met) (length w.findings.met) w.findings.met c b)
+  block_found c spare b (inl x) = inl (had_behind _ _ x)
+  block_found c spare b (inr x) = inr (x.0, had_behind _ _ x.1)
+
+  pub blocks_found : (c : Class) (spare : Option ℕ) → AllTaken z call c spare v w → LackFound z (length v.findings.met) (length w.findings.met) w.findings.met (Block c) spare
+  blocks_found c spare all b lt = block_found c spare b (all b lt)
 
   taken_found : (h : ℕ) → FoundWord z call (in_headers (at_pin h)) (λ n. is_free n ≡ false) v w → FoundTaken z (length v.findings.met) (length w.findings.met) w.findings.met h
   taken_found h f = behind_begin (in_headers (at_pin h)) f.more f.met _ _ f.found (f.found.shows, f.found.had_is ∙ no_pin h)
@@ -73,7 +81,7 @@ module _ (z : Sizes) (call : ℕ) (v w : PassState) where
     apart = f.apart;
   }
 
-  pub headers_found : NoneFree z call v w → LackFound z (length v.findings.met) (length w.findings.met) w.findings.met Header
+  pub headers_found : NoneFree z call v w → LackFound z (length v.findings.met) (length w.findings.met) w.findings.met Header None
   headers_found none h lt = ⊎_elim (λ (f : FoundWord z call (in_headers (at_pin h)) (λ n. is_free n ≡ false) v w). inl (taken_found h f)) (λ (f : FoundApart z call (in_headers (at_pin h)) generation_of v w). inr (renewed_found h f)) (none h lt)
 
 -- ---- behind ranges with every key
@@ -92,9 +100,9 @@ module _ (u v w : PassState) where
   }
 
   -- a call that began at u, and swept every key until v, lacks what it found with nothing free until w
-  pub lacks_since : (z : Sizes) (call : ℕ) (lack : Lack) → MetMore call u v → SweepsAll u v → MetMore call v w → Begins v.findings.swept w.findings.swept → LackFound z (length v.findings.met) (length w.findings.met) w.findings.met lack
-      → Lacks z call lack (length u.findings.met) (length w.findings.met) w.findings
-  lacks_since z call lack first all last swept found = let both = met_both call u v w first last in record {
+  pub lacks_since : (z : Sizes) (call : ℕ) (lack : Lack) (spare : Option ℕ) → MetMore call u v → SweepsAll u v → MetMore call v w → Begins v.findings.swept w.findings.swept → LackFound z (length v.findings.met) (length w.findings.met) w.findings.met lack spare
+      → Lacks z call lack spare (length u.findings.met) (length w.findings.met) w.findings
+  lacks_since z call lack spare first all last swept found = let both = met_both call u v w first last in record {
     behind = length v.findings.met;
     from = begins_length u.findings.met v.findings.met (first.more, first.met);
     to = begins_length v.findings.met w.findings.met (last.more, last.met);

@@ -73,7 +73,7 @@ module _ (z : Sizes) (call : ℕ) (key value : List ℕ) (ask : CellCall) (halt 
   -- by why it was refused
 
   block_answer : (k : Class) → halt ≡ NoBlock k → (b c : List ℕ) → LoneEnd z key ask u c w → LoneHalts (NoBlock k) z key value b c → FullAt z key ask u (Block k) c
-  block_answer k e b c ends q = let n = (subst (λ (h : Halt). Halts h z call key ask v w) e halted).1 in full_at c (Block k) (λ x. absurd cc) ends
+  block_answer k e b c ends q = let n = (subst (λ (h : Halt). Halts h z call key ask v w) e halted).2 in full_at c (Block k) (λ x. absurd cc) ends
       (λ m has. no_block z key value ask u w b c is makes ends.table ends.same q.2.0 (all_valued c ends) m has (HasNoRoomFor z key c) q.0 k q.1 q.2.1 _ n.before (needs_last call key ask (Block k) u v w is (seen_still c ends) ends.same n) n.needs)
 
   header_answer : halt ≡ NoHeader → (b c : List ℕ) → LoneEnd z key ask u c w → LoneHalts NoHeader z key value b c → FullAt z key ask u Header c

@@ -1,9 +1,11 @@
 -- What the calls that put answer. They may sweep ranges while they try, and note what they lack.
-use Rattle.std.specs.Prelude.{◌≡◌, ℕ, ◌<◌, true, List, length}
+use Rattle.std.specs.Prelude.{◌≡◌, ℕ, ◌<◌, ◌≤◌, true, List, length, Option, None}
 use Rattle.oak_model.specs.declared.cells.CellCall.{CellCall}
 use Rattle.oak_model.specs.declared.cells.CellReply.{CellReply}
 use Rattle.oak_model.specs.declared.cells.CellReply.TheVariants as replies
 use Rattle.oak_model.specs.declared.replies.Lack.{Lack}
+use Rattle.oak_model.specs.declared.replies.Lack.TheVariants.{Block, Header, Room}
+use Rattle.oak_core.specs.RoomLacks.{RoomLackFound}
 use Rattle.oak_model.specs.declared.replies.Wrote.{Wrote}
 use Rattle.oak_model.specs.declared.replies.Wrote.TheVariants.{New, Over, Kept, Done, Removed, Absent, Full}
 use Rattle.oak_model.specs.Cell.{is_write}
@@ -17,6 +19,7 @@ use Rattle.oak_core.specs.KnownPlaces.{KnowsPlace}
 use Rattle.oak_core.specs.Lack.{Lacks}
 use Rattle.oak_core.specs.Noting.{Notes}
 use Rattle.oak_core.specs.PassState.{seen_of}
+use Rattle.point_ops.specs.Halting.{SpareNow}
 use Rattle.point_ops.specs.Needs.{NeedsNow}
 use Rattle.point_ops.specs.Replies.{FoundForReply, GoesOn, MineAfter}
 
@@ -45,12 +48,27 @@ pub record MapReplies (call : ℕ) (key : List ℕ) (ask : CellCall) (reply : Ce
   pub mine : MineAfter (is_write reply) call (key_number key) at v w
   pub holds : HoldsOn v w
 
+-- where it lacks a room, the chunk that covers its key was held in the call with a value in each of its entries, and each other room was found not free
+abbrev pub ItsRoom : Lack → Sizes → List ℕ → PassState → PassState → Type 0
+ItsRoom (Block c) z key v w = Unit {0}
+ItsRoom Header z key v w = Unit {0}
+ItsRoom Room z key v w = (from : ℕ) × (length v.findings.met ≤ from) × RoomLackFound z from (length w.findings.met) w.findings.met (key_number key)
+
+-- A spare block is the one that the call has for its own value. There is one only where a block is lacking of the class of that value and of the key, and the key was found without an entry.
+abbrev pub SpareOf : Lack → Option ℕ → ℕ → List ℕ → CellCall → PassState → PassState → Type 0
+SpareOf (Block c) spare call key ask v w = SpareNow spare c call key ask v w
+SpareOf Header spare call key ask v w = spare ≡ None
+SpareOf Room spare call key ask v w = spare ≡ None
+
 -- The call lacks something. It made no write; it needs what it lacks, on a state of the key that it read; all that it met since its begin is its own, ranges that it swept cover every key, and behind these it found nothing free of what it lacks. With that it was noted, in one step more.
 pub record GivesUp (z : Sizes) (call : ℕ) (key : List ℕ) (ask : CellCall) (lack : Lack) (v w : PassState) : Type 0 where
   pub last : PassState
   pub tries : Tries call v last
   pub needs : NeedsNow call key ask lack v last
-  pub lacks : Lacks z call lack (length v.findings.met) (length last.findings.met) last.findings
+  pub spare : Option ℕ
+  pub spared : SpareOf lack spare call key ask v last
+  pub lacks : Lacks z call lack spare (length v.findings.met) (length last.findings.met) last.findings
+  pub its_room : ItsRoom lack z key v last
   pub notes : Notes z call lack last w
 
 -- what a call that puts answers

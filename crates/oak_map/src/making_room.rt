@@ -1,5 +1,5 @@
 //! What a call that puts does after a try without an answer.
-ghost use Rattle.std.specs.Prelude.{◌≡◌, true, false, IfSome, IfNone, ℕ, length};
+ghost use Rattle.std.specs.Prelude.{◌≡◌, true, false, IfSome, IfNone, Option, ℕ, length};
 ghost use Rattle.oak_model.specs.declared.cells.CellCall.{CellCall};
 ghost use Rattle.oak_model.specs.Key.{IsKey};
 ghost use Rattle.oak_core.specs.declared.states.PassState.{PassState};
@@ -30,7 +30,7 @@ fn refuse<R: Wait>(
 ) -> Option<Lack>
     requires own { IsPassOf table.now pass.old }
     requires idle { HoldsNothing (state pass.old) }
-    requires lacks { settled.old ≡ true → (began : ℕ) × Lacks (sizes table.now) (call_of pass.old) lack began (length (state pass.old).findings.met) (state pass.old).findings }
+    requires lacks { settled.old ≡ true → (spare : Option ℕ) × (began : ℕ) × Lacks (sizes table.now) (call_of pass.old) lack spare began (length (state pass.old).findings.met) (state pass.old).findings }
     ensures own { StaysButSlots pass.old pass.new }
     ensures full { settled.old ≡ true → (result ≡ Some lack) × Notes (sizes table.now) (call_of pass.old) lack (state pass.old) (state pass.new) }
     ensures again { settled.old ≡ false → (result ≡ None) × (settled.new ≡ true) × Settles (sizes table.now) (call_of pass.old) (state pass.old) (state pass.new) }

@@ -32,7 +32,7 @@ use Rattle.oak_run.specs.LoneCalls.{CallGoes, PutsSo}
 use Rattle.oak_run.specs.Reads.{IsOnlyThread}
 use Rattle.oak_run.specs.Told.{Ask}
 use Rattle.oak_run.proofs.CallWords.{left_words, noted_step, own_step, went_on}
-use Rattle.oak_run.proofs.LoneChains.{GoesFrom}
+use Rattle.oak_run.proofs.LoneChains.{GoesFrom, MetLater}
 use Rattle.oak_run.proofs.MapsBefore.{states_before}
 use Rattle.oak_run.proofs.SameStamps.{none_wrote}
 use Rattle.oak_run.proofs.SameTables.{none_came}
@@ -86,7 +86,7 @@ ran z n a y v u alone so = ⊎_elim (λ (none : (v ≡ u) × ((words : List ℕ)
 -- ---- the call
 
 module _ (c : Closed) (n : ℕ) (a : Ask) (y : Wrote) (v u : PassState) (only : IsOnlyThread v) (ends : Ends (closed_key c) (closed_words c) (closed_state c)) (goes : GoesFrom n v (closed_state c)) (early : Each (λ x. x.write.call < n) v.knowledge.mine)
-    (one : CallGoes n v u) (later : Begins u.findings.met (closed_state c).findings.met) (so : PutsSo (closed_key c) n a y v u) where
+    (one : CallGoes n v u) (later : MetLater n u (closed_state c)) (so : PutsSo (closed_key c) n a y v u) where
   abbrev z : Sizes
   z = closed_key c
 
@@ -107,8 +107,9 @@ module _ (c : Closed) (n : ℕ) (a : Ask) (y : Wrote) (v u : PassState) (only : 
   pub exact_call : FullExactly c n a y
   exact_call = record {
     words = after;
-    left = left_words c u after later run.1.leaves;
+    left = left_words c u after (later.more, later.met) run.1.leaves;
     of_call = own_words z n a.key a.cell v u after run.1.leaves y one.met so.fits (so.alone only.alone);
+    behind = later.late;
     full = lacks;
     settled = run.1.does.settled;
   }

@@ -28,6 +28,9 @@ runs_script script answers finals closed said computed runs said_are computed_ar
   fits = subst (λ (ys : List (List Reply)). RunFits (closing_of closed) script.shape script.threads ys finals) (sym same) runs.fits;
   counted = computed_are ∙ (times_are answers runs.counted ∙ ap (map times_computed) (sym same));
   exact = λ calls replies calls_are replies_are. runs.exact calls replies calls_are (sym same ∙ replies_are);
+  noted = runs.noted;
+  ends = runs.ends;
+  places = runs.places;
 }
   where
     same : map (λ (v : Vec Reply Global). v.items) said ≡ replies_in answers

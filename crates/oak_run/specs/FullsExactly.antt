@@ -1,5 +1,5 @@
 -- A call of the one thread of a run that puts is `Full` exactly by what its map lacked.
-use Rattle.std.specs.Prelude.{◌≡◌, ℕ, suc, true, List, [], ◌∷◌, ◌++◌, filter, leb, ⊤}
+use Rattle.std.specs.Prelude.{◌≡◌, ℕ, suc, ◌<◌, true, List, [], ◌∷◌, ◌++◌, filter, leb, ⊤}
 use Rattle.oak_model.specs.declared.cells.CellCall.TheVariants as asks
 use Rattle.oak_model.specs.declared.replies.Pair.{Pair}
 use Rattle.oak_model.specs.declared.replies.Reply.{Reply}
@@ -9,6 +9,7 @@ use Rattle.oak_model.specs.declared.replies.Wrote.TheVariants.{New, Over, Kept, 
 use Rattle.oak_model.specs.declared.writes.Write.{Write}
 use Rattle.oak_model.specs.Cell.{state_after}
 use Rattle.oak_model.specs.History.{History, last_state}
+use Rattle.oak_model.specs.Counts.{Each}
 use Rattle.oak_model.specs.State.{State}
 use Rattle.oak_core.specs.declared.closing.Closed.{Closed}
 use Rattle.oak_core.specs.declared.states.Finding.{Finding}
@@ -47,11 +48,12 @@ DidMore (Removed at) = ⊤
 DidMore (Absent at) = ⊥
 DidMore (Full lack) = ⊤
 
--- For each map of what the keys held before the call it is `Full` as that map lacks, and else by the room that the call left. A step of the call itself left these words, where it did more than read; of one that kept what it found they say nothing. Where it is `Full` they are settled.
+-- For each map of what the keys held before the call it is `Full` as that map lacks, and else by the room that the call left. A step of the call itself left these words, where it did more than read; of one that kept what it found they say nothing. It is the last step of the call: all that the pass met later is of later calls. Where it is `Full` they are settled.
 pub record FullExactly (c : Closed) (n : ℕ) (a : Ask) (y : Wrote) : Type 0 where
   pub words : List ℕ
   pub left : LeftWords c words
   pub of_call : DidMore y → left.last.call ≡ n
+  pub behind : Each (λ (f : Finding). n < f.call) left.later
   pub full : (m : List Pair) → IsMapOf (map_before c n) m → FullAsLacks (closed_key c) m (retired_in (closed_key c) words) a.key (HasNoRoomFor (closed_key c) a.key words) (map_before c n a.key) (state_after (map_before c n a.key) a.cell) y
   pub settled : (IsReply y → ⊥) → IsSettled (closed_key c) words
 

@@ -1,7 +1,7 @@
 //! The end of a run.
 ghost use Rattle.std.specs.Prelude.{IfOk};
 ghost use Rattle.oak_core.specs.PassState.{IsAlone};
-ghost use Rattle.oak_map.specs.Maps.{IsReady, sizes, state};
+ghost use Rattle.oak_map.specs.Maps.{IsReady, call_of, sizes, state};
 ghost use Rattle.oak_run.specs.EndsRun.{EndsRun};
 
 use crate::scans::scanned;
@@ -18,7 +18,7 @@ pub fn end<R: Wait + AllocGlobal>(
 ) -> Result<(Vec<Pair>, Closed), OutOfMemory>
     requires ready { IsReady map pass }
     requires alone { IsAlone (state pass) }
-    ensures ends { IfOk result (λ r. EndsRun (sizes map) (state pass) r.0.items r.1) }
+    ensures ends { IfOk result (λ r. EndsRun (sizes map) (call_of pass) (state pass) r.0.items r.1) }
 {
     map.settle(rt, &mut pass);
     let finals = scanned(rt, rt.alloc(), &map, &mut pass, &None, &None, Way::Up);

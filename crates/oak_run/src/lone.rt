@@ -15,6 +15,10 @@ use outside::Gate;
 use std::sync::Wait;
 use value_ops::Recipe;
 
+/// The number of the call in which the pass settles, scans and closes the map, behind all calls of its
+/// thread.
+const END: u32 = 262_145;
+
 /// Runs the calls of the one thread: what it answered, the last pairs, and the closed map.
 pub fn run_one<R: Wait + AllocGlobal, G: Gate>(
     rt: &R,
@@ -39,6 +43,7 @@ pub fn run_one<R: Wait + AllocGlobal, G: Gate>(
         1,
         thread,
     );
+    pass.turn(END);
     let ended = end(rt, map, pass);
     let answered = answered?;
     let (finals, closed) = ended?;

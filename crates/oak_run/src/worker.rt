@@ -110,6 +110,7 @@ pub fn run_calls<R: Wait, G: Gate>(
     requires few { length thread.now ≤ GREATEST_CALLS }
     requires arguments { AllByRecursion HasArguments thread.now }
     ensures ready { IsReady map.now pass.new }
+    ensures few { call_of pass.new ≤ length thread.now }
     ensures numbers { (state pass.new).numbers ≡ (state pass.old).numbers }
     ensures answers { IfOk result (λ a. AnswersThread (state pass.new) thread.now a) }
     ensures rose { IfOk result (λ a. calls recipe.new ≡ calls recipe.old + a.computed) }

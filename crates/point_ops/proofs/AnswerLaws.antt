@@ -1,5 +1,5 @@
 -- What comes behind a look-up, from v to u, where a life that the key's entry names was looked at.
-use Rattle.std.proofs.Common.{◌≡◌, ℕ, List, refl, sym, subst, inl, inr, ◌⊎◌}
+use Rattle.std.proofs.Common.{◌≡◌, ℕ, true, List, refl, sym, subst, inl, inr, ◌⊎◌}
 use Rattle.pin_word.specs.PinWord.{state_of}
 use Rattle.oak_model.specs.declared.cells.CellCall.{CellCall}
 use Rattle.oak_model.specs.declared.replies.Wrote.{Wrote}
@@ -11,6 +11,8 @@ use Rattle.oak_core.specs.declared.states.PassState.{PassState}
 use Rattle.oak_core.specs.CallSteps.{Learns, MetMore, Stands}
 use Rattle.oak_core.specs.KeyReads.{home_of}
 use Rattle.oak_core.specs.LastReads.{NotPast}
+use Rattle.oak_core.specs.LifeKeys.{loaded_in}
+use Rattle.oak_core.specs.declared.states.Knowledge.{Knowledge}
 use Rattle.oak_core.specs.Memory.{in_headers}
 use Rattle.oak_core.proofs.CallSteps.{learns_both, met_both, met_none, stands_learns, stands_none}
 use Rattle.value_ops.specs.Pinning.{KnowsLife}
@@ -35,11 +37,11 @@ module _ (call : ℕ) (v u w x : PassState) (c2 : ℕ) (e2 : c2 ≡ call) (c3 : 
   pub dead_learns : Learns c3 w x → Learns call v x
   dead_learns l = learns_both call v u x a (learns_both call u w x (stands_learns call u w refused) (subst (λ (t : ℕ). Learns t w x) e3 l))
 
-pub dead_answer : (y : Wrote) (z : Sizes) (call : ℕ) (key : List ℕ) (ask : CellCall) (v u w x : PassState) (c2 : ℕ) → c2 ≡ call → (c3 : ℕ) → c3 ≡ call → Learns call v u → Stands c2 u w → (h g : ℕ) → KnowsLife h g key u.knowledge → NotPast (key_number key) (home_of h g) u.knowledge
-    → (KnowsLife h g key w.knowledge → NotPast (key_number key) (home_of h g) w.knowledge → Answers y c3 key ask w x) → Answers y call key ask v x
-dead_answer y z call key ask v u w x c2 e2 c3 e3 a s0 h g life last f = let s = subst (λ (t : ℕ). Stands t u w) e2 s0 in
+pub dead_answer : (y : Wrote) (z : Sizes) (call : ℕ) (key : List ℕ) (ask : CellCall) (v u w x : PassState) (c2 : ℕ) → c2 ≡ call → (c3 : ℕ) → c3 ≡ call → Learns call v u → Stands c2 u w → (h g : ℕ) → KnowsLife h g key u.knowledge → NotPast (key_number key) (home_of h g) u.knowledge → loaded_in call h g u.knowledge.loaded ≡ true
+    → (KnowsLife h g key w.knowledge → NotPast (key_number key) (home_of h g) w.knowledge → loaded_in c3 h g w.knowledge.loaded ≡ true → Answers y c3 key ask w x) → Answers y call key ask v x
+dead_answer y z call key ask v u w x c2 e2 c3 e3 a s0 h g life last named f = let s = subst (λ (t : ℕ). Stands t u w) e2 s0 in
     answers_in call key v w x x (learns_both call v u w a (stands_learns call u w s)) (stands_none call x) y ask
-    (subst (λ (t : ℕ). Answers y t key ask w x) e3 (f (subst (KnowsLife h g key) (sym s.knowledge) life) (subst (NotPast (key_number key) (home_of h g)) (sym s.knowledge) last)))
+    (subst (λ (t : ℕ). Answers y t key ask w x) e3 (f (subst (KnowsLife h g key) (sym s.knowledge) life) (subst (NotPast (key_number key) (home_of h g)) (sym s.knowledge) last) (subst (λ (t : ℕ). loaded_in t h g w.knowledge.loaded ≡ true) (sym e3) (subst (λ (q : Knowledge). loaded_in call h g q.loaded ≡ true) (sym s.knowledge) named))))
 
 module _ (z : Sizes) (call : ℕ) (key : List ℕ) (v u w : PassState) (c2 : ℕ) (e2 : c2 ≡ call) (a : Learns call v u) (r i h g : ℕ) (f : FoundNamed z call r i h g key v u) (ask : CellCall) where
   -- the header was found locked or of another generation, or dead

@@ -1,5 +1,5 @@
 -- What a part of a call found, the whole call found: the part goes from v to w, and the call from u to t.
-use Rattle.std.proofs.Common.{◌≡◌, ℕ, ◌++◌, List, sym, refl, ap, ◌∙◌, subst, inl, inr, arith, append_assoc, None}
+use Rattle.std.proofs.Common.{◌≡◌, ℕ, ◌+◌, ◌++◌, List, length, sym, refl, ap, ◌∙◌, subst, inl, inr, arith, append_assoc, Option, Some, None}
 use Rattle.oak_model.specs.declared.cells.CellCall.{CellCall}
 use Rattle.oak_model.specs.declared.classes.Class.{Class}
 use Rattle.oak_model.specs.declared.replies.Lack.{Lack}
@@ -9,7 +9,7 @@ use Rattle.oak_model.specs.Counts.{Has}
 use Rattle.oak_model.specs.KeyNumber.{key_number}
 use Rattle.oak_model.specs.Limits.{Sizes}
 use Rattle.oak_model.specs.State.{State}
-use Rattle.oak_model.proofs.Lists.{each_append}
+use Rattle.oak_model.proofs.Lists.{at_longer, each_append}
 use Rattle.oak_core.specs.declared.states.Finding.{Finding}
 use Rattle.oak_core.specs.declared.states.PassState.{PassState}
 use Rattle.oak_core.specs.declared.states.Sight.{Sight}
@@ -24,15 +24,15 @@ use Rattle.oak_core.specs.Sights.{SightedSince}
 use Rattle.oak_core.proofs.CallSteps.{stands_learns, step_in}
 use Rattle.oak_core.proofs.FoundThere.{found_first, found_later}
 use Rattle.oak_core.proofs.KnownReads.{read_since, read_stays}
-use Rattle.oak_core.proofs.MetLists.{at_inside}
+use Rattle.oak_core.proofs.MetLists.{at_behind, at_inside}
 use Rattle.oak_core.proofs.PinsKnown.{has_first, has_later}
 use Rattle.chunk_ops.specs.AskedRanges.{CoversKey}
 use Rattle.chunk_ops.specs.Contents.{EntryNamed}
 use Rattle.chunk_ops.specs.RoomPins.{FoundMoved}
 use Rattle.chunk_ops.specs.Setting.{FoundSet}
-use Rattle.point_ops.specs.FoundWords.{FoundWord, FoundChanged, FoundApart}
+use Rattle.point_ops.specs.FoundWords.{FoundWord, FoundChanged, FoundApart, FoundHad}
 use Rattle.point_ops.specs.Halting.BusyBy.{locked, dead, pinned, rose, latched, changed}
-use Rattle.point_ops.specs.Halting.{AllTaken, BusyBy, EntryChanged, Halts, IsUnfree, KeyHeaderFound, KeyHeaderRose, NoneFree, RoomCrowded, RoomLatched}
+use Rattle.point_ops.specs.Halting.{AllTaken, BusyBy, EntryChanged, Halts, IsTaken, IsUnfree, KeyHeaderFound, KeyHeaderRose, NoneFree, RoomCrowded, RoomLatched, SpareNow}
 use Rattle.point_ops.specs.Needs.{Needs, NeedsNow}
 use Rattle.point_ops.specs.declared.halts.Halt.{Halt}
 use Rattle.point_ops.specs.declared.halts.Halt.TheVariants.{Busy, Moved, Crowded, NoBlock, NoHeader}
@@ -68,6 +68,21 @@ module _ (call : ℕ) (u v w t : PassState) (a : MetMore call u v) (b : MetMore 
       order = let o = f.order in omega arith;
     }
 
+  module _ (z : Sizes) (p : Spot) (Q : ℕ → ℕ → Type 0) where
+    pub had_in : FoundHad z call p Q v w → FoundHad z call p Q u t
+    had_in f = record {
+      more = a.more ++ (f.more ++ b.more);
+      met = met_in f.more f.met;
+      place = length a.more + f.place;
+      finding = f.finding;
+      there = at_behind a.more (f.more ++ b.more) f.place f.finding (at_longer f.more b.more f.place f.finding f.there);
+      call_is = f.call_is;
+      word_is = f.word_is;
+      number = f.number;
+      found_is = f.found_is;
+      shows = f.shows;
+    }
+
   module _ (z : Sizes) where
     pub named_in : (r i : ℕ) (key : List ℕ) (h g : ℕ) → EntryNamed z call r i key h g v w → EntryNamed z call r i key h g u t
     named_in r i key h g s = record { step = step_in z call _ u v w t a b s.step; home = s.home; taught = s.taught }
@@ -81,8 +96,12 @@ module _ (call : ℕ) (u v w t : PassState) (a : MetMore call u v) (b : MetMore 
     pub moved_in : (key : List ℕ) → FoundMoved z call (CoversKey key) v w → FoundMoved z call (CoversKey key) u t
     moved_in key f r inside = let o = f r inside in record { step = step_in z call _ u v w t a b o.step; off = o.off }
 
-    pub taken_in : (c : Class) → AllTaken z call c v w → AllTaken z call c u t
-    taken_in c f i l = word_in z _ _ (f i l)
+    bit_in : (c : Class) (spare : Option ℕ) (i : ℕ) → IsTaken z call c spare i v w → IsTaken z call c spare i u t
+    bit_in c spare i (inl x) = inl (had_in z _ _ x)
+    bit_in c spare i (inr x) = inr (x.0, had_in z _ _ x.1)
+
+    pub taken_in : (c : Class) (spare : Option ℕ) → AllTaken z call c spare v w → AllTaken z call c spare u t
+    taken_in c spare f i l = bit_in c spare i (f i l)
 
     unfree_in : (h : ℕ) → IsUnfree z call h v w → IsUnfree z call h u t
     unfree_in h (inl x) = inl (word_in z _ _ x)
@@ -180,6 +199,10 @@ module _ (z : Sizes) (call : ℕ) (key : List ℕ) (u v w t : PassState) (a : Le
     needs = needs_with f.at lack f.before (state_after f.before ask) f.needs;
   }
 
+  spare_in : (ask : CellCall) (c : Class) (spare : Option ℕ) → SpareNow spare c call key ask v w → SpareNow spare c call key ask u t
+  spare_in ask c None f = tt
+  spare_in ask c (Some i) f = (f.0, f.1, (f.2.0, bare_in call u v w t a.sights b.sights (key_number key) f.2.0 f.2.1))
+
   pub busy_in : (ask : CellCall) → BusyBy z call key ask v w → BusyBy z call key ask u t
   busy_in ask (locked f) = locked (header_in call u v w t a.met b.met z key _ f)
   busy_in ask (dead s f) = dead s (header_in call u v w t a.met b.met z key _ f)
@@ -192,5 +215,5 @@ module _ (z : Sizes) (call : ℕ) (key : List ℕ) (u v w t : PassState) (a : Le
   halts_in Busy ask f = busy_in ask f
   halts_in Moved ask f = moved_in call u v w t a.met b.met z key f
   halts_in Crowded ask f = (crowded_in f.0, needs_in ask Room f.1)
-  halts_in (NoBlock c) ask f = (taken_in call u v w t a.met b.met z c f.0, needs_in ask (Block c) f.1)
+  halts_in (NoBlock c) ask f = (f.0, taken_in call u v w t a.met b.met z c f.0 f.1, needs_in ask (Block c) f.2, spare_in ask c f.0 f.3)
   halts_in NoHeader ask f = (free_in call u v w t a.met b.met z f.0, needs_in ask Header f.1)

@@ -21,7 +21,7 @@ use Rattle.oak_core.specs.KeyReads.{home_of}
 use Rattle.oak_core.specs.KnownPlaces.{ReadAt}
 use Rattle.oak_core.specs.LastReads.{EndsAs, NotPast, ReadsLast}
 use Rattle.oak_core.specs.Learning.{lesson_by, of_key_to, reach_of, taught_by, taught_where}
-use Rattle.oak_core.specs.LifeKeys.{key_known, key_or}
+use Rattle.oak_core.specs.LifeKeys.{key_known, key_or, loaded_in}
 use Rattle.oak_core.specs.HeaderTeaching.{is_over}
 use Rattle.oak_core.specs.CallSteps.{Learns}
 use Rattle.oak_core.specs.Lessons.{LessonStands}
@@ -49,7 +49,7 @@ use Rattle.value_ops.proofs.LearnFacts.{learned_met, learned_pin, life_stays, to
 use Rattle.point_ops.proofs.KnownEnds.{ends_still}
 use Rattle.point_ops.proofs.RemovalSeen.{absent_behind, seen_within, state_at_end, taught_just}
 
-module _ (z : Sizes) (call h g stamp : ℕ) (v w : PassState) (d : PinsDud z call h g (Dead stamp) v w) (key : List ℕ) (knows : KnowsLife h g key v.knowledge) (past : NotPast (key_number key) (home_of h g) v.knowledge) where
+module _ (z : Sizes) (call h g stamp : ℕ) (v w : PassState) (d : PinsDud z call h g (Dead stamp) v w) (key : List ℕ) (knows : KnowsLife h g key v.knowledge) (past : NotPast (key_number key) (home_of h g) v.knowledge) (named : loaded_in call h g v.knowledge.loaded ≡ true) where
   abbrev t : Told z call (on_headers (pin_header h g)) v d.number d.pinned
   t = d.told
 
@@ -153,6 +153,6 @@ module _ (z : Sizes) (call h g stamp : ℕ) (v w : PassState) (d : PinsDud z cal
   pub dead_read : ReadsLast (key_number key) stamp None v w
   dead_read = record {
     read = read_stays k stamp None v d.pinned w later.all.seen later.all.remembers read_pinned;
-    sighted = (d.learned key knows).sighted;
+    sighted = (d.learned key knows).sighted named;
     ends = subst (EndsAs k stamp None) (sym unpinned) ends_loaded;
   }

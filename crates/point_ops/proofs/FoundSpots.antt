@@ -8,7 +8,9 @@ use Rattle.chunk_core.specs.declared.holds.RoomHolds.{RoomHolds}
 use Rattle.oak_core.specs.declared.states.PassState.{PassState}
 use Rattle.oak_core.specs.CallSteps.{Learns, Stands}
 use Rattle.oak_core.specs.CountReads.{SightedBare}
-use Rattle.oak_core.specs.LastReads.{ReadsLast}
+use Rattle.oak_core.specs.KeyReads.{home_of}
+use Rattle.oak_core.specs.LastReads.{KnowsLifeOf, ReadsLast}
+use Rattle.oak_core.proofs.LoadedIn.{loaded_in_has}
 use Rattle.oak_core.proofs.CallSteps.{learns_both, learns_none, stands_none, step_since}
 use Rattle.chunk_ops.specs.AskedRanges.{CoversKey}
 use Rattle.chunk_ops.specs.Contents.{EntryNamed, FindsContent, TellsOf}
@@ -99,7 +101,8 @@ module _ (z : Sizes) (call r : ℕ) (v u w : PassState) (first : UnderPin z call
         inside = c.usable.0;
         known = c.usable.1;
         life = t.known;
-        loaded = known_loaded h g key w.knowledge (names_home h g c.step.number c.says.0 c.says.1 c.says.2) t.life t.known;
+        loaded = known_loaded later h g key w.knowledge (names_home h g c.step.number c.says.0 c.says.1 c.says.2) t.life t.known;
+        loads = loaded_in_has call h g (home_of h g) key (names_home h g c.step.number c.says.0 c.says.1 c.says.2) w.knowledge.loaded (subst (λ (j : ℕ). KnowsLifeOf j key (home_of h g) w.knowledge) same t.life);
         last = t.last;
       }
         where

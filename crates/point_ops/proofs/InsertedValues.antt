@@ -1,5 +1,17 @@
 -- The whole of an insertion: a value was made, the key was to have an entry, and the value was set or given back.
-use Rattle.std.proofs.Common.{◌≡◌, ℕ, inl, inr, List, sym, subst, Option, Some, None}
+use Rattle.std.proofs.Common.{◌≡◌, ℕ, Bool, cond, [], ◌∷◌, length, inl, inr, List, sym, ap, ◌∙◌, subst, eq-eqb, Option, Some, None}
+use mathlib.Core.Logic.{dite}
+use native.Mathlib.Decide.{ℕ_discrete}
+use Rattle.oak_model.specs.declared.classes.Class.{Class}
+use Rattle.oak_model.specs.Class.{class_number, class_of}
+use Rattle.arena_core.specs.Place.{block_in, class_in}
+use Rattle.header_core.specs.declared.holds.HeldAs.TheVariants.{Fresh}
+use Rattle.header_core.specs.declared.holds.HeldHeader.{HeldHeader}
+use Rattle.header_core.specs.HeaderHolds.{place_held}
+use Rattle.point_ops.specs.LoneInserts.{NamesBlock}
+use Rattle.point_ops.proofs.InsertCauses.{taken_other, taken_own}
+use Rattle.std.proofs.lemmas.Option.{same_Some}
+use Rattle.arena_core.proofs.PlaceLaws.{same_class}
 use Rattle.oak_model.specs.declared.writes.Kind.{Kind}
 use Rattle.oak_model.specs.Limits.{Sizes}
 use Rattle.header_core.specs.declared.holds.HeaderHolds.{HeaderHolds}
@@ -14,13 +26,27 @@ use Rattle.chunk_ops.specs.PinRecords.{UnderPin}
 use Rattle.chunk_ops.specs.Setting.{FoundSet}
 use Rattle.point_ops.specs.declared.halts.Halt.{Halt}
 use Rattle.point_ops.specs.declared.halts.Halt.TheVariants.{Busy, Moved, Crowded, NoBlock, NoHeader}
-use Rattle.point_ops.specs.Inserts.{AddingHalts, InsertHalts, MakesFresh}
+use Rattle.point_ops.specs.Inserts.{AddingHalts, InsertHalts, MakesFresh, MakingHalts}
+use Rattle.point_ops.specs.Halting.{AllTaken}
 use Rattle.point_ops.proofs.Composed.{crowded_in, latched_in, set_in, taken_in}
 use Rattle.point_ops.proofs.WritesIn.{writes_behind}
 
 -- a header stays fresh where headers are held as before
 fresh_kept : (z : Sizes) (h g stamp : ℕ) (bytes : List ℕ) (v w : PassState) → w.headers ≡ v.headers → HasFresh z h g stamp bytes v → HasFresh z h g stamp bytes w
 fresh_kept z h g stamp bytes v w same f = record { inside = f.inside; header = f.header; held = subst (λ (a : HeaderHolds). held_header h a.held ≡ Some f.header) (sym same) f.held; fresh = f.fresh; generation = f.generation; stamp_is = f.stamp_is; value = f.value }
+
+-- a header that alone is held
+one_there : (h : ℕ) (r : HeldHeader) → r.header ≡ h → held_header h (r ∷ []) ≡ Some r
+unfolding held_header
+one_there h r e = ap (λ (t : Bool). cond t (Some r) None) (eq-eqb r.header h e)
+
+-- no value was made
+pub unmade_halts : (z : Sizes) (call : ℕ) (d : Class) (key value : List ℕ) (entry : Option EntryNo) (floor : ℕ) (v w : PassState) (why : Halt) → class_of (length value) ≡ Some d → MakingHalts why z call d v w → InsertHalts why z call key value entry floor v w
+unmade_halts z call d key value entry floor v w Busy fits f = absurd f
+unmade_halts z call d key value entry floor v w Moved fits f = absurd f
+unmade_halts z call d key value entry floor v w Crowded fits f = absurd f
+unmade_halts z call d key value entry floor v w (NoBlock b) fits f = (None, subst (λ (i : Class). AllTaken z call i None v w) (sym f.0) f.1, tt, inl (fits ∙ ap Some (sym f.0)))
+unmade_halts z call d key value entry floor v w NoHeader fits f = f
 
 -- ---- a value was made, and an entry looked for under the pin of the room
 
@@ -52,12 +78,26 @@ module _ (z : Sizes) (call r h g stamp : ℕ) (key bytes : List ℕ) (v u w : Pa
       gone : Learns call w x
       gone = stands_learns call w x (stands_in call later w x follows s)
 
-      pub unentered_halts : (value : List ℕ) (entry : Option EntryNo) (floor : ℕ) → entry ≡ None → (why : Halt) → AddingHalts why z at key u w → InsertHalts why z call key value entry floor v x
-      unentered_halts value entry floor none why f = by why (subst (λ (k : ℕ). AddingHalts why z k key u w) same f)
+      pub unentered_halts : (d : Class) (b : ℕ) → NamesBlock h d b u → (value : List ℕ) → class_of (length value) ≡ Some d → (entry : Option EntryNo) (floor : ℕ) → entry ≡ None → (why : Halt) → AddingHalts why z at key u w → InsertHalts why z call key value entry floor v x
+      unentered_halts d b names value fits entry floor none why f = by why (subst (λ (k : ℕ). AddingHalts why z k key u w) same f)
         where
+          one_place : place_held h u.headers.held ≡ m.one.header.place
+          one_place = ap (λ (a : HeaderHolds). place_held h a.held) m.one.alone ∙ ap (λ (t : Bool). cond t m.one.header.place 0) (eq-eqb m.one.header.header h m.one.is)
+
+          one_held : held_header h u.headers.held ≡ Some m.one.header
+          one_held = ap (λ (a : HeaderHolds). held_header h a.held) m.one.alone ∙ one_there h m.one.header m.one.is
+
+          one_fresh : m.one.header.held_as ≡ Fresh
+          one_fresh = ap (λ (r : HeldHeader). r.held_as) (same_Some m.one.header m.fresh.header (sym one_held ∙ m.fresh.held)) ∙ m.fresh.fresh
+
+          fits_class : (c : Class) → class_in m.one.header.place ≡ class_number c → class_of (length value) ≡ Some c
+          fits_class c e = fits ∙ ap Some (same_class d c (sym names.0 ∙ (ap class_in one_place ∙ e)))
+
           by : (why : Halt) → AddingHalts why z call key u w → InsertHalts why z call key value entry floor v x
           by Busy f = inl (latched_in call v u w x made.met gone.met z key f)
           by Moved f = absurd f
           by Crowded f = (none, crowded_in z call key v u w x made gone f)
-          by (NoBlock c) f = (taken_in call v u w x made.met gone.met z c f.1, inr (f.0, none))
+          by (NoBlock c) f = dite (ℕ_discrete (class_in m.one.header.place) (class_number c))
+              (λ e. (Some (block_in m.one.header.place), taken_in call v u w x made.met gone.met z c (Some (block_in m.one.header.place)) (taken_own z call u w h m.blocks m.one one_fresh c f.1), (fits_class c e, f.0, none), inr (f.0, none)))
+              (λ ne. (None, taken_in call v u w x made.met gone.met z c None (taken_other z call u w h m.blocks m.one one_fresh c ne f.1), tt, inr (f.0, none)))
           by NoHeader f = absurd f

@@ -1,5 +1,5 @@
 -- A value is put over another behind a lock that was given up: what the part behind it did or found, told of the whole call.
-use Rattle.std.proofs.Common.{◌≡◌, ◌⊎◌, ℕ, ◌%◌, List, length, Result, IfOk, IfErr, Some, sym, subst, inl, inr, ⊎_elim}
+use Rattle.std.proofs.Common.{None, ◌≡◌, ◌⊎◌, ℕ, ◌%◌, List, length, Result, IfOk, IfErr, Some, sym, subst, inl, inr, ⊎_elim}
 use Rattle.std.proofs.lemmas.Result.{IfOk-weaker, IfErr-weaker}
 use Rattle.std.specs.Int.{bit_at}
 use Rattle.oak_model.specs.declared.classes.Class.{Class}
@@ -9,7 +9,7 @@ use Rattle.oak_model.specs.Limits.{Sizes}
 use Rattle.oak_core.specs.declared.states.PassState.{PassState}
 use Rattle.oak_core.specs.CallSteps.{Learns, MetMore, Stands}
 use Rattle.oak_core.specs.Finding.{LoadsMore}
-use Rattle.oak_core.proofs.CallSteps.{learns_both, stands_both, stands_in, stands_learns}
+use Rattle.oak_core.proofs.CallSteps.{learns_both, stands_both, stands_in, stands_learns, met_none}
 use Rattle.arena_ops.specs.Looking.{bit_spot}
 use Rattle.value_ops.specs.declared.locking.NoLock.TheVariants as no_lock
 use Rattle.value_ops.specs.Pinning.{KnowsLife}
@@ -20,6 +20,7 @@ use Rattle.point_ops.specs.Changes.{HasOtherClass, NoLockBy, OverHalts}
 use Rattle.point_ops.specs.Halting.{AllTaken}
 use Rattle.point_ops.specs.Parts.{WritesAt}
 use Rattle.point_ops.proofs.AloneHeld.{gave_up_stands}
+use Rattle.point_ops.proofs.Composed.{taken_in}
 use Rattle.point_ops.proofs.LocksKept.{load_stands}
 use Rattle.point_ops.proofs.NoLockFacts.{refused_behind, word_behind}
 use Rattle.point_ops.proofs.WritesIn.{wrote_behind}
@@ -29,8 +30,8 @@ pub looked_stands : (z : Sizes) (call loaded_at given_at h g stamp : ℕ) (v u w
 looked_stands z call loaded_at given_at h g stamp v u w e d l t = stands_both call v u w (stands_in call loaded_at v u e (load_stands z loaded_at v u l)) (stands_in call given_at u w d (gave_up_stands z given_at h g stamp u w t))
 
 -- blocks that were found taken in a part of a call
-taken_behind : (z : Sizes) (call : ℕ) (c : Class) (u v w : PassState) → MetMore call u v → AllTaken z call c v w → AllTaken z call c u w
-taken_behind z call c u v w m all = λ b lt. word_behind z call (bit_spot c b) (λ n. bit_at n (b % 64) ≡ 1) u v w m (all b lt)
+taken_behind : (z : Sizes) (call : ℕ) (c : Class) (u v w : PassState) → MetMore call u v → AllTaken z call c None v w → AllTaken z call c None u w
+taken_behind z call c u v w m all = taken_in call u v w w m (met_none call w) z c None all
 
 -- A part of the call, from the second state on, named the call anew.
 module _ (call now : ℕ) (same : now ≡ call) where
@@ -49,8 +50,8 @@ module _ (call now : ℕ) (same : now ≡ call) where
 
 module _ (z : Sizes) (call now : ℕ) (same : now ≡ call) (h g : ℕ) (value : List ℕ) (v u w : PassState) where
   -- it found no block
-  pub no_block_halts : (why : Halt) (c : Class) → MetMore call v u → (why ≡ NoBlock c) × AllTaken z now c u w → class_of (length value) ≡ Some c → ((key : List ℕ) → KnowsLife h g key v.knowledge → HasOtherClass c key v w) → OverHalts why z call h g value v w
-  no_block_halts why c m none fits other = subst (λ (o : Halt). OverHalts o z call h g value v w) (sym none.0) (taken_behind z call c v u w m (subst (λ (i : ℕ). AllTaken z i c u w) same none.1), fits, other)
+  pub no_block_halts : (why : Halt) (c : Class) → MetMore call v u → (why ≡ NoBlock c) × AllTaken z now c None u w → class_of (length value) ≡ Some c → ((key : List ℕ) → KnowsLife h g key v.knowledge → HasOtherClass c key v w) → OverHalts why z call h g value v w
+  no_block_halts why c m none fits other = subst (λ (o : Halt). OverHalts o z call h g value v w) (sym none.0) (taken_behind z call c v u w m (subst (λ (i : ℕ). AllTaken z i c None u w) same none.1), fits, other)
 
   -- it did not lock the header
   abbrev IsUnlocked : ℕ → Halt → Type 0

@@ -5,6 +5,7 @@ use Rattle.pin_word.specs.PinWord.{state_of}
 use Rattle.oak_model.specs.declared.cells.CellCall.{CellCall}
 use Rattle.oak_model.specs.declared.cells.CellReply.{CellReply}
 use Rattle.oak_model.specs.declared.cells.CellReply.TheVariants as replies
+use Rattle.oak_model.specs.declared.classes.Class.{Class}
 use Rattle.oak_model.specs.declared.writes.Kind.{Kind}
 use Rattle.oak_model.specs.Cell.{reply_of, kind_of, state_after}
 use Rattle.oak_model.specs.KeyNumber.{key_number}
@@ -29,8 +30,8 @@ use Rattle.value_ops.specs.declared.locking.NoLock.TheVariants as no_lock
 use Rattle.point_ops.specs.Changes.{NoLockBy, OverHalts}
 use Rattle.point_ops.specs.FoundWords.{FoundWord}
 use Rattle.point_ops.specs.Halting.BusyBy.{locked, dead, pinned, latched, changed}
-use Rattle.point_ops.specs.Halting.{AllTaken, BusyBy, Halts, IsDeadAt, IsLockedOut, IsPinned, KeyHeaderFound, KeyHeaderRose, SetsValue, WantsLock}
-use Rattle.point_ops.specs.Inserts.{InsertHalts}
+use Rattle.point_ops.specs.Halting.{AllTaken, BusyBy, Halts, IsDeadAt, IsLockedOut, IsPinned, KeyHeaderFound, KeyHeaderRose, SetsValue, SpareNow, WantsLock}
+use Rattle.point_ops.specs.Inserts.{InsertHalts, SpareFor}
 use Rattle.point_ops.specs.Needs.{value_class}
 use Rattle.point_ops.specs.Parts.{KeepsHeld, KeepsUnder, ReadSo, WritesAt, WroteSo}
 use Rattle.point_ops.specs.Spots.{FoundAway, FoundNamed}
@@ -99,13 +100,17 @@ module _ (z : Sizes) (call : ℕ) (key : List ℕ) (v u w : PassState) (c2 : ℕ
       bare : entry ≡ None → SightedBare call (key_number key) floor v w
       bare e = bare_in call v v u w (sights_same call v v refl) b.sights (key_number key) floor (f.bare e)
 
+      spares : (c : Class) (spare : Option ℕ) → SpareFor spare c key value entry → SpareNow spare c call key ask v w
+      spares c None k = tt
+      spares c (Some b) k = (ap value_class leaves ∙ k.0, k.1, (floor, bare k.2))
+
       by : (why : Halt) → InsertHalts why z call key value entry floor u w → Halts why z call key ask v w
       by Busy (inl x) = latched sets (latched_in call v u w w a.met (met_none call w) z key x)
       by Busy (inr x) = changed sets record { r = x.0; i = x.1; floor = floor; found = set_in call v u w w a.met (met_none call w) z x.0 x.1 floor key x.2; sighted = found }
       by Moved x = absurd x
       by Crowded x = (crowded_in z call key v u w w a (learns_none call w) x.1, record { at = floor; before = None; read = absent; sighted = found; needs = (refl, inserts, bare x.0) })
-      by (NoBlock c) (x, inl y) = (taken_in call v u w w a.met (met_none call w) z c x, record { at = floor; before = None; read = absent; sighted = found; needs = inl (ap value_class leaves ∙ y, λ n. absurd cc) })
-      by (NoBlock c) (x, inr y) = (taken_in call v u w w a.met (met_none call w) z c x, record { at = floor; before = None; read = absent; sighted = found; needs = inr (y.0, refl, inserts, bare y.1) })
+      by (NoBlock c) (s, x, k, inl y) = (s, taken_in call v u w w a.met (met_none call w) z c s x, record { at = floor; before = None; read = absent; sighted = found; needs = inl (ap value_class leaves ∙ y, λ n. absurd cc) }, spares c s k)
+      by (NoBlock c) (s, x, k, inr y) = (s, taken_in call v u w w a.met (met_none call w) z c s x, record { at = floor; before = None; read = absent; sighted = found; needs = inr (y.0, refl, inserts, bare y.1) }, spares c s k)
       by NoHeader x = (free_in call v u w w a.met (met_none call w) z x, record { at = floor; before = None; read = absent; sighted = found; needs = (refl, inserts) })
 
       pub uninserted : (why : Halt) → InsertHalts why z c2 key value entry floor u w → Halts why z call key ask v w
@@ -153,7 +158,8 @@ module _ (z : Sizes) (call : ℕ) (key : List ℕ) (v u w : PassState) (c2 : ℕ
     unput value ask wants sets leaves l Moved x = absurd x
     unput value ask wants sets leaves l Crowded x = absurd x
     unput value ask wants sets leaves l (NoBlock c) x = let y = x.2 key f.life in (
-      taken_in call v u w w a.met (met_none call w) z c (subst (λ (t : ℕ). AllTaken z t c u w) e2 x.0),
+      None,
+      taken_in call v u w w a.met (met_none call w) z c None (subst (λ (t : ℕ). AllTaken z t c None u w) e2 x.0),
       record {
         at = y.at;
         before = Some y.bytes;
@@ -161,6 +167,7 @@ module _ (z : Sizes) (call : ℕ) (key : List ℕ) (v u w : PassState) (c2 : ℕ
         sighted = sighted_in call v u w w a.sights (sights_same call w w refl) (key_number key) y.at y.sighted;
         needs = inl (ap value_class (leaves (Some y.bytes)) ∙ x.1, y.other);
       },
+      tt,
     )
     unput value ask wants sets leaves l NoHeader x = absurd x
 

@@ -1,5 +1,5 @@
 -- Why a present value was not changed. v is the state of the pass at the part's begin, w the one at its end.
-use Rattle.std.specs.Prelude.{◌≡◌, ◌≢◌, ℕ, ◌⊎◌, List, length, Some}
+use Rattle.std.specs.Prelude.{◌≡◌, ◌≢◌, ℕ, ◌⊎◌, List, length, Some, None}
 use Rattle.oak_model.specs.declared.classes.Class.{Class}
 use Rattle.oak_model.specs.Class.{class_of}
 use Rattle.oak_model.specs.KeyNumber.{key_number}
@@ -35,5 +35,5 @@ abbrev pub OverHalts : Halt → Sizes → (call h g : ℕ) → List ℕ → Pass
 OverHalts Busy z call h g value v w = NoLockBy no_lock.Busy z call h g v w ⊎ NoLockBy no_lock.Dead z call h g v w
 OverHalts Moved z call h g value v w = ⊥
 OverHalts Crowded z call h g value v w = ⊥
-OverHalts (NoBlock c) z call h g value v w = AllTaken z call c v w × (class_of (length value) ≡ Some c) × ((key : List ℕ) → KnowsLife h g key v.knowledge → HasOtherClass c key v w)
+OverHalts (NoBlock c) z call h g value v w = AllTaken z call c None v w × (class_of (length value) ≡ Some c) × ((key : List ℕ) → KnowsLife h g key v.knowledge → HasOtherClass c key v w)
 OverHalts NoHeader z call h g value v w = ⊥

@@ -1,12 +1,13 @@
 -- Why calls are given up. v is the state of the pass at the call, w the one at its end.
-use Rattle.std.specs.Prelude.{◌≡◌, ◌≢◌, ℕ, ◌<◌, ◌%◌, ◌⊎◌, false, List, None}
+use Rattle.std.specs.Prelude.{◌≡◌, ◌≢◌, ℕ, ◌<◌, ◌%◌, ◌⊎◌, false, List, length, Option, Some, None}
 use Rattle.std.specs.Int.{bit_at}
 use Rattle.pin_word.specs.PinWord.{state_of, generation_of, count_of}
 use Rattle.oak_model.specs.declared.cells.CellCall.{CellCall}
 use Rattle.oak_model.specs.declared.cells.CellCall.TheVariants.{Get, Put, PutNew, Compute, Upsert, Remove}
 use Rattle.oak_model.specs.declared.classes.Class.{Class}
 use Rattle.oak_model.specs.declared.replies.Lack.TheVariants.{Block, Header, Room}
-use Rattle.oak_model.specs.Class.{class_number}
+use Rattle.oak_model.specs.Class.{class_number, class_of}
+use Rattle.oak_model.specs.Cell.{state_after}
 use Rattle.oak_model.specs.KeyNumber.{key_number}
 use Rattle.oak_model.specs.Limits.{Sizes}
 use Rattle.arena_core.specs.Arena.{blocks}
@@ -21,7 +22,7 @@ use Rattle.chunk_core.specs.Rooms.{at_count}
 use Rattle.oak_model.specs.Counts.{Has}
 use Rattle.oak_core.specs.declared.states.PassState.{PassState}
 use Rattle.oak_core.specs.CallSteps.{StepOfCall}
-use Rattle.oak_core.specs.CountReads.{ReadAbsent}
+use Rattle.oak_core.specs.CountReads.{ReadAbsent, SightedBare}
 use Rattle.oak_core.specs.Memory.{in_headers, in_rooms}
 use Rattle.oak_core.specs.Sights.{SightedSince}
 use Rattle.oak_core.specs.Step.{load, on_rooms}
@@ -31,8 +32,8 @@ use Rattle.chunk_ops.specs.Contents.{EntryNamed}
 use Rattle.chunk_ops.specs.PinRecords.{room_pin}
 use Rattle.chunk_ops.specs.RoomPins.{FoundMoved}
 use Rattle.chunk_ops.specs.Setting.{FoundSet}
-use Rattle.point_ops.specs.FoundWords.{FoundWord, FoundApart, FoundChanged}
-use Rattle.point_ops.specs.Needs.{NeedsNow}
+use Rattle.point_ops.specs.FoundWords.{FoundWord, FoundApart, FoundChanged, FoundHad, FoundWith}
+use Rattle.point_ops.specs.Needs.{NeedsNow, value_class}
 use Rattle.point_ops.specs.declared.halts.Halt.{Halt}
 use Rattle.point_ops.specs.declared.halts.Halt.TheVariants.{Busy, Moved, Crowded, NoBlock, NoHeader}
 
@@ -118,9 +119,26 @@ pub record RoomCrowded (z : Sizes) (call : ℕ) (key : List ℕ) (v w : PassStat
   pub base : ℕ
   pub absent : ReadAbsent call (key_number key) base v w
 
--- the bit of each block of the class was found set
-abbrev pub AllTaken : Sizes → ℕ → Class → PassState → PassState → Type 0
-AllTaken z call c v w = (b : ℕ) → b < blocks z (class_number c) → FoundWord z call (bit_spot c b) (λ n. bit_at n (b % 64) ≡ 1) v w
+-- the bit of each block of the class was found set, where the pass had there what it has in the state x
+abbrev pub SetWith : Sizes → ℕ → Class → PassState → PassState → PassState → Type 0
+SetWith z call c x v w = (b : ℕ) → b < blocks z (class_number c) → FoundWith z call (bit_spot c b) x (λ n. bit_at n (b % 64) ≡ 1) v w
+
+-- the bit of the block is set, and none of the pass's own
+abbrev pub IsOthers : ℕ → (n had : ℕ) → Type 0
+IsOthers b n had = (bit_at n (b % 64) ≡ 1) × (bit_at had (b % 64) ≡ 0)
+
+-- the block was found taken by another, or is the spare one, and was found taken
+abbrev pub IsTaken : Sizes → ℕ → Class → Option ℕ → ℕ → PassState → PassState → Type 0
+IsTaken z call c spare b v w = FoundHad z call (bit_spot c b) (IsOthers b) v w ⊎ ((spare ≡ Some b) × FoundHad z call (bit_spot c b) (λ n _. bit_at n (b % 64) ≡ 1) v w)
+
+-- so was each block of the class
+abbrev pub AllTaken : Sizes → ℕ → Class → Option ℕ → PassState → PassState → Type 0
+AllTaken z call c spare v w = (b : ℕ) → b < blocks z (class_number c) → IsTaken z call c spare b v w
+
+-- The spare block is the call's own, for its value. So it is only where the class is that of its value and of its key, and the key was found without an entry.
+abbrev pub SpareNow : Option ℕ → Class → ℕ → List ℕ → CellCall → PassState → PassState → Type 0
+SpareNow None c call key ask v w = Unit {0}
+SpareNow (Some b) c call key ask v w = (value_class (state_after None ask) ≡ Some c) × (class_of (length key) ≡ Some c) × ((at : ℕ) × SightedBare call (key_number key) at v w)
 
 -- the header was found not free, or in two generations
 abbrev pub IsUnfree : Sizes → (call h : ℕ) → PassState → PassState → Type 0
@@ -135,5 +153,5 @@ abbrev pub Halts : Halt → Sizes → ℕ → List ℕ → CellCall → PassStat
 Halts Busy z call key ask v w = BusyBy z call key ask v w
 Halts Moved z call key ask v w = FoundMoved z call (CoversKey key) v w
 Halts Crowded z call key ask v w = RoomCrowded z call key v w × NeedsNow call key ask Room v w
-Halts (NoBlock c) z call key ask v w = AllTaken z call c v w × NeedsNow call key ask (Block c) v w
+Halts (NoBlock c) z call key ask v w = (spare : Option ℕ) × AllTaken z call c spare v w × NeedsNow call key ask (Block c) v w × SpareNow spare c call key ask v w
 Halts NoHeader z call key ask v w = NoneFree z call v w × NeedsNow call key ask Header v w

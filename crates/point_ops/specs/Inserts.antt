@@ -13,7 +13,7 @@ use Rattle.chunk_ops.specs.declared.entries.EntryNo.{EntryNo}
 use Rattle.arena_ops.specs.Storing.{HasBytes}
 use Rattle.chunk_ops.specs.Setting.{FoundSet}
 use Rattle.value_ops.specs.OneHeader.{IsOneHeader, IsOneBlock}
-use Rattle.point_ops.specs.Halting.{AllTaken, NoneFree, RoomCrowded, RoomLatched}
+use Rattle.point_ops.specs.Halting.{AllTaken, NoneFree, SetWith, RoomCrowded, RoomLatched}
 use Rattle.point_ops.specs.declared.halts.Halt.{Halt}
 use Rattle.point_ops.specs.declared.halts.Halt.TheVariants.{Busy, Moved, Crowded, NoBlock, NoHeader}
 
@@ -45,7 +45,7 @@ abbrev pub MakingHalts : Halt → Sizes → ℕ → Class → PassState → Pass
 MakingHalts Busy z call c v w = ⊥
 MakingHalts Moved z call c v w = ⊥
 MakingHalts Crowded z call c v w = ⊥
-MakingHalts (NoBlock b) z call c v w = (b ≡ c) × AllTaken z call c v w
+MakingHalts (NoBlock b) z call c v w = (b ≡ c) × AllTaken z call c None v w
 MakingHalts NoHeader z call c v w = NoneFree z call v w
 
 -- why the key was given no entry
@@ -53,15 +53,20 @@ abbrev pub AddingHalts : Halt → Sizes → ℕ → List ℕ → PassState → P
 AddingHalts Busy z call key v w = RoomLatched z call key v w
 AddingHalts Moved z call key v w = ⊥
 AddingHalts Crowded z call key v w = RoomCrowded z call key v w
-AddingHalts (NoBlock c) z call key v w = (class_of (length key) ≡ Some c) × AllTaken z call c v w
+AddingHalts (NoBlock c) z call key v w = (class_of (length key) ≡ Some c) × SetWith z call c v v w
 AddingHalts NoHeader z call key v w = ⊥
+
+-- there is a spare block, that of the value, only where the key has its class and no entry
+abbrev pub SpareFor : Option ℕ → Class → (key value : List ℕ) → Option EntryNo → Type 0
+SpareFor None c key value entry = Unit {0}
+SpareFor (Some b) c key value entry = (class_of (length value) ≡ Some c) × (class_of (length key) ≡ Some c) × (entry ≡ None)
 
 -- why a value was not inserted for a key that was read absent at the floor; entry says whether it has one
 abbrev pub InsertHalts : Halt → Sizes → ℕ → (key value : List ℕ) → Option EntryNo → ℕ → PassState → PassState → Type 0
 InsertHalts Busy z call key value entry floor v w = RoomLatched z call key v w ⊎ ((r : ℕ) × (i : ℕ) × FoundSet z call r i floor key v w)
 InsertHalts Moved z call key value entry floor v w = ⊥
 InsertHalts Crowded z call key value entry floor v w = (entry ≡ None) × RoomCrowded z call key v w
-InsertHalts (NoBlock c) z call key value entry floor v w = AllTaken z call c v w × ((class_of (length value) ≡ Some c) ⊎ ((class_of (length key) ≡ Some c) × (entry ≡ None)))
+InsertHalts (NoBlock c) z call key value entry floor v w = (spare : Option ℕ) × AllTaken z call c spare v w × SpareFor spare c key value entry × ((class_of (length value) ≡ Some c) ⊎ ((class_of (length key) ≡ Some c) × (entry ≡ None)))
 InsertHalts NoHeader z call key value entry floor v w = NoneFree z call v w
 
 -- why a call is given up for which no entry was added

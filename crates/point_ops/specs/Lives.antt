@@ -1,5 +1,5 @@
 -- What a look at a life finds that an entry named. v is the state of the pass before it, w the one behind it.
-use Rattle.std.specs.Prelude.{◌≡◌, ℕ, List, None}
+use Rattle.std.specs.Prelude.{◌≡◌, ℕ, true, List, None}
 use Rattle.pin_word.specs.PinWord.{state_of}
 use Rattle.oak_model.specs.KeyNumber.{key_number}
 use Rattle.oak_model.specs.Limits.{Sizes}
@@ -10,6 +10,7 @@ use Rattle.oak_core.specs.AloneWords.{Runs}
 use Rattle.oak_core.specs.CallSteps.{Learns}
 use Rattle.oak_core.specs.KeyReads.{home_of}
 use Rattle.oak_core.specs.LastReads.{NotPast, ReadsLast}
+use Rattle.oak_core.specs.LifeKeys.{loaded_in}
 use Rattle.oak_core.specs.Memory.{in_headers}
 use Rattle.value_ops.specs.Pinning.{DropsPin, KnowsLife, KnowsMore}
 use Rattle.value_ops.specs.PinnedValues.{ReadsLife}
@@ -29,9 +30,9 @@ pub record ReadsUnder (z : Sizes) (call h g at : ℕ) (v w : PassState) : Type 0
   -- to a pass that is alone
   pub still : Runs (DropsPin z h) v w
 
--- The header was found live, with its stamp and its value; or dead, with the stamp of the removal. So a key of which the pass knew the life was read, present or absent.
+-- The header was found live, with its stamp and its value; or dead, with the stamp of the removal. So a key of which the pass knew the life was read, present, or absent where the call had loaded the life from the key's entry.
 abbrev pub LooksAt : Life → Sizes → (call h g : ℕ) → PassState → PassState → Type 0
 LooksAt (Live at) z call h g v w = FoundWord z call (in_headers (at_pin h)) (λ n. state_of n ≡ LIVE) v w
     × ((key : List ℕ) → KnowsLife h g key v.knowledge → (bytes : List ℕ) × ReadsLife h g key at bytes v w)
 LooksAt (Dead at) z call h g v w = FoundWord z call (in_headers (at_pin h)) (IsDeadAt g) v w
-    × ((key : List ℕ) → KnowsLife h g key v.knowledge → NotPast (key_number key) (home_of h g) v.knowledge → ReadsLast (key_number key) at None v w)
+    × ((key : List ℕ) → KnowsLife h g key v.knowledge → NotPast (key_number key) (home_of h g) v.knowledge → loaded_in call h g v.knowledge.loaded ≡ true → ReadsLast (key_number key) at None v w)

@@ -1,12 +1,12 @@
 -- Where a call found its key. v is the state of the pass at the call, w the one at its end.
-use Rattle.std.specs.Prelude.{◌≡◌, ℕ, ◌<◌, ◌^◌, List, Option, None, Some, IfSome}
+use Rattle.std.specs.Prelude.{◌≡◌, ℕ, ◌<◌, ◌^◌, true, List, Option, None, Some, IfSome}
 use Rattle.oak_model.specs.KeyNumber.{key_number}
 use Rattle.oak_model.specs.Limits.{Sizes}
 use Rattle.oak_core.specs.declared.states.PassState.{PassState}
 use Rattle.oak_core.specs.CountReads.{SightedBare}
 use Rattle.oak_core.specs.KeyReads.{home_of}
 use Rattle.oak_core.specs.Known.{knows_life}
-use Rattle.oak_core.specs.LifeKeys.{key_in_loaded}
+use Rattle.oak_core.specs.LifeKeys.{key_in_loaded, loaded_in}
 use Rattle.oak_core.specs.LastReads.{NotPast, ReadsLast}
 use Rattle.chunk_ops.specs.declared.entries.EntryNo.{EntryNo}
 use Rattle.chunk_ops.specs.Contents.{EntryNamed}
@@ -30,6 +30,7 @@ pub record FoundNamed (z : Sizes) (call r i h g : ℕ) (key : List ℕ) (v w : P
   pub known : 0 < knows_life h g w.knowledge
   pub life : KnowsLife h g key w.knowledge
   pub loaded : key_in_loaded h g w.knowledge.loaded ≡ Some key
+  pub loads : loaded_in call h g w.knowledge.loaded ≡ true
   pub last : NotPast (key_number key) (home_of h g) w.knowledge
 
 abbrev pub SpotIs : Spot → Sizes → (call r : ℕ) → List ℕ → PassState → PassState → Type 0

@@ -1,5 +1,5 @@
 //! A look at a key.
-ghost use Rattle.std.specs.Prelude.{◌≡◌, ◌<◌, ◌⊎◌, IfOk, IfErr, Some};
+ghost use Rattle.std.specs.Prelude.{◌≡◌, ◌<◌, ◌⊎◌, IfOk, IfErr, Some, true};
 ghost use Rattle.oak_model.specs.declared.cells.CellCall.TheVariants.{Get};
 ghost use Rattle.oak_model.specs.Key.{IsKey};
 ghost use Rattle.oak_model.specs.KeyNumber.{key_number};
@@ -9,7 +9,7 @@ ghost use Rattle.header_core.specs.Headers.{at_pin};
 ghost use Rattle.oak_core.specs.KeyReads.{home_of};
 ghost use Rattle.oak_core.specs.Known.{knows_life};
 ghost use Rattle.oak_core.specs.LastReads.{NotPast};
-ghost use Rattle.oak_core.specs.LifeKeys.{key_in_loaded};
+ghost use Rattle.oak_core.specs.LifeKeys.{key_in_loaded, loaded_in};
 ghost use Rattle.oak_core.specs.Memory.{in_headers};
 ghost use Rattle.oak_core.specs.Passes.{IsPassOf, Stays, state, key as sizes, call_of};
 ghost use Rattle.oak_core.specs.PassState.{HoldsNothing, IsAlone};
@@ -55,6 +55,7 @@ fn get_life(
     requires life { KnowsLife header generation key.now (state pass.old).knowledge }
     requires loaded { key_in_loaded header generation (state pass.old).knowledge.loaded ≡ Some key.now }
     requires last { NotPast (key_number key.now) (home_of header generation) (state pass.old).knowledge }
+    requires named { loaded_in (call_of pass.old) header generation (state pass.old).knowledge.loaded ≡ true }
     requires none { (state pass.old).headers ≡ no_headers }
     ensures own { Stays pass.old pass.new }
     ensures only { OnlyLearns (call_of pass.old) (state pass.old) (state pass.new) }

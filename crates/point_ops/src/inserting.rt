@@ -21,7 +21,7 @@ ghost use Rattle.chunk_ops.specs.AskedRanges.{CoversKey};
 ghost use Rattle.chunk_ops.specs.PinRecords.{HasEntry, HasRoomPin, UnderPin, room_pin};
 ghost use Rattle.chunk_ops.specs.Setting.{FoundSet, SetsIn};
 ghost use Rattle.value_ops.specs.OneHeader.{IsOneHeader};
-ghost use Rattle.point_ops.specs.Halting.{AllTaken};
+ghost use Rattle.point_ops.specs.Halting.{AllTaken, SetWith};
 ghost use Rattle.point_ops.specs.Inserts.{AddingHalts, GivesAllBack, InsertHalts, MakesBlock, MakesFresh, MakingHalts, halt_of};
 ghost use Rattle.point_ops.specs.LoneInserts.{AddingHaltsIn, FindsOther, GivesBackIn, MakesBlockIn, MakesBlockUnder, MakesFreshUnder, MakingHaltsIn, NamesBlock};
 ghost use Rattle.point_ops.specs.LoneLives.{FloorIsBase};
@@ -47,8 +47,8 @@ pub(crate) fn class_for(len: usize) -> Class
     }
 }
 
-/// Takes a block of the class, and stores bytes of it there.
-pub(crate) fn make_block(
+/// Takes a block of the class, and stores bytes of it there, beside what the pass has of headers.
+fn take_block(
     table: &OakTable,
     pass: &mut Pass,
     class: Class,
@@ -60,7 +60,7 @@ pub(crate) fn make_block(
     ensures own { Stays pass.old pass.new }
     ensures made { IfOk result (λ b. (b.class ≡ class) × MakesBlock (sizes table.now) (call_of pass.old) b.class b.number bytes.now (state pass.old) (state pass.new)) }
     ensures back { IfErr result (λ _. GivesAllBack (call_of pass.old) (state pass.old) (state pass.new)) }
-    ensures refused { IfErr result (λ why. (why ≡ halts.NoBlock class) × AllTaken (sizes table.now) (call_of pass.old) class (state pass.old) (state pass.new)) }
+    ensures refused { IfErr result (λ why. (why ≡ halts.NoBlock class) × SetWith (sizes table.now) (call_of pass.old) class (state pass.old) (state pass.old) (state pass.new)) }
     ensures alone { IfOk result (λ b. (r : ℕ) → HasRoomPin (sizes table.now) r (state pass.old) → Runs (MakesBlockIn (sizes table.now) r b.class b.number) (state pass.old) (state pass.new)) }
     ensures alone_under { IfOk result (λ b. (r : ℕ) → HasRoomPin (sizes table.now) r (state pass.old) → Runs (MakesBlockUnder (sizes table.now) r (span_of (room_pin (state pass.old))) b.class b.number) (state pass.old) (state pass.new)) }
     ensures alone_refused { IfErr result (λ _. Runs (AllSet (sizes table.now) class (λ b. Unit {0})) (state pass.old) (state pass.new)) }
@@ -72,6 +72,28 @@ pub(crate) fn make_block(
         }
         Err(NoBlock(class)) => Err(Halt::NoBlock(class)),
     }
+}
+
+/// Takes a block of the class, and stores bytes of it there.
+pub(crate) fn make_block(
+    table: &OakTable,
+    pass: &mut Pass,
+    class: Class,
+    bytes: &[u8],
+) -> Result<Block, Halt>
+    requires own { IsPassOf table.now pass.old }
+    requires fits { class_of (length bytes.now) ≡ Some class }
+    requires none { (state pass.old).blocks ≡ no_blocks }
+    requires bare { (state pass.old).headers ≡ no_headers }
+    ensures own { Stays pass.old pass.new }
+    ensures made { IfOk result (λ b. (b.class ≡ class) × MakesBlock (sizes table.now) (call_of pass.old) b.class b.number bytes.now (state pass.old) (state pass.new)) }
+    ensures back { IfErr result (λ _. GivesAllBack (call_of pass.old) (state pass.old) (state pass.new)) }
+    ensures refused { IfErr result (λ why. (why ≡ halts.NoBlock class) × AllTaken (sizes table.now) (call_of pass.old) class None (state pass.old) (state pass.new)) }
+    ensures alone { IfOk result (λ b. (r : ℕ) → HasRoomPin (sizes table.now) r (state pass.old) → Runs (MakesBlockIn (sizes table.now) r b.class b.number) (state pass.old) (state pass.new)) }
+    ensures alone_under { IfOk result (λ b. (r : ℕ) → HasRoomPin (sizes table.now) r (state pass.old) → Runs (MakesBlockUnder (sizes table.now) r (span_of (room_pin (state pass.old))) b.class b.number) (state pass.old) (state pass.new)) }
+    ensures alone_refused { IfErr result (λ _. Runs (AllSet (sizes table.now) class (λ b. Unit {0})) (state pass.old) (state pass.new)) }
+{
+    take_block(table, pass, class, bytes)
 }
 
 /// Gives a value back that was made.
@@ -145,7 +167,7 @@ fn add_entry(table: &OakTable, pass: &mut Pass, pin: &RoomPin, key: &[u8]) -> Re
     ensures alone { IfOk result (λ i. (floor : ℕ) → FloorIsBase None floor (state pass.old) → Runs (EntersFor (sizes table.now) pin.now.room None floor key.now i) (state pass.old) (state pass.new)) }
     ensures alone_halted { IfErr result (λ why. Runs (AddingHaltsIn why (sizes table.now) pin.now.room key.now) (state pass.old) (state pass.new)) }
 {
-    let block = make_block(table, pass, class_for(key.len()), key)?;
+    let block = take_block(table, pass, class_for(key.len()), key)?;
     match add(table, pass, pin, block, key.len()) {
         Ok(entry) => Ok(entry),
         Err(NotAdded { why, block }) => {

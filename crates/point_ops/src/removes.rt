@@ -1,5 +1,5 @@
 //! Removals.
-ghost use Rattle.std.specs.Prelude.{◌≡◌, ◌<◌, ◌⊎◌, ℕ, List, IfOk, IfErr, None};
+ghost use Rattle.std.specs.Prelude.{◌≡◌, ◌<◌, ◌⊎◌, ℕ, List, IfOk, IfErr, None, true};
 ghost use Rattle.oak_model.specs.declared.cells.CellCall.{CellCall};
 ghost use Rattle.oak_model.specs.declared.cells.CellCall.TheVariants.{Remove};
 ghost use Rattle.oak_model.specs.declared.cells.CellReply.TheVariants as replies;
@@ -16,6 +16,7 @@ ghost use Rattle.oak_core.specs.CallSteps.{Learns};
 ghost use Rattle.oak_core.specs.KeyReads.{home_of};
 ghost use Rattle.oak_core.specs.Known.{knows_life};
 ghost use Rattle.oak_core.specs.LastReads.{NotPast};
+ghost use Rattle.oak_core.specs.LifeKeys.{loaded_in};
 ghost use Rattle.oak_core.specs.Memory.{in_headers};
 ghost use Rattle.oak_core.specs.MayWrite.{IsNewCall};
 ghost use Rattle.oak_core.specs.Passes.{IsPassOf, Stays, state, key as sizes, call_of};
@@ -56,7 +57,7 @@ pub(crate) fn absent_at(
     requires none { (state pass.old).headers ≡ no_headers }
     ensures own { Stays pass.old pass.new }
     ensures only { OnlyLearns (call_of pass.old) (state pass.old) (state pass.new) }
-    ensures absent { IfOk result (λ x. (ask : CellCall) (k : List ℕ) → reply_of None ask ≡ replies.Absent → KnowsLife header generation k (state pass.old).knowledge → NotPast (key_number k) (home_of header generation) (state pass.old).knowledge → Answers x (call_of pass.old) k ask (state pass.old) (state pass.new)) }
+    ensures absent { IfOk result (λ x. (ask : CellCall) (k : List ℕ) → reply_of None ask ≡ replies.Absent → KnowsLife header generation k (state pass.old).knowledge → NotPast (key_number k) (home_of header generation) (state pass.old).knowledge → loaded_in (call_of pass.old) header generation (state pass.old).knowledge.loaded ≡ true → Answers x (call_of pass.old) k ask (state pass.old) (state pass.new)) }
     ensures undone { times_done result ≡ 0 }
     ensures refused { IfErr result (λ why. (why ≡ halts.Busy) × (FoundWord (sizes table.now) (call_of pass.old) (in_headers (at_pin header)) (IsLockedOut generation) (state pass.old) (state pass.new) ⊎ FoundWord (sizes table.now) (call_of pass.old) (in_headers (at_pin header)) (λ n. state_of n ≡ LIVE) (state pass.old) (state pass.new))) }
 {

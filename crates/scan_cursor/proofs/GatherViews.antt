@@ -7,7 +7,9 @@ use Rattle.chunk_core.specs.declared.holds.RoomHolds.{RoomHolds}
 use Rattle.chunk_core.specs.MayOnRooms.{FindsEntry}
 use Rattle.oak_core.specs.declared.states.PassState.{PassState}
 use Rattle.oak_core.specs.CallSteps.{Learns}
+use Rattle.oak_core.specs.KeyReads.{home_of}
 use Rattle.oak_core.specs.LastReads.{ReadsLast}
+use Rattle.oak_core.proofs.LoadedIn.{loaded_in_has}
 use Rattle.oak_core.proofs.CallSteps.{learns_both, stands_learns}
 use Rattle.chunk_ops.specs.declared.entries.Content.TheVariants.{Value}
 use Rattle.chunk_ops.specs.Contents.{FindsContent, FindsLife}
@@ -43,7 +45,8 @@ module _ (z : Sizes) (call : ℕ) where
   pub knows_last : (r i h g : ℕ) (q : List ℕ) (v w : PassState) → FindsContent z call r i (Value h g) v w → FindsLife z call r i q h g v w → KnowsLast q h g (view_of z call w)
   knows_last r i h g q v w c f = record {
     inside = c.usable.0;
-    loaded = known_loaded h g q w.knowledge (names_home h g c.step.number c.says.0 c.says.1 c.says.2) f.life f.known;
+    loaded = known_loaded call h g q w.knowledge (names_home h g c.step.number c.says.0 c.says.1 c.says.2) f.life f.known;
+    named = loaded_in_has call h g (home_of h g) q (names_home h g c.step.number c.says.0 c.says.1 c.says.2) w.knowledge.loaded f.life;
     last = f.last;
   }
 

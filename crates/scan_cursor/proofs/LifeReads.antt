@@ -1,5 +1,5 @@
 -- A life that an entry named, and is then pinned: what its key holds, or that the key was read absent, since every moment at which the life was the key's last one.
-use Rattle.std.proofs.Common.{◌≡◌, ℕ, List, sym, refl, ap, ◌∙◌, subst, arith, Option, Some, None}
+use Rattle.std.proofs.Common.{◌≡◌, ℕ, List, sym, refl, ap, ◌∙◌, subst, arith, true, Option, Some, None}
 use Rattle.oak_model.specs.KeyNumber.{key_number}
 use Rattle.oak_model.specs.Limits.{Sizes}
 use Rattle.header_core.specs.HeaderHolds.{no_headers}
@@ -12,7 +12,7 @@ use Rattle.oak_core.specs.AloneWords.{Runs}
 use Rattle.oak_core.specs.CallSteps.{Learns}
 use Rattle.oak_core.specs.Known.{KnowsHeader}
 use Rattle.oak_core.specs.KeyReads.{home_of}
-use Rattle.oak_core.specs.LifeKeys.{first_of, key_in_loaded, key_in_logs}
+use Rattle.oak_core.specs.LifeKeys.{first_of, key_in_loaded, key_in_logs, loaded_in}
 use Rattle.oak_core.specs.Memory.{memory}
 use Rattle.oak_core.specs.PassState.{HoldsNothing}
 use Rattle.oak_core.specs.Step.{on_headers}
@@ -20,12 +20,13 @@ use Rattle.oak_core.proofs.AloneRuns.{moment_after, runs_as}
 use Rattle.oak_core.proofs.CallSteps.{learns_both}
 use Rattle.oak_core.proofs.KnownHeaders.{known_life}
 use Rattle.oak_core.proofs.KnownLives.{named_at}
+use Rattle.oak_core.proofs.LoadedIn.{loaded_in_later}
 use Rattle.chunk_ops.specs.PinRecords.{WordsStay}
 use Rattle.chunk_ops.proofs.MeetingCalls.{then_stays}
 use Rattle.value_ops.specs.declared.pinned_value.PinnedValue.{PinnedValue}
 use Rattle.value_ops.specs.declared.pinning.BadPin.{BadPin}
 use Rattle.value_ops.specs.declared.pinning.BadPin.TheVariants.{Dead}
-use Rattle.value_ops.specs.Pinning.{AddsPin, FindsDud, FindsGone, KnowsLife, PinsDud, PinsLive, pin_of}
+use Rattle.value_ops.specs.Pinning.{AddsPin, FindsDead, FindsDud, KnowsLife, PinsDud, PinsLive, pin_of}
 use Rattle.value_ops.specs.PinnedValues.{IsPinnedValue, LearnsByLoads, ReadsLife, stamp_under, value_under}
 use Rattle.value_ops.proofs.LearnFacts.{learned_pin}
 use Rattle.value_ops.proofs.LoadedViews.{loaded_still}
@@ -111,11 +112,15 @@ module _ (z : Sizes) (call h g : ℕ) (why : BadPin) (v w : PassState) (d : Pins
     whole : Later m (view_of z call w)
     whole = later_both m (view_of z call v) (view_of z call w) since dud_later
 
-    gone_read : (stamp : ℕ) → FindsGone h g k stamp v w → ReadsKey m (view_of z call w) k stamp None
+    -- whose entry the call had loaded
+    named : loaded_in call h g v.knowledge.loaded ≡ true
+    named = loaded_in_later call h g m.state.knowledge.loaded v.knowledge.loaded since.learns.all.loaded (subst (λ (i : ℕ). loaded_in i h g m.state.knowledge.loaded ≡ true) (sym since.call) last.named)
+
+    gone_read : (stamp : ℕ) → FindsDead call h g k stamp v w → ReadsKey m (view_of z call w) k stamp None
     gone_read stamp f = record {
       read = removed_read z _ w (moment_after z call (on_headers (unpin_header h)) d.looked d.undone.number w d.undone.told) (key_number k) (home_of h g) stamp
-          (named_at z d.told.table d.told.rule d.told.seat v d.told.here h g d.told.may.0.inside k (known_later h g k m (view_of z call v) last since)).names f.removal m.state whole.learns.all.seen last.last;
-      sighted = sighted_before (key_number k) stamp m.state.findings v.findings w.findings (since.learns.sights.more, since.learns.sights.sights) f.sighted;
+          (named_at z d.told.table d.told.rule d.told.seat v d.told.here h g d.told.may.0.inside k (known_later h g k m (view_of z call v) last since)).names f.gone.removal m.state whole.learns.all.seen last.last;
+      sighted = sighted_before (key_number k) stamp m.state.findings v.findings w.findings (since.learns.sights.more, since.learns.sights.sights) (f.sighted named);
     }
 
 -- so its key was read absent

@@ -1,5 +1,5 @@
 -- A key that is looked up in a pinned room: its last life, or that it was read absent. And the whole of it, with the pin before and its end.
-use Rattle.std.proofs.Common.{◌≡◌, ℕ, ◌<◌, List, sym, refl, ap, ◌∙◌, subst, Some, None}
+use Rattle.std.proofs.Common.{◌≡◌, ℕ, ◌<◌, true, List, sym, refl, ap, ◌∙◌, subst, Some, None}
 use Rattle.pin_word.specs.PinWord.{count_of, state_of}
 use Rattle.oak_model.specs.KeyNumber.{key_number}
 use Rattle.oak_model.specs.Limits.{Sizes}
@@ -7,6 +7,10 @@ use Rattle.chunk_core.specs.PinnedRooms.{span_of}
 use Rattle.chunk_core.specs.Spans.{Span}
 use Rattle.chunk_core.specs.declared.holds.RoomHolds.{RoomHolds}
 use Rattle.chunk_core.specs.declared.states.TheConstants.{OPEN}
+use Rattle.oak_core.specs.KeyReads.{home_of}
+use Rattle.oak_core.specs.LastReads.{KnowsLifeOf}
+use Rattle.oak_core.specs.LifeKeys.{loaded_in}
+use Rattle.oak_core.proofs.LoadedIn.{loaded_in_has}
 use Rattle.oak_core.specs.declared.states.Numbers.{Numbers}
 use Rattle.oak_core.specs.declared.states.PassState.{PassState}
 use Rattle.oak_core.specs.AloneWords.{Runs}
@@ -69,7 +73,12 @@ module _ (z : Sizes) (call r : ℕ) (key : List ℕ) (v u : PassState) (first : 
 
     -- or it names a life
     pub life_up : (i h g : ℕ) → FindsContent z now r i (Value h g) u w → TellsOf (Value h g) z now r i key u w → LooksUp (Some (h, g)) key (view_of z call v) (view_of z call w)
-    life_up i h g c t = record { inside = c.usable.0; loaded = known_loaded h g key w.knowledge (names_home h g c.step.number c.says.0 c.says.1 c.says.2) t.life t.known; last = t.last }
+    life_up i h g c t = record {
+      inside = c.usable.0;
+      loaded = known_loaded now h g key w.knowledge (names_home h g c.step.number c.says.0 c.says.1 c.says.2) t.life t.known;
+      named = loaded_in_has call h g (home_of h g) key (names_home h g c.step.number c.says.0 c.says.1 c.says.2) w.knowledge.loaded (subst (λ (j : ℕ). KnowsLifeOf j key (home_of h g) w.knowledge) same t.life);
+      last = t.last;
+    }
 
 -- behind what leaves the words
 leaves_then : (result : Here) (z : Sizes) (v x y : PassState) → Runs WordsStay v x → LeavesHere result z x y → LeavesHere result z v y
@@ -111,7 +120,7 @@ module _ (z : Sizes) (call r : ℕ) (P : Span → Type 0) (v u w x : PassState) 
   -- it has a life
   module _ (key : List ℕ) (h g : ℕ) (l : LooksUp (Some (h, g)) key (view_of z c2 u) (view_of z c2 w)) (c4 : ℕ) (e4 : c4 ≡ call) where
     last : KnowsLast key h g (view_of z c4 w)
-    last = record { inside = l.inside; loaded = l.loaded; last = l.last }
+    last = record { inside = l.inside; loaded = l.loaded; named = subst (λ (c : ℕ). loaded_in c h g w.knowledge.loaded ≡ true) (e2 ∙ sym e4) l.named; last = l.last }
 
     since : Later (view_of z c4 w) (view_of z c4 x)
     since = later_by z c4 c3 w x (e3 ∙ sym e4) (stands_learns c3 w x n.stands)

@@ -9,7 +9,7 @@ use Rattle.oak_core.specs.CallSteps.{Learns}
 use Rattle.oak_core.specs.KeyReads.{home_of}
 use Rattle.oak_core.specs.KnownPlaces.{ReadAt}
 use Rattle.oak_core.specs.LastReads.{NotPast}
-use Rattle.oak_core.specs.LifeKeys.{key_in_loaded}
+use Rattle.oak_core.specs.LifeKeys.{key_in_loaded, loaded_in}
 use Rattle.oak_core.specs.Sights.{SightedSince}
 
 -- the table's sizes, the call, and the state of the pass
@@ -36,10 +36,11 @@ pub record ReadsKey (a b : View) (k : List ℕ) (at : ℕ) (s : State) : Type 0 
 abbrev pub Absents : View → View → ℕ → ℕ → (List ℕ → ℕ) → Type 0
 Absents a b from past ats = (q : List ℕ) → is_key q ≡ true → from ≤ key_number q → key_number q < past → ReadsKey a b q (ats q) None
 
--- the pass loaded the life of the header at the generation from an entry of the key, and what it has seen of the key does not go past that
+-- the call loaded the life of the header at the generation from an entry of the key, and what the pass has seen of the key does not go past that
 pub record KnowsLast (k : List ℕ) (h g : ℕ) (v : View) : Type 0 where
   pub inside : h < v.sizes.headers
   pub loaded : key_in_loaded h g v.state.knowledge.loaded ≡ Some k
+  pub named : loaded_in v.call h g v.state.knowledge.loaded ≡ true
   pub last : NotPast (key_number k) (home_of h g) v.state.knowledge
 
 -- so it was of some key at an earlier moment of the call

@@ -1,5 +1,5 @@
 -- A search that found no free header shows that headers are lacking.
-use Rattle.std.proofs.Common.{◌≡◌, ℕ, ◌<◌, ◌≤◌, ◌⊎◌, List, length, ap, ◌∙◌, ⊎_elim, inl, inr}
+use Rattle.std.proofs.Common.{◌≡◌, ℕ, ◌<◌, ◌≤◌, ◌⊎◌, List, length, ap, ◌∙◌, ⊎_elim, inl, inr, None}
 use mathlib.Core.Option.{some}
 use lib.ListN.{get_elem?}
 use Rattle.oak_model.specs.declared.replies.Lack.TheVariants.{Header}
@@ -32,5 +32,5 @@ module _ (z : Sizes) (call : ℕ) (v w : PassState) (idle : v.headers ≡ no_hea
 
   -- so where the call swept every key before it, and met nothing of another call, it may be noted
   pub headers_lack : (began : ℕ) → began ≤ length v.findings.met → ((i : ℕ) (f : Finding) → began ≤ i → get_elem? v.findings.met i ≡ some f → f.call ≡ call)
-      → ((k : List ℕ) → IsKey k → KeySwept began (length v.findings.met) v.findings.swept k) → Lacks z call Header began (length w.findings.met) w.findings
-  headers_lack began le own swept = lacks_then z call v w none.more none.after (each_map (IsLoadOf z call) (λ (f : Finding). f.call ≡ call) none.more (λ f l. l.0) none.looks) Header began le own swept unfree_for_all
+      → ((k : List ℕ) → IsKey k → KeySwept began (length v.findings.met) v.findings.swept k) → Lacks z call Header None began (length w.findings.met) w.findings
+  headers_lack began le own swept = lacks_then z call v w none.more none.after (each_map (IsLoadOf z call) (λ (f : Finding). f.call ≡ call) none.more (λ f l. l.0) none.looks) Header None began le own swept unfree_for_all

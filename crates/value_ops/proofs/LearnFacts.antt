@@ -128,7 +128,6 @@ pub gone_later : (z : Sizes) (call h g : ℕ) (key : List ℕ) (stamp : ℕ) (u 
 gone_later z call h g key stamp u v w l f = record {
   removal = removal_stays _ _ stamp v.knowledge w.knowledge l.knows.heard f.removal;
   over = over_later _ key u.findings v.findings w.findings l.learns.all.gones f.over;
-  sighted = sighted_later _ stamp u.findings v.findings w.findings (l.learns.sights.more, l.learns.sights.sights) f.sighted;
 }
 
 -- the life of a key that the pass knows it knows still

@@ -30,11 +30,11 @@ pub view_known : (z : Sizes) (x : Viewed) (v : PassState) → x.header < z.heade
 view_known z x v inside l = record { inside = inside; life = ap (λ (o : Option (List ℕ)). first_of o (key_in_logs x.header x.generation v.knowledge.seen)) l }
 
 -- some key is loaded for the life where one is there
-loaded_some : (h g : ℕ) (key : List ℕ) → names_life h g (home_of h g) ≡ 1 → (ls : List KnownLife) → Has (record { key = key; home = home_of h g }) ls → (k : List ℕ) × (key_in_loaded h g ls ≡ Some k)
+loaded_some : (call h g : ℕ) (key : List ℕ) → names_life h g (home_of h g) ≡ 1 → (ls : List KnownLife) → Has (record { call = call; key = key; home = home_of h g }) ls → (k : List ℕ) × (key_in_loaded h g ls ≡ Some k)
 unfolding key_in_loaded
-loaded_some h g key names [] m = absurd m
-loaded_some h g key names (x ∷ xs) (inl e) = (x.key, ap (λ (n : ℕ). cond (n == 1) (Some x.key) (key_in_loaded h g xs)) (ap (λ (l : KnownLife). names_life h g l.home) (sym e) ∙ names))
-loaded_some h g key names (x ∷ xs) (inr m) = at (names_life h g x.home == 1) (loaded_some h g key names xs m)
+loaded_some call h g key names [] m = absurd m
+loaded_some call h g key names (x ∷ xs) (inl e) = (x.key, ap (λ (n : ℕ). cond (n == 1) (Some x.key) (key_in_loaded h g xs)) (ap (λ (l : KnownLife). names_life h g l.home) (sym e) ∙ names))
+loaded_some call h g key names (x ∷ xs) (inr m) = at (names_life h g x.home == 1) (loaded_some call h g key names xs m)
   where
     at : (t : Bool) → (k : List ℕ) × (key_in_loaded h g xs ≡ Some k) → (k : List ℕ) × (cond t (Some x.key) (key_in_loaded h g xs) ≡ Some k)
     at true f = (x.key, refl)
@@ -45,11 +45,11 @@ pub names_home : (h g n : ℕ) → names_header n ≡ 1 → header_in n ≡ h �
 names_home h g n names header generation = ap (names_life h g) ((λ i. home_of (sym header i) (sym generation i)) ∙ home_is n names) ∙ (λ i. names i * one_at-same (header_in n) h header i * one_at-same (generation_in n) g generation i)
 
 -- a life that is known, and was loaded at all, was loaded so
-pub known_loaded : (h g : ℕ) (key : List ℕ) (q : Knowledge) → names_life h g (home_of h g) ≡ 1 → KnowsLifeOf key (home_of h g) q → key_known h g q ≡ Some key → key_in_loaded h g q.loaded ≡ Some key
-known_loaded h g key q names has known = by (key_in_loaded h g q.loaded) refl known
+pub known_loaded : (call h g : ℕ) (key : List ℕ) (q : Knowledge) → names_life h g (home_of h g) ≡ 1 → KnowsLifeOf call key (home_of h g) q → key_known h g q ≡ Some key → key_in_loaded h g q.loaded ≡ Some key
+known_loaded call h g key q names has known = by (key_in_loaded h g q.loaded) refl known
   where
-    there : (ls : List KnownLife) → Has (record { key = key; home = home_of h g }) ls → (k : List ℕ) × (key_in_loaded h g ls ≡ Some k)
-    there ls m = loaded_some h g key names ls m
+    there : (ls : List KnownLife) → Has (record { call = call; key = key; home = home_of h g }) ls → (k : List ℕ) × (key_in_loaded h g ls ≡ Some k)
+    there ls m = loaded_some call h g key names ls m
 
     by : (o : Option (List ℕ)) → key_in_loaded h g q.loaded ≡ o → first_of o (key_in_logs h g q.seen) ≡ Some key → key_in_loaded h g q.loaded ≡ Some key
     by (Some k) f n = f ∙ n

@@ -1,7 +1,8 @@
 -- What the step that pins a header leaves, and what undoing the pin does.
-use Rattle.std.proofs.Common.{◌≡◌, ◌≢◌, ◌⊎◌, ℕ, ◌+◌, ◌-◌, ◌%◌, ◌^◌, ◌<◌, ◌≤◌, true, false, List, [], ◌∷◌, ◌++◌, map, arith, sym, refl, ap, ◌∙◌, subst, ⊎_elim, Option, Some, None, get_or, get_or-set_other}
+use Rattle.std.proofs.Common.{◌≡◌, ◌≢◌, ◌⊎◌, ℕ, ◌+◌, ◌-◌, ◌%◌, ◌^◌, ◌<◌, ◌≤◌, true, false, List, [], ◌∷◌, ◌++◌, map, arith, sym, refl, ap, ◌∙◌, subst, inr, ⊎_elim, Option, Some, None, get_or, get_or-set_other}
 use Rattle.pin_word.specs.PinWord.{generation_of, state_of, count_of}
 use Rattle.oak_model.specs.Counts.{Each}
+use Rattle.oak_model.specs.KeyNumber.{key_number}
 use Rattle.oak_model.specs.Limits.{Sizes}
 use Rattle.oak_model.proofs.Counting.{one_at-same, total_at}
 use Rattle.oak_model.proofs.Lists.{at_map, each_append, each_map}
@@ -22,11 +23,11 @@ use Rattle.oak_core.specs.Loading.{IsPlain}
 use Rattle.oak_core.specs.Memory.{Memory, Spot, IsInside, in_headers, index, rooms_at, memory}
 use Rattle.oak_core.specs.PassState.{headers_held}
 use Rattle.oak_core.specs.Splitting.{Loads}
-use Rattle.oak_core.specs.Step.{on_headers, found, MayOnHeaders}
+use Rattle.oak_core.specs.Step.{load, on_headers, found, MayOnHeaders, Told}
 use Rattle.oak_core.proofs.HeadersInArena.{pin_fact}
 use Rattle.oak_core.proofs.MetMore.{grown_twice, grown_none}
 use Rattle.oak_core.proofs.AloneRuns.{Then, runs_then, runs_as, runs_none}
-use Rattle.oak_core.proofs.PinTold.{dead_over, dead_stamp, none_over, other_over, over_found, over_removal, over_sighted, over_stamp, pin_quiet}
+use Rattle.oak_core.proofs.PinTold.{dead_over, dead_stamp, none_over, other_over, over_found, over_removal, over_stamp, pin_quiet}
 use Rattle.oak_core.proofs.Words.{index_apart, memory_read, header_before}
 use Rattle.value_ops.specs.declared.pinning.BadPin.{BadPin}
 use Rattle.value_ops.specs.declared.pinning.BadPin.TheVariants.{Locked, Dead, Other}
@@ -36,9 +37,15 @@ use Rattle.value_ops.specs.Pinning.{pin_of, with_pin, MeetsMore, IsLiveAt, Drops
 use Rattle.value_ops.specs.PinnedValues.{OnlyLoads}
 use Rattle.value_ops.proofs.KnownStates.{IsInUse, known_state}
 use Rattle.value_ops.proofs.AlonePins.{load_finds, load_stays, none_stays, both_stay, pin_changes, undone}
-use Rattle.value_ops.proofs.LearnFacts.{Learned, gone_later, headers_loaded, learned_both, learned_met, learned_none, learned_pin, learned_stamp, only_learned}
+use Rattle.value_ops.proofs.LearnFacts.{Learned, gone_later, headers_loaded, learned_both, learned_met, learned_none, learned_pin, learned_stamp, life_stays, only_learned, told_at}
 use Rattle.value_ops.proofs.StepLeft.{pin_found, small}
 use Rattle.oak_core.proofs.PlainLoads.{met_at}
+use Rattle.oak_core.specs.declared.states.Sight.{Sight}
+use Rattle.oak_core.specs.LifeKeys.{loaded_in}
+use Rattle.oak_core.specs.Sights.{SightedSince}
+use Rattle.oak_core.proofs.LoadedIn.{loaded_now}
+use Rattle.oak_core.proofs.StampTold.{stamp_sighted}
+use Rattle.oak_core.proofs.TaughtSteps.{sighted_later}
 
 -- a pass may undo its pin
 pub may_unpin : (z : Sizes) (h : ℕ) (v : PassState) → PinsHeader z h v → MayOnHeaders z (unpin_header h) v
@@ -209,7 +216,7 @@ module _ (z : Sizes) (call h g n : ℕ) (v w : PassState) (t : Pins z call h g v
   -- what the pin tells of a life that is over and whose key the pass knew, at the end of the call
   gone_at : (key : List ℕ) (knows : KnowsLife h g key v.knowledge) (over : is_over g n ≡ true) (u : PassState) → Learned z call w u → FindsGone h g key (over_stamp z call h g v n w t key knows over) v u
   gone_at key knows over u later = gone_later z call h g key (over_stamp z call h g v n w t key knows over) v w u later
-      record { removal = over_removal z call h g v n w t key knows over; over = over_found z call h g v n w t key knows over; sighted = over_sighted z call h g v n w t key knows over }
+      record { removal = over_removal z call h g v n w t key knows over; over = over_found z call h g v n w t key knows over }
 
   pub pins_now : PinsHeader z h w
   pins_now = record { inside = t.may.0.inside; pin = pin; is = pin_now; header_is = refl }
@@ -242,11 +249,25 @@ module _ (z : Sizes) (call h g n : ℕ) (v w : PassState) (t : Pins z call h g v
     dead_dud last word stamp x u e f same dead at l undo = pinned_dud (Dead stamp) x u none (same, dead)
         (subst (λ (i : ℕ × ℕ). Loads z i.0 i.1 w stamp x) (λ i. (e i, at i)) l, stays) looked (headers_loaded z later word stamp w x l)
         (runs_as (FindsWord z (in_headers (at_stamp h)) stamp) (Between (Dead stamp)) w x (λ a b d. (d.1, d.0)) (load_finds z later word stamp w x (in_headers (at_stamp h)) t.may.0.inside at l))
-        here (λ key knows. subst (λ (k : ℕ). FindsGone h g key k v u) (dead_stamp z call h g v n w t key knows (dead_over g n same dead) dead same ∙ sym stays)
-        (gone_at key knows (dead_over g n same dead) u (learned_both z call w x u looked (learned_met z call x u None here.meets))))
+        here (λ key knows. record {
+          gone = subst (λ (k : ℕ). FindsGone h g key k v u) (dead_stamp z call h g v n w t key knows (dead_over g n same dead) dead same ∙ sym stays)
+              (gone_at key knows (dead_over g n same dead) u (learned_both z call w x u looked (learned_met z call x u None here.meets)));
+          sighted = λ named. sighted_later (key_number key) stamp v.findings x.findings u.findings ((learned_met z call x u None here.meets).learns.sights.more, (learned_met z call x u None here.meets).learns.sights.sights)
+              (sighted_here key knows named);
+        })
       where
         stays : stamp ≡ m.headers.stamp h
         stays = stamp_stays dead later word stamp x at l
+
+        told : Told z call (load (in_headers (at_stamp h))) w stamp x
+        told = told_at z call word stamp w x (in_headers (at_stamp h)) t.may.0.inside at (subst (λ (i : ℕ). Loads z i word w stamp x) e l)
+
+        -- the load of the stamp found it for the key, whose life the call had loaded
+        sighted_here : (key : List ℕ) → KnowsLife h g key v.knowledge → loaded_in call h g v.knowledge.loaded ≡ true → SightedSince (key_number key) stamp v.findings x.findings
+        sighted_here key knows named = let first = learned_pin z call h g n v w t in
+            let s = stamp_sighted z call w stamp x pin pin_now (ap generation_of word_is ∙ same) (inr (ap state_of word_is ∙ dead)) key (life_stays h g key v.knowledge w.knowledge first.knows knows)
+            (loaded_now call pin w.knowledge (ap (loaded_in call h g) first.knows.loaded ∙ named)) told in
+            (s.0, s.1 ∙ ap (λ (ss : List Sight). ss ++ s.0) (ap (λ (y : PassState). y.findings.sights) t.after), s.2)
 
         looked : Learned z call w x
         looked = learned_stamp z call word h stamp w x t.may.0.inside at (subst (λ (i : ℕ). Loads z i word w stamp x) e l)

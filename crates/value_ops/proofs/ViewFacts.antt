@@ -41,7 +41,7 @@ module _ (z : Sizes) (call : ℕ) (x : Viewed) (v w : PassState) (known : KnowsV
 
   learned_is : (bad : BadPin) → LearnsCause z call x.header x.generation bad v w → LearnsReason z call x (why_of bad) v w
   learned_is Locked l = l
-  learned_is (Dead stamp) l = (stamp, l x.key known.life)
+  learned_is (Dead stamp) l = (stamp, (l x.key known.life).gone)
   learned_is Other l = l x.key known.life
 
   pub dud_view : (bad : BadPin) → PinsDud z call x.header x.generation bad v w → NotRead z call x (why_of bad) v w

@@ -1,5 +1,5 @@
 -- What a pin of a header finds.
-use Rattle.std.specs.Prelude.{◌≡◌, ◌≢◌, ℕ, ◌+◌, ◌-◌, ◌<◌, List, ◌++◌, Option, Some, None}
+use Rattle.std.specs.Prelude.{◌≡◌, ◌≢◌, ℕ, ◌+◌, ◌-◌, ◌<◌, true, List, ◌++◌, Option, Some, None}
 use Rattle.pin_word.specs.PinWord.{generation_of, state_of, count_of}
 use Rattle.oak_model.specs.Counts.{Begins, Each}
 use Rattle.oak_model.specs.KeyNumber.{key_number}
@@ -18,7 +18,7 @@ use Rattle.oak_core.specs.Finding.{grown, IsOf}
 use Rattle.oak_core.specs.HeaderCalls.{Pins, Unpins}
 use Rattle.oak_core.specs.KeyReads.{home_of}
 use Rattle.oak_core.specs.Lessons.{KnowsRemoval}
-use Rattle.oak_core.specs.LifeKeys.{key_known}
+use Rattle.oak_core.specs.LifeKeys.{key_known, loaded_in}
 use Rattle.oak_core.specs.Memory.{Memory, in_headers, index, memory}
 use Rattle.oak_core.specs.Sights.{FoundOverSince, SightedSince}
 use Rattle.oak_core.specs.Splitting.{Loads}
@@ -68,11 +68,15 @@ pub record OnlyLearns (z : Sizes) (call : ℕ) (v w : PassState) : Type 0 where
   pub headers : w.headers ≡ v.headers
   pub rooms : w.rooms ≡ v.rooms
 
--- The life of the key was found to be over: its removal, with the stamp, stands in what the pass knows, and the stamp was found for the key.
+-- The life of the key was found to be over: its removal, with the stamp, stands in what the pass knows.
 pub record FindsGone (h g : ℕ) (key : List ℕ) (stamp : ℕ) (v w : PassState) : Type 0 where
   pub removal : KnowsRemoval (key_number key) (home_of h g) stamp w.knowledge
   pub over : FoundOverSince (home_of h g) key v.findings w.findings
-  pub sighted : SightedSince (key_number key) stamp v.findings w.findings
+
+-- It was found dead, with that stamp. Where the call had loaded the life from the key's entry, the stamp was found for the key.
+pub record FindsDead (call h g : ℕ) (key : List ℕ) (stamp : ℕ) (v w : PassState) : Type 0 where
+  pub gone : FindsGone h g key stamp v w
+  pub sighted : loaded_in call h g v.knowledge.loaded ≡ true → SightedSince (key_number key) stamp v.findings w.findings
 
 abbrev pub WordsStay : List ℕ → List ℕ → Type 0
 WordsStay before after = after ≡ before
@@ -139,7 +143,7 @@ FindsDud z h g why before after = (after ≡ before) × IsCause why g ((memory z
 -- What the pass learned by the cause: of a locked header nothing, and of a life that is over and whose key it knew, that it was removed, with the stamp that a dead header has.
 abbrev pub LearnsCause : Sizes → ℕ → ℕ → ℕ → BadPin → PassState → PassState → Type 0
 LearnsCause z call h g Locked v w = MeetsMore z call v w
-LearnsCause z call h g (Dead stamp) v w = (key : List ℕ) → KnowsLife h g key v.knowledge → FindsGone h g key stamp v w
+LearnsCause z call h g (Dead stamp) v w = (key : List ℕ) → KnowsLife h g key v.knowledge → FindsDead call h g key stamp v w
 LearnsCause z call h g Other v w = (key : List ℕ) → KnowsLife h g key v.knowledge → (stamp : ℕ) × FindsGone h g key stamp v w
 
 -- The step that pinned the header found a word that is the cause, and another undid the pin. The pass only met these steps, and the load of a dead header's stamp between them, and learned what the cause tells.

@@ -5,5 +5,5 @@ use Rattle.oak_run.proofs.ends.end.Goals as goal
 pub returns : goal.returns
 returns g c = record {
   ends = ends_run (sizes c.args.map) c.close-closed.result (call_of c.args.pass) (call_of c.settle.new.pass) (call_of c.scanned-finals.new.pass) (state c.args.pass) (state c.settle.new.pass) (state c.scanned-finals.new.pass) c.in_ok-finals.finals.items
-      c.close-closed.ensures.key c.close-closed.ensures.state c.settle.ensures.settled c.in_ok-finals.ensures.scanned c.scanned-finals.ensures.ready.idle c.close-closed.ensures.ends c.close-closed.ensures.settled;
+      c.settle.ensures.own.call c.close-closed.ensures.key c.close-closed.ensures.state c.settle.ensures.settled c.in_ok-finals.ensures.scanned c.scanned-finals.ensures.ready.idle c.close-closed.ensures.ends c.close-closed.ensures.noted c.close-closed.ensures.places c.close-closed.ensures.settled;
 }

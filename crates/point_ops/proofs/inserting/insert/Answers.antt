@@ -7,7 +7,7 @@ use Rattle.oak_core.specs.KeyReads.{home_of}
 use Rattle.oak_core.specs.Passes.{state, key as sizes, call_of}
 use Rattle.point_ops.specs.declared.halts.Halt.{Halt}
 use Rattle.point_ops.specs.Inserts.{InsertHalts}
-use Rattle.point_ops.proofs.InsertedValues.{fresh_here, inserted, given_learns, unset_halts, unentered_halts}
+use Rattle.point_ops.proofs.InsertedValues.{fresh_here, inserted, given_learns, unmade_halts, unset_halts, unentered_halts}
 use Rattle.point_ops.proofs.LoneInserting.{base_kept, entry_there, names_kept, set_alone, unadded_alone, unmade_alone}
 use Rattle.point_ops.proofs.inserting.insert.Goals as goal
 
@@ -43,7 +43,7 @@ returns-in-Err-clause-learns c = let z = sizes c.args.table.now in let call = ca
 pub returns-in-Err-clause-halted : goal.returns-in-Err-clause-halted
 returns-in-Err-clause-halted c = let z = sizes c.args.table.now in let call = call_of c.args.pass.now in let f = c.in_ok-fresh.fresh in let w = state c.entry_for.new.pass in let x = state c.give_back.new.pass in let same = c.make_fresh.ensures.own.call in
     unentered_halts z call c.args.pin.now.room f.header f.generation (c.args.floor + 1) c.args.key.now c.args.value.now (state c.args.pass.now) (state c.make_fresh.new.pass) w c.in_ok-fresh.ensures.made.1
-    (call_of c.make_fresh.new.pass) same c.entry_for.ensures.under (call_of c.entry_for.new.pass) x (c.entry_for.ensures.own.call ∙ same) c.give_back.ensures.stands c.args.value.now c.args.entry c.args.floor c.in-Err.ensures.halted.0 c.in-Err.halt c.in-Err.ensures.halted.1
+    (call_of c.make_fresh.new.pass) same c.entry_for.ensures.under (call_of c.entry_for.new.pass) x (c.entry_for.ensures.own.call ∙ same) c.give_back.ensures.stands c.class_for.result c.in_ok-fresh.ensures.alone.0 c.in_ok-fresh.ensures.alone.1 c.args.value.now c.class_for.ensures c.args.entry c.args.floor c.in-Err.ensures.halted.0 c.in-Err.halt c.in-Err.ensures.halted.1
 
 pub returns-in-Ok-clause-alone : goal.returns-in-Ok-clause-alone
 returns-in-Ok-clause-alone o = λ is. let z = sizes o.args.table.now in let r = o.args.pin.now.room in let f = o.in_ok-fresh.fresh in let i = o.in-Ok.entry in let key = o.args.key.now in
@@ -63,3 +63,7 @@ pub returns-in_err-fresh-clause-alone : goal.returns-in_err-fresh-clause-alone
 returns-in_err-fresh-clause-alone o = λ is. let p = err_from_is_err_and o.from_residual.result o.from_residual.ensures.1 in
     rw (p.1, p.2) (unmade_alone (sizes o.args.table.now) o.args.pin.now.room o.args.floor o.args.key.now o.args.value.now o.args.entry o.class_for.result o.class_for.ensures o.in_err-fresh.field-0.0 (state o.args.pass.now) (state o.make_fresh.new.pass)
     (o.in_err-fresh.ensures.alone_halted o.args.pin.now.room o.requires.pinned))
+
+pub returns-in_err-fresh-clause-halted : goal.returns-in_err-fresh-clause-halted
+returns-in_err-fresh-clause-halted o = let p = err_from_is_err_and o.from_residual.result o.from_residual.ensures.1 in
+    rw (p.1, p.2) (unmade_halts (sizes o.args.table.now) (call_of o.args.pass.now) o.class_for.result o.args.key.now o.args.value.now o.args.entry o.args.floor (state o.args.pass.now) (state o.make_fresh.new.pass) o.in_err-fresh.field-0.0 o.class_for.ensures o.in_err-fresh.ensures.halted)

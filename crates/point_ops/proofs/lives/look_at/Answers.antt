@@ -32,7 +32,7 @@ returns-in-Err-Dead-clause-only c = dud_only (sizes c.args.table.now) (call_of c
 pub returns-in-Err-Dead-clause-looked : goal.returns-in-Err-Dead-clause-looked
 returns-in-Err-Dead-clause-looked c = let z = sizes c.args.table.now in let call = call_of c.args.pass.now in let h = c.args.header in let g = c.args.generation in let v = state c.args.pass.now in let w = state c.pin_at.new.pass in
     let d = subst (λ (why : BadPin). PinsDud z call h g why v w) c.in-Err-Dead.field-0-is c.in-Err-Dead.ensures.bad in
-    (dud_found z call h g (Dead c.in-Err-Dead.stamp) v w (IsDeadAt g) c.requires.none d (λ n x. x), λ key knows past. dead_read z call h g c.in-Err-Dead.stamp v w d key knows past)
+    (dud_found z call h g (Dead c.in-Err-Dead.stamp) v w (IsDeadAt g) c.requires.none d (λ n x. x), λ key knows past named. dead_read z call h g c.in-Err-Dead.stamp v w d key knows past named)
 
 pub returns-in-Err-Locked-clause-only : goal.returns-in-Err-Locked-clause-only
 returns-in-Err-Locked-clause-only c = dud_only (sizes c.args.table.now) (call_of c.args.pass.now) c.args.header c.args.generation c.in-Err-Locked.field-0 (state c.args.pass.now) (state c.pin_at.new.pass) c.in-Err-Locked.ensures.bad

@@ -34,7 +34,7 @@ pub returns-in-Err-Dead-clause-held : goal.returns-in-Err-Dead-clause-held
 returns-in-Err-Dead-clause-held c = held_under (sizes c.args.table.now) (call_of c.args.pass.now) c.args.pin.now.room (state c.args.pass.now) (state c.look_up.new.pass) (state c.absent_at.new.pass) c.look_up.ensures.under (held_both (state c.look_up.new.pass) (state c.remove_life.new.pass) (state c.absent_at.new.pass) c.remove_life.ensures.held (learned_held _ (state c.remove_life.new.pass) (state c.absent_at.new.pass) c.absent_at.ensures.only))
 
 pub returns-in-Err-Dead-clause-got : goal.returns-in-Err-Dead-clause-got
-returns-in-Err-Dead-clause-got c = ok_map _ _ c.absent_at.result (λ y x. dead_answer y (sizes c.args.table.now) (call_of c.args.pass.now) c.args.key.now Remove (state c.args.pass.now) (state c.look_up.new.pass) (state c.remove_life.new.pass) (state c.absent_at.new.pass) _ c.look_up.ensures.own.call _ (c.remove_life.ensures.own.call ∙ c.look_up.ensures.own.call) c.look_up.ensures.under.learns c.in-Err-Dead.ensures.only.stands c.in-Present.header c.in-Present.generation c.in-Present.ensures.spot.life c.in-Present.ensures.spot.last (x Remove c.args.key.now refl)) c.absent_at.ensures.absent
+returns-in-Err-Dead-clause-got c = ok_map _ _ c.absent_at.result (λ y x. dead_answer y (sizes c.args.table.now) (call_of c.args.pass.now) c.args.key.now Remove (state c.args.pass.now) (state c.look_up.new.pass) (state c.remove_life.new.pass) (state c.absent_at.new.pass) _ c.look_up.ensures.own.call _ (c.remove_life.ensures.own.call ∙ c.look_up.ensures.own.call) c.look_up.ensures.under.learns c.in-Err-Dead.ensures.only.stands c.in-Present.header c.in-Present.generation c.in-Present.ensures.spot.life c.in-Present.ensures.spot.last c.in-Present.ensures.spot.loads (x Remove c.args.key.now refl)) c.absent_at.ensures.absent
 
 pub returns-in-Err-Dead-clause-learns : goal.returns-in-Err-Dead-clause-learns
 returns-in-Err-Dead-clause-learns c = err_map _ _ c.absent_at.result (λ why x. dead_learns (call_of c.args.pass.now) (state c.args.pass.now) (state c.look_up.new.pass) (state c.remove_life.new.pass) (state c.absent_at.new.pass) _ c.look_up.ensures.own.call _ (c.remove_life.ensures.own.call ∙ c.look_up.ensures.own.call) c.look_up.ensures.under.learns c.in-Err-Dead.ensures.only.stands c.absent_at.ensures.only.learns) c.absent_at.ensures.refused
