@@ -1,4 +1,5 @@
 pub mod Words
+pub mod WordNumbers
 pub mod KnownLaws
 pub mod GivenNumbers
 pub mod Histories

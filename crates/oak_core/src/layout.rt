@@ -1,6 +1,8 @@
 //! Where the words of the table lie: word 0, then those of the arena, of the headers and of the rooms.
-ghost use Rattle.std.specs.Prelude.{◌≡◌, ◌<◌, ◌≤◌, ◌^◌};
+ghost use Rattle.std.specs.Prelude.{◌≡◌, ◌<◌, ◌≤◌, ◌^◌, ◌∷◌, [], ℕ};
+ghost use Rattle.oak_model.specs.Limits.{Sizes};
 ghost use Rattle.oak_core.specs.Memory.{headers_at, rooms_at, word_count};
+ghost use Rattle.oak_core.specs.WordNumbers.{WordNumbers};
 
 use arena_core::layout::arena_words;
 use chunk_core::layout::room_words;
@@ -30,3 +32,8 @@ pub fn word_count(shape: &Shape) -> usize
 {
     rooms_at(shape) + room_words(shape)
 }
+
+/// A law: where each word of the table lies, with the numbers written out.
+pub fn words_in_numbers()
+    ensures words { (z : Sizes) (a b c d : ℕ) → z.blocks ≡ a ∷ b ∷ c ∷ d ∷ [] → WordNumbers z a b c d }
+{}
