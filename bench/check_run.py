@@ -382,7 +382,7 @@ def main():
     if len(sys.argv) != 3:
         print(__doc__.split("\n\n")[1], file=sys.stderr)
         sys.exit(2)
-    with open(sys.argv[1], encoding="ascii") as script, open(sys.argv[2], encoding="ascii") as text:
+    with open(sys.argv[1], encoding="ascii", newline="") as script, open(sys.argv[2], encoding="ascii", newline="") as text:
         try:
             print(check(script.read(), text.read()))
         except (Wrong, ValueError) as wrong:
