@@ -41,6 +41,7 @@ keeps_both u v w a b = record {
   numbers = b.numbers ∙ a.numbers;
   mine = b.mine ∙ a.mine;
   fulls = b.fulls ∙ a.fulls;
+  rebalances = b.rebalances ∙ a.rebalances;
   swept = b.swept ∙ a.swept;
   gones = begins_trans u.findings.gones v.findings.gones w.findings.gones a.gones b.gones;
   loaded = begins_trans u.knowledge.loaded v.knowledge.loaded w.knowledge.loaded a.loaded b.loaded;
@@ -59,6 +60,7 @@ stands_learns call v w s = record {
     numbers = s.numbers;
     mine = ap (λ (q : Knowledge). q.mine) s.knowledge;
     fulls = s.fulls;
+    rebalances = s.rebalances;
     swept = s.swept;
     gones = begins_same v.findings.gones w.findings.gones s.gones;
     loaded = begins_same v.knowledge.loaded w.knowledge.loaded (ap (λ (q : Knowledge). q.loaded) s.knowledge);
@@ -68,7 +70,7 @@ stands_learns call v w s = record {
 }
 
 pub stands_none : (call : ℕ) (v : PassState) → Stands call v v
-stands_none call v = record { met = met_none call v; numbers = refl; knowledge = refl; fulls = refl; swept = refl; sights = refl; gones = refl }
+stands_none call v = record { met = met_none call v; numbers = refl; knowledge = refl; fulls = refl; swept = refl; sights = refl; gones = refl; rebalances = refl }
 
 pub learns_none : (call : ℕ) (v : PassState) → Learns call v v
 learns_none call v = stands_learns call v v (stands_none call v)
@@ -79,6 +81,7 @@ stands_both call u v w a b = record {
   numbers = b.numbers ∙ a.numbers;
   knowledge = b.knowledge ∙ a.knowledge;
   fulls = b.fulls ∙ a.fulls;
+  rebalances = b.rebalances ∙ a.rebalances;
   swept = b.swept ∙ a.swept;
   sights = b.sights ∙ a.sights;
   gones = b.gones ∙ a.gones;

@@ -6,7 +6,7 @@ use native.Mathlib.Decide.{ℕ_discrete}
 use lib.ListN.{get_elem?}
 use Rattle.oak_model.specs.Kept.{KeptNumbersStand}
 use Rattle.oak_model.specs.Limits.{Sizes}
-use Rattle.oak_model.proofs.Lists.{map_set, map_set_same}
+use Rattle.oak_model.proofs.Lists.{begins_self, map_set, map_set_same}
 use Rattle.arena_core.specs.declared.blocks.HeldBlocks.{HeldBlocks}
 use Rattle.arena_core.specs.Blocks.{BlocksAreOwned}
 use Rattle.header_core.specs.declared.holds.HeaderHolds.{HeaderHolds}
@@ -25,7 +25,7 @@ use Rattle.oak_core.specs.PassState.{blocks_of, headers_held, kept_of, knowledge
 use Rattle.oak_core.specs.Rule.{Rule}
 use Rattle.oak_core.specs.Step.{on_rooms, MayOnRoom, block_back, blocks_dropped, state_after, table_after}
 use Rattle.oak_core.specs.TableState.{TableState}
-use Rattle.oak_core.proofs.Keeps.{elsewhere_rule, met_only}
+use Rattle.oak_core.proofs.Keeps.{elsewhere_rule}
 use Rattle.oak_core.proofs.RoomBundles.{RoomBundles}
 use Rattle.oak_core.proofs.StoresBehind.{Stored, stored_dropped, stored_still}
 
@@ -54,7 +54,7 @@ module _ (z : Sizes) (s : TableState) (seat : ℕ) (v : PassState) (r : Rule z s
     -- so the rule stands behind the store
     pub store_room_keeps : (p : RoomSpot) (x : ℕ) → MayOnRoom z (store_room p x) v → Rule z (table_after z call (on_rooms (store_room p x)) seat v s)
     store_room_keeps p x may = let w : PassState = state_after z call (on_rooms (store_room p x)) s v in let y : Memory = write m (in_rooms p) x in let t = stored p x may (word_dropped m.rooms p x) in
-        elsewhere_rule z s call seat v r here going (on_rooms (store_room p x)) (finding z call (in_rooms p) None x s.words v) may.inside may.rooms.2 refl refl (met_only _ _) refl refl
+        elsewhere_rule z s call seat v r here going (on_rooms (store_room p x)) (finding z call (in_rooms p) None x s.words v) may.inside may.rooms.2 refl refl (record { met = refl; swept = begins_self v.findings.swept; fulls = refl }) refl refl
         (subst (λ (bs : List HeldBlocks). BlocksAreOwned z m.arena.bits (all_others z y (map rooms_held (set s.states seat w))) bs) (sym (map_set blocks_of s.states seat w))
         (subst (λ (rs : List RoomHolds). BlocksAreOwned z m.arena.bits (all_others z y rs) (set (map blocks_of s.states) seat w.blocks)) (sym (map_set rooms_held s.states seat w)) t.blocks))
         (subst (λ (hh : List HeaderHolds). HeadersAreHeld m.headers m.arena.bytes (known (map knowledge_of s.states)) hh) (sym (map_set_same headers_held s.states seat v w here refl)) r.headers)

@@ -143,6 +143,7 @@ mod DroppedKeys
 pub mod KeepsRooms
 pub mod EachEvent
 mod Rebalances
+mod RebalancesKept
 mod HeldAlone
 mod RoomBases
 mod BasesRise

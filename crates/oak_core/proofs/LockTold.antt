@@ -56,7 +56,7 @@ module _ (z : Sizes) (call h old : ℕ) (v : PassState) (n : ℕ) (w : PassState
   -- a lock adds nothing but a lesson on one key
   pub lock_learns : Learns call v w
   lock_learns = step_learns z call (on_headers (lock_header h old)) v n w t test (lock_taught h old (m.headers.stamp h) v.knowledge) knows_now test sights_now (ap (λ (y : PassState). y.numbers) t.after) (ap (λ (y : PassState). y.findings.fulls) t.after)
-      (ap (λ (y : PassState). y.findings.swept) t.after) (begins_same v.findings.gones w.findings.gones (ap (λ (y : PassState). y.findings.gones) t.after))
+      (ap (λ (y : PassState). y.findings.swept) t.after) (begins_same v.findings.gones w.findings.gones (ap (λ (y : PassState). y.findings.gones) t.after)) (ap (λ (y : PassState). y.findings.rebalances) t.after)
 
   -- the header was live, and the pass knew the key of its life
   module _ (live : state_of old ≡ LIVE) (hit : n ≡ old) (key : List ℕ) (knows : key_known h (generation_of old) v.knowledge ≡ Some key) where

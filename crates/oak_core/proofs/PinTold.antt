@@ -1,6 +1,6 @@
 -- What the step that pins a header tells its pass: where it finds a life over of which the pass knows the key, that the life was removed.
 use Rattle.std.specs.Prelude.{not}
-use Rattle.std.proofs.Common.{◌≡◌, ◌≢◌, ℕ, ◌-◌, ◌==◌, ◌&&◌, true, false, List, [], ◌∷◌, ◌++◌, map, length, sym, refl, ap, ◌∙◌, subst, inl, arith, Some, eq-eqb, ne_eqb}
+use Rattle.std.proofs.Common.{◌≡◌, ◌≢◌, ℕ, ◌-◌, ◌==◌, ◌&&◌, true, false, List, [], ◌∷◌, ◌++◌, map, sym, refl, ap, ◌∙◌, subst, inl, arith, Some, eq-eqb, ne_eqb}
 use Rattle.std.proofs.lemmas.Bool.{and_right}
 use Rattle.pin_word.specs.PinWord.{generation_of, state_of}
 use Rattle.oak_model.specs.Counts.{Has}
@@ -16,7 +16,6 @@ use Rattle.oak_core.specs.declared.states.Gone.{Gone}
 use Rattle.oak_core.specs.declared.states.Knowledge.{Knowledge}
 use Rattle.oak_core.specs.declared.states.Lesson.{Lesson}
 use Rattle.oak_core.specs.declared.states.PassState.{PassState}
-use Rattle.oak_core.specs.declared.states.Sight.{Sight}
 use Rattle.oak_core.specs.CallSteps.{Learns}
 use Rattle.oak_core.specs.Finding.{finding}
 use Rattle.oak_core.specs.HeaderTeaching.{finds_over, is_over, over_taught}
@@ -27,11 +26,10 @@ use Rattle.oak_core.specs.Lessons.{KnowsRemoval}
 use Rattle.oak_core.specs.LifeKeys.{is_known, key_known, key_or}
 use Rattle.oak_core.specs.Memory.{Memory, in_headers, memory}
 use Rattle.oak_core.specs.PassState.{history, knowledge_of}
-use Rattle.oak_core.specs.Sights.{FoundOverSince, SightedSince, gones_with, sights_with}
+use Rattle.oak_core.specs.Sights.{FoundOverSince, gones_with}
 use Rattle.oak_core.specs.Step.{on_headers, found, Told}
 use Rattle.oak_core.proofs.KnowledgeAfter.{over_knowledge}
 use Rattle.oak_core.proofs.KnownLives.{dead_gone, named_at, over_gone}
-use Rattle.oak_core.proofs.LessonReach.{reach_here}
 use Rattle.oak_core.proofs.LivesOnce.{begins_once}
 use Rattle.oak_core.proofs.PinsKnown.{has_later}
 use Rattle.oak_core.proofs.Removals.{removed_at_is, removed_at_some}
@@ -67,7 +65,7 @@ module _ (z : Sizes) (call h g : ℕ) (v : PassState) (n : ℕ) (w : PassState) 
   pub pin_learns : Learns call v w
   pin_learns = step_learns z call (on_headers (pin_header h g)) v n w t (finds_over h g (m.headers.pin h) v.knowledge) (over_taught h g qs v.knowledge) pin_knows
       false (ap (λ (x : PassState). x.findings.sights) t.after) (ap (λ (x : PassState). x.numbers) t.after) (ap (λ (x : PassState). x.findings.fulls) t.after) (ap (λ (x : PassState). x.findings.swept) t.after)
-      (gones_more (finds_over h g (m.headers.pin h) v.knowledge) call (key_or (key_known h g v.knowledge)) (home_of h g) v.findings w.findings (ap (λ (x : PassState). x.findings.gones) t.after))
+      (gones_more (finds_over h g (m.headers.pin h) v.knowledge) call (key_or (key_known h g v.knowledge)) (home_of h g) v.findings w.findings (ap (λ (x : PassState). x.findings.gones) t.after)) (ap (λ (x : PassState). x.findings.rebalances) t.after)
 
   -- where it finds none over, the pass only has the pin, and the finding more
   pub pin_quiet : finds_over h g n v.knowledge ≡ false

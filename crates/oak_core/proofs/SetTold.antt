@@ -61,6 +61,7 @@ module _ (z : Sizes) (call r i old new : ℕ) (kind : Kind) (v : PassState) (n :
       numbers = ap (λ (y : PassState). y.numbers) t.after;
       knowledge = ap (λ (y : PassState). y.knowledge) t.after ∙ unset_knowledge call m qs v r i old new kind (λ e. ne (sym set_found ∙ e));
       fulls = ap (λ (y : PassState). y.findings.fulls) t.after;
+      rebalances = ap (λ (y : PassState). y.findings.rebalances) t.after;
       swept = ap (λ (y : PassState). y.findings.swept) t.after;
       sights = ap (λ (y : PassState). y.findings.sights) t.after;
       gones = ap (λ (y : PassState). y.findings.gones) t.after;
@@ -91,4 +92,4 @@ module _ (z : Sizes) (call r i old new : ℕ) (kind : Kind) (v : PassState) (n :
     pub set_writes : (of bytes : List ℕ) (stamp : ℕ) → key_number of ≡ key_number (key_bytes t.may.set.entry.word t.may.set.entry.words) → value_in t.may.set.header.place t.may.set.header.words ≡ bytes → t.may.set.header.stamp ≡ stamp → Writes call of kind None (Some bytes) stamp v w
     set_writes of bytes stamp same value stamp_is = writes_of_call z t.table t.rule t.seat v t.here words w behind (set_there t.table.states t.seat v w t.here) (key_number key) (insertion v.numbers.number call kind key may.header) refl knows call
         (step_met z call (on_rooms (set_value r i old new kind)) v n w t) (ap (λ (y : PassState). y.numbers) t.after)
-        (ap (λ (y : PassState). y.findings.fulls) t.after, ap (λ (y : PassState). y.findings.swept) t.after, ap (λ (y : PassState). y.findings.gones) t.after, ap (λ (y : PassState). y.findings.sights) t.after) refl refl of kind None (Some bytes) stamp same absent (ap Some value) stamp_is refl
+        (ap (λ (y : PassState). y.findings.fulls) t.after, ap (λ (y : PassState). y.findings.swept) t.after, ap (λ (y : PassState). y.findings.gones) t.after, ap (λ (y : PassState). y.findings.sights) t.after, ap (λ (y : PassState). y.findings.rebalances) t.after) refl refl of kind None (Some bytes) stamp same absent (ap Some value) stamp_is refl

@@ -89,10 +89,13 @@ module _ (z : Sizes) (call : ℕ) (v : PassState) (n : ℕ) (w : PassState) (p :
   within = pin_inside z t.table t.seat v t.rule t.here p is
 
   pub stamp_sighted : SightedSince (key_number key) n v.findings w.findings
-  stamp_sighted = (sight ∷ [], ap (λ (y : PassState). y.findings.sights) t.after ∙ (ap (λ (c : ℕ). sights_stamp p.header c call v.headers.pin v.knowledge v.findings) number_is
-      ∙ stamp_sights z (memory z t.table.words) is_key_word t.table.states t.rule.covers t.rule.keys t.rule.callers t.rule.histories t.rule.headers t.rule.heard t.seat v t.here p is wanted key knows
-      (named_at z t.table t.rule t.seat v t.here p.header p.wanted within key knows) n (sym number_is) state call now),
-      record { sight = sight; there = inl refl; just = reach_here key n })
+  stamp_sighted = (
+    sight ∷ [],
+    ap (λ (y : PassState). y.findings.sights) t.after ∙ (ap (λ (c : ℕ). sights_stamp p.header c call v.headers.pin v.knowledge v.findings) number_is
+        ∙ stamp_sights z (memory z t.table.words) is_key_word t.table.states t.rule.covers t.rule.keys t.rule.callers t.rule.histories t.rule.headers t.rule.heard t.seat v t.here p is wanted key knows
+        (named_at z t.table t.rule t.seat v t.here p.header p.wanted within key knows) n (sym number_is) state call now),
+    record { sight = sight; there = inl refl; just = reach_here key n },
+  )
 
 -- so it is where the pass loaded the life from an entry of the key
 module _ (z : Sizes) (call : ℕ) (v : PassState) (n : ℕ) (w : PassState) (p : PinnedHeader) (is : v.headers.pin ≡ Some p) (good : IsGood p) (named : ℕ) (key : List ℕ) (life : KnowsLifeOf named key (home_of p.header p.wanted) v.knowledge) (t : Told z call (load (in_headers (at_stamp p.header))) v n w) where

@@ -17,6 +17,7 @@ use Rattle.oak_core.specs.Learning.{lesson_by, lessons, reach_of, taught_where}
 use Rattle.oak_core.specs.Lessons.{KnowsRemoval}
 use Rattle.oak_core.specs.Memory.{Spot}
 use Rattle.oak_core.specs.PassState.{Extends, history, knowledge_of, seen_of}
+use Rattle.oak_core.specs.RebalanceSteps.{KeepsRooms}
 use Rattle.oak_core.specs.Sights.{FoundOverSince, SightedSince, gones_with, sights_with}
 use Rattle.oak_core.specs.Step.{Step, Told, load}
 use Rattle.oak_core.proofs.CallSteps.{begins_same, sights_same, step_met}
@@ -69,14 +70,15 @@ module _ (z : Sizes) (call : ℕ) (x : Step) (v : PassState) (n : ℕ) (w : Pass
   taught_remembers = remembers_more v.knowledge w.knowledge heard_more.0 heard_more.1
 
   -- where all else that a call that writes nothing leaves stays
-  pub step_learns : (c : Bool) → w.findings.sights ≡ sights_with c call y v.findings → w.numbers ≡ v.numbers → w.findings.fulls ≡ v.findings.fulls → w.findings.swept ≡ v.findings.swept → Begins v.findings.gones w.findings.gones → Learns call v w
-  step_learns c sights numbers fulls swept gones = record {
+  pub step_learns : (c : Bool) → w.findings.sights ≡ sights_with c call y v.findings → w.numbers ≡ v.numbers → w.findings.fulls ≡ v.findings.fulls → w.findings.swept ≡ v.findings.swept → Begins v.findings.gones w.findings.gones → KeepsRooms v w → Learns call v w
+  step_learns c sights numbers fulls swept gones rebalances = record {
     met = step_met z call x v n w t;
     sights = sights_more c call y v w sights;
     all = record {
       numbers = numbers;
       mine = ap (λ (q : Knowledge). q.mine) knowledge;
       fulls = fulls;
+      rebalances = rebalances;
       swept = swept;
       gones = gones;
       loaded = begins_same v.knowledge.loaded w.knowledge.loaded (ap (λ (q : Knowledge). q.loaded) knowledge);
@@ -88,7 +90,7 @@ module _ (z : Sizes) (call : ℕ) (x : Step) (v : PassState) (n : ℕ) (w : Pass
 -- a load leaves all that
 pub load_learns : (z : Sizes) (call : ℕ) (p : Spot) (v : PassState) (n : ℕ) (w : PassState) (t : Told z call (load p) v n w) (b : Bool) (y : Taught) → w.knowledge ≡ taught_where b y (map knowledge_of t.table.states) v.knowledge → (c : Bool) → w.findings.sights ≡ sights_with c call y v.findings → Learns call v w
 load_learns z call p v n w t b y knowledge c sights = step_learns z call (load p) v n w t b y knowledge c sights (ap (λ (u : PassState). u.numbers) t.after) (ap (λ (u : PassState). u.findings.fulls) t.after) (ap (λ (u : PassState). u.findings.swept) t.after)
-    (begins_same v.findings.gones w.findings.gones (ap (λ (u : PassState). u.findings.gones) t.after))
+    (begins_same v.findings.gones w.findings.gones (ap (λ (u : PassState). u.findings.gones) t.after)) (ap (λ (u : PassState). u.findings.rebalances) t.after)
 
 -- what was found and what is known stays so while the lists grow
 

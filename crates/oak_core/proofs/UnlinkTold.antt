@@ -51,6 +51,7 @@ module _ (z : Sizes) (call r i x : ℕ) (v : PassState) (n : ℕ) (w : PassState
     numbers = ap (λ (y : PassState). y.numbers) t.after;
     knowledge = ap (λ (y : PassState). y.knowledge) t.after;
     fulls = ap (λ (y : PassState). y.findings.fulls) t.after;
+    rebalances = ap (λ (y : PassState). y.findings.rebalances) t.after;
     swept = ap (λ (y : PassState). y.findings.swept) t.after;
     sights = ap (λ (y : PassState). y.findings.sights) t.after;
     gones = ap (λ (y : PassState). y.findings.gones) t.after;

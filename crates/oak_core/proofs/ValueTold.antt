@@ -113,6 +113,7 @@ module _ (z : Sizes) (call : ℕ) (v : PassState) (i n : ℕ) (w : PassState) (p
         numbers = ap (λ (y : PassState). y.numbers) t.after;
         mine = ap (λ (q : Knowledge). q.mine) loads;
         fulls = ap (λ (y : PassState). y.findings.fulls) t.after;
+        rebalances = ap (λ (y : PassState). y.findings.rebalances) t.after;
         swept = ap (λ (y : PassState). y.findings.swept) t.after;
         gones = begins_same v.findings.gones w.findings.gones (ap (λ (y : PassState). y.findings.gones) t.after);
         loaded = subst (λ (q : Knowledge). Begins v.knowledge.loaded q.loaded) (sym loads) (life ∷ [], refl);

@@ -24,6 +24,7 @@ use Rattle.oak_core.specs.Learning.{write_lesson, wrote}
 use Rattle.oak_core.specs.Lessons.{LessonStands}
 use Rattle.oak_core.specs.Memory.{memory}
 use Rattle.oak_core.specs.PassState.{seen_of, history, knowledge_of, Extends}
+use Rattle.oak_core.specs.RebalanceSteps.{KeepsRooms}
 use Rattle.oak_core.specs.Rule.{Rule}
 use Rattle.oak_core.specs.TableState.{TableState}
 use Rattle.oak_core.proofs.Histories.{seen_stands}
@@ -39,7 +40,7 @@ use Rattle.oak_core.proofs.CallSteps.{met_both, begins_same, sights_same, sights
 
 -- what a pass has noted beside what it met is as before
 abbrev pub Notes : PassState → PassState → Type 0
-Notes v w = (w.findings.fulls ≡ v.findings.fulls) × (w.findings.swept ≡ v.findings.swept) × (w.findings.gones ≡ v.findings.gones) × (w.findings.sights ≡ v.findings.sights)
+Notes v w = (w.findings.fulls ≡ v.findings.fulls) × (w.findings.swept ≡ v.findings.swept) × (w.findings.gones ≡ v.findings.gones) × (w.findings.sights ≡ v.findings.sights) × KeepsRooms v w
 
 -- The pass v of the table s made the write x, and is w in the table behind it.
 module _ (z : Sizes) (s : TableState) (r : Rule z s) (seat : ℕ) (v : PassState) (here : get_elem? s.states seat ≡ some v) (words : List ℕ) (w : PassState) (behind : Rule z record { words = words; states = set s.states seat w }) (there : get_elem? (set s.states seat w) seat ≡ some w)
@@ -102,6 +103,7 @@ module _ (z : Sizes) (s : TableState) (r : Rule z s) (seat : ℕ) (v : PassState
       swept = notes.1;
       gones = begins_same v.findings.gones w.findings.gones notes.2;
       sights = sights_same call v w notes.3;
+      rebalances = notes.4;
       loaded = begins_same v.knowledge.loaded w.knowledge.loaded (ap (λ (q : Knowledge). q.loaded) knowledge);
       write = x;
       mine = ap (λ (q : Knowledge). q.mine) knowledge;
@@ -125,6 +127,7 @@ writes_since call of kind before after stamp u v w s x = record {
   remembers = subst (λ (q : Knowledge). Remembers q w.knowledge) s.knowledge x.remembers;
   numbers = x.numbers ∙ s.numbers;
   fulls = x.fulls ∙ s.fulls;
+  rebalances = x.rebalances ∙ s.rebalances;
   swept = x.swept ∙ s.swept;
   gones = begins_trans u.findings.gones v.findings.gones w.findings.gones (begins_same u.findings.gones v.findings.gones s.gones) x.gones;
   sights = sights_both call u v w (sights_same call u v s.sights) x.sights;

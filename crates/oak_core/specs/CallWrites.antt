@@ -12,6 +12,7 @@ use Rattle.oak_core.specs.CallSteps.{MetMore, SightsMore}
 use Rattle.oak_core.specs.KeyHistories.{state_behind}
 use Rattle.oak_core.specs.KnownPlaces.{KnowsPlace, Remembers}
 use Rattle.oak_core.specs.PassState.{seen_of, Extends}
+use Rattle.oak_core.specs.RebalanceSteps.{KeepsRooms}
 
 -- on this state some call makes a write of the kind, which leaves the other
 pub record MakesWrite (kind : Kind) (before after : State) : Type 0 where
@@ -20,7 +21,7 @@ pub record MakesWrite (kind : Kind) (before after : State) : Type 0 where
   pub writes : is_write (reply_of before ask) ≡ true
   pub leaves : state_after before ask ≡ after
 
--- The call made a write of the key, on the state that all that was known of the key ended with, and behind everything that it had seen of it.
+-- The call made a write of the key, on the state that all that was known of the key ended with, and behind everything that it had seen of it. It made no step of a rebalance.
 pub record Writes (call : ℕ) (key : List ℕ) (kind : Kind) (before after : State) (stamp : ℕ) (v w : PassState) : Type 0 where
   pub met : MetMore call v w
   pub seen : Extends v w
@@ -29,6 +30,7 @@ pub record Writes (call : ℕ) (key : List ℕ) (kind : Kind) (before after : St
   pub fulls : w.findings.fulls ≡ v.findings.fulls
   pub swept : w.findings.swept ≡ v.findings.swept
   pub gones : Begins v.findings.gones w.findings.gones
+  pub rebalances : KeepsRooms v w
   pub sights : SightsMore call v w
   pub loaded : Begins v.knowledge.loaded w.knowledge.loaded
   pub write : KeyedWrite

@@ -9,3 +9,4 @@ pub record GrowsTo (fs fs' : Findings) : Type 0 where
   pub swept : Begins fs.swept fs'.swept
   pub sights : Begins fs.sights fs'.sights
   pub gones : Begins fs.gones fs'.gones
+  pub rebalances : Begins fs.rebalances fs'.rebalances

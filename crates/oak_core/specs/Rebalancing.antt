@@ -12,6 +12,8 @@ use Rattle.oak_core.specs.declared.states.PassState.{PassState}
 use Rattle.oak_core.specs.KeyHistories.{state_behind}
 use Rattle.oak_core.specs.KeyReads.{base_now, history_now, word_now}
 use Rattle.oak_core.specs.Memory.{memory}
+use Rattle.oak_core.specs.Schedule.{Event, steps}
+use Rattle.oak_core.specs.Step.{Step, on_rooms}
 use Rattle.oak_core.specs.TableState.{TableState}
 
 -- the kinds of step that a rebalance makes on rooms, beside pins
@@ -23,6 +25,16 @@ IsRebalance (store_room p x) = Unit {0}
 IsRebalance (open_room r) = Unit {0}
 IsRebalance (retire_room r) = Unit {0}
 IsRebalance _ = ⊥
+
+-- the step is one of them
+abbrev pub MovesRooms : Step → Type 0
+MovesRooms (on_rooms x) = IsRebalance x
+MovesRooms _ = ⊥
+
+-- the event is one of them, of the seat
+abbrev pub RebalancesAt : ℕ → Event → Type 0
+RebalancesAt seat (steps j call x) = (j ≡ seat) × MovesRooms x
+RebalancesAt seat _ = ⊥
 
 -- each key has the history that it had, and the state behind it
 pub record KeepsKeys (s t : TableState) : Type 0 where

@@ -42,6 +42,7 @@ use Rattle.oak_core.specs.KeyedHeaders.{headers_keyed}
 use Rattle.oak_core.specs.MayWrite.{MaySet, MayUnlink, MayEnd}
 use Rattle.oak_core.specs.RoomTeaching.{knows_by_room, headers_by_room}
 use Rattle.oak_core.specs.Sweeping.{swept_by}
+use Rattle.oak_core.specs.RebalanceSteps.{rebalances_by}
 use Rattle.oak_core.specs.Loading.{knows_by_load, sights_by_load, rooms_by_load}
 use Rattle.oak_core.specs.PassState.{knowledge_of}
 
@@ -237,7 +238,7 @@ state_after z call (on_headers x) s v =
 state_after z call (on_rooms x) s v =
     let n = found z (on_rooms x) s in let m = memory z s.words in
     record v {
-      findings = record v.findings { met = v.findings.met ++ finding z call (in_rooms (room_spot x)) (room_found x n) (room_effect x n) s.words v ∷ []; swept = swept_by x v };
+      findings = record v.findings { met = v.findings.met ++ finding z call (in_rooms (room_spot x)) (room_found x n) (room_effect x n) s.words v ∷ []; swept = swept_by x v; rebalances = rebalances_by x v };
       knowledge = knows_by_room call x m (map knowledge_of s.states) v;
       blocks = blocks_by_room x m v.rooms v.blocks;
       headers = headers_by_room x m v;

@@ -1,14 +1,19 @@
-ghost use Rattle.std.specs.Prelude.{◌≡◌, ℕ, ◌-◌, ◌^◌, ◌<◌, List};
+ghost use Rattle.std.specs.Prelude.{◌≡◌, ℕ, ◌-◌, ◌^◌, ◌<◌, ◌∷◌, ◌++◌, [], List, false, length};
+ghost use mathlib.Core.Option.{some};
+ghost use lib.ListN.{get_elem?};
 ghost use Rattle.pin_word.specs.PinWord.{state_of};
+ghost use Rattle.oak_model.specs.Counts.{Each};
 ghost use Rattle.oak_model.specs.Limits.{Sizes, IsInLimits};
 ghost use Rattle.chunk_core.specs.declared.states.TheConstants.{HELD};
 ghost use Rattle.chunk_core.specs.RoomStep.{RoomStep, pin_room};
+ghost use Rattle.oak_core.specs.declared.states.PassState.{PassState};
 ghost use Rattle.oak_core.specs.Memory.{memory};
+ghost use Rattle.oak_core.specs.RebalanceSteps.{KeepsRooms};
 ghost use Rattle.oak_core.specs.TableState.{TableState};
-ghost use Rattle.oak_core.specs.Rebalancing.{IsRebalance, KeepsKeys, HoldsNoPin, HasDud, BasesRise};
+ghost use Rattle.oak_core.specs.Rebalancing.{IsRebalance, KeepsKeys, HoldsNoPin, HasDud, BasesRise, RebalancesAt};
 ghost use Rattle.oak_core.specs.Rule.{Rule};
 ghost use Rattle.oak_core.specs.Schedule.{Event, IsSchedule, Goes, opening, steps};
-ghost use Rattle.oak_core.specs.Step.{on_rooms};
+ghost use Rattle.oak_core.specs.Step.{on_rooms, Told};
 
 /// A law: the rule holds at every moment of every schedule. Each moment is the end of a schedule, that
 /// of the events so far. It speaks of every shape and of every opening generation below the last one,
@@ -24,4 +29,12 @@ pub fn every_schedule()
     ensures held { (z : Sizes) (s t : TableState) → Rule z s → (e : Event) → Goes z e s t → HoldsNoPin z s t }
     ensures duds { (z : Sizes) (s t : TableState) (seat call r : ℕ) → Goes z (steps seat call (on_rooms (pin_room r))) s t → state_of ((memory z s.words).rooms.pin r) ≡ HELD → HasDud seat r t }
     ensures bases { (z : Sizes) (s t : TableState) → Rule z s → (e : Event) → Goes z e s t → BasesRise z s t }
+{}
+
+/// A law: a pass keeps each step of a rebalance that it makes or tries, by how many findings it had met
+/// before it. So where a pass that is not spent has kept behind some events what it had kept before
+/// them, none of them was a step of a rebalance of its seat.
+pub fn rebalances_are_kept()
+    ensures kept { (z : Sizes) (call : ℕ) (x : RoomStep) (v : PassState) (n : ℕ) (w : PassState) → IsRebalance x → Told z call (on_rooms x) v n w → w.findings.rebalances ≡ v.findings.rebalances ++ length v.findings.met ∷ [] }
+    ensures none { (z : Sizes) (events : List Event) (s t : TableState) (seat : ℕ) (v w : PassState) → IsSchedule z s events t → get_elem? s.states seat ≡ some v → get_elem? t.states seat ≡ some w → w.numbers.spent ≡ false → KeepsRooms v w → Each (λ (e : Event). RebalancesAt seat e → ⊥) events }
 {}

@@ -50,13 +50,15 @@ pub struct Gone {
 }
 
 /// What the pass met, in order, the calls that it noted as refused, the ranges that it swept, what its
-/// calls were taught, and the lives that they found to be over. No list loses anything, or its order.
+/// calls were taught, the lives that they found to be over, and of each step of a rebalance how many
+/// findings it had met before it. No list loses anything, or its order.
 pub struct Findings {
     pub met: LinkedList<Finding>,
     pub fulls: LinkedList<Full>,
     pub swept: LinkedList<Swept>,
     pub sights: LinkedList<Sight>,
     pub gones: LinkedList<Gone>,
+    pub rebalances: LinkedList<usize>,
 }
 
 /// A write with its key, and the value word that names the life that it is of; whether that life begins
