@@ -73,7 +73,7 @@ module _ (z : Sizes) (call : ℕ) (c : Class) (b : ℕ) (bytes : List ℕ) where
         let f = length-take i (words_of bytes) in let g : length (drop i ws) ≡ length ws - i = length-drop i ws in let h = inside in omega arith
 
     stood : Stands call u w
-    stood = subst (Stands call u) (sym s.after) (record { met = record { more = s.more; met = refl; calls = each_map (IsOf z call) (λ (f : Finding). f.call ≡ call) s.more (λ f o. o.0) s.calls }; numbers = refl; knowledge = refl; fulls = refl; swept = refl; sights = refl; gones = refl })
+    stood = subst (Stands call u) (sym s.after) (record { met = record { more = s.more; met = refl; calls = each_map (IsOf z call) (λ (f : Finding). f.call ≡ call) s.more (λ f o. o.0) s.calls }; numbers = refl; knowledge = refl; fulls = refl; swept = refl; sights = refl; gones = refl; rebalances = refl })
 
     put : Runs (PutsWord (first + i) n) u w
     put = runs_as (SetsWord z (in_arena (at_bytes (class_number c) b i)) n) (PutsWord (first + i) n) u w (λ x y d. d ∙ ap (λ (k : ℕ). set x k n) (sym (spot_from z (class_number c) b first i refl))) s.still

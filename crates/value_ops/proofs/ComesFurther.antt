@@ -48,7 +48,7 @@ stamp_loaded z call word n v w h inside at locked l = record { more = _ ∷ []; 
 
 -- a pass that only met one thing more learned nothing
 pub loads_learn : (call : ℕ) (v u : PassState) (f : Finding) → f.call ≡ call → u ≡ grown (f ∷ []) v → Learns call v u
-loads_learn call v u f is e = subst (Learns call v) (sym e) (stands_learns call v (grown (f ∷ []) v) record { met = record { more = f ∷ []; met = refl; calls = (is, tt) }; numbers = refl; knowledge = refl; fulls = refl; swept = refl; sights = refl; gones = refl })
+loads_learn call v u f is e = subst (Learns call v) (sym e) (stands_learns call v (grown (f ∷ []) v) record { met = record { more = f ∷ []; met = refl; calls = (is, tt) }; numbers = refl; knowledge = refl; fulls = refl; swept = refl; sights = refl; gones = refl; rebalances = refl })
 
 pub loads_both : (z : Sizes) (call : ℕ) (v u w : PassState) → LoadsMore z call v u → LoadsMore z call u w → LoadsMore z call v w
 loads_both z call v u w a b = record { more = a.more ++ b.more; loads = each_append (IsLoadOf z call) a.more b.more a.loads b.loads; after = b.after ∙ (ap (grown b.more) a.after ∙ grown_twice v a.more b.more) }

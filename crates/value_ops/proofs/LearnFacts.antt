@@ -74,6 +74,7 @@ learned_met z call v w o m = record {
     numbers = ap (λ (x : PassState). x.numbers) m.after;
     knowledge = ap (λ (x : PassState). x.knowledge) m.after;
     fulls = ap (λ (x : PassState). x.findings.fulls) m.after;
+    rebalances = ap (λ (x : PassState). x.findings.rebalances) m.after;
     swept = ap (λ (x : PassState). x.findings.swept) m.after;
     sights = ap (λ (x : PassState). x.findings.sights) m.after;
     gones = ap (λ (x : PassState). x.findings.gones) m.after;

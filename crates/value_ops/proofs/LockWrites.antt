@@ -43,6 +43,7 @@ comes_stands z call bs hs v u c = record {
   numbers = ap (λ (y : PassState). y.numbers) c.after;
   knowledge = ap (λ (y : PassState). y.knowledge) c.after;
   fulls = ap (λ (y : PassState). y.findings.fulls) c.after;
+  rebalances = ap (λ (y : PassState). y.findings.rebalances) c.after;
   swept = ap (λ (y : PassState). y.findings.swept) c.after;
   sights = ap (λ (y : PassState). y.findings.sights) c.after;
   gones = ap (λ (y : PassState). y.findings.gones) c.after;
@@ -75,7 +76,7 @@ module _ (z : Sizes) (call h g x : ℕ) (v u : PassState) (of before : List ℕ)
   unlock_writes kind n w t = ended (unlock_header h kind) refl n w t (over_write u.numbers.number call kind own) refl
       (ap (λ (i : PassState). i.knowledge) t.after ∙ changed_knowledge call (memory z t.table.words) (map knowledge_of t.table.states) u h own own_held kind l.lock.row.at l.lock.row.locked raised)
       refl refl refl
-      (ap (λ (i : PassState). i.findings.fulls) t.after, ap (λ (i : PassState). i.findings.swept) t.after, ap (λ (i : PassState). i.findings.gones) t.after, ap (λ (i : PassState). i.findings.sights) t.after)
+      (ap (λ (i : PassState). i.findings.fulls) t.after, ap (λ (i : PassState). i.findings.swept) t.after, ap (λ (i : PassState). i.findings.gones) t.after, ap (λ (i : PassState). i.findings.sights) t.after, ap (λ (i : PassState). i.findings.rebalances) t.after)
       kind (Some (value_held h v.headers.held)) refl (ap (λ (b : List ℕ). Some b) (sym (now_held h v.headers.held l.lock.row.header l.lock.row.held)))
 
   -- it is marked dead
@@ -83,7 +84,7 @@ module _ (z : Sizes) (call h g x : ℕ) (v u : PassState) (of before : List ℕ)
   removal_writes n w t = ended (mark_dead h) refl n w t (removal u.numbers.number call own) refl
       (ap (λ (i : PassState). i.knowledge) t.after ∙ removal_knowledge call (memory z t.table.words) (map knowledge_of t.table.states) u h own own_held)
       refl refl refl
-      (ap (λ (i : PassState). i.findings.fulls) t.after, ap (λ (i : PassState). i.findings.swept) t.after, ap (λ (i : PassState). i.findings.gones) t.after, ap (λ (i : PassState). i.findings.sights) t.after)
+      (ap (λ (i : PassState). i.findings.fulls) t.after, ap (λ (i : PassState). i.findings.swept) t.after, ap (λ (i : PassState). i.findings.gones) t.after, ap (λ (i : PassState). i.findings.sights) t.after, ap (λ (i : PassState). i.findings.rebalances) t.after)
       Remove None refl refl
 
   -- the pass buries it then
