@@ -142,7 +142,7 @@ module _ (z : Sizes) (call r : ℕ) (t u v w x : PassState) (o : OnlyMeets call 
 
 pub given_back : (z : Sizes) (call r i : ℕ) (c : Class) (b : ℕ) (k : List ℕ) (t x y : PassState) → UnderPin z call r t x → HasEntry r i k x → Gives z call c b x y → AddsEntry z call r i c b k t y
 given_back z call r i c b k t x y u h g = let rooms : y.rooms ≡ x.rooms = ap (λ (q : PassState). q.rooms) g.after in record {
-  learns = learns_both call t x y u.learns (stands_learns call x y (subst (Stands call x) (sym g.after) (record { met = record { more = g.more; met = refl; calls = each_map (IsOf z call) (λ (f : Finding). f.call ≡ call) g.more (λ f e. e.0) g.calls }; numbers = refl; knowledge = refl; fulls = refl; swept = refl; sights = refl; gones = refl })));
+  learns = learns_both call t x y u.learns (stands_learns call x y (subst (Stands call x) (sym g.after) (record { met = record { more = g.more; met = refl; calls = each_map (IsOf z call) (λ (f : Finding). f.call ≡ call) g.more (λ f e. e.0) g.calls }; numbers = refl; knowledge = refl; fulls = refl; swept = refl; sights = refl; gones = refl; rebalances = refl })));
   headers = ap (λ (q : PassState). q.headers) g.after ∙ u.headers;
   blocks = ap (λ (q : PassState). q.blocks) g.after ∙ ap (given c b) u.blocks;
   pin = subst (λ (a : RoomHolds). PinKept z r t.rooms a) (sym rooms) u.pin;

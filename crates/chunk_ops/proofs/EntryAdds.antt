@@ -159,7 +159,7 @@ module _ (z : Sizes) (r : ℕ) (c : Class) (b len count : ℕ) (key : List ℕ) 
 
     pub adds_here : AddsUnder z call r (entries_in count) c b key v w
     adds_here = record {
-      learns = stands_learns call v w (stands_on z call (publish_entry r (count + 1)) v t.0 w t.1 (ap (λ (y : PassState). y.knowledge) t.1.after) refl);
+      learns = stands_learns call v w (stands_on z call (publish_entry r (count + 1)) v t.0 w t.1 (ap (λ (y : PassState). y.knowledge) t.1.after) refl refl);
       headers = ap (λ (y : PassState). y.headers) t.1.after;
       blocks = ap (λ (y : PassState). y.blocks) t.1.after ∙ (λ i. record v.blocks { held = without ((ap class_in first_word ∙ class_is) i) ((ap block_in first_word ∙ block_is) i) v.blocks.held });
       latched = subst (λ (a : RoomHolds). latches_on r a ≡ 1) (sym rooms_are) (one_at-same r r refl);

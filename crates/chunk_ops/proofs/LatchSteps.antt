@@ -18,6 +18,7 @@ use Rattle.oak_core.specs.declared.states.PassState.{PassState}
 use Rattle.oak_core.specs.AloneWords.{Runs}
 use Rattle.oak_core.specs.CallSteps.{Stands}
 use Rattle.oak_core.specs.Memory.{Memory, in_rooms, index, memory}
+use Rattle.oak_core.specs.RebalanceSteps.{rebalances_by}
 use Rattle.oak_core.specs.RoomCalls.{TakesLatch, StoresEntry, GivesLatch}
 use Rattle.oak_core.specs.Step.{on_rooms, MayOnRooms, Told}
 use Rattle.oak_core.specs.Sweeping.{swept_by}
@@ -29,13 +30,14 @@ use Rattle.chunk_ops.specs.AddsAlone.{TakesLatchIn, GivesLatchIn, WritesEntryIn}
 use Rattle.chunk_ops.specs.Latching.{with_latch, TakesRoomLatch, GivesRoomLatch, WritesEntry}
 use Rattle.chunk_ops.specs.PinRecords.{OnlyMeets, WordsStay}
 
--- a step on the rooms that teaches nothing, and sweeps nothing
-pub stands_on : (z : Sizes) (call : ℕ) (x : RoomStep) (v : PassState) (n : ℕ) (w : PassState) → Told z call (on_rooms x) v n w → w.knowledge ≡ v.knowledge → swept_by x v ≡ v.findings.swept → Stands call v w
-stands_on z call x v n w t same none = record {
+-- a step on the rooms that teaches nothing, sweeps nothing, and is none of a rebalance
+pub stands_on : (z : Sizes) (call : ℕ) (x : RoomStep) (v : PassState) (n : ℕ) (w : PassState) → Told z call (on_rooms x) v n w → w.knowledge ≡ v.knowledge → swept_by x v ≡ v.findings.swept → rebalances_by x v ≡ v.findings.rebalances → Stands call v w
+stands_on z call x v n w t same none kept = record {
   met = step_met z call (on_rooms x) v n w t;
   numbers = ap (λ (y : PassState). y.numbers) t.after;
   knowledge = same;
   fulls = ap (λ (y : PassState). y.findings.fulls) t.after;
+  rebalances = ap (λ (y : PassState). y.findings.rebalances) t.after ∙ kept;
   swept = ap (λ (y : PassState). y.findings.swept) t.after ∙ none;
   sights = ap (λ (y : PassState). y.findings.sights) t.after;
   gones = ap (λ (y : PassState). y.findings.gones) t.after;
@@ -58,7 +60,7 @@ module _ (z : Sizes) (call r : ℕ) (v : PassState) (n : ℕ) (w : PassState) (t
   -- it was free
   pub latch_taken : (n == 0) ≡ true → TakesRoomLatch call r v w
   latch_taken e = record {
-    stands = stands_on z call (latch_room r) v n w t (ap (λ (y : PassState). y.knowledge) t.after) refl;
+    stands = stands_on z call (latch_room r) v n w t (ap (λ (y : PassState). y.knowledge) t.after) refl refl;
     blocks = ap (λ (y : PassState). y.blocks) t.after;
     headers = ap (λ (y : PassState). y.headers) t.after;
     latch = latched_at m.rooms r (m.rooms.count r);
@@ -79,7 +81,7 @@ module _ (z : Sizes) (call r : ℕ) (v : PassState) (n : ℕ) (w : PassState) (t
   latch_found e = (
     record { step = step_alone z call (on_rooms (latch_room r)) v n w t; taken = positive n e; rooms = refl },
     record {
-      stands = stands_on z call (latch_room r) v n w t (ap (λ (y : PassState). y.knowledge) t.after) refl;
+      stands = stands_on z call (latch_room r) v n w t (ap (λ (y : PassState). y.knowledge) t.after) refl refl;
       blocks = ap (λ (y : PassState). y.blocks) t.after;
       headers = ap (λ (y : PassState). y.headers) t.after;
       rooms = rooms_are ∙ ap (λ (b : Bool). with_latch (cond b (Some (latched_at m.rooms r (m.rooms.count r))) v.rooms.latch) v.rooms) e;
@@ -92,7 +94,7 @@ module _ (z : Sizes) (call r : ℕ) (v : PassState) (n : ℕ) (w : PassState) (t
 
 pub latch_given : (z : Sizes) (call r : ℕ) (v w : PassState) → GivesLatch z call r v w → GivesRoomLatch call v w
 latch_given z call r v w g = record {
-  stands = stands_on z call (unlatch_room r) v g.0 w g.1 (ap (λ (y : PassState). y.knowledge) g.1.after) refl;
+  stands = stands_on z call (unlatch_room r) v g.0 w g.1 (ap (λ (y : PassState). y.knowledge) g.1.after) refl refl;
   blocks = ap (λ (y : PassState). y.blocks) g.1.after;
   headers = ap (λ (y : PassState). y.headers) g.1.after;
   rooms = ap (λ (y : PassState). y.rooms) g.1.after;
@@ -125,7 +127,7 @@ rooms_stored z call f r i x v w s = ap (λ (y : PassState). y.rooms) s.1.after
 
 pub entry_written : (z : Sizes) (call r i place value : ℕ) (v u w : PassState) → StoresEntry z call of_key r i place v u → StoresEntry z call of_value r i value u w → WritesEntry call place value v w
 entry_written z call r i place value v u w s t = record {
-  stands = stands_both call v u w (stands_on z call (store_entry of_key r i place) v s.0 u s.1 (ap (λ (y : PassState). y.knowledge) s.1.after) refl) (stands_on z call (store_entry of_value r i value) u t.0 w t.1 (ap (λ (y : PassState). y.knowledge) t.1.after) refl);
+  stands = stands_both call v u w (stands_on z call (store_entry of_key r i place) v s.0 u s.1 (ap (λ (y : PassState). y.knowledge) s.1.after) refl refl) (stands_on z call (store_entry of_value r i value) u t.0 w t.1 (ap (λ (y : PassState). y.knowledge) t.1.after) refl refl);
   blocks = ap (λ (y : PassState). y.blocks) t.1.after ∙ ap (λ (y : PassState). y.blocks) s.1.after;
   headers = ap (λ (y : PassState). y.headers) t.1.after ∙ ap (λ (y : PassState). y.headers) s.1.after;
   rooms = rooms_stored z call of_value r i value u w t ∙ ap (λ (a : RoomHolds). with_latch (latch_with of_value value a.latch) a) (rooms_stored z call of_key r i place v u s);

@@ -104,7 +104,7 @@ module _ (z : Sizes) (call r n : ℕ) (v w : PassState) (t : PinsRoomWord z call
   made = pinned_at (memory z t.table.words).rooms r
 
   pub pin_stands : Stands call v w
-  pin_stands = subst (Stands call v) (sym t.after) (record { met = record { more = _ ∷ []; met = refl; calls = (refl, tt) }; numbers = refl; knowledge = refl; fulls = refl; swept = refl; sights = refl; gones = refl })
+  pin_stands = subst (Stands call v) (sym t.after) (record { met = record { more = _ ∷ []; met = refl; calls = (refl, tt) }; numbers = refl; knowledge = refl; fulls = refl; swept = refl; sights = refl; gones = refl; rebalances = refl })
 
   pub pin_blocks : w.blocks ≡ v.blocks
   pin_blocks = ap (λ (y : PassState). y.blocks) t.after
@@ -158,7 +158,7 @@ module _ (z : Sizes) (call r n : ℕ) (v w : PassState) (t : UnpinsRoomWord z ca
 
   pub unpins : Unpins z call r v w
   unpins = record {
-    stands = subst (Stands call v) (sym t.after) (record { met = record { more = _ ∷ []; met = refl; calls = (refl, tt) }; numbers = refl; knowledge = refl; fulls = refl; swept = refl; sights = refl; gones = refl });
+    stands = subst (Stands call v) (sym t.after) (record { met = record { more = _ ∷ []; met = refl; calls = (refl, tt) }; numbers = refl; knowledge = refl; fulls = refl; swept = refl; sights = refl; gones = refl; rebalances = refl });
     blocks = ap (λ (y : PassState). y.blocks) t.after;
     headers = ap (λ (y : PassState). y.headers) t.after;
     rooms = ap (λ (y : PassState). y.rooms) t.after;

@@ -34,7 +34,7 @@ use Rattle.oak_core.proofs.PlainLoads.{met_at}
 -- the load of a word other than a count only adds its finding
 pub only_loaded : (z : Sizes) (call word n : ℕ) (v w : PassState) (q : Spot) → IsInside z q → IsPlain q → word ≡ index z q → Loads z call word v n w → OnlyMeets call v w
 only_loaded z call word n v w q inside plain at l = let met = met_at z call word n v w q inside plain at l in record {
-  stands = subst (Stands call v) (sym met) (record { met = record { more = _ ∷ []; met = refl; calls = (refl, tt) }; numbers = refl; knowledge = refl; fulls = refl; swept = refl; sights = refl; gones = refl });
+  stands = subst (Stands call v) (sym met) (record { met = record { more = _ ∷ []; met = refl; calls = (refl, tt) }; numbers = refl; knowledge = refl; fulls = refl; swept = refl; sights = refl; gones = refl; rebalances = refl });
   blocks = ap (λ (y : PassState). y.blocks) met;
   headers = ap (λ (y : PassState). y.headers) met;
   rooms = ap (λ (y : PassState). y.rooms) met;
