@@ -60,7 +60,7 @@ gave_up_stands z call h g stamp v w t = end_stands z call w.knowledge v.blocks.h
 
 -- nor does a block that is given back
 pub gave_stands : (z : Sizes) (call : ℕ) (c : Class) (b : ℕ) (v w : PassState) → Gives z call c b v w → Stands call v w
-gave_stands z call c b v w t = subst (Stands call v) (sym t.after) record { met = record { more = t.more; met = refl; calls = each_map (IsOf z call) (λ (f : Finding). f.call ≡ call) t.more (λ f o. o.0) t.calls }; numbers = refl; knowledge = refl; fulls = refl; swept = refl; sights = refl; gones = refl }
+gave_stands z call c b v w t = subst (Stands call v) (sym t.after) record { met = record { more = t.more; met = refl; calls = each_map (IsOf z call) (λ (f : Finding). f.call ≡ call) t.more (λ f o. o.0) t.calls }; numbers = refl; knowledge = refl; fulls = refl; swept = refl; sights = refl; gones = refl; rebalances = refl }
 
 -- a block in front of none is the one
 pub one_block : (c : Class) (b : ℕ) (words : List ℕ) (a : HeldBlocks) → a ≡ record { held = record { class = c; number = b; words = words } ∷ [] } → IsOneBlock c b a

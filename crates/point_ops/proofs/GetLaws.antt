@@ -80,7 +80,7 @@ module _ (z : Sizes) (call r : ℕ) (P : Span → Type 0) (v u w x : PassState) 
   all_got y key r0 = by y (gets_in y z key call v u w x here away r0)
     where
       holds : HoldsAsBefore v x
-      holds = all_holds z call r P v u w x idle p c2 c3 e2 e3 (under_keeps z c2 r u w under) n0 (under.learns.all.numbers, under.learns.all.fulls, under.learns.all.swept)
+      holds = all_holds z call r P v u w x idle p c2 c3 e2 e3 (under_keeps z c2 r u w under) n0 (under.learns.all.numbers, under.learns.all.fulls, under.learns.all.swept, under.learns.all.rebalances)
 
       by : (y : Got) → Gets y z key v x → GotFits y z call key v x
       by (Absent at) q = read_replies call key Get replies.Absent at None v x learns holds refl refl q

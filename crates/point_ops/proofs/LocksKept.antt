@@ -28,7 +28,7 @@ use Rattle.point_ops.proofs.WritesIn.{wrote_next}
 -- what only met more, and changed what is held of blocks and headers, learned nothing
 
 pub end_stands : (z : Sizes) (call : ℕ) (q : Knowledge) (bs : List HeldBlock) (hs : List HeldHeader) (v w : PassState) → q ≡ v.knowledge → EndsTo z call q bs hs v w → Stands call v w
-end_stands z call q bs hs v w e c = subst (Stands call v) (sym c.after) record { met = record { more = c.more; met = refl; calls = each_map (IsOf z call) (λ (f : Finding). f.call ≡ call) c.more (λ f o. o.0) c.calls }; numbers = refl; knowledge = e; fulls = refl; swept = refl; sights = refl; gones = refl }
+end_stands z call q bs hs v w e c = subst (Stands call v) (sym c.after) record { met = record { more = c.more; met = refl; calls = each_map (IsOf z call) (λ (f : Finding). f.call ≡ call) c.more (λ f o. o.0) c.calls }; numbers = refl; knowledge = e; fulls = refl; swept = refl; sights = refl; gones = refl; rebalances = refl }
 
 pub come_stands : (z : Sizes) (call : ℕ) (bs : List HeldBlock) (hs : List HeldHeader) (v w : PassState) → ComesTo z call bs hs v w → Stands call v w
 come_stands z call bs hs v w c = end_stands z call v.knowledge bs hs v w refl record { more = c.more; calls = c.calls; after = c.after }

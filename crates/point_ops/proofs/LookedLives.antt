@@ -38,6 +38,7 @@ unpin_stands z call h v w e = record {
   numbers = ap (λ (x : PassState). x.numbers) e.meets.after;
   knowledge = ap (λ (x : PassState). x.knowledge) e.meets.after;
   fulls = ap (λ (x : PassState). x.findings.fulls) e.meets.after;
+  rebalances = ap (λ (x : PassState). x.findings.rebalances) e.meets.after;
   swept = ap (λ (x : PassState). x.findings.swept) e.meets.after;
   sights = ap (λ (x : PassState). x.findings.sights) e.meets.after;
   gones = ap (λ (x : PassState). x.findings.gones) e.meets.after;

@@ -89,7 +89,7 @@ refused_by z call h g why v w inside none f = by_cause why f.cause
 -- a lock that was refused only met more, and to a pass that is alone the words stay
 pub refused_only : (z : Sizes) (call h g : ℕ) (why : NoLock) (v w : PassState) → FindsNoLock z call h g why v w → Runs (RefusesPin z h g why) v w → OnlyMeets call v w
 refused_only z call h g why v w f still = record {
-  stands = subst (Stands call v) (sym f.after) record { met = record { more = f.more; met = refl; calls = each_map (IsOf z call) (λ (y : Finding). y.call ≡ call) f.more (λ y o. o.0) f.calls }; numbers = refl; knowledge = refl; fulls = refl; swept = refl; sights = refl; gones = refl };
+  stands = subst (Stands call v) (sym f.after) record { met = record { more = f.more; met = refl; calls = each_map (IsOf z call) (λ (y : Finding). y.call ≡ call) f.more (λ y o. o.0) f.calls }; numbers = refl; knowledge = refl; fulls = refl; swept = refl; sights = refl; gones = refl; rebalances = refl };
   blocks = ap (λ (y : PassState). y.blocks) f.after;
   headers = ap (λ (y : PassState). y.headers) f.after;
   rooms = ap (λ (y : PassState). y.rooms) f.after;

@@ -50,7 +50,7 @@ stored_one c b a d o same often = record { block = left.0; alone = ap (λ (l : L
 
 -- the pass met more in the call, and maybe holds other blocks and headers
 others_stand : (z : Sizes) (call : ℕ) (more : List Finding) (b : HeldBlocks) (h : HeaderHolds) (v w : PassState) → Each (IsOf z call) more → w ≡ record (grown more v) { blocks = b; headers = h } → Stands call v w
-others_stand z call more b h v w calls after = subst (Stands call v) (sym after) (record { met = record { more = more; met = refl; calls = each_map (IsOf z call) (λ (f : Finding). f.call ≡ call) more (λ f o. o.0) calls }; numbers = refl; knowledge = refl; fulls = refl; swept = refl; sights = refl; gones = refl })
+others_stand z call more b h v w calls after = subst (Stands call v) (sym after) (record { met = record { more = more; met = refl; calls = each_map (IsOf z call) (λ (f : Finding). f.call ≡ call) more (λ f o. o.0) calls }; numbers = refl; knowledge = refl; fulls = refl; swept = refl; sights = refl; gones = refl; rebalances = refl })
 
 module _ (z : Sizes) (call : ℕ) (v w : PassState) where
   pub taken_stands : (c : Class) (b : ℕ) → Takes z call c b v w → Stands call v w

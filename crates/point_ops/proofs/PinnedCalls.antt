@@ -7,6 +7,7 @@ use Rattle.chunk_core.specs.Spans.{Span}
 use Rattle.oak_core.specs.declared.states.PassState.{PassState}
 use Rattle.oak_core.specs.CallSteps.{Learns, Stands}
 use Rattle.oak_core.specs.PassState.{HoldsNothing}
+use Rattle.oak_core.specs.RebalanceSteps.{KeepsRooms}
 use Rattle.oak_core.proofs.CallSteps.{learns_both, stands_learns}
 use Rattle.chunk_ops.specs.PinRecords.{UnderPin, room_pin, with_room_pin}
 use Rattle.chunk_ops.specs.RoomPins.{PinsOpen, Unpins}
@@ -29,7 +30,7 @@ module _ (z : Sizes) (call r : ℕ) (P : Span → Type 0) (v u w x : PassState) 
   here : Learns call v u
   here = stands_learns call v u p.stands
 
-  pub all_holds : (w.numbers ≡ u.numbers) × (w.findings.fulls ≡ u.findings.fulls) × (w.findings.swept ≡ u.findings.swept) → HoldsAsBefore v x
+  pub all_holds : (w.numbers ≡ u.numbers) × (w.findings.fulls ≡ u.findings.fulls) × (w.findings.swept ≡ u.findings.swept) × KeepsRooms u w → HoldsAsBefore v x
   all_holds s = record {
     blocks = n0.blocks ∙ (held.blocks ∙ p.blocks);
     headers = n0.headers ∙ (held.headers ∙ p.headers);
@@ -37,6 +38,7 @@ module _ (z : Sizes) (call r : ℕ) (P : Span → Type 0) (v u w x : PassState) 
     numbers = away.numbers ∙ (s.0 ∙ p.stands.numbers);
     fulls = away.fulls ∙ (s.1 ∙ p.stands.fulls);
     swept = away.swept ∙ (s.2 ∙ p.stands.swept);
+    rebalances = away.rebalances ∙ (s.3 ∙ p.stands.rebalances);
   }
 
   pub all_answers : (y : Wrote) (key : List ℕ) (ask : CellCall) → Answers y c2 key ask u w → WroteFits y call key ask v x
@@ -47,7 +49,7 @@ module _ (z : Sizes) (call r : ℕ) (P : Span → Type 0) (v u w x : PassState) 
   all_learns l = learns_both call v u x here (learns_both call u w x (subst (λ (t : ℕ). Learns t u w) e2 l) (stands_learns call w x away))
 
   pub all_refuses : Learns c2 u w → Refuses call v x
-  all_refuses l = refuses call v x (all_learns l) (all_holds (l.all.numbers, l.all.fulls, l.all.swept))
+  all_refuses l = refuses call v x (all_learns l) (all_holds (l.all.numbers, l.all.fulls, l.all.swept, l.all.rebalances))
 
   pub all_halts : (key : List ℕ) (ask : CellCall) (why : Halt) → Halts why z c2 key ask u w → Halts why z call key ask v x
   all_halts key ask why h = halts_in z call key v u w x here (stands_learns call w x away) why ask (subst (λ (t : ℕ). Halts why z t key ask u w) e2 h)

@@ -96,5 +96,5 @@ got_again (Err why) z call key v w r f y = refused_again call v w f y
 pub learned_again : (z : Sizes) (call : ℕ) (v w : PassState) → OnlyLearns z call v w → IsReady call v → IsReadyAgain call v w
 learned_again z call v w l y = refused_again call v w record {
   learns = l.learns;
-  holds = record { blocks = l.blocks; headers = l.headers; rooms = l.rooms; numbers = l.learns.all.numbers; fulls = l.learns.all.fulls; swept = l.learns.all.swept };
+  holds = record { blocks = l.blocks; headers = l.headers; rooms = l.rooms; numbers = l.learns.all.numbers; fulls = l.learns.all.fulls; swept = l.learns.all.swept; rebalances = l.learns.all.rebalances };
 } y

@@ -17,6 +17,7 @@ use Rattle.oak_core.specs.CallSteps.{Learns, SightsMore, Stands}
 use Rattle.oak_core.specs.CallWrites.{Writes}
 use Rattle.oak_core.specs.KnownPlaces.{KnowsPlace}
 use Rattle.oak_core.specs.PassState.{seen_of}
+use Rattle.oak_core.specs.RebalanceSteps.{KeepsRooms}
 use Rattle.oak_core.specs.Sights.{SightedSince}
 use Rattle.oak_core.proofs.CallSteps.{begins_same, learns_both, learns_none, met_both, sights_both, sights_same, stands_learns, stands_none}
 use Rattle.point_ops.specs.Parts.{Answers, ReadSo, WritesAt, WroteSo}
@@ -30,6 +31,7 @@ writes_behind call key kind before after stamp u v w a x = record {
   remembers = λ k at r p. x.remembers k at r (a.all.remembers k at r p);
   numbers = x.numbers ∙ a.all.numbers;
   fulls = x.fulls ∙ a.all.fulls;
+  rebalances = x.rebalances ∙ a.all.rebalances;
   swept = x.swept ∙ a.all.swept;
   gones = begins_trans u.findings.gones v.findings.gones w.findings.gones a.all.gones x.gones;
   sights = sights_both call u v w a.sights x.sights;
@@ -56,6 +58,7 @@ writes_until call key kind before after stamp v w t x s = record {
   remembers = λ k at r p. subst (KnowsPlace k at r) (sym s.knowledge) (x.remembers k at r p);
   numbers = s.numbers ∙ x.numbers;
   fulls = s.fulls ∙ x.fulls;
+  rebalances = s.rebalances ∙ x.rebalances;
   swept = s.swept ∙ x.swept;
   gones = begins_trans v.findings.gones w.findings.gones t.findings.gones x.gones (begins_same w.findings.gones t.findings.gones s.gones);
   sights = sights_both call v w t x.sights (sights_same call w t s.sights);
@@ -105,13 +108,13 @@ module _ (call : ℕ) (key : List ℕ) (u v w t : PassState) (a : Learns call u 
   answers_in (Full lack) ask x = absurd x
 
 -- what an answer leaves of numbers and notes
-pub answers_keep : (y : Wrote) (call : ℕ) (key : List ℕ) (ask : CellCall) (v w : PassState) → Answers y call key ask v w → (w.numbers ≡ v.numbers) × (w.findings.fulls ≡ v.findings.fulls) × (w.findings.swept ≡ v.findings.swept)
-answers_keep (New at) call key ask v w x = let y = x.wrote.writes in (y.numbers, y.fulls, y.swept)
-answers_keep (Over at) call key ask v w x = let y = x.wrote.writes in (y.numbers, y.fulls, y.swept)
-answers_keep (Kept at) call key ask v w x = let y = x.learns.all in (y.numbers, y.fulls, y.swept)
-answers_keep (Done at) call key ask v w x = let y = x.wrote.writes in (y.numbers, y.fulls, y.swept)
-answers_keep (Removed at) call key ask v w x = let y = x.wrote.writes in (y.numbers, y.fulls, y.swept)
-answers_keep (Absent at) call key ask v w x = let y = x.learns.all in (y.numbers, y.fulls, y.swept)
+pub answers_keep : (y : Wrote) (call : ℕ) (key : List ℕ) (ask : CellCall) (v w : PassState) → Answers y call key ask v w → (w.numbers ≡ v.numbers) × (w.findings.fulls ≡ v.findings.fulls) × (w.findings.swept ≡ v.findings.swept) × KeepsRooms v w
+answers_keep (New at) call key ask v w x = let y = x.wrote.writes in (y.numbers, y.fulls, y.swept, y.rebalances)
+answers_keep (Over at) call key ask v w x = let y = x.wrote.writes in (y.numbers, y.fulls, y.swept, y.rebalances)
+answers_keep (Kept at) call key ask v w x = let y = x.learns.all in (y.numbers, y.fulls, y.swept, y.rebalances)
+answers_keep (Done at) call key ask v w x = let y = x.wrote.writes in (y.numbers, y.fulls, y.swept, y.rebalances)
+answers_keep (Removed at) call key ask v w x = let y = x.wrote.writes in (y.numbers, y.fulls, y.swept, y.rebalances)
+answers_keep (Absent at) call key ask v w x = let y = x.learns.all in (y.numbers, y.fulls, y.swept, y.rebalances)
 answers_keep (Full lack) call key ask v w x = absurd x
 
 -- a number that was found for a key stays found

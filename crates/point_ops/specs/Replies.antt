@@ -12,9 +12,10 @@ use Rattle.oak_core.specs.CallSteps.{MetMore, SightsMore, Learns}
 use Rattle.oak_core.specs.KeyHistories.{writes_of}
 use Rattle.oak_core.specs.KnownPlaces.{KnowsPlace, Remembers}
 use Rattle.oak_core.specs.PassState.{seen_of, Extends}
+use Rattle.oak_core.specs.RebalanceSteps.{KeepsRooms}
 use Rattle.oak_core.specs.Sights.{SightedSince}
 
--- the pass holds what it held, and noted no refused call and no range
+-- the pass holds what it held, noted no refused call and no range, and made no step of a rebalance
 pub record HoldsAsBefore (v w : PassState) : Type 0 where
   pub blocks : w.blocks ≡ v.blocks
   pub headers : w.headers ≡ v.headers
@@ -22,6 +23,7 @@ pub record HoldsAsBefore (v w : PassState) : Type 0 where
   pub numbers : w.numbers ≡ v.numbers
   pub fulls : w.findings.fulls ≡ v.findings.fulls
   pub swept : w.findings.swept ≡ v.findings.swept
+  pub rebalances : KeepsRooms v w
 
 -- the pass met more, all in the call, and forgot nothing: neither what it saw nor the lives that it loaded from entries
 pub record GoesOn (call : ℕ) (v w : PassState) : Type 0 where
