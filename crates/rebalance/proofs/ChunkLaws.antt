@@ -26,7 +26,7 @@ use Rattle.oak_core.specs.PassState.{rooms_held}
 use Rattle.oak_core.specs.Step.{load, on_rooms}
 use Rattle.oak_core.specs.Sweeping.{sweep}
 use Rattle.oak_core.proofs.AloneRuns.{Then, runs_as, runs_then}
-use Rattle.oak_core.proofs.CallSteps.{begins_same, met_both, met_none, stands_both, step_in, step_since, step_until}
+use Rattle.oak_core.proofs.CallSteps.{begins_same, met_both, met_none, step_in, step_since, step_until}
 use Rattle.chunk_ops.specs.AskedRanges.{CoversKey}
 use Rattle.chunk_ops.specs.PinRecords.{OnlyMeets, with_room_pin}
 use Rattle.chunk_ops.specs.RoomPins.{AddsRoomPin, DropsRoomPin, PinsOpen, Unpins}
@@ -39,6 +39,7 @@ use Rattle.rebalance.specs.Holding.{FindsFrozen, Freezes, Holds, StandsBeside, S
 use Rattle.rebalance.specs.LoneWords.{FreezesWords, LeavesBut, MovesWith, TakesRoom, held_by, leaves_same, no_room, runs_leave_both, stay_leaves}
 use Rattle.rebalance.proofs.ListedRows.{rows_total}
 use Rattle.rebalance.proofs.LoneTakes.{front_or, pin_takes, pinned_takes, takes_back, taken_works, works_takes}
+use Rattle.rebalance.specs.Resting.{rests_both, rests_of}
 
 -- ---- what a pass does beside its rooms
 
@@ -136,7 +137,7 @@ holds_pinned z call r v a b u f n h = let w : RoomCopy = h.0 in let g : MovingRa
     last = p.last;
     copied = p.copy_is;
     beside = record {
-      stands = stands_both call v b u (stands_both call v a b f.beside.stands n.stands) p.beside.stands;
+      stands = rests_both call v b u (rests_both call v a b f.beside.stands (rests_of call a b n.stands)) p.beside.stands;
       blocks = p.beside.blocks ∙ (n.blocks ∙ f.beside.blocks);
       headers = p.beside.headers ∙ (n.headers ∙ f.beside.headers);
     };
@@ -159,7 +160,7 @@ loses_pinned z call r v a u f n = record {
   step = step_until z call (load (in_rooms (at_room_pin r))) v a u n.stands.met f.step;
   frozen = f.frozen;
   unpins = record {
-    stands = stands_both call v a u f.only.stands n.stands;
+    stands = rests_both call v a u f.only.stands (rests_of call a u n.stands);
     blocks = n.blocks ∙ f.only.blocks;
     headers = n.headers ∙ f.only.headers;
     rooms = n.rooms ∙ ap (with_room_pin None) f.only.rooms;
@@ -173,7 +174,7 @@ loses_pinned z call r v a u f n = record {
 -- no room was found that has it
 pub back_moved : (z : Sizes) (call : ℕ) (v u : PassState) → OnlyMeets call v u → ComesBack z call v u
 back_moved z call v u o = record {
-  beside = works_of_stands call v u (record { stands = o.stands; blocks = o.blocks; headers = o.headers });
+  beside = works_of_stands call v u (record { stands = rests_of call v u o.stands; blocks = o.blocks; headers = o.headers });
   rooms = o.rooms;
   alone = stay_leaves z no_room (held_by v) v u o.still;
 }
@@ -192,7 +193,7 @@ pin_gone v only = ap (λ (o : Option _). record v.rooms { pin = o }) (sym only.p
 
 module _ (z : Sizes) (call r : ℕ) (key : List ℕ) (v x : PassState) (only : HoldsOnlyRooms v) (p : PinsOpen z call r (CoversKey key) v x) where
   pinned_beside : StandsBeside call v x
-  pinned_beside = record { stands = p.stands; blocks = p.blocks; headers = p.headers }
+  pinned_beside = record { stands = rests_of call v x p.stands; blocks = p.blocks; headers = p.headers }
 
   -- the room was found, and another pass froze it
   pub back_lost : (u : PassState) → LosesPinned z call r x u → ComesBack z call v u
@@ -211,7 +212,7 @@ module _ (z : Sizes) (call r : ℕ) (key : List ℕ) (v x : PassState) (only : H
     front_rooms = h.rooms ∙ ap (λ (a : RoomHolds). record a { pin = None; held = held_row r w ∷ a.held; moving = g ∷ a.moving }) p.rooms
 
     front_beside : StandsBeside call v y
-    front_beside = record { stands = stands_both call v x y p.stands h.beside.stands; blocks = h.beside.blocks ∙ p.blocks; headers = h.beside.headers ∙ p.headers }
+    front_beside = record { stands = rests_both call v x y (rests_of call v x p.stands) h.beside.stands; blocks = h.beside.blocks ∙ p.blocks; headers = h.beside.headers ∙ p.headers }
 
     -- it is the front room
     pub pinned_front : HoldsFront z r w g v.rooms.held v.rooms.moving y

@@ -35,8 +35,7 @@ use Rattle.oak_core.specs.Step.{load, on_rooms, Told}
 use Rattle.oak_core.specs.Usage.{is_free}
 use Rattle.oak_core.proofs.AloneRuns.{moment_after}
 use Rattle.oak_core.proofs.CallSteps.{step_alone, step_since}
-use Rattle.chunk_ops.specs.PinRecords.{OnlyMeets}
-use Rattle.chunk_ops.proofs.MeetingCalls.{only_both, stays_then}
+use Rattle.chunk_ops.proofs.MeetingCalls.{stays_then}
 use Rattle.chunk_ops.proofs.PinSteps.{pin_found}
 use Rattle.chunk_ops.proofs.WordLoads.{load_reads}
 use Rattle.rebalance.specs.Holding.{Claims, FindsUsed, HasHeld, HasOnly, with_claimed}
@@ -45,6 +44,7 @@ use Rattle.rebalance.proofs.HeldAlone.{copy_first}
 use Rattle.rebalance.proofs.LoneSteps.{room_moves_with}
 use Rattle.rebalance.proofs.MirroredRooms.{latch_free}
 use Rattle.rebalance.proofs.RoomExchanges.{beside_since, exchanged_state, claim_beside, claim_takes}
+use Rattle.rebalance.specs.Resting.{OnlyRests, resting_both}
 
 -- ---- what is not free
 
@@ -142,7 +142,7 @@ claimed_once z call r old n v w t e c = let was_free : state_of ((memory z t.tab
     let more = row_here r r HELD (record { room = r; held_as = Held c }) v.rooms.held refl refl in let one = one_at-same HELD HELD refl in omega arith
 
 -- a step of the call that claimed the room
-pub claims : (z : Sizes) (call r old n : ℕ) (u v w : PassState) → OnlyMeets call u v → (t : ClaimsRoom z call r old v n w) → n ≡ old → (c : RoomCopy) × Claims z call r c u w
+pub claims : (z : Sizes) (call r old n : ℕ) (u v w : PassState) → OnlyRests call u v → (t : ClaimsRoom z call r old v n w) → n ≡ old → (c : RoomCopy) × Claims z call r c u w
 claims z call r old n u v w only t e = let m : Memory = memory z t.table.words in let copy : RoomCopy = copy_at z m.rooms r in let takes = claim_takes z call r old n v w t e in (
   copy,
   record {
@@ -164,7 +164,7 @@ claims z call r old n u v w only t e = let m : Memory = memory z t.table.words i
 )
 
 -- the same of a call that began earlier
-pub claims_since : (z : Sizes) (call r : ℕ) (u v w : PassState) → OnlyMeets call u v → (c : RoomCopy) × Claims z call r c v w → (c : RoomCopy) × Claims z call r c u w
+pub claims_since : (z : Sizes) (call r : ℕ) (u v w : PassState) → OnlyRests call u v → (c : RoomCopy) × Claims z call r c v w → (c : RoomCopy) × Claims z call r c u w
 claims_since z call r u v w only f = let p = f.1 in (
   f.0,
   record {
@@ -173,7 +173,7 @@ claims_since z call r u v w only f = let p = f.1 in (
     step = step_since z call (on_rooms (claim_room r p.word)) u v w only.stands.met p.step;
     was = p.was;
     unpinned = p.unpinned;
-    before = only_both call u v p.step.from only p.before;
+    before = resting_both call u v p.step.from only p.before;
     last = p.last;
     beside = beside_since call u v w only p.beside;
     rooms = p.rooms ∙ ap (with_claimed r f.0) only.rooms;

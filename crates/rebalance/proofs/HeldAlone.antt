@@ -26,7 +26,6 @@ use Rattle.oak_core.specs.RoomCalls.{HoldsRoomWord}
 use Rattle.oak_core.specs.Step.{on_rooms}
 use Rattle.oak_core.proofs.AloneRuns.{moment_after}
 use Rattle.oak_core.proofs.CallSteps.{step_alone, step_since}
-use Rattle.chunk_ops.specs.PinRecords.{OnlyMeets}
 use Rattle.chunk_ops.specs.RoomPins.{HadMoment}
 use Rattle.chunk_ops.proofs.MeetingCalls.{stays_then}
 use Rattle.chunk_ops.proofs.PinSteps.{pin_found}
@@ -37,6 +36,7 @@ use Rattle.rebalance.proofs.LoneSteps.{room_moves_with}
 use Rattle.rebalance.proofs.MirroredRooms.{latch_free, mirrors_at}
 use Rattle.rebalance.proofs.RangesStand.{range_stands}
 use Rattle.rebalance.proofs.RoomExchanges.{beside_since, exchanged_state, hold_beside, hold_takes}
+use Rattle.rebalance.specs.Resting.{OnlyRests}
 
 -- a word of a state and no pin
 packed_bare : (s : ℕ) → s < 16 → HasNoPin s (packed 0 s 0)
@@ -57,7 +57,7 @@ has_moving z r w g a whole = record {
 }
 
 -- a step of the call that found the frozen room without a pin
-module _ (z : Sizes) (call r old n : ℕ) (u v w : PassState) (only : OnlyMeets call u v) (t : HoldsRoomWord z call r old v n w) (e : n ≡ old) where
+module _ (z : Sizes) (call r old n : ℕ) (u v w : PassState) (only : OnlyRests call u v) (t : HoldsRoomWord z call r old v n w) (e : n ≡ old) where
   abbrev m : Memory
   m = memory z t.table.words
 
@@ -105,7 +105,7 @@ module _ (z : Sizes) (call r old n : ℕ) (u v w : PassState) (only : OnlyMeets 
   )
 
 -- a pass that only met more has the room frozen still
-pub frozen_still : (call r : ℕ) (v w : PassState) → OnlyMeets call v w → in_room_state r FROZEN v.rooms ≡ 1 → in_room_state r FROZEN w.rooms ≡ 1
+pub frozen_still : (call r : ℕ) (v w : PassState) → OnlyRests call v w → in_room_state r FROZEN v.rooms ≡ 1 → in_room_state r FROZEN w.rooms ≡ 1
 frozen_still call r v w only e = subst (λ (a : RoomHolds). in_room_state r FROZEN a ≡ 1) (sym only.rooms) e
 
 -- the word that it looks for is that of a room without a pin

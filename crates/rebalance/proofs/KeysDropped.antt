@@ -23,7 +23,6 @@ use Rattle.chunk_core.specs.Rooms.{at_key}
 use Rattle.chunk_core.specs.ValueWord.{names_header}
 use Rattle.oak_core.specs.declared.states.Finding.{Finding}
 use Rattle.oak_core.specs.declared.states.PassState.{PassState}
-use Rattle.oak_core.specs.CallSteps.{Stands}
 use Rattle.oak_core.specs.Finding.{IsOf}
 use Rattle.oak_core.specs.Memory.{Memory, memory}
 use Rattle.oak_core.specs.PassState.{blocks_of}
@@ -43,6 +42,7 @@ use Rattle.rebalance.proofs.HeldMemory.{word_read}
 use Rattle.rebalance.proofs.LoneStores.{clear_runs}
 use Rattle.rebalance.proofs.RoomStores.{stored_moment, stored_rooms, stored_works}
 use Rattle.rebalance.proofs.RoomWorks.{copy_stands}
+use Rattle.rebalance.specs.Resting.{Rests}
 
 -- some entry is dropped with a loose key word
 loose_drops : (word : ℕ) (gs : List MovingRange) → IsLoose word gs → 0 < drops word gs
@@ -97,8 +97,8 @@ module _ (z : Sizes) (call r e place : ℕ) (v w : PassState) (h : HoldsAlone z 
     given_blocks : u.blocks ≡ v.blocks
     given_blocks = ap (λ (y : PassState). y.blocks) g.after ∙ (ap (λ (hs : List HeldBlock). record w.blocks { held = hs }) none_left ∙ sym h.only.blocks)
 
-    given_stands : Stands call w u
-    given_stands = subst (Stands call w) (sym g.after) (record { met = record { more = g.more; met = refl; calls = each_map (IsOf z call) (λ (f : Finding). f.call ≡ call) g.more (λ f o. o.0) g.calls }; numbers = refl; knowledge = refl; fulls = refl; swept = refl; sights = refl; gones = refl })
+    given_stands : Rests call w u
+    given_stands = subst (Rests call w) (sym g.after) (record { met = record { more = g.more; met = refl; calls = each_map (IsOf z call) (λ (f : Finding). f.call ≡ call) g.more (λ f o. o.0) g.calls }; numbers = refl; knowledge = refl; fulls = refl; swept = refl; sights = refl; gones = refl })
 
     given_away : AwayFromPins z w u
     given_away = away_front z call w u g.more (ap (λ (y : PassState). y.findings.met) g.after) g.calls

@@ -16,14 +16,14 @@ use Rattle.oak_core.specs.Memory.{Memory, in_rooms, index, memory}
 use Rattle.oak_core.specs.RoomCalls.{FreezesRoom, HoldsRoomWord, ClaimsRoom}
 use Rattle.oak_core.specs.Step.{on_rooms, Told}
 use Rattle.oak_core.proofs.AloneRuns.{DoesStep, runs_as, step_runs}
-use Rattle.oak_core.proofs.CallSteps.{stands_both}
-use Rattle.chunk_ops.specs.PinRecords.{OnlyMeets, WordsStay}
+use Rattle.chunk_ops.specs.PinRecords.{WordsStay}
 use Rattle.chunk_ops.proofs.PinSteps.{pin_found}
 use Rattle.rebalance.specs.Holding.{StandsBeside, with_frozen, with_moving, with_claimed}
+use Rattle.rebalance.specs.Resting.{OnlyRests, rests_both}
 
 -- behind loads the pass stands as behind the step alone
-pub beside_since : (call : ℕ) (u v w : PassState) → OnlyMeets call u v → StandsBeside call v w → StandsBeside call u w
-beside_since call u v w o b = record { stands = stands_both call u v w o.stands b.stands; blocks = b.blocks ∙ o.blocks; headers = b.headers ∙ o.headers }
+pub beside_since : (call : ℕ) (u v w : PassState) → OnlyRests call u v → StandsBeside call v w → StandsBeside call u w
+beside_since call u v w o b = record { stands = rests_both call u v w o.stands b.stands; blocks = b.blocks ∙ o.blocks; headers = b.headers ∙ o.headers }
 
 -- a step that leaves the word as it found it leaves them all
 words_stay : (z : Sizes) (call : ℕ) (x : RoomStep) (v : PassState) (n : ℕ) (w : PassState) → Told z call (on_rooms x) v n w → room_effect x n ≡ n → Runs WordsStay v w
@@ -63,7 +63,7 @@ module _ (z : Sizes) (call r old n : ℕ) (v w : PassState) (t : FreezesRoom z c
   pub freeze_takes : n ≡ old → w.rooms ≡ with_frozen r v.rooms
   freeze_takes e = freeze_after _ (eq-eqb (freeze_memory.rooms.pin r) old (freeze_was ∙ e))
 
-  pub freeze_misses : n ≢ old → OnlyMeets call v w
+  pub freeze_misses : n ≢ old → OnlyRests call v w
   freeze_misses ne = record {
     stands = freeze_beside.stands;
     blocks = freeze_beside.blocks;
@@ -95,7 +95,7 @@ module _ (z : Sizes) (call r old n : ℕ) (v w : PassState) (t : HoldsRoomWord z
   pub hold_takes : n ≡ old → w.rooms ≡ with_moving r (copy_at z (memory z t.table.words).rooms r) (moving_at (memory z t.table.words).rooms (content (memory z t.table.words).arena.bytes) r) v.rooms
   hold_takes e = hold_after _ (eq-eqb (hold_memory.rooms.pin r) old (hold_was ∙ e))
 
-  pub hold_misses : n ≢ old → OnlyMeets call v w
+  pub hold_misses : n ≢ old → OnlyRests call v w
   hold_misses ne = record {
     stands = hold_beside.stands;
     blocks = hold_beside.blocks;
@@ -125,7 +125,7 @@ module _ (z : Sizes) (call r old n : ℕ) (v w : PassState) (t : ClaimsRoom z ca
   pub claim_takes : n ≡ old → w.rooms ≡ with_claimed r (copy_at z (memory z t.table.words).rooms r) v.rooms
   claim_takes e = claim_after _ (eq-eqb (claim_memory.rooms.pin r) old (claim_was ∙ e))
 
-  pub claim_misses : n ≢ old → OnlyMeets call v w
+  pub claim_misses : n ≢ old → OnlyRests call v w
   claim_misses ne = record {
     stands = claim_beside.stands;
     blocks = claim_beside.blocks;

@@ -24,12 +24,10 @@ use Rattle.chunk_core.proofs.HeldRooms.{room_rows}
 use Rattle.chunk_core.proofs.StoredRooms.{rows_with, whole_with}
 use Rattle.oak_core.specs.declared.states.PassState.{PassState}
 use Rattle.oak_core.specs.AloneWords.{Runs}
-use Rattle.oak_core.specs.CallSteps.{Stands}
 use Rattle.oak_core.specs.Memory.{memory}
 use Rattle.oak_core.specs.RoomCalls.{StoresRoom}
 use Rattle.oak_core.specs.Step.{blocks_dropped, on_rooms, MayOnRooms, Told}
 use Rattle.oak_core.proofs.AloneRuns.{moment_after}
-use Rattle.oak_core.proofs.CallSteps.{stands_both, stands_none}
 use Rattle.chunk_ops.specs.RoomPins.{HadMoment}
 use Rattle.rebalance.specs.declared.rooms.RoomWord.{RoomWord}
 use Rattle.rebalance.specs.declared.rooms.RoomWord.TheVariants.{Base, Count, First, Low, High, Key, Value, Next}
@@ -42,6 +40,7 @@ use Rattle.rebalance.proofs.AwayFromPins.{away_one, is_room_word, room_word_away
 use Rattle.rebalance.proofs.HeldMemory.{word_inside}
 use Rattle.rebalance.proofs.LoneStores.{store_runs}
 use Rattle.rebalance.proofs.StoredMemory.{copy_stored, copy_else, memory_stored}
+use Rattle.rebalance.specs.Resting.{Rests, rests_both, rests_none}
 
 -- the entries with a value are carried still, whichever key word was taken away
 
@@ -123,8 +122,8 @@ module _ (z : Sizes) (call : ℕ) (p : RoomSpot) (x n : ℕ) (v w : PassState) (
   pub stored_rooms : w.rooms ≡ record v.rooms { held = rooms_with p x v.rooms.held; moving = ranges_with (word_dropped (memory z t.table.words).rooms p x) v.rooms.moving }
   stored_rooms = ap (λ (y : PassState). y.rooms) t.after
 
-  stored_stands : Stands call v w
-  stored_stands = subst (Stands call v) (sym t.after) (record { met = record { more = _ ∷ []; met = refl; calls = (refl, tt) }; numbers = refl; knowledge = refl; fulls = refl; swept = refl; sights = refl; gones = refl })
+  stored_stands : Rests call v w
+  stored_stands = subst (Rests call v) (sym t.after) (record { met = record { more = _ ∷ []; met = refl; calls = (refl, tt) }; numbers = refl; knowledge = refl; fulls = refl; swept = refl; sights = refl; gones = refl })
 
   still_held : (a : RoomHolds) → a ≡ record v.rooms { held = rooms_with p x v.rooms.held; moving = ranges_with (word_dropped m p x) v.rooms.moving } → (r : ℕ) → HoldsRoom z r v.rooms → HoldsRoom z r a
   unfolding room_rows
@@ -142,10 +141,10 @@ module _ (z : Sizes) (call : ℕ) (p : RoomSpot) (x n : ℕ) (v w : PassState) (
   stored_away = away_one z v w _ (ap (λ (y : PassState). y.findings.met) t.after) (room_word_away z p x t.may.inside t.may.rooms.1)
 
   -- and what is done behind it that leaves the rooms
-  pub stored_works : (u : PassState) → Stands call w u → u.blocks ≡ v.blocks → u.headers ≡ w.headers → u.rooms ≡ w.rooms → AwayFromPins z w u → HadMoment z u → Runs (LeavesBut z no_room no_room) w u → WorksOnRooms z call v u
+  pub stored_works : (u : PassState) → Rests call w u → u.blocks ≡ v.blocks → u.headers ≡ w.headers → u.rooms ≡ w.rooms → AwayFromPins z w u → HadMoment z u → Runs (LeavesBut z no_room no_room) w u → WorksOnRooms z call v u
   unfolding room_rows
   stored_works u stands blocks headers rooms away moment left = let e = rooms ∙ stored_rooms in record {
-    stands = stands_both call v w u stored_stands stands;
+    stands = rests_both call v w u stored_stands stands;
     blocks = blocks;
     headers = headers ∙ ap (λ (y : PassState). y.headers) t.after;
     pin = ap (λ (a : RoomHolds). a.pin) e;
@@ -180,4 +179,4 @@ module _ (z : Sizes) (call r x : ℕ) (word : RoomWord) (v w : PassState) (h : H
     store_blocks = ap (λ (y : PassState). y.blocks) t.1.after ∙ ap (λ (k : ℕ). blocks_dropped k (memory z t.1.table.words) v.rooms v.blocks) none
 
     pub store_works : WorksOnRooms z call v w
-    store_works = stored_works z call (spot r word) x t.0 v w t.1 w (stands_none call w) store_blocks refl refl (away_none z w) (stored_moment z call (spot r word) x t.0 v w t.1) (runs_leave_none z no_room no_room w)
+    store_works = stored_works z call (spot r word) x t.0 v w t.1 w (rests_none call w) store_blocks refl refl (away_none z w) (stored_moment z call (spot r word) x t.0 v w t.1) (runs_leave_none z no_room no_room w)

@@ -25,7 +25,6 @@ use Rattle.oak_core.specs.declared.states.Finding.{Finding}
 use Rattle.oak_core.specs.declared.states.Knowledge.{Knowledge}
 use Rattle.oak_core.specs.declared.states.PassState.{PassState}
 use Rattle.oak_core.specs.AloneWords.{Runs}
-use Rattle.oak_core.specs.CallSteps.{Stands}
 use Rattle.oak_core.specs.CountTeaching.{knows_count, sights_count}
 use Rattle.oak_core.specs.Finding.{finding, grown}
 use Rattle.oak_core.specs.FoundKeys.{pinned_key}
@@ -52,6 +51,7 @@ use Rattle.rebalance.specs.Mirrors.{copy_or, held_memory}
 use Rattle.rebalance.proofs.AwayFromPins.{IsNoPin, away_one}
 use Rattle.rebalance.proofs.HeldMemory.{word_inside, word_read}
 use Rattle.rebalance.proofs.LoneStores.{load_stays}
+use Rattle.rebalance.specs.Resting.{Rests, rests_of}
 
 -- where the rule holds, the copy of a held room has the words of the room
 pub copy_stands : (z : Sizes) (s : TableState) → Rule z s → (seat : ℕ) (v : PassState) → get_elem? s.states seat ≡ some v → (r : ℕ) (w : RoomCopy) → copy_of r v.rooms.held ≡ Some w → copy_at z (memory z s.words).rooms r ≡ w
@@ -78,7 +78,7 @@ module _ (call : ℕ) (m : Memory) (qs : List Knowledge) (v : PassState) (only :
   nothing_taught p = plain_or_taught (λ q. LoadTeachesNothing call q m qs v) (plain_teaches call m qs v) count_teaches value_teaches (λ h. unpinned_teaches call h m qs v (ap (pins_on h) only.headers)) p
 
 -- the pass only met more
-pub works_still : (z : Sizes) (call : ℕ) (v w : PassState) → Stands call v w → w.blocks ≡ v.blocks → w.headers ≡ v.headers → w.rooms ≡ v.rooms → AwayFromPins z v w → HadMoment z w → Runs WordsStay v w → WorksOnRooms z call v w
+pub works_still : (z : Sizes) (call : ℕ) (v w : PassState) → Rests call v w → w.blocks ≡ v.blocks → w.headers ≡ v.headers → w.rooms ≡ v.rooms → AwayFromPins z v w → HadMoment z w → Runs WordsStay v w → WorksOnRooms z call v w
 works_still z call v w stands blocks headers rooms away moment stay = record {
   stands = stands;
   blocks = blocks;
@@ -106,7 +106,7 @@ module _ (z : Sizes) (call word n : ℕ) (v w : PassState) (only : HoldsOnlyRoom
 
   pub load_works : IsNoPin z word → WorksOnRooms z call v w
   load_works away = works_still z call v w
-      (subst (Stands call v) (sym load_met) (record { met = record { more = _ ∷ []; met = refl; calls = (refl, tt) }; numbers = refl; knowledge = refl; fulls = refl; swept = refl; sights = refl; gones = refl }))
+      (subst (Rests call v) (sym load_met) (record { met = record { more = _ ∷ []; met = refl; calls = (refl, tt) }; numbers = refl; knowledge = refl; fulls = refl; swept = refl; sights = refl; gones = refl }))
       (ap (λ (y : PassState). y.blocks) load_met) (ap (λ (y : PassState). y.headers) load_met) load_rooms
       (away_one z v w (finding z call l.spot (Some n) n l.told.table.words v) (ap (λ (y : PassState). y.findings.met) load_met) (λ q lt e. away q lt (sym l.at ∙ e))) (_, moment_after z call (load l.spot) v n w l.told) (load_stays z call word v n w l)
 
@@ -129,7 +129,7 @@ module _ (z : Sizes) (call word n : ℕ) (v w : PassState) (only : HoldsOnlyRoom
 pub plain_works : (z : Sizes) (call word n : ℕ) (v w : PassState) (q : Spot) → IsInside z q → IsPlain q → word ≡ index z q → IsNoPin z word → Loads z call word v n w → WorksOnRooms z call v w × (w.rooms ≡ v.rooms)
 plain_works z call word n v w q inside plain at no_pin l = let only = only_loaded z call word n v w q inside plain at l in let met = met_at z call word n v w q inside plain at l in
     let away = away_one z v w (finding z call l.spot (Some n) n l.told.table.words v) (ap (λ (y : PassState). y.findings.met) met) (λ r lt e. no_pin r lt (sym l.at ∙ e)) in
-    (works_still z call v w only.stands only.blocks only.headers only.rooms away (_, moment_after z call (load l.spot) v n w l.told) (load_stays z call word v n w l), only.rooms)
+    (works_still z call v w (rests_of call v w only.stands) only.blocks only.headers only.rooms away (_, moment_after z call (load l.spot) v n w l.told) (load_stays z call word v n w l), only.rooms)
 
 -- the load of a word of a held room finds what the copy has
 pub load_finds : (z : Sizes) (call at n r : ℕ) (word : RoomWord) (v w : PassState) → HoldsAlone z r v → IsWithin z.entries word → at ≡ index z (in_rooms (spot r word)) → Loads z call at v n w → n ≡ read_room (held_memory v.rooms.held) (spot r word)

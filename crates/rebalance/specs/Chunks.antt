@@ -26,7 +26,7 @@ use Rattle.oak_core.specs.CallSteps.{MetMore, StepOfCall}
 use Rattle.oak_core.specs.Memory.{in_rooms, memory}
 use Rattle.oak_core.specs.Step.{load}
 use Rattle.oak_core.specs.Sweeping.{valueless}
-use Rattle.chunk_ops.specs.RoomPins.{HadMoment, Unpins}
+use Rattle.chunk_ops.specs.RoomPins.{HadMoment}
 use Rattle.rebalance.specs.Calls.{ComesToHold, IsSorted, OpensWith, SweepsKey}
 use Rattle.rebalance.specs.Copies.{base_without, copy_span, values_in}
 use Rattle.rebalance.specs.declared.reading.Read.{Read}
@@ -36,6 +36,7 @@ use Rattle.rebalance.specs.Entries.{dropped}
 use Rattle.rebalance.specs.Filled.{IsFilled}
 use Rattle.rebalance.specs.HeldTables.{AwayFromPins, HoldsOnlyRooms, WorksOnRooms, key_of_entry, valued, with_word}
 use Rattle.rebalance.specs.Holding.{StandsBeside}
+use Rattle.rebalance.specs.Resting.{RestsUnpinned}
 use Rattle.rebalance.specs.LoneWords.{LeavesBut, MovesWith, TakesRoom, held_by, no_room}
 use Rattle.rebalance.specs.Mirrors.{Mirrors, held_memory}
 use Rattle.rebalance.specs.SlotRanges.{SlotsHave}
@@ -100,7 +101,7 @@ pub record HoldsPinned (z : Sizes) (call r : ℕ) (w : RoomCopy) (g : MovingRang
 pub record LosesPinned (z : Sizes) (call r : ℕ) (v u : PassState) : Type 0 where
   pub step : StepOfCall z call (load (in_rooms (at_room_pin r))) v u
   pub frozen : state_of step.number ≡ FROZEN
-  pub unpins : Unpins z call r v u
+  pub unpins : RestsUnpinned z call r v u
 
 -- The pass has of rooms what it had. It only met more else, and may have swept ranges.
 pub record ComesBack (z : Sizes) (call : ℕ) (v u : PassState) : Type 0 where

@@ -26,12 +26,10 @@ use Rattle.oak_core.specs.declared.sorting.SortSlot.{SortSlot}
 use Rattle.oak_core.specs.declared.states.Finding.{Finding}
 use Rattle.oak_core.specs.declared.states.PassState.{PassState}
 use Rattle.oak_core.specs.AloneWords.{Runs}
-use Rattle.oak_core.specs.CallSteps.{Stands}
 use Rattle.oak_core.specs.FoundBehind.{FoundBehind}
 use Rattle.oak_core.specs.Memory.{in_rooms, index}
 use Rattle.oak_core.specs.Passes.{IsPassOf, state, slots_of, key as sizes, call_of}
 use Rattle.oak_core.specs.Scratch.{StaysButSlots}
-use Rattle.oak_core.proofs.CallSteps.{stands_none, stands_both}
 use Rattle.chunk_ops.specs.RoomLoads.{NamesKey}
 use Rattle.chunk_ops.specs.RoomPins.{HadMoment}
 use Rattle.rebalance.specs.declared.held.HeldTable.{HeldTable}
@@ -39,6 +37,7 @@ use Rattle.rebalance.specs.HeldRooms.{IsNamed}
 use Rattle.rebalance.specs.ListedRows.{rows_of}
 use Rattle.rebalance.specs.LoneWords.{LeavesBut, held_by, no_room, runs_leave_both, runs_leave_more, runs_leave_none}
 use Rattle.rebalance.specs.Mirrors.{held_memory}
+use Rattle.rebalance.specs.Resting.{Rests, rests_both, rests_none}
 
 -- the pass holds the room alone, and keeps all its words
 pub record HoldsRoom (z : Sizes) (r : ℕ) (a : RoomHolds) : Type 0 where
@@ -126,7 +125,7 @@ SeesValue z r i v w = FoundBehind (length v.findings.met) (length w.findings.met
 
 -- The pass worked on words of rooms that it holds: it met more, none of it at a pin word of a room, learned and wrote nothing, has the rooms as it had them, and its ranges carry the entries that have a value still.
 pub record WorksOnRooms (z : Sizes) (call : ℕ) (v w : PassState) : Type 0 where
-  pub stands : Stands call v w
+  pub stands : Rests call v w
   pub blocks : w.blocks ≡ v.blocks
   pub headers : w.headers ≡ v.headers
   pub pin : w.rooms.pin ≡ v.rooms.pin
@@ -211,12 +210,12 @@ away_both z u v w a b = record {
 
 -- where nothing was done
 pub works_none : (z : Sizes) (call : ℕ) (v : PassState) → WorksOnRooms z call v v
-works_none z call v = record { stands = stands_none call v; blocks = refl; headers = refl; pin = refl; latch = refl; claim = refl; states = λ r s. refl; listed = refl; copies = λ r h. h; rows = record { rooms = refl; held = λ e. e }; away = away_none z v; carried = refl; moment = λ m. m; words = runs_leave_none z no_room (held_by v) v }
+works_none z call v = record { stands = rests_none call v; blocks = refl; headers = refl; pin = refl; latch = refl; claim = refl; states = λ r s. refl; listed = refl; copies = λ r h. h; rows = record { rooms = refl; held = λ e. e }; away = away_none z v; carried = refl; moment = λ m. m; words = runs_leave_none z no_room (held_by v) v }
 
 -- one part behind another
 pub works_both : (z : Sizes) (call : ℕ) (u v w : PassState) → WorksOnRooms z call u v → WorksOnRooms z call v w → WorksOnRooms z call u w
 works_both z call u v w a b = record {
-  stands = stands_both call u v w a.stands b.stands;
+  stands = rests_both call u v w a.stands b.stands;
   blocks = b.blocks ∙ a.blocks;
   headers = b.headers ∙ a.headers;
   pin = b.pin ∙ a.pin;

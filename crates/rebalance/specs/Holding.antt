@@ -18,19 +18,19 @@ use Rattle.chunk_core.specs.RoomStep.{freeze_room, hold_room, claim_room, open_r
 use Rattle.chunk_core.specs.Rooms.{at_room_pin}
 use Rattle.oak_core.specs.declared.states.PassState.{PassState}
 use Rattle.oak_core.specs.AloneWords.{Runs}
-use Rattle.oak_core.specs.CallSteps.{MetMore, StepOfCall, Stands}
+use Rattle.oak_core.specs.CallSteps.{MetMore, StepOfCall}
 use Rattle.oak_core.specs.Memory.{in_rooms, memory}
 use Rattle.oak_core.specs.RoomLacks.{FoundUsed}
 use Rattle.oak_core.specs.Step.{load, on_rooms}
 use Rattle.oak_core.specs.Sweeping.{swept_by}
-use Rattle.chunk_ops.specs.PinRecords.{OnlyMeets}
 use Rattle.chunk_ops.specs.RoomPins.{HadMoment}
 use Rattle.rebalance.specs.LoneWords.{FreezesWords, MovesRoom, MovesWith, NoneFree}
 use Rattle.rebalance.specs.Mirrors.{Mirrors, RangeStands}
+use Rattle.rebalance.specs.Resting.{OnlyRests, Rests}
 
 -- The pass only met more, all in the call, but for what it has of rooms.
 pub record StandsBeside (call : ℕ) (v w : PassState) : Type 0 where
-  pub stands : Stands call v w
+  pub stands : Rests call v w
   pub blocks : w.blocks ≡ v.blocks
   pub headers : w.headers ≡ v.headers
 
@@ -52,7 +52,7 @@ pub record Freezes (z : Sizes) (call r : ℕ) (v w : PassState) : Type 0 where
   pub step : StepOfCall z call (on_rooms (freeze_room r word)) v w
   pub was : step.number ≡ word
   pub opened : state_of word ≡ OPEN
-  pub before : OnlyMeets call v step.from
+  pub before : OnlyRests call v step.from
   pub last : step.to ≡ w
   pub beside : StandsBeside call v w
   pub rooms : w.rooms ≡ with_frozen r v.rooms
@@ -65,7 +65,7 @@ pub record Freezes (z : Sizes) (call r : ℕ) (v w : PassState) : Type 0 where
 pub record FindsFrozen (z : Sizes) (call r : ℕ) (v w : PassState) : Type 0 where
   pub step : StepOfCall z call (load (in_rooms (at_room_pin r))) v w
   pub frozen : state_of step.number ≡ FROZEN
-  pub only : OnlyMeets call v w
+  pub only : OnlyRests call v w
 
 -- ---- holding
 
@@ -79,7 +79,7 @@ pub record Holds (z : Sizes) (call r : ℕ) (copy : RoomCopy) (range : MovingRan
   pub step : StepOfCall z call (on_rooms (hold_room r word)) v w
   pub was : step.number ≡ word
   pub unpinned : HasNoPin FROZEN word
-  pub before : OnlyMeets call v step.from
+  pub before : OnlyRests call v step.from
   pub last : step.to ≡ w
   pub copy_is : copy ≡ copy_at z (memory z step.told.table.words).rooms r
   pub range_is : range ≡ moving_at (memory z step.told.table.words).rooms (content (memory z step.told.table.words).arena.bytes) r
@@ -110,7 +110,7 @@ pub record Claims (z : Sizes) (call r : ℕ) (copy : RoomCopy) (v w : PassState)
   pub step : StepOfCall z call (on_rooms (claim_room r word)) v w
   pub was : step.number ≡ word
   pub unpinned : HasNoPin FREE word
-  pub before : OnlyMeets call v step.from
+  pub before : OnlyRests call v step.from
   pub last : step.to ≡ w
   pub beside : StandsBeside call v w
   pub rooms : w.rooms ≡ with_claimed r copy v.rooms
@@ -127,7 +127,7 @@ FindsUsed z v w r = FoundUsed z (length v.findings.met) (length w.findings.met) 
 -- so was each room but one, and the pass only met more; where there was a moment of the rule before, there is one behind
 pub record FindsNoneFree (z : Sizes) (call but : ℕ) (v w : PassState) : Type 0 where
   pub used : (r : ℕ) → r < z.chunks → r ≢ but → FindsUsed z v w r
-  pub only : OnlyMeets call v w
+  pub only : OnlyRests call v w
   pub moment : HadMoment z v → HadMoment z w
   -- to a pass that is alone
   pub alone : Runs (NoneFree z but) v w

@@ -1,4 +1,5 @@
 pub mod Calls
+pub mod Resting
 pub mod Copies
 pub mod LoneCalls
 pub mod LoneWords

@@ -9,10 +9,11 @@ ghost use Rattle.chunk_core.specs.RoomHolds.{had_room};
 ghost use Rattle.chunk_core.specs.RoomRule.{in_room_state};
 ghost use Rattle.oak_core.specs.AloneWords.{Runs};
 ghost use Rattle.oak_core.specs.Passes.{IsPassOf, Stays, state, key, call_of};
-ghost use Rattle.chunk_ops.specs.PinRecords.{HasRoomPin, OnlyMeets};
+ghost use Rattle.chunk_ops.specs.PinRecords.{HasRoomPin};
 ghost use Rattle.chunk_ops.specs.RoomPins.{HadMoment};
 ghost use Rattle.rebalance.specs.LoneWords.{IsTaken};
 ghost use Rattle.rebalance.specs.Holding.{Freezes, FindsFrozen, Holds, HasOnly, Claims, FindsUsed, FindsNoneFree, Opens, Retires};
+ghost use Rattle.rebalance.specs.Resting.{OnlyRests};
 
 use chunk_core::{FREE, FROZEN, HELD, OPEN};
 use chunk_ops::RoomPin;
@@ -78,7 +79,7 @@ fn try_claim(table: &OakTable, pass: &mut Pass, room: u32) -> bool
     ensures own { Stays pass.old pass.new }
     ensures claims { result ≡ true → (w : RoomCopy) × Claims (key table.now) (call_of pass.old) room w (state pass.old) (state pass.new) }
     ensures used { result ≡ false → had_room room (state pass.old).rooms ≡ 0 → FindsUsed (key table.now) (state pass.old) (state pass.new) room }
-    ensures only { result ≡ false → OnlyMeets (call_of pass.old) (state pass.old) (state pass.new) }
+    ensures only { result ≡ false → OnlyRests (call_of pass.old) (state pass.old) (state pass.new) }
     ensures moment { result ≡ false → HadMoment (key table.now) (state pass.new) }
     ensures alone { result ≡ false → (state pass.old).rooms.pin ≡ None → Runs (IsTaken (key table.now) room) (state pass.old) (state pass.new) }
 {

@@ -8,10 +8,9 @@ use Rattle.oak_core.specs.Splitting.{Loads}
 use Rattle.oak_core.proofs.PinExchanges.{next_small}
 use Rattle.oak_core.proofs.RoomNames.{room_pin_below}
 use Rattle.oak_core.proofs.SamePass.{stays_both}
-use Rattle.chunk_ops.specs.PinRecords.{OnlyMeets}
-use Rattle.chunk_ops.proofs.MeetingCalls.{only_both}
 use Rattle.rebalance.proofs.FrozenRooms.{pin_load_only, pinned_still, finds_frozen, freezes}
 use Rattle.rebalance.proofs.RoomExchanges.{packed_states, freeze_misses}
+use Rattle.rebalance.specs.Resting.{OnlyRests, resting_both}
 use Rattle.rebalance.proofs.holding.freeze_pinned.Goals as goal
 
 pub load-open-requires-clause-inside : goal.load-open-requires-clause-inside
@@ -33,17 +32,17 @@ freeze-requires-clause-names g c = let z : Sizes = key c.args.table.now in
 pub returns-then-freeze-open-clause-frozen : goal.returns-then-freeze-open-clause-frozen
 returns-then-freeze-open-clause-frozen g c _ = let z : Sizes = key c.args.table.now in let call = call_of c.args.pass.now in let r = c.args.pin.now.room in let u = state c.args.pass.now in let v = state c.loop.pass in let x = state c.load-open.new.pass in let w = state c.freeze.new.pass in let i = c.loop.invariant in
     let names : NamesRoomPin z r c.room_at-word.result = record { inside = c.requires.pinned.inside; word_is = c.room_at-word.ensures } in
-    let loaded : OnlyMeets call v x = pin_load_only z call r c.room_at-word.result c.load-open.result v x names (subst (λ (k : ℕ). Loads z k c.room_at-word.result v c.load-open.result x) i.stays.call c.load-open.ensures.loaded) in
-    freezes z call r c.load-open.result c.freeze.result u x w (only_both call u v x i.only loaded)
+    let loaded : OnlyRests call v x = pin_load_only z call r c.room_at-word.result c.load-open.result v x names (subst (λ (k : ℕ). Loads z k c.room_at-word.result v c.load-open.result x) i.stays.call c.load-open.ensures.loaded) in
+    freezes z call r c.load-open.result c.freeze.result u x w (resting_both call u v x i.only loaded)
     (subst (λ (k : ℕ). FreezesRoom z k r c.load-open.result x c.freeze.result w) (c.load-open.ensures.own.call ∙ i.stays.call) (c.freeze.ensures.told r names)) c.if-freeze-open.true
 
 pub loop-preserved : goal.loop-preserved
 loop-preserved g c = let z : Sizes = key c.args.table.now in let call = call_of c.args.pass.now in let r = c.args.pin.now.room in let u = state c.args.pass.now in let v = state c.loop.pass in let x = state c.load-open.new.pass in let w = state c.freeze.new.pass in let i = c.loop.invariant in
     let names : NamesRoomPin z r c.room_at-word.result = record { inside = c.requires.pinned.inside; word_is = c.room_at-word.ensures } in
-    let loaded : OnlyMeets call v x = pin_load_only z call r c.room_at-word.result c.load-open.result v x names (subst (λ (k : ℕ). Loads z k c.room_at-word.result v c.load-open.result x) i.stays.call c.load-open.ensures.loaded) in
+    let loaded : OnlyRests call v x = pin_load_only z call r c.room_at-word.result c.load-open.result v x names (subst (λ (k : ℕ). Loads z k c.room_at-word.result v c.load-open.result x) i.stays.call c.load-open.ensures.loaded) in
     record {
       next = tt;
       stays = stays_both i.stays (stays_both c.load-open.ensures.own c.freeze.ensures.own);
-      only = only_both call u x w (only_both call u v x i.only loaded)
+      only = resting_both call u x w (resting_both call u v x i.only loaded)
           (freeze_misses z call r c.load-open.result c.freeze.result x w (subst (λ (k : ℕ). FreezesRoom z k r c.load-open.result x c.freeze.result w) (c.load-open.ensures.own.call ∙ i.stays.call) (c.freeze.ensures.told r names)) c.if-freeze-open.false);
     }

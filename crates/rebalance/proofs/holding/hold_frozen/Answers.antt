@@ -4,9 +4,9 @@ use Rattle.chunk_core.specs.declared.states.TheConstants.{FROZEN}
 use Rattle.oak_core.specs.Passes.{state, key, call_of}
 use Rattle.oak_core.specs.RoomCalls.{HoldsRoomWord}
 use Rattle.oak_core.proofs.SamePass.{stays_both}
-use Rattle.chunk_ops.proofs.MeetingCalls.{only_both}
 use Rattle.rebalance.proofs.HeldAlone.{bare_word, frozen_still, holds}
 use Rattle.rebalance.proofs.RoomExchanges.{next_state, hold_misses}
+use Rattle.rebalance.specs.Resting.{resting_both}
 use Rattle.rebalance.proofs.holding.hold_frozen.Goals as goal
 
 pub hold_room-requires-clause-names : goal.hold_room-requires-clause-names
@@ -29,6 +29,6 @@ pub loop-preserved : goal.loop-preserved
 loop-preserved g c = let z : Sizes = key c.args.table.now in let call = call_of c.args.pass.now in let r = c.args.room in let v = state c.loop.pass in let w = state c.hold_room.new.pass in let i = c.loop.invariant in record {
   next = tt;
   stays = stays_both i.stays c.hold_room.ensures.own;
-  only = only_both call (state c.args.pass.now) v w i.only (hold_misses z call r c.pack-frozen.result c.hold_room.result v w
+  only = resting_both call (state c.args.pass.now) v w i.only (hold_misses z call r c.pack-frozen.result c.hold_room.result v w
       (subst (λ (k : ℕ). HoldsRoomWord z k r c.pack-frozen.result v c.hold_room.result w) i.stays.call (c.hold_room.ensures.told r record { inside = c.requires.inside; word_is = c.room_at-word.ensures })) c.if-hold_room-frozen.false);
 }

@@ -1,10 +1,10 @@
 use Rattle.oak_core.specs.Passes.{Stays, state, call_of}
-use Rattle.chunk_ops.specs.PinRecords.{OnlyMeets}
+use Rattle.rebalance.specs.Resting.{OnlyRests}
 use Rattle.rebalance.proofs.holding.hold_frozen.Given as goal
 
 abbrev pub invariant-loop : goal.invariant-loop
 invariant-loop g l = record {
   next : (goal.iterator-loop g).can_next l.iterator';
   stays : Stays l.fn.pass l.pass;
-  only : OnlyMeets (call_of l.fn.pass) (state l.fn.pass) (state l.pass);
+  only : OnlyRests (call_of l.fn.pass) (state l.fn.pass) (state l.pass);
 }

@@ -13,13 +13,12 @@ use Rattle.oak_core.specs.Memory.{in_rooms}
 use Rattle.oak_core.specs.Step.{load, on_rooms}
 use Rattle.oak_core.proofs.AloneRuns.{moment_after}
 use Rattle.oak_core.proofs.RoomNames.{room_pin_below}
-use Rattle.chunk_ops.specs.PinRecords.{OnlyMeets}
-use Rattle.chunk_ops.proofs.MeetingCalls.{only_both}
 use Rattle.rebalance.proofs.ClaimedRooms.{load_used, exchange_used, claims}
 use Rattle.rebalance.proofs.FrozenRooms.{pin_load, pin_load_only}
 use Rattle.rebalance.proofs.HeldAlone.{bare_word}
 use Rattle.rebalance.proofs.RoomExchanges.{packed_states, claim_misses}
 use Rattle.rebalance.proofs.TakenRooms.{exchange_taken, load_taken}
+use Rattle.rebalance.specs.Resting.{OnlyRests, resting_both}
 use Rattle.rebalance.proofs.holding.try_claim.Goals as goal
 
 pub load-requires-clause-inside : goal.load-requires-clause-inside
@@ -46,14 +45,14 @@ returns-clause-claims c e = let z : Sizes = key c.args.table.now in let call = c
 pub returns-clause-used : goal.returns-clause-used
 returns-clause-used c e none = let z : Sizes = key c.args.table.now in let call = call_of c.args.pass.now in let r = c.args.room in let u = state c.args.pass.now in let v = state c.load.new.pass in let w = state c.claim_room.new.pass in
     let names : NamesRoomPin z r c.room_at-word.result = record { inside = c.requires.inside; word_is = c.room_at-word.ensures } in
-    let only : OnlyMeets call u v = pin_load_only z call r c.room_at-word.result c.load.result u v names c.load.ensures.loaded in
+    let only : OnlyRests call u v = pin_load_only z call r c.room_at-word.result c.load.result u v names c.load.ensures.loaded in
     exchange_used z call r c.pack-free.result c.claim_room.result u v w only.stands.met (ap generation_of c.pack-free.ensures ∙ generation_of-packed 0 FREE 0 (omega arith) (omega arith))
     (subst (λ (k : ℕ). ClaimsRoom z k r c.pack-free.result v c.claim_room.result w) c.load.ensures.own.call (c.claim_room.ensures.told r names)) (eqb-false c.claim_room.result c.pack-free.result e) (ap (had_room r) only.rooms ∙ none)
 
 pub returns-clause-only : goal.returns-clause-only
 returns-clause-only c e = let z : Sizes = key c.args.table.now in let call = call_of c.args.pass.now in let r = c.args.room in let u = state c.args.pass.now in let v = state c.load.new.pass in let w = state c.claim_room.new.pass in
     let names : NamesRoomPin z r c.room_at-word.result = record { inside = c.requires.inside; word_is = c.room_at-word.ensures } in
-    only_both call u v w (pin_load_only z call r c.room_at-word.result c.load.result u v names c.load.ensures.loaded)
+    resting_both call u v w (pin_load_only z call r c.room_at-word.result c.load.result u v names c.load.ensures.loaded)
     (claim_misses z call r c.pack-free.result c.claim_room.result v w (subst (λ (k : ℕ). ClaimsRoom z k r c.pack-free.result v c.claim_room.result w) c.load.ensures.own.call (c.claim_room.ensures.told r names)) (eqb-false c.claim_room.result c.pack-free.result e))
 
 pub returns-then-load-free-clause-moment : goal.returns-then-load-free-clause-moment
