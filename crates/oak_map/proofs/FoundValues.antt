@@ -32,7 +32,7 @@ use Rattle.oak_map.proofs.RepliesSince.{refuses_both, replies_since}
 
 -- what only teaches a pass that holds what it held refuses it
 pub learned_refuses : (call : ℕ) (v w : PassState) → Learns call v w → w.blocks ≡ v.blocks → w.headers ≡ v.headers → w.rooms ≡ v.rooms → Refuses call v w
-learned_refuses call v w l blocks headers rooms = record { learns = l; holds = record { blocks = blocks; headers = headers; rooms = rooms; numbers = l.all.numbers; fulls = l.all.fulls; swept = l.all.swept } }
+learned_refuses call v w l blocks headers rooms = record { learns = l; holds = record { blocks = blocks; headers = headers; rooms = rooms; numbers = l.all.numbers; fulls = l.all.fulls; swept = l.all.swept; rebalances = l.all.rebalances } }
 
 -- so does a view that could not be pinned
 pub unread_refuses : (z : Sizes) (call : ℕ) (x : Viewed) (why : NoRead) (v w : PassState) → NotRead z call x why v w → Refuses call v w
@@ -44,7 +44,7 @@ read_refuses call key bytes at v w r = record {
   learns = record {
     met = r.goes.met;
     sights = r.goes.sights;
-    all = record { numbers = r.holds.numbers; mine = r.mine; fulls = r.holds.fulls; swept = r.holds.swept; gones = r.goes.gones; loaded = r.goes.loaded; seen = r.goes.seen; remembers = r.goes.remembers };
+    all = record { numbers = r.holds.numbers; mine = r.mine; fulls = r.holds.fulls; swept = r.holds.swept; rebalances = r.holds.rebalances; gones = r.goes.gones; loaded = r.goes.loaded; seen = r.goes.seen; remembers = r.goes.remembers };
   };
   holds = r.holds;
 }

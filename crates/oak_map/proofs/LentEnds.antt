@@ -21,6 +21,7 @@ use Rattle.oak_core.specs.KeyHistories.{state_behind, writes_of}
 use Rattle.oak_core.specs.KnownPlaces.{KnowsPlace}
 use Rattle.oak_core.specs.Passes.{call_of, key as sizes}
 use Rattle.oak_core.specs.PassState.{HoldsNothing, IsAlone, seen_of}
+use Rattle.oak_core.specs.RebalanceSteps.{KeepsRooms}
 use Rattle.oak_core.specs.Step.{on_headers}
 use Rattle.oak_core.proofs.AloneRuns.{Then, moment_after, runs_as, runs_then}
 use Rattle.oak_core.proofs.CallSteps.{stands_both, stands_learns}
@@ -46,7 +47,7 @@ use Rattle.oak_map.proofs.LentValues.{header_in}
 use Rattle.oak_map.proofs.RepliesSince.{goes_both}
 
 -- The reading was lent at u, the pass only made loads until t, and there its pin was undone, until w.
-module _ (z : Sizes) (call loaded_at undone_at h : ℕ) (x : PinnedValue) (v u t w : PassState) (idle : HoldsNothing v) (goes : GoesOn call v u) (numbers : u.numbers ≡ v.numbers) (mine : u.knowledge.mine ≡ v.knowledge.mine) (fulls : u.findings.fulls ≡ v.findings.fulls) (swept : u.findings.swept ≡ v.findings.swept) (has : HasValue z x u)
+module _ (z : Sizes) (call loaded_at undone_at h : ℕ) (x : PinnedValue) (v u t w : PassState) (idle : HoldsNothing v) (goes : GoesOn call v u) (numbers : u.numbers ≡ v.numbers) (mine : u.knowledge.mine ≡ v.knowledge.mine) (fulls : u.findings.fulls ≡ v.findings.fulls) (swept : u.findings.swept ≡ v.findings.swept) (rebalances : KeepsRooms v u) (has : HasValue z x u)
     (y : Sizes) (j : Sizes) (first : y ≡ z) (again : j ≡ z) (same : loaded_at ≡ call) (last : undone_at ≡ call) (only : OnlyLoads y loaded_at u t) (undone : EndsPin j undone_at h t w) where
   loads : OnlyLoads z call u t
   loads = subst (λ (i : Sizes × ℕ). OnlyLoads i.0 i.1 u t) (λ i. (first i, same i)) only
@@ -68,6 +69,7 @@ module _ (z : Sizes) (call loaded_at undone_at h : ℕ) (x : PinnedValue) (v u t
     numbers = end_stands.numbers ∙ numbers;
     fulls = end_stands.fulls ∙ fulls;
     swept = end_stands.swept ∙ swept;
+    rebalances = end_stands.rebalances ∙ rebalances;
   }
 
   pub end_goes : GoesOn call v w
@@ -79,7 +81,7 @@ module _ (z : Sizes) (call loaded_at undone_at h : ℕ) (x : PinnedValue) (v u t
     learns = record {
       met = end_goes.met;
       sights = end_goes.sights;
-      all = record { numbers = end_holds.numbers; mine = ap (λ (q : Knowledge). q.mine) end_stands.knowledge ∙ mine; fulls = end_holds.fulls; swept = end_holds.swept; gones = end_goes.gones; loaded = end_goes.loaded; seen = end_goes.seen; remembers = end_goes.remembers };
+      all = record { numbers = end_holds.numbers; mine = ap (λ (q : Knowledge). q.mine) end_stands.knowledge ∙ mine; fulls = end_holds.fulls; swept = end_holds.swept; rebalances = end_holds.rebalances; gones = end_goes.gones; loaded = end_goes.loaded; seen = end_goes.seen; remembers = end_goes.remembers };
     };
     holds = end_holds;
   }
@@ -96,15 +98,15 @@ module _ (z : Sizes) (call : ℕ) (key : List ℕ) (v w : PassState) (r q : Read
   again = ap (λ (b : Bor OakTable). sizes b.now) on.table ∙ sized
 
   stands : Stands call (under r) w
-  stands = end_stands z call (call_of r.pass.now) (call_of q.pass.now) (header q) r.value v (under r) (under q) w idle l.goes l.numbers l.mine l.fulls l.swept l.has (sizes r.table.now) (sizes q.table.now) sized again same (on.stays.call ∙ same) on.only undone
+  stands = end_stands z call (call_of r.pass.now) (call_of q.pass.now) (header q) r.value v (under r) (under q) w idle l.goes l.numbers l.mine l.fulls l.swept l.rebalances l.has (sizes r.table.now) (sizes q.table.now) sized again same (on.stays.call ∙ same) on.only undone
 
   pub value_refuses : Refuses call v w
-  value_refuses = end_refuses z call (call_of r.pass.now) (call_of q.pass.now) (header q) r.value v (under r) (under q) w idle l.goes l.numbers l.mine l.fulls l.swept l.has (sizes r.table.now) (sizes q.table.now) sized again same (on.stays.call ∙ same) on.only undone
+  value_refuses = end_refuses z call (call_of r.pass.now) (call_of q.pass.now) (header q) r.value v (under r) (under q) w idle l.goes l.numbers l.mine l.fulls l.swept l.rebalances l.has (sizes r.table.now) (sizes q.table.now) sized again same (on.stays.call ∙ same) on.only undone
 
   -- the call replied with the value
   pub value_replies : RepliesAt call key Get (replies.Holds (value r)) (stamp r) v w
   value_replies = record {
-    goes = end_goes z call (call_of r.pass.now) (call_of q.pass.now) (header q) r.value v (under r) (under q) w idle l.goes l.numbers l.mine l.fulls l.swept l.has (sizes r.table.now) (sizes q.table.now) sized again same (on.stays.call ∙ same) on.only undone;
+    goes = end_goes z call (call_of r.pass.now) (call_of q.pass.now) (header q) r.value v (under r) (under q) w idle l.goes l.numbers l.mine l.fulls l.swept l.rebalances l.has (sizes r.table.now) (sizes q.table.now) sized again same (on.stays.call ∙ same) on.only undone;
     known = subst (λ (k : Knowledge). KnowsPlace (key_number key) (stamp r) (length (seen_of (key_number key) k)) k) (sym stands.knowledge) l.known;
     fits = subst (λ (k : Knowledge). ReplyFits (writes_of (seen_of (key_number key) k)) v.numbers.number call Get (replies.Holds (value r)) (length (seen_of (key_number key) k))) (sym stands.knowledge) l.fits;
     later = λ e. absurd cc;
@@ -135,4 +137,4 @@ module _ (z : Sizes) (call : ℕ) (key : List ℕ) (v w : PassState) (r q : Read
 -- a life that was
 module _ (z : Sizes) (call : ℕ) (x : Viewed) (v w : PassState) (r q : Reading) (idle : HoldsNothing v) (l : LendsLife z call x v r) (sized : sizes r.table.now ≡ z) (same : call_of r.pass.now ≡ call) (on : ReadsOn r q) (undone : EndsPin (sizes q.table.now) (call_of q.pass.now) (header q) (under q) w) where
   pub life_refuses : Refuses call v w
-  life_refuses = end_refuses z call (call_of r.pass.now) (call_of q.pass.now) (header q) r.value v (under r) (under q) w idle l.goes l.numbers l.mine l.fulls l.swept l.has (sizes r.table.now) (sizes q.table.now) sized (ap (λ (b : Bor OakTable). sizes b.now) on.table ∙ sized) same (on.stays.call ∙ same) on.only undone
+  life_refuses = end_refuses z call (call_of r.pass.now) (call_of q.pass.now) (header q) r.value v (under r) (under q) w idle l.goes l.numbers l.mine l.fulls l.swept l.rebalances l.has (sizes r.table.now) (sizes q.table.now) sized (ap (λ (b : Bor OakTable). sizes b.now) on.table ∙ sized) same (on.stays.call ∙ same) on.only undone

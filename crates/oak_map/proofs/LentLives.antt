@@ -47,6 +47,7 @@ module _ (z : Sizes) (call : ℕ) (x : Viewed) (v w : PassState) (r : Reading) (
     numbers = learns.all.numbers;
     fulls = learns.all.fulls;
     swept = learns.all.swept;
+    rebalances = learns.all.rebalances;
     blocks = lent_blocks z call x.header x.generation v p.tried w r idle refused.learns refused.holds p.pins is sized loads found;
     rooms = lent_rooms z call x.header x.generation v p.tried w r idle refused.learns refused.holds p.pins is sized loads found;
     has = lent_has z call x.header x.generation v p.tried w r idle refused.learns refused.holds p.pins is sized loads found;

@@ -112,6 +112,7 @@ lends_value z call key h g v w r idle p is sized loads found reads = record {
   numbers = learns.all.numbers;
   fulls = learns.all.fulls;
   swept = learns.all.swept;
+  rebalances = learns.all.rebalances;
   blocks = lent_blocks z call h g v p.tried w r idle p.tries.learns p.tries.holds p.pins is sized loads found;
   rooms = lent_rooms z call h g v p.tried w r idle p.tries.learns p.tries.holds p.pins is sized loads found;
   has = lent_has z call h g v p.tried w r idle p.tries.learns p.tries.holds p.pins is sized loads found;

@@ -37,6 +37,7 @@ holds_both u v w a b = record {
   numbers = b.numbers ∙ a.numbers;
   fulls = b.fulls ∙ a.fulls;
   swept = b.swept ∙ a.swept;
+  rebalances = b.rebalances ∙ a.rebalances;
 }
 
 -- ---- refusals

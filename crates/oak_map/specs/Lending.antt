@@ -11,6 +11,7 @@ use Rattle.oak_core.specs.KeyHistories.{state_behind, writes_of}
 use Rattle.oak_core.specs.KnownPlaces.{KnowsPlace}
 use Rattle.oak_core.specs.Passes.{state}
 use Rattle.oak_core.specs.PassState.{IsAlone, seen_of}
+use Rattle.oak_core.specs.RebalanceSteps.{KeepsRooms}
 use Rattle.oak_core.specs.Sights.{SightedSince}
 use Rattle.value_ops.specs.declared.reading.Reading.{Reading}
 use Rattle.value_ops.specs.declared.views.NoRead.TheVariants.{Gone}
@@ -43,6 +44,7 @@ pub record LendsValue (z : Sizes) (call : ℕ) (key : List ℕ) (v : PassState) 
   pub numbers : (under r).numbers ≡ v.numbers
   pub fulls : (under r).findings.fulls ≡ v.findings.fulls
   pub swept : (under r).findings.swept ≡ v.findings.swept
+  pub rebalances : KeepsRooms v (under r)
   pub blocks : (under r).blocks ≡ v.blocks
   pub rooms : (under r).rooms ≡ v.rooms
   pub has : HasValue z r.value (under r)
@@ -72,6 +74,7 @@ pub record LendsLife (z : Sizes) (call : ℕ) (x : Viewed) (v : PassState) (r : 
   pub numbers : (under r).numbers ≡ v.numbers
   pub fulls : (under r).findings.fulls ≡ v.findings.fulls
   pub swept : (under r).findings.swept ≡ v.findings.swept
+  pub rebalances : KeepsRooms v (under r)
   pub blocks : (under r).blocks ≡ v.blocks
   pub rooms : (under r).rooms ≡ v.rooms
   pub has : HasValue z r.value (under r)

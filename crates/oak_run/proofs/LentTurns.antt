@@ -51,7 +51,7 @@ reads_on h g key at bytes v u w knows sights r = record {
 -- The reading r was lent, the pass only made loads until the reading q, and the pin was undone, until w.
 module _ (z : Sizes) (n : ℕ) (x : Viewed) (v w : PassState) (r q : Reading) (idle : HoldsNothing v) (l : LendsLife z n x v r) (sized : sizes r.table.now ≡ z) (same : call_of r.pass.now ≡ n) (on : ReadsOn r q) (undone : EndsPin (sizes q.table.now) (call_of q.pass.now) (header q) (under q) w) where
   stands : Stands n (under r) w
-  stands = end_stands z n (call_of r.pass.now) (call_of q.pass.now) (header q) r.value v (under r) (under q) w idle l.goes l.numbers l.mine l.fulls l.swept l.has (sizes r.table.now) (sizes q.table.now) sized (ap (λ (b : Bor OakTable). sizes b.now) on.table ∙ sized) same (on.stays.call ∙ same) on.only undone
+  stands = end_stands z n (call_of r.pass.now) (call_of q.pass.now) (header q) r.value v (under r) (under q) w idle l.goes l.numbers l.mine l.fulls l.swept l.rebalances l.has (sizes r.table.now) (sizes q.table.now) sized (ap (λ (b : Bor OakTable). sizes b.now) on.table ∙ sized) same (on.stays.call ∙ same) on.only undone
 
   pub life_read : ReadsLife x.header x.generation x.key (stamp r) (value r) v w
   life_read = reads_on x.header x.generation x.key (stamp r) (value r) v (under r) w stands.knowledge stands.sights l.life

@@ -53,6 +53,7 @@ loads_stand z call v w l = subst (Stands call v) (sym l.after) record {
   swept = refl;
   sights = refl;
   gones = refl;
+  rebalances = refl;
 }
 
 value_grown : (z : Sizes) (x : PinnedValue) (more : List Finding) (v : PassState) → HasValue z x v → HasValue z x (grown more v)
@@ -174,5 +175,6 @@ later_undone z p q h s e = let call = call_of p in let v = state p in let w = st
     swept = refl;
     sights = refl;
     gones = refl;
+    rebalances = refl;
   });
 }
