@@ -1,7 +1,8 @@
-ghost use Rattle.std.specs.Prelude.{◌≡◌, ◌<◌, ◌+◌, ◌-◌, ◌^◌, ℕ};
+ghost use Rattle.std.specs.Prelude.{◌≡◌, ◌<◌, ◌+◌, ◌-◌, ◌^◌, ℕ, List};
 ghost use Rattle.oak_model.specs.declared.recipes.RecipeKind.{RecipeKind};
 ghost use Rattle.oak_model.specs.declared.recipes.RecipeKind.TheVariants.{Rev};
 ghost use Rattle.oak_model.specs.Recipe.{IsArgument, recipe_result};
+ghost use Rattle.value_ops.specs.Recipes.{SaysNothing, SaysTheSame};
 
 use oak_core::Writing;
 use oak_model::{RecipeKind, apply_kind};
@@ -19,12 +20,17 @@ pub trait Recipe: Drop {
     /// How often it was applied.
     ghost calls: { Self → ℕ };
 
+    /// What it says of the bytes that it was applied to last: a recipe that keeps them says which they were,
+    /// one that keeps their length says that, and one that keeps nothing says what is true of any bytes.
+    ghost fed: { Self → List ℕ → Type 0 };
+
     /// Sets the recipe. The argument of `Xor` is a byte, and that of `Rev` is 0.
     fn tell(&mut self, kind: RecipeKind, argument: u64)
         requires { IsArgument kind argument }
         ensures kind { told_kind self.new ≡ kind }
         ensures argument { told_argument self.new ≡ argument }
-        ensures calls { calls self.new ≡ calls self.old };
+        ensures calls { calls self.new ≡ calls self.old }
+        ensures fed { SaysTheSame (fed self.old) (fed self.new) };
 
     /// The kind that it was told last, or that it began with.
     fn kind(&self) -> RecipeKind
@@ -36,11 +42,13 @@ pub trait Recipe: Drop {
         ensures told { result ≡ told_argument self.now }
         ensures fits { IsArgument (told_kind self.now) result };
 
-    /// Makes the new bytes in place of the old ones, and counts the call.
+    /// Makes the new bytes in place of the old ones, counts the call, and keeps of the old ones what it
+    /// tells of them.
     fn apply(&mut self, value: &mut Writing)
         requires { calls self.old < 2 ^ 64 - 1 }
         ensures bytes { value.new ≡ recipe_result (told_kind self.old) (told_argument self.old) value.old }
         ensures counted { calls self.new ≡ calls self.old + 1 }
+        ensures fed { fed self.new value.old }
         ensures kind { told_kind self.new ≡ told_kind self.old }
         ensures argument { told_argument self.new ≡ told_argument self.old };
 
@@ -88,6 +96,8 @@ impl Recipe for StepRecipe {
 
     ghost calls = { λ r. r.calls };
 
+    ghost fed = { λ _. SaysNothing };
+
     fn tell(&mut self, kind: RecipeKind, argument: u64) {
         self.kind = kind;
         self.argument = argument;
@@ -111,11 +121,12 @@ impl Recipe for StepRecipe {
     }
 }
 
-/// Calls a boxed recipe exactly once, on bytes that no one else sees meanwhile.
+/// Calls a boxed recipe exactly once, on these bytes, which no one else sees meanwhile.
 pub fn apply_once(recipe: &mut Box<dyn Recipe + Send>, value: &mut Writing)
     requires { calls recipe.old < 2 ^ 64 - 1 }
     ensures bytes { value.new ≡ recipe_result (told_kind recipe.old) (told_argument recipe.old) value.old }
     ensures once { calls recipe.new ≡ calls recipe.old + 1 }
+    ensures fed { fed recipe.new value.old }
     ensures kind { told_kind recipe.new ≡ told_kind recipe.old }
     ensures argument { told_argument recipe.new ≡ told_argument recipe.old }
 {

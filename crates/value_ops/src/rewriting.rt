@@ -96,7 +96,7 @@ impl Locked {
     }
 
     /// Makes the recipe's bytes of the value's, in place: they are loaded into the pass's scratch, the
-    /// recipe is called once, and the bytes are stored back. The length stays.
+    /// recipe is called once, on them, and the bytes are stored back. The length stays.
     pub fn apply(&mut self, table: &OakTable, pass: &mut Pass, recipe: &mut Box<dyn Recipe + Send>)
         requires own { IsPassOf table.now pass.old }
         requires locked { HasLock (key table.now) self.old.header self.old.generation (state pass.old) }
@@ -107,6 +107,7 @@ impl Locked {
         ensures applied { Rewrites (key table.now) (call_of pass.old) self.old.header (recipe_result (told_kind recipe.old) (told_argument recipe.old) (value_held self.old.header (state pass.old).headers.held)) (state pass.old) (state pass.new) }
         ensures alone { Runs (AppliesTo (key table.now) self.old.header (told_kind recipe.old) (told_argument recipe.old)) (state pass.old) (state pass.new) }
         ensures once { calls recipe.new ≡ calls recipe.old + 1 }
+        ensures fed { fed recipe.new (value_held self.old.header (state pass.old).headers.held) }
         ensures kind { told_kind recipe.new ≡ told_kind recipe.old }
         ensures argument { told_argument recipe.new ≡ told_argument recipe.old }
     {

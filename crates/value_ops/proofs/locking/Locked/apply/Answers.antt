@@ -51,3 +51,8 @@ returns-clause-alone g c = let z : Sizes = key c.args.table.now in let call = ca
     let v = state c.args.pass.now in let y = state c.place-place.new.pass in let u = state c.load_value.new.pass in let w = state c.store_scratch.new.pass in let o = c.place-place.ensures in let l = c.load_value.ensures in
     let is : HasWords z h g' first v = words_found z h g' v o.limits c.requires.locked c.place-place.result o.place o.block c.class_in.result c.block_in.result first c.class_in.ensures c.block_in.ensures c.bytes_at-first.ensures in
     applies_alone z call h g' first v y u is o.loaded l.alone _ _ c.apply_once.new.value c.scratch_mut.result.now w c.apply_once.ensures.bytes (c.scratch_mut.ensures.value ∙ (l.value ∙ ap (value_held h) (headers_met z call v y o.met))) c.store_scratch.ensures.alone
+
+pub returns-clause-fed : goal.returns-clause-fed
+returns-clause-fed g c = let h = c.args.self.now.header in let v = state c.args.pass.now in let y = state c.place-place.new.pass in let o = c.place-place.ensures in let l = c.load_value.ensures in let r = c.apply_once.new.recipe in
+    let was : c.scratch_mut.result.now ≡ value_held h v.headers.held = c.scratch_mut.ensures.value ∙ (l.value ∙ ap (value_held h) (headers_met (key c.args.table.now) (call_of c.args.pass.now) v y o.met)) in
+    subst ((goal.Recipe-dyn g (r.vtable, r.value)).fed r.value) was c.apply_once.ensures.fed
