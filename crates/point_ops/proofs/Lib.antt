@@ -42,6 +42,7 @@ pub mod LoneSpots
 pub mod LoneChanges
 pub mod LoneKept
 pub mod LoneCalls
+pub mod RecipesFed
 pub mod LoneUnderPins
 pub mod LonePins
 pub mod TestLaws

@@ -50,7 +50,7 @@ read_leaves (Some b) (Upsert v r n) e = absurd cc
 read_leaves (Some b) Remove e = absurd cc
 
 -- the state before the last write of what was seen
-state_before : (h : List KeyedWrite) (x : KeyedWrite) → state_at (writes_of (h ++ x ∷ [])) (length (h ++ x ∷ []) - 1) ≡ state_behind h
+pub state_before : (h : List KeyedWrite) (x : KeyedWrite) → state_at (writes_of (h ++ x ∷ [])) (length (h ++ x ∷ []) - 1) ≡ state_behind h
 state_before h x = let n = length_push h x in let back : length (h ++ x ∷ []) - 1 ≡ length h = omega arith in
     ap (state_at (writes_of (h ++ x ∷ []))) (back ∙ sym (writes_length h)) ∙ state_at-end (writes_of h) (writes_of (h ++ x ∷ [])) (x.write ∷ [], writes_push h x)
 

@@ -14,7 +14,9 @@ ghost use Rattle.oak_core.specs.Scratch.{StaysButScratch};
 ghost use Rattle.chunk_ops.specs.PinRecords.{HasEntry, HasRoomPin, OnlyMeets};
 ghost use Rattle.value_ops.specs.OneHeader.{IsOneBlock};
 ghost use Rattle.value_ops.specs.Pinning.{KnowsLife};
+ghost use Rattle.value_ops.specs.Recipes.{SaysTheSame};
 ghost use Rattle.point_ops.specs.Changes.{NoLockBy, OverHalts};
+ghost use Rattle.point_ops.specs.Counted.{FedReplaced};
 ghost use Rattle.oak_core.specs.AloneWords.{Runs};
 ghost use Rattle.point_ops.specs.LoneLives.{KeepsButLife, OverHaltsIn, RefusesLock, UnfreeIn};
 ghost use Rattle.point_ops.specs.Parts.{KeepsHeld, WritesAt};
@@ -30,8 +32,8 @@ use oak_core::{Block, OakTable, Pass};
 use oak_model::{Class, Kind};
 use value_ops::{Locked, NoLock, Recipe, lock};
 
-/// Computes the value of a life anew, by one call of the recipe under the lock. The answer is the stamp of
-/// the write.
+/// Computes the value of a life anew, by one call of the recipe under the lock, on the bytes that the key
+/// held. The answer is the stamp of the write.
 pub(crate) fn compute_life(
     table: &OakTable,
     pass: &mut Pass,
@@ -53,6 +55,8 @@ pub(crate) fn compute_life(
     ensures wrote { IfOk result (λ at. (k : List ℕ) → KnowsLife header generation k (state pass.old).knowledge → (b : List ℕ) × WritesAt (call_of pass.old) k kind (Some b) (Some (recipe_result (told_kind recipe.old) (told_argument recipe.old) b)) at (state pass.old) (state pass.new)) }
     ensures counted { IfOk result (λ _. calls recipe.new ≡ calls recipe.old + 1) }
     ensures uncounted { IfErr result (λ _. calls recipe.new ≡ calls recipe.old) }
+    ensures fed { IfOk result (λ _. (k : List ℕ) → KnowsLife header generation k (state pass.old).knowledge → FedReplaced k (fed recipe.new) (state pass.new)) }
+    ensures unfed { IfErr result (λ _. SaysTheSame (fed recipe.old) (fed recipe.new)) }
     ensures told { (told_kind recipe.new ≡ told_kind recipe.old) × (told_argument recipe.new ≡ told_argument recipe.old) }
     ensures only { IfErr result (λ _. OnlyMeets (call_of pass.old) (state pass.old) (state pass.new)) }
     ensures refused { IfErr result (λ why. NoLockBy why (sizes table.now) (call_of pass.old) header generation (state pass.old) (state pass.new)) }

@@ -17,7 +17,7 @@ ghost use Rattle.chunk_ops.specs.RoomPins.{HadMoment};
 ghost use Rattle.point_ops.specs.Halting.{Halts};
 ghost use Rattle.point_ops.specs.LonePuts.{PutsIn, PutsUnder};
 ghost use Rattle.point_ops.specs.Parts.{Answers, KeepsUnder, WroteFits};
-ghost use Rattle.point_ops.specs.Counted.{times_done};
+ghost use Rattle.point_ops.specs.Counted.{Feeds, times_done};
 ghost use Rattle.oak_core.specs.AloneWords.{Runs};
 ghost use Rattle.chunk_ops.specs.Latching.{Never};
 ghost use Rattle.point_ops.specs.Replies.{Refuses};
@@ -80,6 +80,7 @@ fn compute_pinned(
     ensures busy { IfErr result (λ why. why ≡ halts.Busy) }
     ensures alone { IfErr result (λ _. Runs Never (state pass.old) (state pass.new)) }
     ensures counted { calls recipe.new ≡ calls recipe.old + times_done result }
+    ensures fed { Feeds result key.now (fed recipe.old) (fed recipe.new) (state pass.new) }
     ensures told { (told_kind recipe.new ≡ told_kind recipe.old) × (told_argument recipe.new ≡ told_argument recipe.old) }
 {
     match look_up(table, pass, pin, key) {
@@ -99,9 +100,10 @@ fn compute_pinned(
     }
 }
 
-/// Computes the value of a key anew: `Done` where it was present, by exactly one call of the recipe, whose
-/// count is as before in every other case, and `Absent` where it was not, with a number at whose place it
-/// was. It is refused only with `Busy` and `Moved`, with the causes of [`try_put`](crate::try_put), and never
+/// Computes the value of a key anew: `Done` where it was present, by exactly one call of the recipe on the
+/// bytes that the key held right before the write, and `Absent` where it was not, with a number at whose
+/// place it was. The recipe's count, and what it says of the bytes that it was fed, are as before in every
+/// case but `Done`. It is refused only with `Busy` and `Moved`, with the causes of [`try_put`](crate::try_put), and never
 /// where the pass is alone. The pass holds nothing, and made no write in this turn.
 pub fn try_compute(
     table: &OakTable,
@@ -124,6 +126,7 @@ pub fn try_compute(
     ensures either { IfErr result (λ why. (why ≡ halts.Busy) ⊎ (why ≡ halts.Moved)) }
     ensures alone { IfErr result (λ _. Runs Never (state pass.old) (state pass.new)) }
     ensures counted { calls recipe.new ≡ calls recipe.old + times_done result }
+    ensures fed { Feeds result key.now (fed recipe.old) (fed recipe.new) (state pass.new) }
     ensures told { (told_kind recipe.new ≡ told_kind recipe.old) × (told_argument recipe.new ≡ told_argument recipe.old) }
 {
     let Ok(pin) = pin_for(table, pass, key, hint) else {
@@ -160,6 +163,7 @@ fn upsert_pinned(
     ensures halted { IfErr result (λ why. Halts why (sizes table.now) (call_of pass.old) key.now (Upsert value.now (told_kind recipe.old) (told_argument recipe.old)) (state pass.old) (state pass.new)) }
     ensures alone { Runs (PutsUnder result (sizes table.now) pin.now.room key.now value.now) (state pass.old) (state pass.new) }
     ensures counted { calls recipe.new ≡ calls recipe.old + times_done result }
+    ensures fed { Feeds result key.now (fed recipe.old) (fed recipe.new) (state pass.new) }
     ensures told { (told_kind recipe.new ≡ told_kind recipe.old) × (told_argument recipe.new ≡ told_argument recipe.old) }
 {
     let kind = upsert_kind(recipe);
@@ -182,7 +186,8 @@ fn upsert_pinned(
 }
 
 /// Computes the value of a key anew, as [`try_compute`] does, or inserts one where it was absent: `Done` or
-/// `New`. The recipe's count is one more exactly after `Done`. It is refused as [`try_put`](crate::try_put) is. The
+/// `New`. The recipe's count is one more exactly after `Done`, and then it was fed the bytes that the key held
+/// right before the write. It is refused as [`try_put`](crate::try_put) is. The
 /// pass holds nothing, and made no write in this turn.
 pub fn try_upsert(
     table: &OakTable,
@@ -207,6 +212,7 @@ pub fn try_upsert(
     ensures halted { IfErr result (λ why. Halts why (sizes table.now) (call_of pass.old) key.now (Upsert value.now (told_kind recipe.old) (told_argument recipe.old)) (state pass.old) (state pass.new)) }
     ensures alone { Runs (PutsIn result (sizes table.now) key.now value.now) (state pass.old) (state pass.new) }
     ensures counted { calls recipe.new ≡ calls recipe.old + times_done result }
+    ensures fed { Feeds result key.now (fed recipe.old) (fed recipe.new) (state pass.new) }
     ensures told { (told_kind recipe.new ≡ told_kind recipe.old) × (told_argument recipe.new ≡ told_argument recipe.old) }
 {
     let Ok(pin) = pin_for(table, pass, key, hint) else {

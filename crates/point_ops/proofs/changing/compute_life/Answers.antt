@@ -11,6 +11,7 @@ use Rattle.value_ops.specs.HeldValue.{words_in, value_held}
 use Rattle.value_ops.specs.UnderLock.{words_over}
 use Rattle.point_ops.proofs.LocksKept.{changed_writes}
 use Rattle.point_ops.proofs.NoLockFacts.{refused_by, refused_only}
+use Rattle.point_ops.proofs.RecipesFed.{replaced_by}
 use Rattle.point_ops.proofs.changing.compute_life.Goals as goal
 
 pub returns-in_err-locked-clause-only : goal.returns-in_err-locked-clause-only
@@ -43,3 +44,12 @@ returns-clause-alone_kept g c = let z : Sizes = sizes c.args.table.now in let h 
     round_alone z h c.args.generation c.requires.inside _ (applies_kept z h l.header header _ _) v u (state c.apply.new.pass) (state c.unlock.new.pass)
     (lock_whole z (call_of c.args.pass.now) h c.args.generation l.header l.generation v u header c.in_ok-locked.ensures.locked.2 c.in_ok-locked.ensures.has.0 c.in_ok-locked.ensures.alone) c.apply.ensures.alone
     c.apply.new.self.header c.apply.new.self.generation c.unlock.result (ap (λ o. o.header) same ∙ header) (ap (λ o. o.generation) same ∙ generation) c.unlock.ensures.alone
+
+-- what the recipe was fed
+pub returns-clause-fed : goal.returns-clause-fed
+unfolding returns-clause-wrote
+returns-clause-fed g c = λ k known. let r = c.apply.new.recipe in let locks = c.in_ok-locked.ensures.keys k known in let x = returns-clause-wrote g c k known in record {
+  bytes = locks.before;
+  held = replaced_by (call_of c.args.pass.now) k c.args.kind _ _ c.unlock.result (state c.args.pass.now) (state c.unlock.new.pass) x.1;
+  said = subst ((goal.Recipe-dyn g (r.vtable, r.value)).fed r.value) locks.value c.apply.ensures.fed;
+}

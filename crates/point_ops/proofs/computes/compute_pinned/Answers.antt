@@ -18,6 +18,7 @@ use Rattle.point_ops.specs.declared.halts.Halt.{Halt}
 use Rattle.point_ops.proofs.AnswerLaws.{dead_answer, dead_learns, out_or_rose}
 use Rattle.point_ops.proofs.Outcomes.{ok_map, err_map}
 use Rattle.point_ops.proofs.SpotLaws.{held_both, held_under, learned_held, looked_learns, rewrote, unlocked_busy}
+use Rattle.point_ops.proofs.RecipesFed.{feeds_none}
 use Rattle.point_ops.proofs.computes.compute_pinned.Goals as goal
 
 pub compute_life-requires-clause-kind : goal.compute_life-requires-clause-kind
@@ -58,3 +59,11 @@ pub returns-in-Err-Dead-clause-alone : goal.returns-in-Err-Dead-clause-alone
 returns-in-Err-Dead-clause-alone g c = of_each (Runs Never (state c.args.pass.now) (state c.absent_at.new.pass)) c.absent_at.result (never_then WordsStay Never (state c.args.pass.now) (state c.compute_life.new.pass) (state c.absent_at.new.pass)
     (lock_never (sizes c.args.table.now) c.args.pin.now.room c.in-Present.header c.in-Present.generation c.in-Present.entry c.args.key.now (state c.args.pass.now) (state c.look_up.new.pass) (state c.compute_life.new.pass)
     c.in-Present.ensures.alone c.in-Present.ensures.spot.has (c.look_up.ensures.under.headers ∙ c.requires.headers) c.in-Err-Dead.ensures.alone) c.absent_at.ensures.only.still)
+
+-- what the recipe was fed
+
+pub returns-in-Ok-clause-fed : goal.returns-in-Ok-clause-fed
+returns-in-Ok-clause-fed g c = c.in-Ok.ensures.fed c.args.key.now c.in-Present.ensures.spot.life
+
+pub returns-in-Err-Dead-clause-fed : goal.returns-in-Err-Dead-clause-fed
+returns-in-Err-Dead-clause-fed g c = feeds_none c.absent_at.result c.args.key.now _ _ (state c.absent_at.new.pass) c.absent_at.ensures.undone c.in-Err-Dead.ensures.unfed

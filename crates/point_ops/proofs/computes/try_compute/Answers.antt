@@ -6,6 +6,7 @@ use Rattle.chunk_ops.specs.AskedRanges.{CoversKey}
 use Rattle.point_ops.proofs.LoneAnswers.{all_same_alone, all_wrote_alone}
 use Rattle.point_ops.proofs.Outcomes.{ok_map, err_map}
 use Rattle.point_ops.proofs.PinnedCalls.{all_answers, all_halts, all_refuses}
+use Rattle.point_ops.proofs.RecipesFed.{feeds_until}
 use Rattle.point_ops.proofs.computes.try_compute.Goals as goal
 
 pub returns-clause-wrote : goal.returns-clause-wrote
@@ -38,3 +39,7 @@ returns-in_default-clause-alone g c = room_found (state c.args.pass.now) (state 
 
 pub returns-clause-alone : goal.returns-clause-alone
 returns-clause-alone g c = pinned_never (sizes c.args.table.now) c.in-Ok.pin.room (state c.args.pass.now) (state c.pin_for.new.pass) (state c.compute_pinned-wrote.new.pass) (state c.unpin.new.pass) c.in-Ok.ensures.pinned.still c.unpin.ensures.unpinned.still c.compute_pinned-wrote.result c.compute_pinned-wrote.ensures.alone
+
+-- what the recipe was fed
+pub returns-clause-fed : goal.returns-clause-fed
+returns-clause-fed g c = feeds_until c.compute_pinned-wrote.result c.args.key.now _ _ (state c.compute_pinned-wrote.new.pass) (state c.unpin.new.pass) c.unpin.ensures.unpinned.stands.knowledge c.compute_pinned-wrote.ensures.fed

@@ -7,6 +7,7 @@ use Rattle.point_ops.proofs.Outcomes.{ok_map, err_map}
 use Rattle.point_ops.proofs.PinnedCalls.{all_answers, all_halts, all_refuses}
 use Rattle.point_ops.proofs.LoneCalls.{room_found, room_never}
 use Rattle.point_ops.proofs.LonePins.{pinned_puts}
+use Rattle.point_ops.proofs.RecipesFed.{feeds_until}
 use Rattle.point_ops.proofs.computes.try_upsert.Goals as goal
 
 pub returns-clause-wrote : goal.returns-clause-wrote
@@ -44,3 +45,7 @@ returns-in_default-clause-alone g c = room_found (state c.args.pass.now) (state 
 pub returns-clause-alone : goal.returns-clause-alone
 returns-clause-alone g c = pinned_puts (sizes c.args.table.now) c.in-Ok.pin.room c.args.key.now c.args.value.now (state c.args.pass.now) (state c.pin_for.new.pass) (state c.upsert_pinned-wrote.new.pass) (state c.unpin.new.pass)
     c.in-Ok.ensures.pinned.has.inside c.in-Ok.ensures.pinned.still c.unpin.ensures.unpinned.still c.upsert_pinned-wrote.result c.upsert_pinned-wrote.ensures.alone
+
+-- what the recipe was fed
+pub returns-clause-fed : goal.returns-clause-fed
+returns-clause-fed g c = feeds_until c.upsert_pinned-wrote.result c.args.key.now _ _ (state c.upsert_pinned-wrote.new.pass) (state c.unpin.new.pass) c.unpin.ensures.unpinned.stands.knowledge c.upsert_pinned-wrote.ensures.fed

@@ -60,3 +60,7 @@ returns-in-Ok-compute_life-clause-alone g c = let z = sizes c.args.table.now in 
 pub returns-in-Err-compute_life-clause-alone : goal.returns-in-Err-compute_life-clause-alone
 returns-in-Err-compute_life-clause-alone g c = lock_refused (sizes c.args.table.now) c.args.pin.now.room c.in-Present.header c.in-Present.generation c.in-Present.entry c.args.key.now c.args.value.now Busy (state c.args.pass.now) (state c.look_up.new.pass) (state c.compute_life.new.pass)
     c.in-Present.ensures.alone c.in-Present.ensures.spot.has (c.look_up.ensures.under.headers ∙ c.requires.headers) c.in-Err-compute_life.ensures.alone
+
+-- what the recipe was fed
+pub returns-in-Ok-compute_life-clause-fed : goal.returns-in-Ok-compute_life-clause-fed
+returns-in-Ok-compute_life-clause-fed g c = c.in-Ok-compute_life.ensures.fed c.args.key.now c.in-Present.ensures.spot.life
