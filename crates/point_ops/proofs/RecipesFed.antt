@@ -1,21 +1,26 @@
 -- What a recipe says of what it was fed, through the parts of a call.
-use Rattle.std.proofs.Common.{◌≡◌, ℕ, ◌-◌, List, length, Result, Ok, Err, Some, sym, ◌∙◌, subst}
+use Rattle.std.proofs.Common.{◌≡◌, ℕ, ◌-◌, List, length, Result, Ok, Err, Some, true, ◌++◌, ◌∷◌, [], sym, ◌∙◌, subst, IfOk}
 use Rattle.oak_model.specs.declared.replies.Wrote.{Wrote}
 use Rattle.oak_model.specs.declared.replies.Wrote.TheVariants.{New, Over, Kept, Done, Removed, Absent, Full}
 use Rattle.oak_model.specs.declared.writes.Kind.{Kind}
+use Rattle.oak_model.specs.declared.cells.CellCall.{CellCall}
+use Rattle.oak_model.specs.Limits.{Sizes}
 use Rattle.oak_model.specs.History.{state_at}
 use Rattle.oak_model.specs.State.{State}
 use Rattle.oak_core.specs.declared.states.KeyedWrite.{KeyedWrite}
 use Rattle.oak_core.specs.declared.states.Knowledge.{Knowledge}
 use Rattle.oak_core.specs.declared.states.PassState.{PassState}
 use Rattle.oak_core.specs.KeyHistories.{writes_of}
-use Rattle.oak_core.specs.PassState.{seen_of}
+use Rattle.oak_core.specs.PassState.{Extends, IsAlone, seen_of}
 use Rattle.oak_model.specs.KeyNumber.{key_number}
 use Rattle.value_ops.specs.Recipes.{SaysTheSame}
-use Rattle.point_ops.specs.Counted.{FedReplaced, Feeds, state_replaced, times_done}
-use Rattle.point_ops.specs.Parts.{WritesAt}
+use Rattle.point_ops.specs.Counted.{FedLast, FedReplaced, Feeds, FeedsAlone, state_replaced, times_done}
+use Rattle.point_ops.specs.LoneReplies.{SeesWhole, WroteAlone}
+use Rattle.point_ops.specs.Parts.{WritesAt, WroteFits}
+use Rattle.point_ops.specs.Replies.{MineAfter}
 use Rattle.point_ops.specs.declared.halts.Halt.{Halt}
 use Rattle.point_ops.proofs.LoneAnswers.{state_before}
+use Rattle.point_ops.proofs.LoneHistories.{seen_wrote}
 
 pub says_same : (says : List ℕ → Type 0) → SaysTheSame says says
 says_same says = λ bytes. (λ p. p, λ p. p)
@@ -59,3 +64,24 @@ feeds_since (Ok (Removed at)) key was then now w s f = says_both was then now s 
 feeds_since (Ok (Absent at)) key was then now w s f = says_both was then now s f
 feeds_since (Ok (Full lack)) key was then now w s f = says_both was then now s f
 feeds_since (Err why) key was then now w s f = says_both was then now s f
+
+-- ---- to a pass that is alone
+
+-- a write of the call replaced what the pass had seen last of the key
+pub fed_last : (z : Sizes) (call : ℕ) (key : List ℕ) (at : ℕ) (now : List ℕ → Type 0) (v w : PassState) → IsAlone v → SeesWhole z v → w.numbers ≡ v.numbers → Extends v w → SeesWhole z w → MineAfter true call (key_number key) at v w → FedReplaced key now w → FedLast key now v
+fed_last z call key at now v w alone begun numbers seen ended mine f = record {
+  bytes = f.bytes;
+  held = sym (state_before (seen_of (key_number key) v.knowledge) mine.0) ∙ subst (λ (l : List KeyedWrite). state_at (writes_of l) (length l - 1) ≡ Some f.bytes)
+      (seen_wrote z v w alone begun numbers seen ended (key_number key) mine.0 mine.1 mine.2.0 mine.2.1) f.held;
+  said = f.said;
+}
+
+pub feeds_alone : (y : Result Wrote Halt) (z : Sizes) (call : ℕ) (key : List ℕ) (ask : CellCall) (was now : List ℕ → Type 0) (v w : PassState) → IsAlone v → IfOk y (λ x. WroteFits x call key ask v w) → IfOk y (λ x. IsAlone v → WroteAlone x z key ask v w) → Feeds y key was now w → FeedsAlone y key now v
+feeds_alone (Ok (New at)) z call key ask was now v w alone r a f = tt
+feeds_alone (Ok (Over at)) z call key ask was now v w alone r a f = tt
+feeds_alone (Ok (Kept at)) z call key ask was now v w alone r a f = tt
+feeds_alone (Ok (Done at)) z call key ask was now v w alone r a f = fed_last z call key at now v w alone (a alone).begun r.holds.numbers r.goes.seen (a alone).ended r.mine f
+feeds_alone (Ok (Removed at)) z call key ask was now v w alone r a f = tt
+feeds_alone (Ok (Absent at)) z call key ask was now v w alone r a f = tt
+feeds_alone (Ok (Full lack)) z call key ask was now v w alone r a f = tt
+feeds_alone (Err why) z call key ask was now v w alone r a f = tt

@@ -6,7 +6,7 @@ use Rattle.oak_model.specs.History.{state_at}
 use Rattle.oak_model.specs.KeyNumber.{key_number}
 use Rattle.oak_model.specs.State.{State}
 use Rattle.oak_core.specs.declared.states.PassState.{PassState}
-use Rattle.oak_core.specs.KeyHistories.{writes_of}
+use Rattle.oak_core.specs.KeyHistories.{state_behind, writes_of}
 use Rattle.oak_core.specs.PassState.{seen_of}
 use Rattle.value_ops.specs.Recipes.{SaysTheSame}
 use Rattle.point_ops.specs.declared.halts.Halt.{Halt}
@@ -42,3 +42,20 @@ Feeds (Ok (Removed at)) key was now w = SaysTheSame was now
 Feeds (Ok (Absent at)) key was now w = SaysTheSame was now
 Feeds (Ok (Full lack)) key was now w = SaysTheSame was now
 Feeds (Err why) key was now w = SaysTheSame was now
+
+-- The key held bytes behind all that the pass had seen of it, and what a recipe says of the bytes that it was fed is true of them.
+pub record FedLast (key : List ℕ) (says : List ℕ → Type 0) (v : PassState) : Type 0 where
+  pub bytes : List ℕ
+  pub held : state_behind (seen_of (key_number key) v.knowledge) ≡ Some bytes
+  pub said : says bytes
+
+-- to a pass that is alone, and that had seen all of the key at the call
+abbrev pub FeedsAlone : Result Wrote Halt → List ℕ → (List ℕ → Type 0) → PassState → Type 0
+FeedsAlone (Ok (Done at)) key now v = FedLast key now v
+FeedsAlone (Ok (New at)) key now v = Unit {0}
+FeedsAlone (Ok (Over at)) key now v = Unit {0}
+FeedsAlone (Ok (Kept at)) key now v = Unit {0}
+FeedsAlone (Ok (Removed at)) key now v = Unit {0}
+FeedsAlone (Ok (Absent at)) key now v = Unit {0}
+FeedsAlone (Ok (Full lack)) key now v = Unit {0}
+FeedsAlone (Err why) key now v = Unit {0}

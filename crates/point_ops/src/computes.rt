@@ -17,7 +17,7 @@ ghost use Rattle.chunk_ops.specs.RoomPins.{HadMoment};
 ghost use Rattle.point_ops.specs.Halting.{Halts};
 ghost use Rattle.point_ops.specs.LonePuts.{PutsIn, PutsUnder};
 ghost use Rattle.point_ops.specs.Parts.{Answers, KeepsUnder, WroteFits};
-ghost use Rattle.point_ops.specs.Counted.{Feeds, times_done};
+ghost use Rattle.point_ops.specs.Counted.{Feeds, FeedsAlone, times_done};
 ghost use Rattle.oak_core.specs.AloneWords.{Runs};
 ghost use Rattle.chunk_ops.specs.Latching.{Never};
 ghost use Rattle.point_ops.specs.Replies.{Refuses};
@@ -127,6 +127,7 @@ pub fn try_compute(
     ensures alone { IfErr result (λ _. Runs Never (state pass.old) (state pass.new)) }
     ensures counted { calls recipe.new ≡ calls recipe.old + times_done result }
     ensures fed { Feeds result key.now (fed recipe.old) (fed recipe.new) (state pass.new) }
+    ensures alone_fed { IsAlone (state pass.old) → FeedsAlone result key.now (fed recipe.new) (state pass.old) }
     ensures told { (told_kind recipe.new ≡ told_kind recipe.old) × (told_argument recipe.new ≡ told_argument recipe.old) }
 {
     let Ok(pin) = pin_for(table, pass, key, hint) else {
@@ -213,6 +214,7 @@ pub fn try_upsert(
     ensures alone { Runs (PutsIn result (sizes table.now) key.now value.now) (state pass.old) (state pass.new) }
     ensures counted { calls recipe.new ≡ calls recipe.old + times_done result }
     ensures fed { Feeds result key.now (fed recipe.old) (fed recipe.new) (state pass.new) }
+    ensures alone_fed { IsAlone (state pass.old) → FeedsAlone result key.now (fed recipe.new) (state pass.old) }
     ensures told { (told_kind recipe.new ≡ told_kind recipe.old) × (told_argument recipe.new ≡ told_argument recipe.old) }
 {
     let Ok(pin) = pin_for(table, pass, key, hint) else {

@@ -6,7 +6,7 @@ use Rattle.chunk_ops.specs.AskedRanges.{CoversKey}
 use Rattle.point_ops.proofs.LoneAnswers.{all_same_alone, all_wrote_alone}
 use Rattle.point_ops.proofs.Outcomes.{ok_map, err_map}
 use Rattle.point_ops.proofs.PinnedCalls.{all_answers, all_halts, all_refuses}
-use Rattle.point_ops.proofs.RecipesFed.{feeds_until}
+use Rattle.point_ops.proofs.RecipesFed.{feeds_alone, feeds_until}
 use Rattle.point_ops.proofs.computes.try_compute.Goals as goal
 
 pub returns-clause-wrote : goal.returns-clause-wrote
@@ -43,3 +43,7 @@ returns-clause-alone g c = pinned_never (sizes c.args.table.now) c.in-Ok.pin.roo
 -- what the recipe was fed
 pub returns-clause-fed : goal.returns-clause-fed
 returns-clause-fed g c = feeds_until c.compute_pinned-wrote.result c.args.key.now _ _ (state c.compute_pinned-wrote.new.pass) (state c.unpin.new.pass) c.unpin.ensures.unpinned.stands.knowledge c.compute_pinned-wrote.ensures.fed
+
+pub returns-clause-alone_fed : goal.returns-clause-alone_fed
+returns-clause-alone_fed g c = let o = c.args.recipe.now in let k = (goal.Recipe-dyn g (o.vtable, o.value)).told_kind o.value in let n = (goal.Recipe-dyn g (o.vtable, o.value)).told_argument o.value in λ alone. feeds_alone c.compute_pinned-wrote.result (sizes c.args.table.now) (call_of c.args.pass.now) c.args.key.now (Compute k n) _ _ (state c.args.pass.now) (state c.unpin.new.pass) alone
+    (returns-clause-wrote g c) (returns-clause-alone_reply g c) (returns-clause-fed g c)
