@@ -25,6 +25,7 @@ mod FullAnswers
 mod LonePutCalls
 mod ReplyAnswers
 mod ReplyWords
+mod RecipesFed
 mod FoundValues
 mod FoundLives
 mod LentValues

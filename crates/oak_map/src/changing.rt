@@ -6,7 +6,7 @@ ghost use Rattle.oak_core.specs.MayWrite.{IsNewCall};
 ghost use Rattle.oak_core.specs.Passes.{Stays};
 ghost use Rattle.oak_core.specs.PassState.{IsAlone};
 ghost use Rattle.oak_core.specs.Scratch.{StaysButScratch};
-ghost use Rattle.point_ops.specs.Counted.{times_done};
+ghost use Rattle.point_ops.specs.Counted.{Feeds, FeedsAlone, times_done};
 ghost use Rattle.point_ops.specs.LoneReplies.{WroteAlone};
 ghost use Rattle.point_ops.specs.Parts.{WroteFits};
 ghost use Rattle.point_ops.specs.Replies.{HoldsAsBefore};
@@ -20,9 +20,10 @@ use std::thread;
 use value_ops::Recipe;
 
 impl OakMap {
-    /// Computes the value of a key anew: `Done` where it was present, by exactly one call of the recipe, whose
-    /// count is as before where it was not, and `Absent` there, with a number at whose place it was. It is
-    /// tried again while other passes are at work on the key or move its room. Where the pass is alone, the
+    /// Computes the value of a key anew: `Done` where it was present, by exactly one call of the recipe on the
+    /// bytes that the key held right before the write; and `Absent` where it was not, with a number at whose
+    /// place it was. There the recipe's count, and what it says of the bytes that it was fed, are as before. It
+    /// is tried again while other passes are at work on the key or move its room. Where the pass is alone, the
     /// answer is the cell's on the last state of the key. The pass made no write in this turn.
     pub fn compute<R: Wait>(
         &self,
@@ -41,6 +42,8 @@ impl OakMap {
         ensures wrote { WroteFits result (call_of pass.old) key.now (Compute (told_kind recipe.old) (told_argument recipe.old)) (state pass.old) (state pass.new) }
         ensures alone_reply { IsAlone (state pass.old) → WroteAlone result (sizes self.now) key.now (Compute (told_kind recipe.old) (told_argument recipe.old)) (state pass.old) (state pass.new) }
         ensures counted { calls recipe.new ≡ calls recipe.old + times_done (Ok result) }
+        ensures fed { Feeds (Ok result) key.now (fed recipe.old) (fed recipe.new) (state pass.new) }
+        ensures alone_fed { IsAlone (state pass.old) → FeedsAlone (Ok result) key.now (fed recipe.new) (state pass.old) }
         ensures told { (told_kind recipe.new ≡ told_kind recipe.old) × (told_argument recipe.new ≡ told_argument recipe.old) }
     {
         for _ in rt.forever() {

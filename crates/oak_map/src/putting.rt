@@ -7,7 +7,7 @@ ghost use Rattle.oak_core.specs.AloneWords.{Runs};
 ghost use Rattle.oak_core.specs.MayWrite.{IsNewCall};
 ghost use Rattle.oak_core.specs.PassState.{IsAlone};
 ghost use Rattle.oak_core.specs.Scratch.{StaysButSlots};
-ghost use Rattle.point_ops.specs.Counted.{times_done};
+ghost use Rattle.point_ops.specs.Counted.{Feeds, FeedsAlone, times_done};
 ghost use Rattle.oak_map.specs.LonePuts.{PutAlone, PutsAlone};
 ghost use Rattle.oak_map.specs.Maps.{IsReady, call_of, pass_of, sizes, state};
 ghost use Rattle.oak_map.specs.Putting.{StaysButRoom};
@@ -100,8 +100,8 @@ impl OakMap {
     }
 
     /// Computes the value of a key anew, as [`OakMap::compute`] does, or puts one where it was absent:
-    /// `Done` or `New`. The recipe's count is one more exactly after `Done`. It is tried again, and answers
-    /// `Full`, as [`OakMap::put`] does.
+    /// `Done` or `New`. The recipe's count is one more exactly after `Done`, and then it was fed the bytes that
+    /// the key held right before the write. It is tried again, and answers `Full`, as [`OakMap::put`] does.
     pub fn upsert<R: Wait>(
         &self,
         rt: &R,
@@ -121,6 +121,8 @@ impl OakMap {
         ensures alone_reply { IsAlone (state pass.old) → PutAlone result (sizes self.now) key.now (Upsert value.now (told_kind recipe.old) (told_argument recipe.old)) (state pass.old) (state pass.new) }
         ensures alone { Runs (PutsAlone (sizes self.now) key.now (Upsert value.now (told_kind recipe.old) (told_argument recipe.old)) (state pass.old) result) (state pass.old) (state pass.new) }
         ensures counted { calls recipe.new ≡ calls recipe.old + times_done (Ok result) }
+        ensures fed { Feeds (Ok result) key.now (fed recipe.old) (fed recipe.new) (state pass.new) }
+        ensures alone_fed { IsAlone (state pass.old) → FeedsAlone (Ok result) key.now (fed recipe.new) (state pass.old) }
         ensures told { (told_kind recipe.new ≡ told_kind recipe.old) × (told_argument recipe.new ≡ told_argument recipe.old) }
     {
         let mut settled = false;

@@ -1,4 +1,4 @@
-use Rattle.std.proofs.Common.{ℕ, subst, arith}
+use Rattle.std.proofs.Common.{ℕ, Ok, subst, arith}
 use Rattle.oak_model.specs.declared.cells.CellCall.{CellCall}
 use Rattle.oak_model.specs.declared.cells.CellCall.TheVariants.{Compute}
 use Rattle.oak_model.specs.declared.recipes.RecipeKind.{RecipeKind}
@@ -10,6 +10,7 @@ use Rattle.point_ops.specs.Replies.{Refuses}
 use Rattle.oak_map.specs.Maps.{call_of, pass_of, sizes, state}
 use Rattle.oak_map.proofs.LoneRetries.{lone_since, waits_again}
 use Rattle.oak_map.proofs.RepliesSince.{compute_same, holds_both, refuses_both, same_both, wrote_holds, wrote_since}
+use Rattle.point_ops.proofs.RecipesFed.{feeds_alone, feeds_since, says_both}
 use Rattle.oak_map.proofs.SameScratch.{scratch_both}
 use Rattle.oak_map.proofs.map.OakMap.compute.Goals as goal
 
@@ -40,4 +41,16 @@ loop-preserved g c = let call = call_of c.args.pass.now in let u = state c.args.
       counted = let e = c.in_default.ensures.counted in let f = i.counted in omega arith;
       kind = same_both RecipeKind (t.told_kind next.value) (y.told_kind now.value) (x.told_kind first.value) c.try_compute.ensures.told.0 i.kind;
       argument = same_both ℕ (t.told_argument next.value) (y.told_argument now.value) (x.told_argument first.value) c.try_compute.ensures.told.1 i.argument;
+      fed = says_both (x.fed first.value) (y.fed now.value) (t.fed next.value) i.fed c.in_default.ensures.fed;
     }
+
+-- what the recipe was fed
+
+pub returns-in-Ok-clause-fed : goal.returns-in-Ok-clause-fed
+returns-in-Ok-clause-fed g c = let first = c.args.recipe.now in let now = c.loop.recipe in let next = c.try_compute.new.recipe in let x = goal.Recipe-dyn g (first.vtable, first.value) in let y = goal.Recipe-dyn g (now.vtable, now.value) in let t = goal.Recipe-dyn g (next.vtable, next.value) in
+    feeds_since (Ok c.in-Ok.wrote) c.args.key.now (x.fed first.value) (y.fed now.value) (t.fed next.value) (table_state c.try_compute.new.pass) c.loop.invariant.fed c.in-Ok.ensures.fed
+
+pub returns-in-Ok-clause-alone_fed : goal.returns-in-Ok-clause-alone_fed
+returns-in-Ok-clause-alone_fed g c = let first = c.args.recipe.now in let now = c.loop.recipe in let next = c.try_compute.new.recipe in let x = goal.Recipe-dyn g (first.vtable, first.value) in let y = goal.Recipe-dyn g (now.vtable, now.value) in let t = goal.Recipe-dyn g (next.vtable, next.value) in λ alone.
+    feeds_alone (Ok c.in-Ok.wrote) (sizes c.args.self.now) (call_of c.args.pass.now) c.args.key.now (Compute (x.told_kind first.value) (x.told_argument first.value)) (x.fed first.value) (t.fed next.value) (state c.args.pass.now) (table_state c.try_compute.new.pass) alone
+    (returns-in-Ok-clause-wrote g c) (returns-in-Ok-clause-alone_reply g c) (returns-in-Ok-clause-fed g c)

@@ -1,4 +1,4 @@
-use Rattle.std.proofs.Common.{ℕ, refl, ◌∙◌, subst, arith}
+use Rattle.std.proofs.Common.{ℕ, Ok, refl, ◌∙◌, subst, arith}
 use Rattle.oak_model.specs.declared.cells.CellCall.{CellCall}
 use Rattle.oak_model.specs.declared.cells.CellCall.TheVariants.{Upsert}
 use Rattle.oak_model.specs.declared.recipes.RecipeKind.{RecipeKind}
@@ -19,6 +19,8 @@ use Rattle.oak_map.proofs.LonePutCalls.{idle_behind, lone_first, put_gives_up, p
 use Rattle.oak_map.proofs.ReplyAnswers.{replied_alone}
 use Rattle.oak_map.proofs.ReplyWords.{replied_words}
 use Rattle.oak_map.proofs.RepliesSince.{same_both, upsert_same}
+use Rattle.point_ops.proofs.RecipesFed.{feeds_since, says_both, says_same}
+use Rattle.oak_map.proofs.RecipesFed.{put_feeds_alone}
 use Rattle.oak_map.proofs.SameScratch.{room_then}
 use Rattle.oak_map.proofs.map.OakMap.upsert.Goals as goal
 
@@ -64,6 +66,7 @@ loop-preserved g c = let z = sizes c.args.self.now in let key = c.args.key.now i
       counted = let a = e.counted in let b = i.counted in omega arith;
       kind = same_both RecipeKind (t.told_kind next.value) (y.told_kind now.value) (x.told_kind first.value) c.try_upsert.ensures.told.0 i.kind;
       argument = same_both ℕ (t.told_argument next.value) (y.told_argument now.value) (x.told_argument first.value) c.try_upsert.ensures.told.1 i.argument;
+      fed = says_both (x.fed first.value) (y.fed now.value) (t.fed next.value) i.fed e.fed;
       lone = let same = upsert_same c.args.value.now (y.told_kind now.value) (x.told_kind first.value) (y.told_argument now.value) (x.told_argument first.value) i.kind i.argument in let is = is_key-of key c.requires.key (slice_bytes key c.type_inv.key) in let idle = idle_behind (call_of c.loop.pass) (call_of c.args.pass.now) c.loop.settled u v w c.requires.ready.idle i.going e.refused in
           put_goes_on z (call_of c.loop.pass) key c.args.value.now (Upsert c.args.value.now (x.told_kind first.value) (x.told_argument first.value)) c.in-Err.halt c.loop.settled u v w is refl i.going.tries.holds.numbers e.refused.holds.numbers idle i.lone e.alone_same (subst (λ (a : CellCall). Halts c.in-Err.halt z (call_of c.loop.pass) key a v w) same e.halted) e.alone (table_call c.try_upsert.new.pass) c.make_way.new.settled (table_state c.make_way.new.pass) c.in_default.ensures.way;
     }
@@ -79,6 +82,7 @@ loop-init g c = let first = c.args.recipe.now in let x = goal.Recipe-dyn g (firs
   counted = refl;
   kind = refl;
   argument = refl;
+  fed = says_same (x.fed first.value);
 }
 
 pub returns-in-Some-make_way-clause-alone_reply : goal.returns-in-Some-make_way-clause-alone_reply
@@ -109,3 +113,18 @@ returns-in-Ok-clause-alone g c = let z = sizes c.args.self.now in let call = cal
     let answer : IsAlone v → WroteAlone c.in-Ok.wrote z key ask v w = λ alone. subst (λ (a : CellCall). WroteAlone c.in-Ok.wrote z key a v w) same (e.alone_reply alone) in
     replied_words z call (call_of c.args.pass.now) key c.args.value.now ask c.loop.settled u v w c.in-Ok.wrote (is_key-of key c.requires.key (slice_bytes key c.type_inv.key)) c.requires.ready.idle i.going i.lone
     (subst (λ (a : CellCall). WroteFits c.in-Ok.wrote call key a v w) same e.wrote) answer e.ended e.alone
+
+-- what the recipe was fed
+
+pub returns-in-Ok-clause-fed : goal.returns-in-Ok-clause-fed
+returns-in-Ok-clause-fed g c = let first = c.args.recipe.now in let now = c.loop.recipe in let next = c.try_upsert.new.recipe in let x = goal.Recipe-dyn g (first.vtable, first.value) in let y = goal.Recipe-dyn g (now.vtable, now.value) in let t = goal.Recipe-dyn g (next.vtable, next.value) in
+    feeds_since (Ok c.in-Ok.wrote) c.args.key.now (x.fed first.value) (y.fed now.value) (t.fed next.value) (table_state c.try_upsert.new.pass) c.loop.invariant.fed c.in-Ok.ensures.fed
+
+pub returns-in-Ok-clause-alone_fed : goal.returns-in-Ok-clause-alone_fed
+returns-in-Ok-clause-alone_fed g c = let first = c.args.recipe.now in let now = c.loop.recipe in let next = c.try_upsert.new.recipe in let x = goal.Recipe-dyn g (first.vtable, first.value) in let y = goal.Recipe-dyn g (now.vtable, now.value) in let t = goal.Recipe-dyn g (next.vtable, next.value) in λ alone.
+    put_feeds_alone c.in-Ok.wrote (sizes c.args.self.now) (call_of c.args.pass.now) c.args.key.now (Upsert c.args.value.now (x.told_kind first.value) (x.told_argument first.value)) (x.fed first.value) (t.fed next.value) (state c.args.pass.now) (table_state c.try_upsert.new.pass) alone
+    (returns-in-Ok-clause-wrote g c) (returns-in-Ok-clause-alone_reply g c) (returns-in-Ok-clause-fed g c)
+
+pub returns-in-Some-make_way-clause-fed : goal.returns-in-Some-make_way-clause-fed
+returns-in-Some-make_way-clause-fed g c = let first = c.args.recipe.now in let now = c.loop.recipe in let next = c.try_upsert.new.recipe in let x = goal.Recipe-dyn g (first.vtable, first.value) in let y = goal.Recipe-dyn g (now.vtable, now.value) in let t = goal.Recipe-dyn g (next.vtable, next.value) in
+    says_both (x.fed first.value) (y.fed now.value) (t.fed next.value) c.loop.invariant.fed c.in-Err.ensures.fed
