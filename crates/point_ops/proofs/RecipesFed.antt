@@ -1,5 +1,5 @@
 -- What a recipe says of what it was fed, through the parts of a call.
-use Rattle.std.proofs.Common.{◌≡◌, ℕ, ◌-◌, List, length, Result, Ok, Err, Some, true, ◌++◌, ◌∷◌, [], sym, ◌∙◌, subst, IfOk}
+use Rattle.std.proofs.Common.{◌≡◌, ℕ, ◌-◌, List, length, Result, Ok, Err, Some, true, sym, ◌∙◌, subst, IfOk}
 use Rattle.oak_model.specs.declared.replies.Wrote.{Wrote}
 use Rattle.oak_model.specs.declared.replies.Wrote.TheVariants.{New, Over, Kept, Done, Removed, Absent, Full}
 use Rattle.oak_model.specs.declared.writes.Kind.{Kind}

@@ -14,6 +14,8 @@ mod readers;
 mod reading;
 #[cfg(test)]
 mod reading_tests;
+#[cfg(test)]
+mod recipe_tests;
 mod recipes;
 mod rewriting;
 mod views;
