@@ -176,13 +176,14 @@ module _ (z : Sizes) (call : ℕ) (key : List ℕ) (u v w t : PassState) (a : Le
     r = f.r;
     step = step_in z call _ u v w t a.met b.met f.step;
     full = f.full;
+    covers = f.covers;
     none = f.none;
     base = f.base;
     absent = record { read = read_in f.base None f.absent.read; sighted = bare_in call u v w t a.sights b.sights (key_number key) f.base f.absent.sighted };
   }
 
   pub entry_in : EntryChanged z call key v w → EntryChanged z call key u t
-  entry_in f = record { r = f.r; i = f.i; floor = f.floor; found = set_in call u v w t a.met b.met z f.r f.i f.floor key f.found; sighted = sighted_in call u v w t a.sights b.sights (key_number key) f.floor f.sighted }
+  entry_in f = record { r = f.r; i = f.i; floor = f.floor; found = set_in call u v w t a.met b.met z f.r f.i f.floor key f.found; sighted = sighted_in call u v w t a.sights b.sights (key_number key) f.floor f.sighted; read = read_in f.floor None f.read }
 
   needs_with : (at : ℕ) (lack : Lack) (s s' : State) → Needs lack key s s' (SightedBare call (key_number key) at v w) → Needs lack key s s' (SightedBare call (key_number key) at u t)
   needs_with at (Block c) s s' (inl n) = inl n

@@ -9,6 +9,7 @@ use Rattle.arena_core.specs.HeldBlocks.{no_blocks}
 use Rattle.chunk_core.specs.declared.holds.FoundEntry.{FoundEntry}
 use Rattle.chunk_core.specs.declared.holds.PinnedRoom.{PinnedRoom}
 use Rattle.chunk_core.specs.declared.holds.RoomHolds.{RoomHolds}
+use Rattle.chunk_core.specs.KeyWords.{low_number, high_number}
 use Rattle.chunk_core.specs.PinnedRooms.{found_key, span_of}
 use Rattle.oak_core.specs.declared.states.PassState.{PassState}
 use Rattle.oak_core.specs.CallSteps.{Learns, Stands}
@@ -18,7 +19,7 @@ use Rattle.chunk_ops.specs.declared.entries.AddHalt.{AddHalt}
 use Rattle.chunk_ops.specs.declared.entries.AddHalt.TheVariants as adds
 use Rattle.chunk_ops.specs.Adds.{AddsEntry, FoundCrowded, FoundLatched, MayAdd, NotAddedBy}
 use Rattle.chunk_ops.specs.AskedRanges.{CoversKey}
-use Rattle.chunk_ops.specs.PinRecords.{PinKept, UnderPin, pin_or, room_pin}
+use Rattle.chunk_ops.specs.PinRecords.{PinKept, PinStays, UnderPin, pin_or, room_pin}
 use Rattle.value_ops.specs.OneHeader.{IsOneBlock}
 use Rattle.value_ops.proofs.OneHeaderLaws.{without_block}
 use Rattle.point_ops.specs.Halting.{RoomCrowded, RoomLatched}
@@ -30,12 +31,17 @@ use Rattle.point_ops.proofs.PartsMade.{back_stands, back_blocks, back_headers, b
 under_since : (z : Sizes) (r : ℕ) (a b d : RoomHolds) → b ≡ a → PinKept z r b d → PinKept z r a d
 under_since z r a b d same k = subst (λ (x : RoomHolds). PinKept z r x d) same k
 
+-- a pin keeps its range
+same_span : (p q : PinnedRoom) → PinStays p q → span_of q ≡ span_of p
+same_span p q s = ap (λ (l : List ℕ). record { low = low_number l; high = high_number q.high; base = q.base }) s.low ∙ (ap (λ (l : List ℕ). record { low = low_number p.low; high = high_number l; base = q.base }) s.high ∙ ap (λ (b : ℕ). record { low = low_number p.low; high = high_number p.high; base = b }) s.base)
+
 -- why no entry was added, as a cause of the call that wants one
-crowded_cause : (z : Sizes) (call r : ℕ) (key : List ℕ) (v w : PassState) → FoundCrowded z call r key v w → RoomCrowded z call key v w
-crowded_cause z call r key v w f = record {
+crowded_cause : (z : Sizes) (call r : ℕ) (key : List ℕ) (v w : PassState) → CoversKey key (span_of (room_pin w)) → FoundCrowded z call r key v w → RoomCrowded z call key v w
+crowded_cause z call r key v w covers f = record {
   r = r;
   step = f.counted.step;
   full = f.full;
+  covers = subst (λ (o : Option PinnedRoom). CoversKey key (span_of (pin_or o))) f.counted.pin covers;
   none = subst (λ (o : Option PinnedRoom). (e : FoundEntry) → Has e (pin_or o).entries → found_key e ≢ key_number key) f.counted.pin f.none;
   base = (room_pin v).base;
   absent = f.absent.absent;
@@ -92,5 +98,5 @@ module _ (z : Sizes) (call r : ℕ) (c : Class) (b : ℕ) (key : List ℕ) (v u 
     }
 
     pub unadded_halts : CoversKey key (span_of (room_pin v)) → v.rooms.latch ≡ None → (why : AddHalt) → NotAddedBy why z at r key u w → AddingHalts (halt_of why) z call key v x
-    unadded_halts covers latch adds.Crowded f = crowded_in z call key v u w x made back (crowded_cause z call r key u w (subst (λ (k : ℕ). FoundCrowded z k r key u w) same f))
+    unadded_halts covers latch adds.Crowded f = crowded_in z call key v u w x made back (crowded_cause z call r key u w (subst (CoversKey key) (sym (same_span (room_pin u) (room_pin w) p.pin.stays)) (subst (λ (a : RoomHolds). CoversKey key (span_of (pin_or a.pin))) (sym m.rooms) covers)) (subst (λ (k : ℕ). FoundCrowded z k r key u w) same f))
     unadded_halts covers latch adds.Busy f = latched_in call v u w x m.stands.met gone.met z key (latched_cause z call r key u w (subst (λ (a : RoomHolds). CoversKey key (span_of (pin_or a.pin))) (sym m.rooms) covers) (ap (λ (a : RoomHolds). a.latch) m.rooms ∙ latch) (subst (λ (k : ℕ). FoundLatched z k r u w) same f))

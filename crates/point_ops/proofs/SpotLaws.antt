@@ -106,7 +106,7 @@ module _ (z : Sizes) (call : ℕ) (key : List ℕ) (v u w : PassState) (c2 : ℕ
 
       by : (why : Halt) → InsertHalts why z call key value entry floor u w → Halts why z call key ask v w
       by Busy (inl x) = latched sets (latched_in call v u w w a.met (met_none call w) z key x)
-      by Busy (inr x) = changed sets record { r = x.0; i = x.1; floor = floor; found = set_in call v u w w a.met (met_none call w) z x.0 x.1 floor key x.2; sighted = found }
+      by Busy (inr x) = changed sets record { r = x.0; i = x.1; floor = floor; found = set_in call v u w w a.met (met_none call w) z x.0 x.1 floor key x.2; sighted = found; read = absent }
       by Moved x = absurd x
       by Crowded x = (crowded_in z call key v u w w a (learns_none call w) x.1, record { at = floor; before = None; read = absent; sighted = found; needs = (refl, inserts, bare x.0) })
       by (NoBlock c) (s, x, k, inl y) = (s, taken_in call v u w w a.met (met_none call w) z c s x, record { at = floor; before = None; read = absent; sighted = found; needs = inl (ap value_class leaves ∙ y, λ n. absurd cc) }, spares c s k)

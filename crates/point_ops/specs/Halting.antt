@@ -23,6 +23,7 @@ use Rattle.oak_model.specs.Counts.{Has}
 use Rattle.oak_core.specs.declared.states.PassState.{PassState}
 use Rattle.oak_core.specs.CallSteps.{StepOfCall}
 use Rattle.oak_core.specs.CountReads.{ReadAbsent, SightedBare}
+use Rattle.oak_core.specs.KnownPlaces.{ReadAt}
 use Rattle.oak_core.specs.Memory.{in_headers, in_rooms}
 use Rattle.oak_core.specs.Sights.{SightedSince}
 use Rattle.oak_core.specs.Step.{load, on_rooms}
@@ -82,6 +83,7 @@ pub record EntryChanged (z : Sizes) (call : ℕ) (key : List ℕ) (v w : PassSta
   pub floor : ℕ
   pub found : FoundSet z call r i floor key v w
   pub sighted : SightedSince (key_number key) floor v.findings w.findings
+  pub read : ReadAt (key_number key) floor None v w
 
 -- which calls set a value on an absent key, and which want the lock of a present one's header
 
@@ -115,6 +117,7 @@ pub record RoomCrowded (z : Sizes) (call : ℕ) (key : List ℕ) (v w : PassStat
   pub r : ℕ
   pub step : StepOfCall z call (load (in_rooms (at_count r))) v w
   pub full : entries_in step.number ≡ z.entries
+  pub covers : CoversKey key (span_of (room_pin step.to))
   pub none : (e : FoundEntry) → Has e (room_pin step.to).entries → found_key e ≢ key_number key
   pub base : ℕ
   pub absent : ReadAbsent call (key_number key) base v w

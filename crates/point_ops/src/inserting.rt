@@ -48,12 +48,7 @@ pub(crate) fn class_for(len: usize) -> Class
 }
 
 /// Takes a block of the class, and stores bytes of it there, beside what the pass has of headers.
-fn take_block(
-    table: &OakTable,
-    pass: &mut Pass,
-    class: Class,
-    bytes: &[u8],
-) -> Result<Block, Halt>
+fn take_block(table: &OakTable, pass: &mut Pass, class: Class, bytes: &[u8]) -> Result<Block, Halt>
     requires own { IsPassOf table.now pass.old }
     requires fits { class_of (length bytes.now) ≡ Some class }
     requires none { (state pass.old).blocks ≡ no_blocks }
