@@ -45,4 +45,7 @@ pub mod LoneCalls
 pub mod RecipesFed
 pub mod LoneUnderPins
 pub mod LonePins
+pub mod LoneRounds
+pub mod LoneRemoved
+pub mod LoneLeftPins
 pub mod TestLaws

@@ -35,7 +35,7 @@ use Rattle.point_ops.proofs.LoneBlocks.{keys_stay}
 use Rattle.point_ops.proofs.LoneWords.{but_as, but_same, but_set}
 
 -- the pin word of the room
-abbrev IsPinOf : ℕ → Spot → Type 0
+abbrev pub IsPinOf : ℕ → Spot → Type 0
 IsPinOf r (in_rooms (at_room_pin j)) = j ≡ r
 IsPinOf _ _ = ⊥
 
@@ -46,7 +46,7 @@ module _ (z : Sizes) (r : ℕ) (inside : r < z.chunks) (a b : List ℕ) (up : Ad
   there : IsInside z (in_rooms (at_room_pin r))
   there = (inside, omega arith)
 
-  pinned : KeepsBut z (IsPinOf r) a b
+  pub pinned : KeepsBut z (IsPinOf r) a b
   pinned = subst (KeepsBut z (IsPinOf r) a) (sym up.1) (but_set z (IsPinOf r) a q ((memory z a).rooms.pin r + 1) there refl)
 
   -- ---- what stands with the pin stood before it
@@ -75,7 +75,7 @@ module _ (z : Sizes) (r : ℕ) (inside : r < z.chunks) (a b : List ℕ) (up : Ad
   spare_was (in_rooms p) s = absurd s
   spare_was at_given s = absurd s
 
-  keys_were : KeysStay z r a b
+  pub keys_were : KeysStay z r a b
   keys_were = keys_stay z r (IsPinOf r) a b pinned (λ e. e) (λ i e. e) (λ i used k e. e)
 
   missing_was : (key : List ℕ) → HasKeyAt (memory z b) r key Missing → HasKeyAt (memory z a) r key Missing
@@ -110,7 +110,7 @@ module _ (z : Sizes) (r : ℕ) (inside : r < z.chunks) (a b : List ℕ) (up : Ad
   -- ---- the pin is undone
 
   module _ (c d : List ℕ) (down : DropsRoomPin z r c d) where
-    unpinned : KeepsBut z (IsPinOf r) c d
+    pub unpinned : KeepsBut z (IsPinOf r) c d
     unpinned = subst (KeepsBut z (IsPinOf r) c) (sym down.1) (but_set z (IsPinOf r) c q ((memory z c).rooms.pin r - 1) there refl)
 
     pin_back : length c ≡ length b → (memory z c).rooms.pin r ≡ (memory z b).rooms.pin r → (memory z d).rooms.pin r ≡ (memory z a).rooms.pin r
@@ -121,7 +121,7 @@ module _ (z : Sizes) (r : ℕ) (inside : r < z.chunks) (a b : List ℕ) (up : Ad
         (λ past. let b_is : b ≡ a = up.1 ∙ set_past a k (n + 1) (omega arith) in let d_is : d ≡ c = down.1 ∙ set_past c k (m - 1) (omega arith) in
         ap (λ (ws : List ℕ). (memory z ws).rooms.pin r) d_is ∙ (same ∙ ap (λ (ws : List ℕ). (memory z ws).rooms.pin r) b_is))
 
-    around : (P : Spot → Type 0) → (P (in_rooms (at_room_pin r)) → ⊥) → KeepsBut z P b c → KeepsBut z P a d
+    pub around : (P : Spot → Type 0) → (P (in_rooms (at_room_pin r)) → ⊥) → KeepsBut z P b c → KeepsBut z P a d
     around P out k = record {
       size = unpinned.size ∙ (k.size ∙ pinned.size);
       same = λ p. ⊎_elim (λ (i : IsPinOf r p). inr (here p i))

@@ -14,3 +14,4 @@ pub mod LoneReplies
 pub mod LoneInserts
 pub mod LoneLives
 pub mod LonePuts
+pub mod LoneLeft

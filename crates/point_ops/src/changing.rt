@@ -18,6 +18,7 @@ ghost use Rattle.value_ops.specs.Recipes.{SaysTheSame};
 ghost use Rattle.point_ops.specs.Changes.{NoLockBy, OverHalts};
 ghost use Rattle.point_ops.specs.Counted.{FedReplaced};
 ghost use Rattle.oak_core.specs.AloneWords.{Runs};
+ghost use Rattle.point_ops.specs.LoneLeft.{RemovesIn, RewritesIn};
 ghost use Rattle.point_ops.specs.LoneLives.{KeepsButLife, OverHaltsIn, RefusesLock, UnfreeIn};
 ghost use Rattle.point_ops.specs.Parts.{KeepsHeld, WritesAt};
 ghost use Rattle.point_ops.specs.declared.halts.Halt.TheVariants as halts;
@@ -62,6 +63,7 @@ pub(crate) fn compute_life(
     ensures refused { IfErr result (λ why. NoLockBy why (sizes table.now) (call_of pass.old) header generation (state pass.old) (state pass.new)) }
     ensures alone { IfErr result (λ _. Runs (RefusesLock (sizes table.now) header generation (state pass.old)) (state pass.old) (state pass.new)) }
     ensures alone_kept { IfOk result (λ _. Runs (KeepsButLife (sizes table.now) header) (state pass.old) (state pass.new)) }
+    ensures alone_rewrites { IfOk result (λ at. Runs (RewritesIn (sizes table.now) header at) (state pass.old) (state pass.new)) }
 {
     let mut locked = lock(table, pass, header, generation)?;
     locked.apply(table, pass, recipe);
@@ -167,6 +169,7 @@ pub(crate) fn remove_life(
     ensures only { IfErr result (λ _. OnlyMeets (call_of pass.old) (state pass.old) (state pass.new)) }
     ensures refused { IfErr result (λ why. NoLockBy why (sizes table.now) (call_of pass.old) header generation (state pass.old) (state pass.new)) }
     ensures alone { IfErr result (λ _. Runs (RefusesLock (sizes table.now) header generation (state pass.old)) (state pass.old) (state pass.new)) }
+    ensures alone_removes { IfOk result (λ at. Runs (RemovesIn (sizes table.now) pin.now.room entry.0 header generation at) (state pass.old) (state pass.new)) }
 {
     let locked = lock(table, pass, header, generation)?;
     let buried = locked.bury(table, pass);

@@ -21,6 +21,7 @@ ghost use Rattle.point_ops.specs.Counted.{Feeds, FeedsAlone, times_done};
 ghost use Rattle.oak_core.specs.AloneWords.{Runs};
 ghost use Rattle.chunk_ops.specs.Latching.{Never};
 ghost use Rattle.point_ops.specs.Replies.{Refuses};
+ghost use Rattle.point_ops.specs.LoneLeft.{LeavesBy, LeavesUnder};
 ghost use Rattle.point_ops.specs.declared.halts.Halt.TheVariants as halts;
 ghost use Rattle.point_ops.specs.LoneReplies.{SameAlone, WroteAlone};
 ghost use Rattle.oak_core.specs.Scratch.{StaysButScratch};
@@ -79,6 +80,7 @@ fn compute_pinned(
     ensures halted { IfErr result (λ why. Halts why (sizes table.now) (call_of pass.old) key.now (Compute (told_kind recipe.old) (told_argument recipe.old)) (state pass.old) (state pass.new)) }
     ensures busy { IfErr result (λ why. why ≡ halts.Busy) }
     ensures alone { IfErr result (λ _. Runs Never (state pass.old) (state pass.new)) }
+    ensures alone_left { IfOk result (λ x. Runs (LeavesUnder x (sizes table.now) pin.now.room key.now) (state pass.old) (state pass.new)) }
     ensures counted { calls recipe.new ≡ calls recipe.old + times_done result }
     ensures fed { Feeds result key.now (fed recipe.old) (fed recipe.new) (state pass.new) }
     ensures told { (told_kind recipe.new ≡ told_kind recipe.old) × (told_argument recipe.new ≡ told_argument recipe.old) }
@@ -125,6 +127,7 @@ pub fn try_compute(
     ensures halted { IfErr result (λ why. Halts why (sizes table.now) (call_of pass.old) key.now (Compute (told_kind recipe.old) (told_argument recipe.old)) (state pass.old) (state pass.new)) }
     ensures either { IfErr result (λ why. (why ≡ halts.Busy) ⊎ (why ≡ halts.Moved)) }
     ensures alone { IfErr result (λ _. Runs Never (state pass.old) (state pass.new)) }
+    ensures alone_left { IfOk result (λ x. Runs (LeavesBy x (sizes table.now) key.now) (state pass.old) (state pass.new)) }
     ensures counted { calls recipe.new ≡ calls recipe.old + times_done result }
     ensures fed { Feeds result key.now (fed recipe.old) (fed recipe.new) (state pass.new) }
     ensures alone_fed { IsAlone (state pass.old) → FeedsAlone result key.now (fed recipe.new) (state pass.old) }

@@ -31,6 +31,7 @@ ghost use Rattle.point_ops.specs.Parts.{Answers, KeepsUnder, WroteFits};
 ghost use Rattle.oak_core.specs.AloneWords.{Runs};
 ghost use Rattle.chunk_ops.specs.Latching.{Never};
 ghost use Rattle.point_ops.specs.Replies.{Refuses};
+ghost use Rattle.point_ops.specs.LoneLeft.{LeavesBy, LeavesUnder};
 ghost use Rattle.point_ops.specs.LoneReplies.{SameAlone, WroteAlone};
 ghost use Rattle.point_ops.specs.declared.halts.Halt.TheVariants as halts;
 
@@ -90,6 +91,7 @@ fn remove_pinned(
     ensures halted { IfErr result (λ why. Halts why (sizes table.now) (call_of pass.old) key.now Remove (state pass.old) (state pass.new)) }
     ensures busy { IfErr result (λ why. why ≡ halts.Busy) }
     ensures alone { IfErr result (λ _. Runs Never (state pass.old) (state pass.new)) }
+    ensures alone_left { IfOk result (λ x. Runs (LeavesUnder x (sizes table.now) pin.now.room key.now) (state pass.old) (state pass.new)) }
 {
     match look_up(table, pass, pin, key) {
         Spot::Absent { entry: _, floor } => Ok(Wrote::Absent { at: floor }),
@@ -123,6 +125,7 @@ pub fn try_remove(table: &OakTable, pass: &mut Pass, hint: Hint, key: &[u8]) -> 
     ensures halted { IfErr result (λ why. Halts why (sizes table.now) (call_of pass.old) key.now Remove (state pass.old) (state pass.new)) }
     ensures either { IfErr result (λ why. (why ≡ halts.Busy) ⊎ (why ≡ halts.Moved)) }
     ensures alone { IfErr result (λ _. Runs Never (state pass.old) (state pass.new)) }
+    ensures alone_left { IfOk result (λ x. Runs (LeavesBy x (sizes table.now) key.now) (state pass.old) (state pass.new)) }
 {
     let Ok(pin) = pin_for(table, pass, key, hint) else {
         return Err(Halt::Moved);

@@ -1,3 +1,4 @@
+use Rattle.point_ops.proofs.LoneRounds.{computes_alone}
 use Rattle.std.proofs.Common.{◌≡◌, ℕ, List, cond, ◌==◌, refl, ◌∙◌, subst, ap}
 use Rattle.point_ops.proofs.LoneLooks.{refused_lock}
 use Rattle.point_ops.proofs.LoneKept.{applies_kept, lock_whole, round_alone}
@@ -53,3 +54,10 @@ returns-clause-fed g c = λ k known. let r = c.apply.new.recipe in let locks = c
   held = replaced_by (call_of c.args.pass.now) k c.args.kind _ _ c.unlock.result (state c.args.pass.now) (state c.unlock.new.pass) x.1;
   said = subst ((goal.Recipe-dyn g (r.vtable, r.value)).fed r.value) locks.value c.apply.ensures.fed;
 }
+
+pub returns-clause-alone_rewrites : goal.returns-clause-alone_rewrites
+returns-clause-alone_rewrites g c = let z : Sizes = sizes c.args.table.now in let h = c.args.header in let l = c.in_ok-locked.locked in let v : PassState = state c.args.pass.now in let u : PassState = state c.lock.new.pass in
+    let same = c.apply.ensures.same in let header = c.in_ok-locked.ensures.locked.0 in let generation = c.in_ok-locked.ensures.locked.1 in
+    computes_alone z h c.args.generation c.requires.inside _ _ l.header header v u (state c.apply.new.pass) (state c.unlock.new.pass)
+    (lock_whole z (call_of c.args.pass.now) h c.args.generation l.header l.generation v u header c.in_ok-locked.ensures.locked.2 c.in_ok-locked.ensures.has.0 c.in_ok-locked.ensures.alone) c.apply.ensures.alone
+    c.apply.new.self.header c.apply.new.self.generation c.unlock.result (ap (λ o. o.header) same ∙ header) (ap (λ o. o.generation) same ∙ generation) c.unlock.ensures.alone

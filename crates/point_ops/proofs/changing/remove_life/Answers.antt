@@ -1,3 +1,6 @@
+use Rattle.point_ops.proofs.LoneInserting.{entry_there}
+use Rattle.point_ops.proofs.LoneKept.{lock_whole}
+use Rattle.point_ops.proofs.LoneRemoved.{removes_alone}
 use Rattle.std.proofs.Common.{ℕ, ◌+◌, Some, None, false, sym, ap, ◌∙◌, subst}
 use Rattle.point_ops.proofs.LoneLooks.{refused_lock}
 use Rattle.std.proofs.Common.{ℕ, ◌+◌, Some, None, false, sym, ap, ◌∙◌, subst}
@@ -58,3 +61,11 @@ returns-clause-wrote c = λ k known has. let z : Sizes = sizes c.args.table.now 
 pub returns-in_err-locked-clause-alone : goal.returns-in_err-locked-clause-alone
 returns-in_err-locked-clause-alone c = let p = err_from_is_err_and c.from_residual.result c.from_residual.ensures.1 in
     rw p.1 (refused_lock (sizes c.args.table.now) (call_of c.args.pass.now) c.args.header c.args.generation c.in_err-locked.field-0.0 (state c.args.pass.now) (state c.lock.new.pass) c.requires.inside c.requires.headers c.in_err-locked.ensures.refused)
+
+pub returns-clause-alone_removes : goal.returns-clause-alone_removes
+returns-clause-alone_removes c = let z : Sizes = sizes c.args.table.now in let h = c.args.header in let g = c.args.generation in let l = c.in_ok-locked.locked in let b = c.bury-buried.result in let r = c.take_back-block.result in
+    let v : PassState = state c.args.pass.now in let u : PassState = state c.lock.new.pass in let locked = c.in_ok-locked.ensures.locked in let is = c.bury-buried.ensures.header in
+    removes_alone z c.args.pin.now.room c.args.entry.0 h g c.stamp-at.result c.requires.inside (entry_there z c.args.pin.now.room c.args.entry.0 c.requires.life.0 v c.requires.pinned c.requires.life.2) r.class r.number c.take_back-block.ensures.held.inside
+    l.header l.generation b.stamp locked.0 locked.1 (sym c.stamp-at.ensures) v u (state c.bury-buried.new.pass) (state c.clear_value.new.pass) (state c.take_back-block.new.pass) (state c.give.new.pass)
+    (lock_whole z (call_of c.args.pass.now) h g l.header l.generation v u locked.0 locked.2 c.in_ok-locked.ensures.has.0 c.in_ok-locked.ensures.alone) c.bury-buried.ensures.alone c.clear_value.ensures.alone
+    b.header b.generation (is.0 ∙ locked.0) (is.1 ∙ locked.1) c.take_back-block.ensures.alone c.give.ensures.given.still

@@ -1,3 +1,7 @@
+use Rattle.point_ops.specs.declared.spots.Spot.TheVariants.{Absent}
+use Rattle.point_ops.proofs.LoneLeftPins.{rewrites_key}
+use Rattle.point_ops.proofs.LoneSpots.{spot_stays}
+use Rattle.point_ops.specs.LoneLeft.{LeavesUnder}
 use Rattle.chunk_ops.specs.Latching.{Never}
 use Rattle.chunk_ops.specs.PinRecords.{WordsStay}
 use Rattle.oak_core.specs.AloneWords.{Runs}
@@ -67,3 +71,15 @@ returns-in-Ok-clause-fed g c = c.in-Ok.ensures.fed c.args.key.now c.in-Present.e
 
 pub returns-in-Err-Dead-clause-fed : goal.returns-in-Err-Dead-clause-fed
 returns-in-Err-Dead-clause-fed g c = feeds_none c.absent_at.result c.args.key.now _ _ (state c.absent_at.new.pass) c.absent_at.ensures.undone c.in-Err-Dead.ensures.unfed
+
+pub returns-in-Absent-clause-alone_left : goal.returns-in-Absent-clause-alone_left
+returns-in-Absent-clause-alone_left g c = spot_stays (sizes c.args.table.now) c.args.pin.now.room c.args.key.now (Absent c.in-Absent.entry c.in-Absent.floor) (state c.args.pass.now) (state c.look_up.new.pass) c.in-Absent.ensures.alone
+
+pub returns-in-Ok-clause-alone_left : goal.returns-in-Ok-clause-alone_left
+returns-in-Ok-clause-alone_left g c = rewrites_key (sizes c.args.table.now) c.args.pin.now.room c.in-Present.header c.in-Present.generation c.in-Present.entry c.args.key.now (state c.args.pass.now) (state c.look_up.new.pass) (state c.compute_life.new.pass)
+    c.in-Present.ensures.alone c.in-Ok.at c.in-Ok.ensures.alone_rewrites
+
+pub returns-in-Err-Dead-clause-alone_left : goal.returns-in-Err-Dead-clause-alone_left
+returns-in-Err-Dead-clause-alone_left g c = ok_map _ _ c.absent_at.result (λ y x. never_then WordsStay (LeavesUnder y (sizes c.args.table.now) c.args.pin.now.room c.args.key.now) (state c.args.pass.now) (state c.compute_life.new.pass) (state c.absent_at.new.pass)
+    (lock_never (sizes c.args.table.now) c.args.pin.now.room c.in-Present.header c.in-Present.generation c.in-Present.entry c.args.key.now (state c.args.pass.now) (state c.look_up.new.pass) (state c.compute_life.new.pass)
+    c.in-Present.ensures.alone c.in-Present.ensures.spot.has (c.look_up.ensures.under.headers ∙ c.requires.headers) c.in-Err-Dead.ensures.alone) c.absent_at.ensures.only.still) c.absent_at.ensures.absent

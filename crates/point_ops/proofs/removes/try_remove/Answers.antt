@@ -1,3 +1,4 @@
+use Rattle.point_ops.proofs.LoneLeftPins.{pinned_leaves}
 use Rattle.point_ops.proofs.LoneCalls.{pinned_never, room_found, room_never}
 use Rattle.std.proofs.Common.{◌∙◌}
 use Rattle.oak_model.specs.declared.cells.CellCall.TheVariants.{Remove}
@@ -38,3 +39,7 @@ returns-in_default-clause-alone c = room_found (state c.args.pass.now) (state c.
 
 pub returns-clause-alone : goal.returns-clause-alone
 returns-clause-alone c = pinned_never (sizes c.args.table.now) c.in-Ok.pin.room (state c.args.pass.now) (state c.pin_for.new.pass) (state c.remove_pinned-wrote.new.pass) (state c.unpin.new.pass) c.in-Ok.ensures.pinned.still c.unpin.ensures.unpinned.still c.remove_pinned-wrote.result c.remove_pinned-wrote.ensures.alone
+
+pub returns-clause-alone_left : goal.returns-clause-alone_left
+returns-clause-alone_left c = ok_map _ _ c.remove_pinned-wrote.result (λ y l. pinned_leaves (sizes c.args.table.now) c.in-Ok.pin.room c.args.key.now (state c.args.pass.now) (state c.pin_for.new.pass) (state c.remove_pinned-wrote.new.pass) (state c.unpin.new.pass)
+    c.in-Ok.ensures.pinned.has.inside c.in-Ok.ensures.pinned.still c.unpin.ensures.unpinned.still y l) c.remove_pinned-wrote.ensures.alone_left
