@@ -46,6 +46,10 @@ pub mod RecipesFed
 pub mod LoneUnderPins
 pub mod LonePins
 pub mod LoneRounds
+pub mod LoneOver
+pub mod LoneNewEntries
+pub mod LoneNewValues
 pub mod LoneRemoved
 pub mod LoneLeftPins
+pub mod LonePutPins
 pub mod TestLaws

@@ -53,7 +53,7 @@ module _ (z : Sizes) (h g i j : ℕ) (inside : h < z.headers) (header : i ≡ h)
   abbrev Three : List ℕ → List ℕ → Type 0
   Three = Then (LocksPin z h g) (Then (FindsClass z h c) (UnlocksPin z h g))
 
-  undoes : (a d : List ℕ) → Three a d → d ≡ a
+  pub undoes : (a d : List ℕ) → Three a d → d ≡ a
   undoes a d s = let k : ℕ = index z (pin_spot h) in let b = s.0 in let m = s.2.0 in let same : m ≡ b = s.2.1.1 in
       s.2.2.becomes ∙ (ap (λ (ws : List ℕ). set ws k (pin_in z h ws - STATE)) same ∙ ((λ l. set (s.1.1 l) k (pin_in z h b - STATE))
       ∙ back a k STATE (pin_in z h a) (pin_in z h b) (memory_read z a (pin_spot h) inside) (memory_read z b (pin_spot h) inside ∙ ap (λ (ws : List ℕ). get_or ws k 0) s.1.1)))

@@ -52,10 +52,10 @@ module _ (z : Sizes) (r h g : ℕ) (i : EntryNo) (key : List ℕ) (v u w : PassS
 -- ---- with the pin undone
 
 module _ (z : Sizes) (r : ℕ) (inside : r < z.chunks) (a b : List ℕ) (up : AddsRoomPin z r a b) where
-  was : (p : Spot) → (IsPinOf r p → ⊥) → read (memory z b) p ≡ read (memory z a) p
+  pub was : (p : Spot) → (IsPinOf r p → ⊥) → read (memory z b) p ≡ read (memory z a) p
   was p out = but_same z (IsPinOf r) a b (pinned z r inside a b up) p out
 
-  place_was : (h : ℕ) → place_in z h b ≡ place_in z h a
+  pub place_was : (h : ℕ) → place_in z h b ≡ place_in z h a
   place_was h = was (in_headers (at_place h)) (λ e. e)
 
   pub names_were : (i : EntryNo) (h g : ℕ) (key : List ℕ) → KeyNames z r i h g key b → KeyNames z r i h g key a
@@ -65,16 +65,16 @@ module _ (z : Sizes) (r : ℕ) (inside : r < z.chunks) (a b : List ℕ) (up : Ad
   }
 
   module _ (c d : List ℕ) (down : DropsRoomPin z r c d) where
-    now : (p : Spot) → (IsPinOf r p → ⊥) → read (memory z d) p ≡ read (memory z c) p
+    pub now : (p : Spot) → (IsPinOf r p → ⊥) → read (memory z d) p ≡ read (memory z c) p
     now p out = but_same z (IsPinOf r) c d (unpinned z r inside a b up c d down) p out
 
-    rewrites_around : (h stamp : ℕ) → RewritesIn z h stamp b c → RewritesIn z h stamp a d
+    pub rewrites_around : (h stamp : ℕ) → RewritesIn z h stamp b c → RewritesIn z h stamp a d
     rewrites_around h stamp s = record {
       but = subst (λ (p : ℕ). KeepsBut z (IsOfValue h p) a d) (place_was h) (around z r inside a b up c d down (IsOfValue h (place_in z h b)) (λ e. e) s.but);
       stamp = now (in_headers (at_stamp h)) (λ e. e) ∙ s.stamp;
     }
 
-    bit_around : (class block : ℕ) → ClearsBlockIn z class block b c → ClearsBlockIn z class block a d
+    pub bit_around : (class block : ℕ) → ClearsBlockIn z class block b c → ClearsBlockIn z class block a d
     bit_around class block s = let e : (memory z b).arena.bits class (block / 64) ≡ (memory z a).arena.bits class (block / 64) = was (in_arena (at_bits class (block / 64))) (λ x. x) in record {
       was = ap (λ (n : ℕ). bit_at n (block % 64)) (sym e) ∙ s.was;
       bits = now (in_arena (at_bits class (block / 64))) (λ x. x) ∙ (s.bits ∙ ap (λ (n : ℕ). bit_and n (2 ^ 64 - 1 - bit_of block)) e);

@@ -54,16 +54,16 @@ module _ (z : Sizes) (r : ℕ) (inside : r < z.chunks) (a b : List ℕ) (up : Ad
   bits_were : (d j : ℕ) → (memory z b).arena.bits d j ≡ (memory z a).arena.bits d j
   bits_were d j = but_same z (IsPinOf r) a b pinned (in_arena (at_bits d j)) (λ e. e)
 
-  header_was : (h : ℕ) → (memory z b).headers.pin h ≡ (memory z a).headers.pin h
+  pub header_was : (h : ℕ) → (memory z b).headers.pin h ≡ (memory z a).headers.pin h
   header_was h = but_same z (IsPinOf r) a b pinned (in_headers (at_pin h)) (λ e. e)
 
-  clear_was : (d e : ℕ) → IsClearIn z d e b → IsClearIn z d e a
+  pub clear_was : (d e : ℕ) → IsClearIn z d e b → IsClearIn z d e a
   clear_was d e s = ap (λ (n : ℕ). bit_at n (e % 64)) (sym (bits_were d (e / 64))) ∙ s
 
   set_was : (c : Class) (e : ℕ) → IsSetIn z c e b → IsSetIn z c e a
   set_was c e s = ap (λ (n : ℕ). bit_at n (e % 64)) (sym (bits_were (class_number c) (e / 64))) ∙ s
 
-  free_was : (h : ℕ) → IsFreeIn z h b → IsFreeIn z h a
+  pub free_was : (h : ℕ) → IsFreeIn z h b → IsFreeIn z h a
   free_was h s = ap is_free (sym (header_was h)) ∙ s
 
   spare_was : (p : Spot) → IsSpare z b p → IsSpare z a p
@@ -78,10 +78,10 @@ module _ (z : Sizes) (r : ℕ) (inside : r < z.chunks) (a b : List ℕ) (up : Ad
   pub keys_were : KeysStay z r a b
   keys_were = keys_stay z r (IsPinOf r) a b pinned (λ e. e) (λ i e. e) (λ i used k e. e)
 
-  missing_was : (key : List ℕ) → HasKeyAt (memory z b) r key Missing → HasKeyAt (memory z a) r key Missing
+  pub missing_was : (key : List ℕ) → HasKeyAt (memory z b) r key Missing → HasKeyAt (memory z a) r key Missing
   missing_was key none = λ i used same. none i (subst (λ (n : ℕ). i < n) (sym keys_were.count) used) (keys_were.keys i used ∙ same)
 
-  span_was : span_in (memory z b).rooms r ≡ span_in (memory z a).rooms r
+  pub span_was : span_in (memory z b).rooms r ≡ span_in (memory z a).rooms r
   span_was = let low : rows 0 BOUND_WORDS ((memory z b).rooms.low r) ≡ rows 0 BOUND_WORDS ((memory z a).rooms.low r) = rows_same 0 BOUND_WORDS ((memory z b).rooms.low r) ((memory z a).rooms.low r) (λ j _ _. but_same z (IsPinOf r) a b pinned (in_rooms (at_low r j)) (λ e. e)) in
       let high : rows 0 BOUND_WORDS ((memory z b).rooms.high r) ≡ rows 0 BOUND_WORDS ((memory z a).rooms.high r) = rows_same 0 BOUND_WORDS ((memory z b).rooms.high r) ((memory z a).rooms.high r) (λ j _ _. but_same z (IsPinOf r) a b pinned (in_rooms (at_high r j)) (λ e. e)) in
       let base : (memory z b).rooms.base r ≡ (memory z a).rooms.base r = but_same z (IsPinOf r) a b pinned (in_rooms (at_base r)) (λ e. e) in

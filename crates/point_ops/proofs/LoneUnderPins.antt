@@ -28,7 +28,7 @@ use Rattle.point_ops.proofs.LoneWords.{but_as, but_none, but_same}
 
 -- ---- where the key was away
 
-away_stays : (z : Sizes) (r : ℕ) (key : List ℕ) (entry : Option EntryNo) (floor : ℕ) (a m : List ℕ) → AwayIn entry floor z r key a m → (m ≡ a) × AwayIn entry floor z r key a a
+pub away_stays : (z : Sizes) (r : ℕ) (key : List ℕ) (entry : Option EntryNo) (floor : ℕ) (a m : List ℕ) → AwayIn entry floor z r key a m → (m ≡ a) × AwayIn entry floor z r key a a
 away_stays z r key None floor a m w = (w.0, (refl, w.1))
 away_stays z r key (Some i) floor a m w = (w.0.0, ((refl, w.0.1), w.1))
 

@@ -15,3 +15,4 @@ pub mod LoneInserts
 pub mod LoneLives
 pub mod LonePuts
 pub mod LoneLeft
+pub mod LonePutLeft

@@ -1,5 +1,5 @@
 //! Changes of a present value, under the lock of its header.
-ghost use Rattle.std.specs.Prelude.{◌≡◌, ◌<◌, ◌+◌, ◌-◌, ◌^◌, ℕ, List, IfOk, IfErr, None, Some, ◌⊎◌};
+ghost use Rattle.std.specs.Prelude.{◌≡◌, ◌<◌, ◌+◌, ◌-◌, ◌^◌, ℕ, List, length, IfOk, IfErr, None, Some, ◌⊎◌};
 ghost use Rattle.oak_model.specs.declared.writes.Kind.TheVariants as kinds;
 ghost use Rattle.oak_model.specs.Recipe.{recipe_result};
 ghost use Rattle.oak_model.specs.Value.{IsValue};
@@ -19,6 +19,7 @@ ghost use Rattle.point_ops.specs.Changes.{NoLockBy, OverHalts};
 ghost use Rattle.point_ops.specs.Counted.{FedReplaced};
 ghost use Rattle.oak_core.specs.AloneWords.{Runs};
 ghost use Rattle.point_ops.specs.LoneLeft.{RemovesIn, RewritesIn};
+ghost use Rattle.point_ops.specs.LonePutLeft.{OverIn, SwapsIn};
 ghost use Rattle.point_ops.specs.LoneLives.{KeepsButLife, OverHaltsIn, RefusesLock, UnfreeIn};
 ghost use Rattle.point_ops.specs.Parts.{KeepsHeld, WritesAt};
 ghost use Rattle.point_ops.specs.declared.halts.Halt.TheVariants as halts;
@@ -97,6 +98,7 @@ fn exchange(
     ensures refused { IfErr result (λ why. (why ≡ halts.Busy) × (NoLockBy no_lock.Busy (sizes table.now) (call_of pass.old) header generation (state pass.old) (state pass.new) ⊎ NoLockBy no_lock.Dead (sizes table.now) (call_of pass.old) header generation (state pass.old) (state pass.new))) }
     ensures alone { IfErr result (λ _. Runs (UnfreeIn (sizes table.now) header generation) (state pass.old) (state pass.new)) }
     ensures alone_kept { IfOk result (λ _. Runs (KeepsButLife (sizes table.now) header) (state pass.old) (state pass.new)) }
+    ensures alone_swaps { IfOk result (λ at. Runs (SwapsIn (sizes table.now) header block.class block.number (length value.now) at) (state pass.old) (state pass.new)) }
 {
     let Ok(mut locked) = lock(table, pass, header, generation) else {
         give(table, pass, block);
@@ -132,6 +134,7 @@ pub(crate) fn overwrite(
     ensures halted { IfErr result (λ why. OverHalts why (sizes table.now) (call_of pass.old) header generation value.now (state pass.old) (state pass.new)) }
     ensures alone { IfErr result (λ why. (r : ℕ) → HasRoomPin (sizes table.now) r (state pass.old) → Runs (OverHaltsIn why (sizes table.now) header generation value.now (state pass.old)) (state pass.old) (state pass.new)) }
     ensures alone_kept { IfOk result (λ _. (r : ℕ) → HasRoomPin (sizes table.now) r (state pass.old) → Runs (KeepsButLife (sizes table.now) header) (state pass.old) (state pass.new)) }
+    ensures alone_over { IfOk result (λ at. (r : ℕ) → HasRoomPin (sizes table.now) r (state pass.old) → Runs (OverIn (sizes table.now) header at value.now) (state pass.old) (state pass.new)) }
 {
     let class = class_for(value.len());
     let Ok(mut locked) = lock(table, pass, header, generation) else {

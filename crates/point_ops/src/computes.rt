@@ -16,6 +16,7 @@ ghost use Rattle.chunk_ops.specs.PinRecords.{HasRoomPin, room_pin};
 ghost use Rattle.chunk_ops.specs.RoomPins.{HadMoment};
 ghost use Rattle.point_ops.specs.Halting.{Halts};
 ghost use Rattle.point_ops.specs.LonePuts.{PutsIn, PutsUnder};
+ghost use Rattle.point_ops.specs.LonePutLeft.{PutLeavesBy, PutLeavesUnder};
 ghost use Rattle.point_ops.specs.Parts.{Answers, KeepsUnder, WroteFits};
 ghost use Rattle.point_ops.specs.Counted.{Feeds, FeedsAlone, times_done};
 ghost use Rattle.oak_core.specs.AloneWords.{Runs};
@@ -166,6 +167,7 @@ fn upsert_pinned(
     ensures learns { IfErr result (λ _. Learns (call_of pass.old) (state pass.old) (state pass.new)) }
     ensures halted { IfErr result (λ why. Halts why (sizes table.now) (call_of pass.old) key.now (Upsert value.now (told_kind recipe.old) (told_argument recipe.old)) (state pass.old) (state pass.new)) }
     ensures alone { Runs (PutsUnder result (sizes table.now) pin.now.room key.now value.now) (state pass.old) (state pass.new) }
+    ensures alone_left { IfOk result (λ x. Runs (PutLeavesUnder x (sizes table.now) pin.now.room key.now value.now) (state pass.old) (state pass.new)) }
     ensures counted { calls recipe.new ≡ calls recipe.old + times_done result }
     ensures fed { Feeds result key.now (fed recipe.old) (fed recipe.new) (state pass.new) }
     ensures told { (told_kind recipe.new ≡ told_kind recipe.old) × (told_argument recipe.new ≡ told_argument recipe.old) }
@@ -215,6 +217,7 @@ pub fn try_upsert(
     ensures alone_same { IfErr result (λ _. SameAlone (sizes table.now) (state pass.old) (state pass.new)) }
     ensures halted { IfErr result (λ why. Halts why (sizes table.now) (call_of pass.old) key.now (Upsert value.now (told_kind recipe.old) (told_argument recipe.old)) (state pass.old) (state pass.new)) }
     ensures alone { Runs (PutsIn result (sizes table.now) key.now value.now) (state pass.old) (state pass.new) }
+    ensures alone_left { IfOk result (λ x. Runs (PutLeavesBy x (sizes table.now) key.now value.now) (state pass.old) (state pass.new)) }
     ensures counted { calls recipe.new ≡ calls recipe.old + times_done result }
     ensures fed { Feeds result key.now (fed recipe.old) (fed recipe.new) (state pass.new) }
     ensures alone_fed { IsAlone (state pass.old) → FeedsAlone result key.now (fed recipe.new) (state pass.old) }

@@ -26,6 +26,7 @@ ghost use Rattle.point_ops.specs.Inserts.{AddingHalts, GivesAllBack, InsertHalts
 ghost use Rattle.point_ops.specs.LoneInserts.{AddingHaltsIn, FindsOther, GivesBackIn, MakesBlockIn, MakesBlockUnder, MakesFreshUnder, MakingHaltsIn, NamesBlock};
 ghost use Rattle.point_ops.specs.LoneLives.{FloorIsBase};
 ghost use Rattle.point_ops.specs.LonePuts.{EntersFor, InsertsFor};
+ghost use Rattle.point_ops.specs.LonePutLeft.{GetsFor, InsertsKeyFor};
 ghost use Rattle.point_ops.specs.Parts.{KeepsUnder};
 ghost use Rattle.point_ops.specs.declared.halts.Halt.TheVariants as halts;
 
@@ -160,6 +161,7 @@ fn add_entry(table: &OakTable, pass: &mut Pass, pin: &RoomPin, key: &[u8]) -> Re
     ensures added { IfOk result (λ i. HasEntry pin.now.room i.0 key.now (state pass.new)) }
     ensures halted { IfErr result (λ why. AddingHalts why (sizes table.now) (call_of pass.old) key.now (state pass.old) (state pass.new)) }
     ensures alone { IfOk result (λ i. (floor : ℕ) → FloorIsBase None floor (state pass.old) → Runs (EntersFor (sizes table.now) pin.now.room None floor key.now i) (state pass.old) (state pass.new)) }
+    ensures alone_gets { IfOk result (λ i. (floor : ℕ) → Runs (GetsFor None floor (sizes table.now) pin.now.room i key.now) (state pass.old) (state pass.new)) }
     ensures alone_halted { IfErr result (λ why. Runs (AddingHaltsIn why (sizes table.now) pin.now.room key.now) (state pass.old) (state pass.new)) }
 {
     let block = take_block(table, pass, class_for(key.len()), key)?;
@@ -192,6 +194,7 @@ fn entry_for(
     ensures added { IfOk result (λ i. HasEntry pin.now.room i.0 key.now (state pass.new)) }
     ensures halted { IfErr result (λ why. (entry ≡ None) × AddingHalts why (sizes table.now) (call_of pass.old) key.now (state pass.old) (state pass.new)) }
     ensures alone { IfOk result (λ i. (floor : ℕ) → FloorIsBase entry floor (state pass.old) → Runs (EntersFor (sizes table.now) pin.now.room entry floor key.now i) (state pass.old) (state pass.new)) }
+    ensures alone_gets { IfOk result (λ i. (floor : ℕ) → Runs (GetsFor entry floor (sizes table.now) pin.now.room i key.now) (state pass.old) (state pass.new)) }
     ensures alone_halted { IfErr result (λ why. Runs (AddingHaltsIn why (sizes table.now) pin.now.room key.now) (state pass.old) (state pass.new)) }
 {
     match entry {
@@ -270,6 +273,7 @@ pub(crate) fn insert(
     ensures learns { IfErr result (λ _. Learns (call_of pass.old) (state pass.old) (state pass.new)) }
     ensures halted { IfErr result (λ why. InsertHalts why (sizes table.now) (call_of pass.old) key.now value.now entry floor (state pass.old) (state pass.new)) }
     ensures alone { FloorIsBase entry floor (state pass.old) → Runs (InsertsFor result (sizes table.now) pin.now.room entry floor key.now value.now) (state pass.old) (state pass.new) }
+    ensures alone_inserts { IfOk result (λ _. Runs (InsertsKeyFor (sizes table.now) pin.now.room entry floor key.now value.now) (state pass.old) (state pass.new)) }
 {
     let fresh = make_fresh(table, pass, class_for(value.len()), value, floor + 1)?;
     match entry_for(table, pass, pin, entry, key) {

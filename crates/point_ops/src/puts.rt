@@ -22,6 +22,7 @@ ghost use Rattle.point_ops.specs.FoundWords.{FoundWord};
 ghost use Rattle.point_ops.specs.Halting.{Halts, IsDeadAt, IsLockedOut};
 ghost use Rattle.point_ops.specs.LoneLives.{RefusesLook};
 ghost use Rattle.point_ops.specs.LonePuts.{PutsIn, PutsUnder};
+ghost use Rattle.point_ops.specs.LonePutLeft.{PutLeavesBy, PutLeavesUnder};
 ghost use Rattle.point_ops.specs.Parts.{Answers, KeepsUnder, WroteFits};
 ghost use Rattle.point_ops.specs.Replies.{Refuses};
 ghost use Rattle.point_ops.specs.LoneReplies.{SameAlone, WroteAlone};
@@ -59,6 +60,7 @@ fn put_pinned(
     ensures learns { IfErr result (λ _. Learns (call_of pass.old) (state pass.old) (state pass.new)) }
     ensures halted { IfErr result (λ why. Halts why (sizes table.now) (call_of pass.old) key.now (Put value.now) (state pass.old) (state pass.new)) }
     ensures alone { Runs (PutsUnder result (sizes table.now) pin.now.room key.now value.now) (state pass.old) (state pass.new) }
+    ensures alone_left { IfOk result (λ x. Runs (PutLeavesUnder x (sizes table.now) pin.now.room key.now value.now) (state pass.old) (state pass.new)) }
 {
     match look_up(table, pass, pin, key) {
         Spot::Absent { entry, floor } => {
@@ -106,6 +108,7 @@ pub fn try_put(
     ensures alone_same { IfErr result (λ _. SameAlone (sizes table.now) (state pass.old) (state pass.new)) }
     ensures halted { IfErr result (λ why. Halts why (sizes table.now) (call_of pass.old) key.now (Put value.now) (state pass.old) (state pass.new)) }
     ensures alone { Runs (PutsIn result (sizes table.now) key.now value.now) (state pass.old) (state pass.new) }
+    ensures alone_left { IfOk result (λ x. Runs (PutLeavesBy x (sizes table.now) key.now value.now) (state pass.old) (state pass.new)) }
 {
     let Ok(pin) = pin_for(table, pass, key, hint) else {
         return Err(Halt::Moved);
@@ -126,6 +129,7 @@ fn keep_life(table: &OakTable, pass: &mut Pass, header: u32, generation: u32) ->
     ensures kept { IfOk result (λ x. (v k : List ℕ) → KnowsLife header generation k (state pass.old).knowledge → Answers x (call_of pass.old) k (PutNew v) (state pass.old) (state pass.new)) }
     ensures refused { IfErr result (λ why. (why ≡ halts.Busy) × (FoundWord (sizes table.now) (call_of pass.old) (in_headers (at_pin header)) (IsLockedOut generation) (state pass.old) (state pass.new) ⊎ FoundWord (sizes table.now) (call_of pass.old) (in_headers (at_pin header)) (IsDeadAt generation) (state pass.old) (state pass.new))) }
     ensures alone { IfOk result (λ _. Runs WordsStay (state pass.old) (state pass.new)) }
+    ensures alone_left { IfOk result (λ x. (r : ℕ) (key value : List ℕ) → Runs (PutLeavesUnder x (sizes table.now) r key value) (state pass.old) (state pass.new)) }
     ensures alone_refused { IfErr result (λ _. Runs (RefusesLook (sizes table.now) header generation (state pass.old)) (state pass.old) (state pass.new)) }
 {
     match look_at(table, pass, header, generation) {
@@ -158,6 +162,7 @@ fn put_new_pinned(
     ensures learns { IfErr result (λ _. Learns (call_of pass.old) (state pass.old) (state pass.new)) }
     ensures halted { IfErr result (λ why. Halts why (sizes table.now) (call_of pass.old) key.now (PutNew value.now) (state pass.old) (state pass.new)) }
     ensures alone { Runs (PutsUnder result (sizes table.now) pin.now.room key.now value.now) (state pass.old) (state pass.new) }
+    ensures alone_left { IfOk result (λ x. Runs (PutLeavesUnder x (sizes table.now) pin.now.room key.now value.now) (state pass.old) (state pass.new)) }
 {
     match look_up(table, pass, pin, key) {
         Spot::Absent { entry, floor } => {
@@ -197,6 +202,7 @@ pub fn try_put_if_absent(
     ensures alone_same { IfErr result (λ _. SameAlone (sizes table.now) (state pass.old) (state pass.new)) }
     ensures halted { IfErr result (λ why. Halts why (sizes table.now) (call_of pass.old) key.now (PutNew value.now) (state pass.old) (state pass.new)) }
     ensures alone { Runs (PutsIn result (sizes table.now) key.now value.now) (state pass.old) (state pass.new) }
+    ensures alone_left { IfOk result (λ x. Runs (PutLeavesBy x (sizes table.now) key.now value.now) (state pass.old) (state pass.new)) }
 {
     let Ok(pin) = pin_for(table, pass, key, hint) else {
         return Err(Halt::Moved);

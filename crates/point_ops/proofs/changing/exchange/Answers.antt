@@ -1,3 +1,4 @@
+use Rattle.point_ops.proofs.LoneOver.{swaps_alone}
 use Rattle.point_ops.proofs.LoneKept.{changes_kept, given_kept, lock_whole, round_alone}
 use Rattle.point_ops.proofs.LoneChanges.{unfree_given}
 use Rattle.std.proofs.Common.{ℕ, List, Some, cond, ◌==◌, length, refl, sym, ap, ◌∙◌, subst}
@@ -74,3 +75,11 @@ returns-clause-alone_kept c = let z : Sizes = sizes c.args.table.now in let h = 
     (lock_whole z (call_of c.args.pass.now) h g l.header l.generation v u header c.in-Ok.ensures.locked.2 c.in-Ok.ensures.has.0 c.in-Ok.ensures.alone) c.change-old.ensures.alone
     c.change-old.new.self.header c.change-old.new.self.generation c.unlock-at.result (ap (λ k. k.header) same ∙ header) (ap (λ k. k.generation) same ∙ generation) c.unlock-at.ensures.alone)
     c.give-2.ensures.given.still
+
+pub returns-clause-alone_swaps : goal.returns-clause-alone_swaps
+returns-clause-alone_swaps c = let z : Sizes = sizes c.args.table.now in let h = c.args.header in let g = c.args.generation in let l = c.in-Ok.locked in let b = c.args.block in let o = c.change-old.result in
+    let v : PassState = state c.args.pass.now in let u : PassState = state c.lock.new.pass in let x : PassState = state c.unlock-at.new.pass in
+    let same = c.change-old.ensures.same in let header = c.in-Ok.ensures.locked.0 in let generation = c.in-Ok.ensures.locked.1 in
+    swaps_alone z h g c.requires.inside b.class b.number (length c.args.value.now) o.class o.number c.change-old.ensures.held.inside v u (state c.change-old.new.pass) x (state c.give-2.new.pass)
+    (lock_whole z (call_of c.args.pass.now) h g l.header l.generation v u header c.in-Ok.ensures.locked.2 c.in-Ok.ensures.has.0 c.in-Ok.ensures.alone) l.header header c.change-old.ensures.alone
+    c.change-old.new.self.header c.change-old.new.self.generation c.unlock-at.result (ap (λ k. k.header) same ∙ header) (ap (λ k. k.generation) same ∙ generation) c.unlock-at.ensures.alone c.give-2.ensures.given.still

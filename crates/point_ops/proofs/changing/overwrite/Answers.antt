@@ -1,3 +1,6 @@
+use Rattle.oak_model.specs.declared.classes.Class.{Class}
+use Rattle.arena_core.proofs.PlaceLaws.{same_class}
+use Rattle.point_ops.proofs.LoneOver.{exchanges_alone, gives_up_class, refills_alone}
 use Rattle.std.proofs.Common.{ℕ, List, cond, ◌==◌, length, refl, sym, ◌∙◌, Some, ap, rules, ◌≡◌}
 use Rattle.std.proofs.lemmas.Result.{err_from_is_err_and, IfOk-weaker, IfErr-weaker}
 use Rattle.oak_core.specs.AloneWords.{Runs}
@@ -146,3 +149,22 @@ returns-clause-alone_kept c = let z : Sizes = sizes c.args.table.now in let h = 
     let b = c.in_ok-block.block in
     IfOk-weaker c.exchange.result _ _ (λ at kept r pin. behind_block z h g r b.class b.number v x w (state c.exchange.new.pass) free
     (c.in_ok-block.ensures.alone r (gave_up_pinned z (call_of c.args.pass.now) (call_of c.lock.new.pass) (call_of c.class.new.pass) h g l.header l.generation _ r v u y x c.in-Ok.ensures.locked.2 c.class.ensures.met c.give_up.ensures.unlocked pin)) kept) c.exchange.ensures.alone_kept
+
+pub returns-then-eq-clause-alone_over : goal.returns-then-eq-clause-alone_over
+returns-then-eq-clause-alone_over c = λ r pin. let z : Sizes = sizes c.args.table.now in let h = c.args.header in let g = c.args.generation in let l = c.in-Ok.locked in
+    let v : PassState = state c.args.pass.now in let u : PassState = state c.lock.new.pass in let y : PassState = state c.class.new.pass in let w : PassState = state c.fill.new.pass in let bytes : List ℕ = c.args.value.now in let k = c.class.result in
+    let same = c.fill.ensures.same in let header = c.in-Ok.ensures.locked.0 in let generation = c.in-Ok.ensures.locked.1 in
+    let fits : class_of (length bytes) ≡ Some k = c.class_for-class.ensures ∙ ap Some (sym (same_true the_type (search rules) k c.class_for-class.result (sym c.eq.ensures ∙ c.if-eq.true))) in
+    refills_alone z h g c.requires.inside k bytes fits v u w (state c.unlock.new.pass)
+    (lock_whole z (call_of c.args.pass.now) h g l.header l.generation v u header c.in-Ok.ensures.locked.2 c.in-Ok.ensures.has.0 c.in-Ok.ensures.alone) l.header header
+    (runs_then (FindsClass z l.header k) (RefillsWords z l.header bytes) u y w c.class.ensures.alone c.fill.ensures.alone)
+    c.fill.new.self.header c.fill.new.self.generation c.unlock.result (ap (λ o. o.header) same ∙ header) (ap (λ o. o.generation) same ∙ generation) c.unlock.ensures.alone
+
+pub returns-clause-alone_over : goal.returns-clause-alone_over
+returns-clause-alone_over c = let z : Sizes = sizes c.args.table.now in let h = c.args.header in let g = c.args.generation in let l = c.in-Ok.locked in let k = c.class.result in let d = c.class_for-class.result in
+    let v : PassState = state c.args.pass.now in let u : PassState = state c.lock.new.pass in let y : PassState = state c.class.new.pass in
+    let x : PassState = state c.give_up.new.pass in let w : PassState = state c.make_block.new.pass in let b = c.in_ok-block.block in let is = c.in_ok-block.ensures.made.0 in
+    let free = gives_up_class z h g l.header l.generation c.requires.inside c.in-Ok.ensures.locked.0 c.in-Ok.ensures.locked.1 k v u y x c.in-Ok.ensures.alone c.class.ensures.alone c.give_up.ensures.alone in
+    IfOk-weaker c.exchange.result _ _ (λ at swap r pin. exchanges_alone z h r k b.class b.number at c.args.value.now (c.class_for-class.ensures ∙ ap Some (sym is))
+    (λ e. same_false the_type k d (sym c.eq.ensures ∙ c.if-eq.false) (same_class k b.class e ∙ is)) v x w (state c.exchange.new.pass) free
+    (c.in_ok-block.ensures.alone r (gave_up_pinned z (call_of c.args.pass.now) (call_of c.lock.new.pass) (call_of c.class.new.pass) h g l.header l.generation _ r v u y x c.in-Ok.ensures.locked.2 c.class.ensures.met c.give_up.ensures.unlocked pin)) swap) c.exchange.ensures.alone_swaps

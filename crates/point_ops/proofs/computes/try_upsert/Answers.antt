@@ -1,3 +1,4 @@
+use Rattle.point_ops.proofs.LonePutPins.{pinned_put_leaves}
 use Rattle.std.proofs.Common.{◌∙◌}
 use Rattle.oak_model.specs.declared.cells.CellCall.TheVariants.{Upsert}
 use Rattle.oak_core.specs.Passes.{state, key as sizes, call_of}
@@ -53,3 +54,7 @@ returns-clause-fed g c = feeds_until c.upsert_pinned-wrote.result c.args.key.now
 pub returns-clause-alone_fed : goal.returns-clause-alone_fed
 returns-clause-alone_fed g c = let o = c.args.recipe.now in let k = (goal.Recipe-dyn g (o.vtable, o.value)).told_kind o.value in let n = (goal.Recipe-dyn g (o.vtable, o.value)).told_argument o.value in λ alone. feeds_alone c.upsert_pinned-wrote.result (sizes c.args.table.now) (call_of c.args.pass.now) c.args.key.now (Upsert c.args.value.now k n) _ _ (state c.args.pass.now) (state c.unpin.new.pass) alone
     (returns-clause-wrote g c) (returns-clause-alone_reply g c) (returns-clause-fed g c)
+
+pub returns-clause-alone_left : goal.returns-clause-alone_left
+returns-clause-alone_left g c = ok_map _ _ c.upsert_pinned-wrote.result (λ y l. pinned_put_leaves (sizes c.args.table.now) c.in-Ok.pin.room c.args.key.now c.args.value.now (state c.args.pass.now) (state c.pin_for.new.pass) (state c.upsert_pinned-wrote.new.pass) (state c.unpin.new.pass)
+    c.in-Ok.ensures.pinned.has.inside c.in-Ok.ensures.pinned.still c.unpin.ensures.unpinned.still y l) c.upsert_pinned-wrote.ensures.alone_left

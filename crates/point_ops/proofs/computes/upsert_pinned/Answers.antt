@@ -1,3 +1,5 @@
+use Rattle.point_ops.proofs.LoneLeftPins.{rewrites_key}
+use Rattle.point_ops.proofs.LonePutPins.{away_gets}
 use Rattle.std.proofs.Common.{◌∙◌, None, Some, refl, sym, ap, subst}
 use Rattle.oak_model.specs.declared.cells.CellCall.TheVariants.{Upsert}
 use Rattle.oak_model.specs.declared.cells.CellReply.TheVariants as replies
@@ -64,3 +66,11 @@ returns-in-Err-compute_life-clause-alone g c = lock_refused (sizes c.args.table.
 -- what the recipe was fed
 pub returns-in-Ok-compute_life-clause-fed : goal.returns-in-Ok-compute_life-clause-fed
 returns-in-Ok-compute_life-clause-fed g c = c.in-Ok-compute_life.ensures.fed c.args.key.now c.in-Present.ensures.spot.life
+
+pub returns-in-Ok-clause-alone_left : goal.returns-in-Ok-clause-alone_left
+returns-in-Ok-clause-alone_left g c = let z = sizes c.args.table.now in let r = c.args.pin.now.room in let v = state c.args.pass.now in let u = state c.look_up.new.pass in let w = state c.insert.new.pass in
+    away_gets z r c.args.key.now c.args.value.now c.in-Absent.entry c.in-Absent.floor v u w c.in-Absent.ensures.alone c.in-Ok.ensures.alone_inserts
+
+pub returns-in-Ok-compute_life-clause-alone_left : goal.returns-in-Ok-compute_life-clause-alone_left
+returns-in-Ok-compute_life-clause-alone_left g c = let z = sizes c.args.table.now in let r = c.args.pin.now.room in let v = state c.args.pass.now in let u = state c.look_up.new.pass in let w = state c.compute_life.new.pass in
+    rewrites_key z r c.in-Present.header c.in-Present.generation c.in-Present.entry c.args.key.now v u w c.in-Present.ensures.alone c.in-Ok-compute_life.at c.in-Ok-compute_life.ensures.alone_rewrites

@@ -1,3 +1,4 @@
+use Rattle.point_ops.proofs.LoneNewEntries.{adds_alone}
 use Rattle.std.proofs.Common.{◌∙◌, length, sym, subst}
 use Rattle.std.proofs.lemmas.Result.{err_from_is_err_and}
 use Rattle.chunk_core.specs.PinnedRooms.{span_of}
@@ -50,3 +51,9 @@ returns-in-Err-clause-alone_halted c = let z = sizes c.args.table.now in let cal
 pub returns-in_err-block-clause-alone_halted : goal.returns-in_err-block-clause-alone_halted
 returns-in_err-block-clause-alone_halted c = let p = err_from_is_err_and c.from_residual.result c.from_residual.ensures.1 in
     rw (p.1, p.2) (unblocked_alone (sizes c.args.table.now) c.args.pin.now.room c.args.key.now c.class_for.result c.in_err-block.field-0.0 (state c.args.pass.now) (state c.take_block.new.pass) c.class_for.ensures c.in_err-block.ensures.refused.0 c.in_err-block.ensures.alone_refused)
+
+pub returns-in-Ok-clause-alone_gets : goal.returns-in-Ok-clause-alone_gets
+returns-in-Ok-clause-alone_gets c = λ floor. let z = sizes c.args.table.now in let call = call_of c.args.pass.now in let r = c.args.pin.now.room in let b = c.in_ok-block.block in let key = c.args.key.now in
+    let v = state c.args.pass.now in let u = state c.take_block.new.pass in
+    adds_alone z r (span_of (room_pin v)) c.requires.pinned.inside b.class b.number key c.in_ok-block.ensures.made.1.has.fits v u (state c.add.new.pass) (c.in_ok-block.ensures.alone_under r c.requires.pinned) c.in-Ok.entry (length key)
+    (c.in-Ok.ensures.alone key (may_add z call r b.class b.number key v u (state c.add.new.pass) c.requires.none c.in_ok-block.ensures.made.1 (call_of c.take_block.new.pass) c.take_block.ensures.own.call c.requires.key c.requires.covers)) floor

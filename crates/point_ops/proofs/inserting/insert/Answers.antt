@@ -1,3 +1,4 @@
+use Rattle.point_ops.proofs.LoneNewValues.{inserts_alone}
 use Rattle.std.proofs.Common.{◌+◌, ◌∙◌, ℕ, refl, sym, subst}
 use Rattle.std.proofs.lemmas.Result.{err_from_is_err_and, IfOk-weaker, IfErr-weaker}
 use Rattle.oak_core.specs.HeldRows.{HasFresh}
@@ -67,3 +68,9 @@ returns-in_err-fresh-clause-alone o = λ is. let p = err_from_is_err_and o.from_
 pub returns-in_err-fresh-clause-halted : goal.returns-in_err-fresh-clause-halted
 returns-in_err-fresh-clause-halted o = let p = err_from_is_err_and o.from_residual.result o.from_residual.ensures.1 in
     rw (p.1, p.2) (unmade_halts (sizes o.args.table.now) (call_of o.args.pass.now) o.class_for.result o.args.key.now o.args.value.now o.args.entry o.args.floor (state o.args.pass.now) (state o.make_fresh.new.pass) o.in_err-fresh.field-0.0 o.class_for.ensures o.in_err-fresh.ensures.halted)
+
+pub returns-in-Ok-clause-alone_inserts : goal.returns-in-Ok-clause-alone_inserts
+returns-in-Ok-clause-alone_inserts o = let z = sizes o.args.table.now in let r = o.args.pin.now.room in let f = o.in_ok-fresh.fresh in let i = o.in-Ok.entry in let key = o.args.key.now in
+    let v = state o.args.pass.now in let u = state o.make_fresh.new.pass in let w = state o.entry_for.new.pass in let x = state o.set_fresh.new.pass in let class = o.class_for.result in let a = o.in_ok-fresh.ensures.alone in
+    IfOk-weaker o.set_fresh.result _ _ (λ s set. inserts_alone z r o.args.floor key o.args.value.now o.args.entry class o.class_for.ensures (span_of (room_pin v)) o.requires.covers f.header f.generation a.0 v u w x (a.2 r o.requires.pinned) i
+    (entry_there z r i.0 key w o.entry_for.ensures.under.pin.has o.in-Ok.ensures.added) (o.in-Ok.ensures.alone_gets o.args.floor) set) o.set_fresh.ensures.alone

@@ -1,3 +1,8 @@
+use Rattle.chunk_ops.proofs.MeetingCalls.{stays_then}
+use Rattle.point_ops.specs.declared.spots.Spot.TheVariants.{Present}
+use Rattle.point_ops.specs.LonePutLeft.{PutLeavesUnder}
+use Rattle.point_ops.proofs.LoneSpots.{spot_stays}
+use Rattle.point_ops.proofs.LonePutPins.{away_gets}
 use Rattle.std.proofs.Common.{◌∙◌, refl, sym, subst}
 use Rattle.oak_model.specs.declared.cells.CellCall.TheVariants.{PutNew}
 use Rattle.oak_model.specs.declared.cells.CellReply.TheVariants as replies
@@ -53,3 +58,11 @@ returns-in-Err-clause-alone c = let z = sizes c.args.table.now in let r = c.args
 pub returns-in-Present-clause-alone : goal.returns-in-Present-clause-alone
 returns-in-Present-clause-alone c = look_keeps (sizes c.args.table.now) c.args.pin.now.room c.in-Present.header c.in-Present.generation c.in-Present.entry c.args.key.now c.args.value.now (state c.args.pass.now) (state c.look_up.new.pass) (state c.keep_life.new.pass)
     c.in-Present.ensures.alone c.in-Present.ensures.spot.has (c.look_up.ensures.under.headers ∙ c.requires.headers) c.keep_life.result c.keep_life.ensures.alone c.keep_life.ensures.alone_refused
+
+pub returns-in-Ok-clause-alone_left : goal.returns-in-Ok-clause-alone_left
+returns-in-Ok-clause-alone_left c = let z = sizes c.args.table.now in let r = c.args.pin.now.room in let v = state c.args.pass.now in let u = state c.look_up.new.pass in let w = state c.insert.new.pass in
+    away_gets z r c.args.key.now c.args.value.now c.in-Absent.entry c.in-Absent.floor v u w c.in-Absent.ensures.alone c.in-Ok.ensures.alone_inserts
+
+pub returns-in-Present-clause-alone_left : goal.returns-in-Present-clause-alone_left
+returns-in-Present-clause-alone_left c = let z = sizes c.args.table.now in let r = c.args.pin.now.room in let v = state c.args.pass.now in let u = state c.look_up.new.pass in let w = state c.keep_life.new.pass in let key = c.args.key.now in let value = c.args.value.now in
+    ok_map _ _ c.keep_life.result (λ y left. stays_then (PutLeavesUnder y z r key value) v u w (spot_stays z r key (Present c.in-Present.entry c.in-Present.header c.in-Present.generation) v u c.in-Present.ensures.alone) (left r key value)) c.keep_life.ensures.alone_left

@@ -1,3 +1,4 @@
+use Rattle.point_ops.proofs.LonePutPins.{away_gets, over_key}
 use Rattle.std.proofs.Common.{◌≡◌, ◌∙◌, None, Some, Ok, Err, refl}
 use Rattle.oak_model.specs.declared.cells.CellCall.TheVariants.{Put}
 use Rattle.oak_model.specs.declared.cells.CellReply.TheVariants as replies
@@ -56,3 +57,11 @@ pub returns-in-Err-overwrite-clause-alone : goal.returns-in-Err-overwrite-clause
 returns-in-Err-overwrite-clause-alone c = let z = sizes c.args.table.now in let r = c.args.pin.now.room in let v = state c.args.pass.now in let u = state c.look_up.new.pass in let w = state c.overwrite.new.pass in
     over_refused z r c.in-Present.header c.in-Present.generation c.in-Present.entry c.args.key.now v u w c.in-Present.ensures.alone c.args.value.now c.in-Present.ensures.spot.has (c.look_up.ensures.under.headers ∙ c.requires.headers)
     c.in-Err-overwrite.halt (c.in-Err-overwrite.ensures.alone r c.look_up.ensures.under.pin.has)
+
+pub returns-in-Ok-clause-alone_left : goal.returns-in-Ok-clause-alone_left
+returns-in-Ok-clause-alone_left c = let z = sizes c.args.table.now in let r = c.args.pin.now.room in let v = state c.args.pass.now in let u = state c.look_up.new.pass in let w = state c.insert.new.pass in
+    away_gets z r c.args.key.now c.args.value.now c.in-Absent.entry c.in-Absent.floor v u w c.in-Absent.ensures.alone c.in-Ok.ensures.alone_inserts
+
+pub returns-in-Ok-overwrite-clause-alone_left : goal.returns-in-Ok-overwrite-clause-alone_left
+returns-in-Ok-overwrite-clause-alone_left c = let z = sizes c.args.table.now in let r = c.args.pin.now.room in let v = state c.args.pass.now in let u = state c.look_up.new.pass in let w = state c.overwrite.new.pass in
+    over_key z r c.in-Present.header c.in-Present.generation c.in-Present.entry c.args.key.now c.args.value.now c.in-Ok-overwrite.at v u w c.in-Present.ensures.alone (c.in-Ok-overwrite.ensures.alone_over r c.look_up.ensures.under.pin.has)

@@ -1,3 +1,4 @@
+use Rattle.point_ops.proofs.LonePutPins.{pinned_put_leaves}
 use Rattle.std.proofs.Common.{◌∙◌}
 use Rattle.oak_model.specs.declared.cells.CellCall.TheVariants.{Put}
 use Rattle.oak_core.specs.Passes.{state, key as sizes, call_of}
@@ -44,3 +45,7 @@ returns-in_default-clause-alone c = room_found (state c.args.pass.now) (state c.
 pub returns-clause-alone : goal.returns-clause-alone
 returns-clause-alone c = pinned_puts (sizes c.args.table.now) c.in-Ok.pin.room c.args.key.now c.args.value.now (state c.args.pass.now) (state c.pin_for.new.pass) (state c.put_pinned-wrote.new.pass) (state c.unpin.new.pass)
     c.in-Ok.ensures.pinned.has.inside c.in-Ok.ensures.pinned.still c.unpin.ensures.unpinned.still c.put_pinned-wrote.result c.put_pinned-wrote.ensures.alone
+
+pub returns-clause-alone_left : goal.returns-clause-alone_left
+returns-clause-alone_left c = ok_map _ _ c.put_pinned-wrote.result (λ y l. pinned_put_leaves (sizes c.args.table.now) c.in-Ok.pin.room c.args.key.now c.args.value.now (state c.args.pass.now) (state c.pin_for.new.pass) (state c.put_pinned-wrote.new.pass) (state c.unpin.new.pass)
+    c.in-Ok.ensures.pinned.has.inside c.in-Ok.ensures.pinned.still c.unpin.ensures.unpinned.still y l) c.put_pinned-wrote.ensures.alone_left
