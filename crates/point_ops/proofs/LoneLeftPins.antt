@@ -1,5 +1,5 @@
 -- What a call that needs a present key leaves of the words, where it answers a pass that is alone: under the pin of the key's room, and with the pin undone.
-use Rattle.std.proofs.Common.{◌≡◌, ℕ, ◌+◌, ◌-◌, ◌*◌, ◌/◌, ◌%◌, ◌^◌, ◌<◌, true, List, sym, refl, ap, ◌∙◌, subst, Result, Ok, Err, IfOk, IfErr}
+use Rattle.std.proofs.Common.{◌≡◌, ℕ, ◌+◌, ◌-◌, ◌*◌, ◌/◌, ◌%◌, ◌^◌, ◌<◌, List, sym, ap, ◌∙◌, subst}
 use Rattle.std.specs.Prelude.{bit_and}
 use Rattle.std.specs.Int.{bit_at}
 use Rattle.pin_word.specs.PinWord.{STATE, state_of, count_of}
@@ -21,10 +21,9 @@ use Rattle.chunk_ops.specs.declared.entries.Content.TheVariants.{Value}
 use Rattle.chunk_ops.specs.declared.entries.EntryNo.{EntryNo}
 use Rattle.chunk_ops.specs.Contents.{Says}
 use Rattle.chunk_ops.specs.FindsAlone.{IsUsed}
-use Rattle.chunk_ops.specs.PinRecords.{WordsStay}
 use Rattle.chunk_ops.specs.RoomPins.{AddsRoomPin, DropsRoomPin}
 use Rattle.chunk_ops.proofs.PinSteps.{undone}
-use Rattle.value_ops.specs.AloneLocks.{pin_in, place_in, stamp_in}
+use Rattle.value_ops.specs.AloneLocks.{pin_in, place_in}
 use Rattle.value_ops.specs.Locking.{may_lock}
 use Rattle.point_ops.specs.LoneInserts.{KeepsBut}
 use Rattle.point_ops.specs.LoneLeft.{ClearsBlockIn, IsOfValue, IsRemoved, KeyNames, LeavesBy, LeavesUnder, RemovesIn, RemovesKey, RewritesIn, RewritesKey}

@@ -12,18 +12,17 @@ use Rattle.header_core.specs.Headers.{at_pin}
 use Rattle.oak_core.specs.declared.states.PassState.{PassState}
 use Rattle.oak_core.specs.AloneWords.{Runs}
 use Rattle.oak_core.specs.KeyReads.{home_of}
-use Rattle.oak_core.specs.Memory.{Spot, IsInside, at_given, in_arena, in_headers, in_rooms, index, memory, word_count}
+use Rattle.oak_core.specs.Memory.{Spot, IsInside, at_given, in_arena, in_headers, in_rooms, memory, word_count}
 use Rattle.oak_core.proofs.AloneRuns.{Then, runs_as, runs_then}
 use Rattle.chunk_ops.specs.declared.entries.EntryNo.{EntryNo}
 use Rattle.chunk_ops.specs.declared.entries.Found.TheVariants.{Entry}
 use Rattle.chunk_ops.specs.AskedRanges.{CoversKey}
-use Rattle.chunk_ops.specs.FindsAlone.{HasKeyAt, IsUsed}
+use Rattle.chunk_ops.specs.FindsAlone.{HasKeyAt}
 use Rattle.chunk_ops.specs.Setting.{SetsIn}
-use Rattle.chunk_ops.proofs.KeptKeys.{number_other}
 use Rattle.value_ops.specs.AloneLocks.{pin_in}
 use Rattle.point_ops.specs.LoneInserts.{IsOfBlock, IsOfHeader, KeepsBut, KeysStay, MakesFreshIn, MakesFreshUnder}
 use Rattle.point_ops.specs.LoneLives.{AwayIn}
-use Rattle.point_ops.specs.LonePutLeft.{AddsKeyIn, EntryFor, GetsFor, GotEntryIn, HadEntryIn, InsertsKey, InsertsKeyFor, IsNewEntry, IsNewValue, with_bit}
+use Rattle.point_ops.specs.LonePutLeft.{AddsKeyIn, GetsFor, GotEntryIn, HadEntryIn, InsertsKey, InsertsKeyFor, IsNewEntry, IsNewValue, with_bit}
 use Rattle.point_ops.proofs.LoneBlocks.{keys_stay}
 use Rattle.point_ops.proofs.LoneInserted.{fresh_away, fresh_clear, fresh_free, fresh_keys}
 use Rattle.point_ops.proofs.LoneNewEntries.{bits_made}

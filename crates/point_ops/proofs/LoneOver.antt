@@ -1,6 +1,6 @@
 -- A value that a pass that is alone puts in place of another: what it leaves of the words.
-use Rattle.std.proofs.Common.{◌≡◌, ◌≢◌, ℕ, ◌+◌, ◌-◌, ◌*◌, ◌/◌, ◌%◌, ◌^◌, ◌<◌, ◌≤◌, ◌⊎◌, List, length, length-set, refl, sym, ap, ◌∙◌, subst, arith, inl, inr, ⊎_elim, Some}
-use Rattle.std.specs.Prelude.{bit_and, slice_index, slice_set}
+use Rattle.std.proofs.Common.{◌≡◌, ◌≢◌, ℕ, ◌+◌, ◌-◌, ◌*◌, ◌/◌, ◌%◌, ◌^◌, ◌<◌, ◌≤◌, ◌⊎◌, List, length, refl, sym, ap, ◌∙◌, subst, inl, inr, Some}
+use Rattle.std.specs.Prelude.{bit_and, slice_index}
 use Rattle.std.specs.Int.{bit_at}
 use Rattle.pin_word.specs.PinWord.{STATE}
 use Rattle.oak_model.specs.declared.classes.Class.{Class}
@@ -13,7 +13,7 @@ use Rattle.arena_core.proofs.ClassRooms.{class_room}
 use Rattle.header_core.specs.Headers.{at_pin, at_place, at_stamp}
 use Rattle.oak_core.specs.declared.states.PassState.{PassState}
 use Rattle.oak_core.specs.AloneWords.{Runs}
-use Rattle.oak_core.specs.Memory.{Spot, at_given, in_arena, in_headers, in_rooms, index, memory, read, word_count}
+use Rattle.oak_core.specs.Memory.{Spot, at_given, in_arena, in_headers, in_rooms, index, memory}
 use Rattle.oak_core.proofs.AloneRuns.{Then, runs_as, runs_then}
 use Rattle.oak_core.proofs.ArenaNames.{bit_inside}
 use Rattle.oak_core.proofs.Words.{memory_read}
@@ -24,7 +24,7 @@ use Rattle.value_ops.specs.AloneLocks.{ChangesWord, FindsClass, LocksPin, Refill
 use Rattle.value_ops.specs.Claiming.{pin_spot}
 use Rattle.point_ops.specs.LoneInserts.{IsOfBlock, KeepsBut, MakesBlockIn}
 use Rattle.point_ops.specs.LoneLeft.{ClearsBlockIn, IsOfValue}
-use Rattle.point_ops.specs.LonePutLeft.{ExchangesIn, IsRefilled, IsSwapped, OverIn, RefillsIn, SwapsIn}
+use Rattle.point_ops.specs.LonePutLeft.{ExchangesIn, IsRefilled, IsSwapped, OverIn, SwapsIn}
 use Rattle.point_ops.proofs.LoneChanges.{undoes}
 use Rattle.point_ops.proofs.LoneKept.{HasBlockIn, LocksWhole}
 use Rattle.point_ops.proofs.LoneRounds.{ChangesUnder, Rounds, bytes_within, rounds_alone}

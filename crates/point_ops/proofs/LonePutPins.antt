@@ -1,7 +1,6 @@
 -- What a put leaves of the words, where it answers a pass that is alone: under the pin of the key's room, and with the pin undone.
-use Rattle.std.proofs.Common.{◌≡◌, ℕ, ◌+◌, ◌-◌, ◌*◌, ◌/◌, ◌%◌, ◌^◌, ◌<◌, ◌⊎◌, List, length, sym, refl, ap, ◌∙◌, subst, inl, inr, ⊎_elim, Option, Some, None}
-use Rattle.std.specs.Prelude.{bit_and, bit_or}
-use Rattle.std.specs.Int.{bit_at}
+use Rattle.std.proofs.Common.{◌≡◌, ℕ, ◌+◌, ◌*◌, ◌/◌, ◌<◌, ◌⊎◌, List, length, sym, ap, ◌∙◌, subst, inl, inr, ⊎_elim, Option}
+use Rattle.std.specs.Prelude.{bit_or}
 use Rattle.pin_word.specs.PinWord.{STATE, count_of, state_of}
 use Rattle.oak_model.specs.declared.classes.Class.{Class}
 use Rattle.oak_model.specs.declared.replies.Wrote.{Wrote}
@@ -21,14 +20,14 @@ use Rattle.oak_core.specs.Memory.{Spot, in_arena, in_headers, in_rooms, memory, 
 use Rattle.oak_core.proofs.AloneRuns.{Then, runs_as, runs_then}
 use Rattle.chunk_ops.specs.declared.entries.Content.TheVariants.{Value}
 use Rattle.chunk_ops.specs.declared.entries.EntryNo.{EntryNo}
-use Rattle.chunk_ops.specs.declared.entries.Found.TheVariants.{Entry, Missing}
+use Rattle.chunk_ops.specs.declared.entries.Found.TheVariants.{Entry}
 use Rattle.chunk_ops.specs.AskedRanges.{CoversKey}
 use Rattle.chunk_ops.specs.FindsAlone.{HasKeyAt, IsUsed}
 use Rattle.chunk_ops.specs.RoomPins.{AddsRoomPin, DropsRoomPin}
 use Rattle.chunk_ops.proofs.PinSteps.{undone}
-use Rattle.value_ops.specs.AloneLocks.{pin_in, place_in, stamp_in}
+use Rattle.value_ops.specs.AloneLocks.{place_in}
 use Rattle.point_ops.specs.LoneInserts.{IsOfBlock, KeepsBut, KeysStay}
-use Rattle.point_ops.specs.LoneLeft.{ClearsBlockIn, RewritesKey}
+use Rattle.point_ops.specs.LoneLeft.{ClearsBlockIn}
 use Rattle.point_ops.specs.LoneLives.{AwayIn, EntrySays}
 use Rattle.point_ops.specs.LonePutLeft.{ExchangesIn, GotEntryIn, HadEntryIn, InsertsKey, InsertsKeyFor, IsNewEntry, IsNewValue, IsRefilled, IsSwapped, OverIn, OverKey, PutLeavesBy, PutLeavesUnder, RefillsIn, with_bit}
 use Rattle.point_ops.proofs.LoneBlocks.{keys_stay}

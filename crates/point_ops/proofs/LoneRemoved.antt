@@ -1,6 +1,6 @@
 -- What a removal by a pass that is alone leaves of the words.
 use Rattle.std.proofs.Common.{◌≡◌, ℕ, ◌+◌, ◌-◌, ◌*◌, ◌/◌, ◌%◌, ◌^◌, ◌<◌, List, length, length-set, refl, sym, ap, ◌∙◌, subst, arith}
-use Rattle.std.specs.Prelude.{bit_and, slice_index, slice_set}
+use Rattle.std.specs.Prelude.{bit_and, slice_index}
 use Rattle.std.specs.Int.{bit_at}
 use Rattle.pin_word.specs.PinWord.{STATE}
 use Rattle.oak_model.specs.declared.classes.Class.{Class}
@@ -14,7 +14,7 @@ use Rattle.header_core.specs.Headers.{at_pin, at_place, at_stamp}
 use Rattle.header_core.specs.HeaderStep.{renewal}
 use Rattle.oak_core.specs.declared.states.PassState.{PassState}
 use Rattle.oak_core.specs.AloneWords.{Runs}
-use Rattle.oak_core.specs.Memory.{Spot, IsInside, in_arena, in_headers, in_rooms, index, memory, word_count}
+use Rattle.oak_core.specs.Memory.{Spot, IsInside, in_headers, in_rooms, index, memory, word_count}
 use Rattle.oak_core.proofs.AloneRuns.{Then, runs_as, runs_then}
 use Rattle.oak_core.proofs.ArenaNames.{bit_inside}
 use Rattle.oak_core.proofs.Words.{memory_read}

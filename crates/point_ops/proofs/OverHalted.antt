@@ -1,7 +1,6 @@
 -- A value is put over another behind a lock that was given up: what the part behind it did or found, told of the whole call.
-use Rattle.std.proofs.Common.{None, ◌≡◌, ◌⊎◌, ℕ, ◌%◌, List, length, Result, IfOk, IfErr, Some, sym, subst, inl, inr, ⊎_elim}
+use Rattle.std.proofs.Common.{None, ◌≡◌, ◌⊎◌, ℕ, List, length, Result, IfOk, IfErr, Some, sym, subst, inl, inr, ⊎_elim}
 use Rattle.std.proofs.lemmas.Result.{IfOk-weaker, IfErr-weaker}
-use Rattle.std.specs.Int.{bit_at}
 use Rattle.oak_model.specs.declared.classes.Class.{Class}
 use Rattle.oak_model.specs.declared.writes.Kind.TheVariants.{Put}
 use Rattle.oak_model.specs.Class.{class_of}
@@ -10,7 +9,6 @@ use Rattle.oak_core.specs.declared.states.PassState.{PassState}
 use Rattle.oak_core.specs.CallSteps.{Learns, MetMore, Stands}
 use Rattle.oak_core.specs.Finding.{LoadsMore}
 use Rattle.oak_core.proofs.CallSteps.{learns_both, stands_both, stands_in, stands_learns, met_none}
-use Rattle.arena_ops.specs.Looking.{bit_spot}
 use Rattle.value_ops.specs.declared.locking.NoLock.TheVariants as no_lock
 use Rattle.value_ops.specs.Pinning.{KnowsLife}
 use Rattle.value_ops.specs.UnderLock.{GivesUp}
@@ -22,7 +20,7 @@ use Rattle.point_ops.specs.Parts.{WritesAt}
 use Rattle.point_ops.proofs.AloneHeld.{gave_up_stands}
 use Rattle.point_ops.proofs.Composed.{taken_in}
 use Rattle.point_ops.proofs.LocksKept.{load_stands}
-use Rattle.point_ops.proofs.NoLockFacts.{refused_behind, word_behind}
+use Rattle.point_ops.proofs.NoLockFacts.{refused_behind}
 use Rattle.point_ops.proofs.WritesIn.{wrote_behind}
 
 -- loads under a lock that is given up then teach nothing

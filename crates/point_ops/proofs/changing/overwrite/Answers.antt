@@ -1,4 +1,3 @@
-use Rattle.oak_model.specs.declared.classes.Class.{Class}
 use Rattle.arena_core.proofs.PlaceLaws.{same_class}
 use Rattle.point_ops.proofs.LoneOver.{exchanges_alone, gives_up_class, refills_alone}
 use Rattle.std.proofs.Common.{ℕ, List, cond, ◌==◌, length, refl, sym, ◌∙◌, Some, ap, rules, ◌≡◌}
