@@ -2,11 +2,13 @@
 ghost use Rattle.std.specs.Prelude.{◌≡◌, ◌<◌, ◌+◌, ◌-◌, ◌^◌, Ok};
 ghost use Rattle.oak_model.specs.declared.cells.CellCall.TheVariants.{Compute, Remove};
 ghost use Rattle.oak_model.specs.Key.{IsKey};
+ghost use Rattle.oak_core.specs.AloneWords.{Runs};
 ghost use Rattle.oak_core.specs.MayWrite.{IsNewCall};
 ghost use Rattle.oak_core.specs.Passes.{Stays};
 ghost use Rattle.oak_core.specs.PassState.{IsAlone};
 ghost use Rattle.oak_core.specs.Scratch.{StaysButScratch};
 ghost use Rattle.point_ops.specs.Counted.{Feeds, FeedsAlone, times_done};
+ghost use Rattle.point_ops.specs.LoneLeft.{LeavesBy};
 ghost use Rattle.point_ops.specs.LoneReplies.{WroteAlone};
 ghost use Rattle.point_ops.specs.Parts.{WroteFits};
 ghost use Rattle.point_ops.specs.Replies.{HoldsAsBefore};
@@ -41,6 +43,7 @@ impl OakMap {
         ensures holds { HoldsAsBefore (state pass.old) (state pass.new) }
         ensures wrote { WroteFits result (call_of pass.old) key.now (Compute (told_kind recipe.old) (told_argument recipe.old)) (state pass.old) (state pass.new) }
         ensures alone_reply { IsAlone (state pass.old) → WroteAlone result (sizes self.now) key.now (Compute (told_kind recipe.old) (told_argument recipe.old)) (state pass.old) (state pass.new) }
+        ensures alone_left { Runs (LeavesBy result (sizes self.now) key.now) (state pass.old) (state pass.new) }
         ensures counted { calls recipe.new ≡ calls recipe.old + times_done (Ok result) }
         ensures fed { Feeds (Ok result) key.now (fed recipe.old) (fed recipe.new) (state pass.new) }
         ensures alone_fed { IsAlone (state pass.old) → FeedsAlone (Ok result) key.now (fed recipe.new) (state pass.old) }
@@ -68,6 +71,7 @@ impl OakMap {
         ensures holds { HoldsAsBefore (state pass.old) (state pass.new) }
         ensures wrote { WroteFits result (call_of pass.old) key.now Remove (state pass.old) (state pass.new) }
         ensures alone_reply { IsAlone (state pass.old) → WroteAlone result (sizes self.now) key.now Remove (state pass.old) (state pass.new) }
+        ensures alone_left { Runs (LeavesBy result (sizes self.now) key.now) (state pass.old) (state pass.new) }
     {
         for _ in rt.forever() {
             if let Ok(wrote) = try_remove(&self.table, &mut pass.pass, NO_HINT, key) {

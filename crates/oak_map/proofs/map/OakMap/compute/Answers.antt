@@ -4,11 +4,12 @@ use Rattle.oak_model.specs.declared.cells.CellCall.TheVariants.{Compute}
 use Rattle.oak_model.specs.declared.recipes.RecipeKind.{RecipeKind}
 use Rattle.oak_core.specs.declared.states.PassState.{PassState}
 use Rattle.oak_core.specs.Passes.{state as table_state}
+use Rattle.point_ops.specs.LoneLeft.{LeavesBy}
 use Rattle.point_ops.specs.LoneReplies.{WroteAlone}
 use Rattle.point_ops.specs.Parts.{WroteFits}
 use Rattle.point_ops.specs.Replies.{Refuses}
 use Rattle.oak_map.specs.Maps.{call_of, pass_of, sizes, state}
-use Rattle.oak_map.proofs.LoneRetries.{lone_since, waits_again}
+use Rattle.oak_map.proofs.LoneRetries.{lone_since, runs_since, waits_again}
 use Rattle.oak_map.proofs.RepliesSince.{compute_same, holds_both, refuses_both, same_both, wrote_holds, wrote_since}
 use Rattle.point_ops.proofs.RecipesFed.{feeds_alone, feeds_since, says_both}
 use Rattle.oak_map.proofs.SameScratch.{scratch_both}
@@ -30,6 +31,9 @@ returns-in-Ok-clause-alone_reply g c = let z = sizes c.args.self.now in let u = 
     let first = c.args.recipe.now in let now = c.loop.recipe in let x = goal.Recipe-dyn g (first.vtable, first.value) in let y = goal.Recipe-dyn g (now.vtable, now.value) in
     lone_since (λ (t : PassState). WroteAlone c.in-Ok.wrote z c.args.key.now (Compute (x.told_kind first.value) (x.told_argument first.value)) t w) u v i.waits
     (λ alone. subst (λ (a : CellCall). WroteAlone c.in-Ok.wrote z c.args.key.now a v w) (compute_same (y.told_kind now.value) (x.told_kind first.value) (y.told_argument now.value) (x.told_argument first.value) i.kind i.argument) (c.in-Ok.ensures.alone_reply alone))
+
+pub returns-in-Ok-clause-alone_left : goal.returns-in-Ok-clause-alone_left
+returns-in-Ok-clause-alone_left g c = runs_since (LeavesBy c.in-Ok.wrote (sizes c.args.self.now) c.args.key.now) (state c.args.pass.now) (state c.loop.pass) (table_state c.try_compute.new.pass) c.loop.invariant.waits c.in-Ok.ensures.alone_left
 
 pub loop-preserved : goal.loop-preserved
 loop-preserved g c = let call = call_of c.args.pass.now in let u = state c.args.pass.now in let v = state c.loop.pass in let w = table_state c.try_compute.new.pass in let i = c.loop.invariant in

@@ -3,11 +3,12 @@ use Rattle.oak_model.specs.declared.cells.CellCall.TheVariants.{Remove}
 use Rattle.oak_core.specs.declared.states.PassState.{PassState}
 use Rattle.oak_core.specs.Passes.{state as table_state}
 use Rattle.oak_core.proofs.SamePass.{stays_both}
+use Rattle.point_ops.specs.LoneLeft.{LeavesBy}
 use Rattle.point_ops.specs.LoneReplies.{WroteAlone}
 use Rattle.point_ops.specs.Parts.{WroteFits}
 use Rattle.point_ops.specs.Replies.{Refuses}
 use Rattle.oak_map.specs.Maps.{call_of, sizes, state}
-use Rattle.oak_map.proofs.LoneRetries.{lone_since, waits_again}
+use Rattle.oak_map.proofs.LoneRetries.{lone_since, runs_since, waits_again}
 use Rattle.oak_map.proofs.RepliesSince.{holds_both, refuses_both, wrote_holds, wrote_since}
 use Rattle.oak_map.proofs.map.OakMap.remove.Goals as goal
 
@@ -23,6 +24,9 @@ returns-in-Ok-clause-holds g c = let v = state c.loop.pass in let w = table_stat
 pub returns-in-Ok-clause-alone_reply : goal.returns-in-Ok-clause-alone_reply
 returns-in-Ok-clause-alone_reply g c = let w = table_state c.try_remove.new.pass in
     lone_since (λ (x : PassState). WroteAlone c.in-Ok.wrote (sizes c.args.self.now) c.args.key.now Remove x w) (state c.args.pass.now) (state c.loop.pass) c.loop.invariant.waits c.in-Ok.ensures.alone_reply
+
+pub returns-in-Ok-clause-alone_left : goal.returns-in-Ok-clause-alone_left
+returns-in-Ok-clause-alone_left g c = runs_since (LeavesBy c.in-Ok.wrote (sizes c.args.self.now) c.args.key.now) (state c.args.pass.now) (state c.loop.pass) (table_state c.try_remove.new.pass) c.loop.invariant.waits c.in-Ok.ensures.alone_left
 
 pub loop-preserved : goal.loop-preserved
 loop-preserved g c = let call = call_of c.args.pass.now in let u = state c.args.pass.now in let v = state c.loop.pass in let w = table_state c.try_remove.new.pass in let i = c.loop.invariant in record {
