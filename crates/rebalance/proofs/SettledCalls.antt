@@ -19,7 +19,7 @@ use Rattle.oak_core.specs.Sweeping.{valueless}
 use Rattle.oak_core.proofs.AloneRuns.{Then, runs_as, runs_none, runs_then}
 use Rattle.rebalance.specs.Calls.{HasMuchAbove, IsLast, Merges, Rewrites}
 use Rattle.rebalance.specs.Copies.{copy_span, values_in}
-use Rattle.rebalance.specs.LoneCalls.{Divided, JoinsRooms, RewritesBoth, RewritesRoom, SettlesWords}
+use Rattle.rebalance.specs.LoneCalls.{Divided, JoinsRooms, NoneOpened, RewritesBoth, RewritesRoom, SettlesWords}
 use Rattle.rebalance.specs.LoneWords.{IsOpen, room_in, state_in}
 use Rattle.rebalance.specs.Merging.{ApartUpTo}
 use Rattle.rebalance.specs.Settling.{SettledBelow, SettlesBelow}
@@ -76,11 +76,39 @@ values_joined z call key v w m = let a = m.kept (λ _ n. names_header n) in let 
 
 -- nothing is below the least key
 pub least_settles : (z : Sizes) (key : List ℕ) (v : PassState) → key ≡ 0 ∷ [] → Runs (SettlesBelow z (key_number key)) v v
-least_settles z key v least = runs_none (SettlesBelow z (key_number key)) v (λ a. record { settled = λ d. subst (λ (n : ℕ). SettledBelow z n a) (ap key_number (sym least)) (settled_least z a d); headers = refl })
+least_settles z key v least = runs_none (SettlesBelow z (key_number key)) v (λ a. record { settled = λ d. subst (λ (n : ℕ). SettledBelow z n a) (ap key_number (sym least)) (settled_least z a d); opened = λ r there. (there, refl); headers = refl })
 
 -- a free room is not open
 not_free : (z : Sizes) (b : List ℕ) (q : ℕ) → state_in z b q ≡ FREE → IsOpen z b q → ⊥
 not_free z b q free o = let e : FREE ≡ OPEN = sym free ∙ o.state in absurd (omega arith)
+
+-- rooms that were open, and whose ranges begin where they did, open none
+opened_then : (z : Sizes) (a b c : List ℕ) → NoneOpened z a b → ((r : ℕ) → IsOpen z c r → IsOpen z b r) → ((r : ℕ) → IsOpen z c r → (room_in z c r).low ≡ (room_in z b r).low) → NoneOpened z a c
+opened_then z a b c n opens low r there = let f = n r (opens r there) in (f.0, low r there ∙ f.1)
+
+-- a room whose state stays was open
+was_open : (z : Sizes) (b c : List ℕ) (r : ℕ) → state_in z c r ≡ state_in z b r → IsOpen z c r → IsOpen z b r
+was_open z b c r e there = record { inside = there.inside; state = sym e ∙ there.state }
+
+-- where one room was rewritten, each begins where it did
+rewritten_still : (z : Sizes) (b c : List ℕ) (r : ℕ) (held opened : RoomCopy) → IsStill held opened → RewritesRoom z r held opened b c → (y : ℕ) → IsStill (room_in z b y) (room_in z c y)
+rewritten_still z b c r held opened still j y = dite (ℕ_discrete y r)
+    (λ same. subst (λ (x : ℕ). IsStill (room_in z b x) (room_in z c x)) (sym same) (subst (λ (p : RoomCopy × RoomCopy). IsStill p.0 p.1) (λ i. (sym j.was i, sym j.is i)) still))
+    (λ no. still_same (room_in z b y) (room_in z c y) (j.leaves.words y no))
+
+-- so it is where two were
+both_still : (z : Sizes) (b c : List ℕ) (r q : ℕ) (held opened next reopened : RoomCopy) → IsStill held opened → IsStill next reopened → RewritesBoth z r q held opened next reopened b c → (y : ℕ) → IsStill (room_in z b y) (room_in z c y)
+both_still z b c r q held opened next reopened low up j y = dite (ℕ_discrete y r)
+    (λ same. subst (λ (x : ℕ). IsStill (room_in z b x) (room_in z c x)) (sym same) (subst (λ (p : RoomCopy × RoomCopy). IsStill p.0 p.1) (λ i. (sym j.was i, sym j.is i)) low))
+    (λ ne. dite (ℕ_discrete y q)
+    (λ same. subst (λ (x : ℕ). IsStill (room_in z b x) (room_in z c x)) (sym same) (subst (λ (p : RoomCopy × RoomCopy). IsStill p.0 p.1) (λ i. (sym j.was_upper i, sym j.is_upper i)) up))
+    (λ no. still_same (room_in z b y) (room_in z c y) (j.leaves.words y (⊎_elim ne no))))
+
+-- of two joined rooms the one begins where it did, and the other is not open
+joined_low : (z : Sizes) (b c : List ℕ) (r q : ℕ) (held next opened : RoomCopy) → opened.low ≡ held.low → JoinsRooms z r q held next opened b c → (y : ℕ) → IsOpen z c y → (room_in z c y).low ≡ (room_in z b y).low
+joined_low z b c r q held next opened low j y there = dite (ℕ_discrete y r)
+    (λ same. subst (λ (x : ℕ). (room_in z c x).low ≡ (room_in z b x).low) (sym same) (ap (λ (k : RoomCopy). k.low) j.is ∙ (low ∙ ap (λ (k : RoomCopy). k.low) (sym j.was))))
+    (λ ne. ap (λ (k : RoomCopy). k.low) (j.leaves.words y (⊎_elim ne (λ same. not_free z c q j.freed (subst (IsOpen z c) same there)))))
 
 module _ (z : Sizes) (call : ℕ) (key : List ℕ) (u v w : PassState) (first : Runs (SettlesBelow z (key_number key)) u v) where
   -- a chunk with the key was merged with the one above it
@@ -93,10 +121,13 @@ module _ (z : Sizes) (call : ℕ) (key : List ℕ) (u v w : PassState) (first : 
             (ap (λ (k : RoomCopy). k.low) j.is ∙ (m.low ∙ ap (λ (k : RoomCopy). k.low) (sym j.was)))
             (ap (λ (k : RoomCopy). k.high) j.is ∙ (m.high ∙ ap (λ (k : RoomCopy). k.high) (sym j.was_upper)))
             (let e = ap values_in j.was in let f = ap values_in j.is in let g = values_joined z call key v w m in omega arith)
-            (λ y there. record { inside = there.inside; state = sym (j.leaves.states y (λ same. not_free z c m.other j.freed (subst (IsOpen z c) same there))) ∙ there.state })
+            (λ y there. was_open z t.0 c y (j.leaves.states y (λ same. not_free z c m.other j.freed (subst (IsOpen z c) same there))) there)
             (not_free z c m.other j.freed)
             (λ y n o. j.leaves.words y (⊎_elim n o))
             (s.settled d.divided);
+        opened = opened_then z x t.0 c s.opened
+            (λ y there. was_open z t.0 c y (j.leaves.states y (λ same. not_free z c m.other j.freed (subst (IsOpen z c) same there))) there)
+            (joined_low z t.0 c m.room m.other m.held m.next m.opened m.low j);
         headers = j.leaves.headers ∙ s.headers;
       })
       (runs_then (SettlesBelow z (key_number key)) J u v w first m.alone)
@@ -116,12 +147,8 @@ module _ (z : Sizes) (call : ℕ) (key : List ℕ) (u v w : PassState) (first : 
           runs_as (Then (SettlesBelow z (key_number key)) B) (SettlesBelow z (key_number h)) u w
           (λ x c t. let f = t.1 in let d = t.2 in let j = d.does in record {
             settled = λ after. settled_next z c after (key_number key) (key_number h) s.room m.other
-                (settled_still z t.0 c (key_number key) (λ y there. record { inside = there.inside; state = sym (j.leaves.states y (λ n. n)) ∙ there.state })
-                (λ y. dite (ℕ_discrete y s.room)
-                (λ same. subst (λ (r : ℕ). IsStill (room_in z t.0 r) (room_in z c r)) (sym same) (subst (λ (p : RoomCopy × RoomCopy). IsStill p.0 p.1) (λ i. (sym j.was i, sym j.is i)) low))
-                (λ ne. dite (ℕ_discrete y m.other)
-                (λ same. subst (λ (r : ℕ). IsStill (room_in z t.0 r) (room_in z c r)) (sym same) (subst (λ (p : RoomCopy × RoomCopy). IsStill p.0 p.1) (λ i. (sym j.was_upper i, sym j.is_upper i)) up))
-                (λ no. still_same (room_in z t.0 y) (room_in z c y) (j.leaves.words y (⊎_elim ne no)))))
+                (settled_still z t.0 c (key_number key) (λ y there. was_open z t.0 c y (j.leaves.states y (λ n. n)) there)
+                (both_still z t.0 c s.room m.other s.held s.opened m.next m.reopened low up j)
                 (f.settled d.divided))
                 (record { inside = j.is_open.inside; state = j.leaves.states s.room (λ n. n) ∙ j.is_open.state })
                 (record { inside = j.upper_is_open.inside; state = j.leaves.states m.other (λ n. n) ∙ j.upper_is_open.state })
@@ -130,6 +157,7 @@ module _ (z : Sizes) (call : ℕ) (key : List ℕ) (u v w : PassState) (first : 
                 (ap (λ (k : RoomCopy). high_number k.high) j.is ∙ (ap high_number low.high ∙ ends))
                 (let e = ap (λ (k : RoomCopy). low_number k.low) j.is_upper in let g = ap low_number up.low in let i = m.above in let k = ends in omega arith)
                 (let e = ap values_in j.is in let g = ap values_in j.is_upper in let i = low.values in let k = up.values in let n = m.many in omega arith);
+            opened = opened_then z x t.0 c f.opened (λ y there. was_open z t.0 c y (j.leaves.states y (λ n. n)) there) (λ y there. (both_still z t.0 c s.room m.other s.held s.opened m.next m.reopened low up j y).low);
             headers = j.leaves.headers ∙ f.headers;
           })
           (runs_then (SettlesBelow z (key_number key)) B u v w first m.alone)
@@ -146,15 +174,14 @@ module _ (z : Sizes) (call : ℕ) (key : List ℕ) (u v w : PassState) (first : 
           runs_as (Then (SettlesBelow z (key_number key)) R) (SettlesWords z) u w
           (λ x c t. let f = t.1 in let d = t.2 in let j = d.does in record {
             settled = settled_all z c d.divides (key_number key) s.room
-                (settled_still z t.0 c (key_number key) (λ y there. record { inside = there.inside; state = sym (j.leaves.states y (λ n. n)) ∙ there.state })
-                (λ y. dite (ℕ_discrete y s.room)
-                (λ same. subst (λ (r : ℕ). IsStill (room_in z t.0 r) (room_in z c r)) (sym same) (subst (λ (p : RoomCopy × RoomCopy). IsStill p.0 p.1) (λ i. (sym j.was i, sym j.is i)) low))
-                (λ no. still_same (room_in z t.0 y) (room_in z c y) (j.leaves.words y no)))
+                (settled_still z t.0 c (key_number key) (λ y there. was_open z t.0 c y (j.leaves.states y (λ n. n)) there)
+                (rewritten_still z t.0 c s.room s.held s.opened low j)
                 (f.settled d.divided))
                 (record { inside = j.is_open.inside; state = j.leaves.states s.room (λ n. n) ∙ j.is_open.state })
                 (subst (λ (k : RoomCopy). within (copy_span k) (key_number key) ≡ 1) (sym j.is) (still_inside z call key s.room s.held s.opened v w s.rewrites))
                 (ap valueless j.is ∙ none_lacks z call key s.room s.held s.opened v w s.rewrites)
                 (ap (λ (k : RoomCopy). high_number k.high) j.is ∙ (ap high_number low.high ∙ l.last));
+            opened = opened_then z x t.0 c f.opened (λ y there. was_open z t.0 c y (j.leaves.states y (λ n. n)) there) (λ y there. (rewritten_still z t.0 c s.room s.held s.opened low j y).low);
             headers = j.leaves.headers ∙ f.headers;
           })
           (runs_then (SettlesBelow z (key_number key)) R u v w first l.alone)

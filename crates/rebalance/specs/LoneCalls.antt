@@ -62,7 +62,12 @@ pub record IsSettled (z : Sizes) (words : List ℕ) : Type 0 where
   pub valued : (r : ℕ) → IsOpen z words r → valueless (room_in z words r) ≡ 0
   pub many : (r s : ℕ) → IsOpen z words r → IsOpen z words s → high_number (room_in z words r).high ≡ low_number (room_in z words s).low + 1 → z.entries / 2 < entries_in (room_in z words r).count + entries_in (room_in z words s).count
 
--- so it is behind, and the words of the headers stay
+-- each room that is open behind was open before, and its range begins where it did
+abbrev pub NoneOpened : Sizes → List ℕ → List ℕ → Type 0
+NoneOpened z before after = (r : ℕ) → IsOpen z after r → IsOpen z before r × ((room_in z after r).low ≡ (room_in z before r).low)
+
+-- the words behind are settled, no room was opened and no range begun, and the words of the headers stay
 pub record SettlesWords (z : Sizes) (before after : List ℕ) : Type 0 where
   pub settled : IsSettled z after
+  pub opened : NoneOpened z before after
   pub headers : (memory z after).headers ≡ (memory z before).headers

@@ -6,6 +6,7 @@ use Rattle.chunk_core.specs.Spans.{past_high}
 use Rattle.oak_core.specs.Memory.{memory}
 use Rattle.oak_core.specs.Sweeping.{valueless}
 use Rattle.rebalance.specs.Copies.{values_in}
+use Rattle.rebalance.specs.LoneCalls.{NoneOpened}
 use Rattle.rebalance.specs.LoneWords.{Divides, IsOpen, room_in}
 
 -- Each entry of an open room that ends at or before k has a value; and two open neighbours, of which the upper one begins at or before k, have more than half as many entries with a value together as a room has.
@@ -16,4 +17,5 @@ pub record SettledBelow (z : Sizes) (k : ℕ) (words : List ℕ) : Type 0 where
 -- what a call that settled so far left of the words before
 pub record SettlesBelow (z : Sizes) (k : ℕ) (before after : List ℕ) : Type 0 where
   pub settled : Divides z after → SettledBelow z k after
+  pub opened : NoneOpened z before after
   pub headers : (memory z after).headers ≡ (memory z before).headers
