@@ -26,6 +26,7 @@ mod LonePutCalls
 mod ReplyAnswers
 mod ReplyWords
 mod RecipesFed
+mod LoneRooms
 mod FoundValues
 mod FoundLives
 mod LentValues

@@ -63,7 +63,7 @@ found_apart false k at v w f = sighted_apart k at v w f
 found_apart true k at v w f = sighted_apart k f.0 v w f.2
 
 -- whatever the reply is
-some_reply : (y : Wrote) (call : ℕ) (key : List ℕ) (ask : CellCall) (v w : PassState) → WroteFits y call key ask v w → (reply : CellReply) × ((at : ℕ) × RepliesAt call key ask reply at v w)
+pub some_reply : (y : Wrote) (call : ℕ) (key : List ℕ) (ask : CellCall) (v w : PassState) → WroteFits y call key ask v w → (reply : CellReply) × ((at : ℕ) × RepliesAt call key ask reply at v w)
 some_reply (New at) call key ask v w f = (_, (at, f))
 some_reply (Over at) call key ask v w f = (_, (at, f))
 some_reply (Kept at) call key ask v w f = (_, (at, f))

@@ -2,7 +2,7 @@
 use Rattle.std.specs.Prelude.{◌≡◌, ◌≢◌, ℕ, ◌<◌, ◌⊎◌, List, Option, Some, None}
 use Rattle.oak_model.specs.declared.cells.CellCall.{CellCall}
 use Rattle.oak_model.specs.declared.replies.Lack.{Lack}
-use Rattle.oak_model.specs.declared.replies.Lack.TheVariants.{Room}
+use Rattle.oak_model.specs.declared.replies.Lack.TheVariants.{Block, Header, Room}
 use Rattle.oak_model.specs.declared.replies.Pair.{Pair}
 use Rattle.oak_model.specs.declared.replies.Wrote.{Wrote}
 use Rattle.oak_model.specs.declared.replies.Wrote.TheVariants.{New, Over, Kept, Done, Removed, Absent, Full}
@@ -20,7 +20,10 @@ use Rattle.chunk_ops.specs.FindsAlone.{IsUsed, used_key}
 use Rattle.lone_counts.specs.Lacks.{new_lack, over_lack}
 use Rattle.lone_counts.specs.LoneTable.{retired_in}
 use Rattle.lone_counts.specs.Maps.{IsMapOf, last_states}
+use Rattle.point_ops.specs.declared.halts.Halt.TheVariants.{Crowded, NoBlock, NoHeader}
+use Rattle.point_ops.specs.LonePuts.{KeepsRooms, LoneHalts}
 use Rattle.point_ops.specs.LoneReplies.{SeesTheSame, WroteAlone}
+use Rattle.point_ops.specs.Needs.{Needs}
 use Rattle.rebalance.specs.Copies.{copy_span}
 use Rattle.rebalance.specs.LoneCalls.{IsSettled}
 use Rattle.rebalance.specs.LoneWords.{IsOpen, room_in, state_in}
@@ -67,3 +70,23 @@ PutAlone (Kept at) z key ask v w = WroteAlone (Kept at) z key ask v w
 PutAlone (Done at) z key ask v w = WroteAlone (Done at) z key ask v w
 PutAlone (Removed at) z key ask v w = WroteAlone (Removed at) z key ask v w
 PutAlone (Absent at) z key ask v w = WroteAlone (Absent at) z key ask v w
+
+-- ---- what becomes of the rooms
+
+-- in these words a try to put the value is refused for want of this
+abbrev pub RefusedIn : Lack → Sizes → (key value words : List ℕ) → Type 0
+RefusedIn (Block c) z key value words = LoneHalts (NoBlock c) z key value words words
+RefusedIn Header z key value words = LoneHalts NoHeader z key value words words
+RefusedIn Room z key value words = LoneHalts Crowded z key value words words
+
+-- so the first try of the call is, which needs that where the key holds `old`
+pub record FirstRefused (z : Sizes) (key : List ℕ) (ask : CellCall) (old : State) (words : List ℕ) : Type 0 where
+  pub value : List ℕ
+  pub puts : state_after None ask ≡ Some value
+  pub lack : Lack
+  pub refused : RefusedIn lack z key value words
+  pub needs : Needs lack key old (state_after old ask) (Unit {0})
+
+-- Of a pass that is alone in the state v before the call and w behind it: the call kept the state, the bounds and the base of each room and swept no range, or its first try was refused.
+abbrev pub RoomsAlone : Sizes → List ℕ → CellCall → (v w : PassState) → (before after : List ℕ) → Type 0
+RoomsAlone z key ask v w before after = (KeepsRooms z before after × (w.findings.swept ≡ v.findings.swept)) ⊎ FirstRefused z key ask (last_states v key) before

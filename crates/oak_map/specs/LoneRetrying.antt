@@ -18,6 +18,7 @@ use Rattle.lone_counts.specs.Maps.{IsMapOf, last_states}
 use Rattle.point_ops.specs.LoneReplies.{SeesWhole}
 use Rattle.rebalance.specs.Copies.{copy_span}
 use Rattle.rebalance.specs.LoneWords.{Divides, IsOpen, room_in}
+use Rattle.oak_map.specs.LonePuts.{FirstRefused}
 
 -- any two neighbours have more than half as many entries together as a room has
 abbrev pub AreMany : Sizes → List ℕ → Type 0
@@ -50,3 +51,11 @@ pub record LoneGoing (z : Sizes) (key : List ℕ) (ask : CellCall) (settled : Bo
   pub begun : (v ≡ u) ⊎ (IsAlone u → SeesWhole z u)
   pub seen : IsAlone u → (q : ℕ) → seen_of q v.knowledge ≡ seen_of q u.knowledge
   pub runs : Runs (Retries z key ask settled u) u v
+
+-- of the words at the call: its first try was refused
+abbrev pub WasRefused : Sizes → List ℕ → CellCall → PassState → (before after : List ℕ) → Type 0
+WasRefused z key ask u before after = FirstRefused z key ask (last_states u key) before
+
+-- it made no try yet, or its first one was refused
+abbrev pub FirstTry : Sizes → List ℕ → CellCall → (u v : PassState) → Type 0
+FirstTry z key ask u v = (v ≡ u) ⊎ Runs (WasRefused z key ask u) u v

@@ -8,7 +8,7 @@ ghost use Rattle.oak_core.specs.MayWrite.{IsNewCall};
 ghost use Rattle.oak_core.specs.PassState.{IsAlone};
 ghost use Rattle.oak_core.specs.Scratch.{StaysButSlots};
 ghost use Rattle.point_ops.specs.Counted.{Feeds, FeedsAlone, times_done};
-ghost use Rattle.oak_map.specs.LonePuts.{PutAlone, PutsAlone};
+ghost use Rattle.oak_map.specs.LonePuts.{PutAlone, PutsAlone, RoomsAlone};
 ghost use Rattle.oak_map.specs.Maps.{IsReady, call_of, pass_of, sizes, state};
 ghost use Rattle.oak_map.specs.Putting.{StaysButRoom};
 ghost use Rattle.oak_map.specs.Replying.{PutFits};
@@ -26,7 +26,8 @@ impl OakMap {
     /// chunk is split while it has no entry left for the key. `Full` comes only where the call settled the
     /// map, and behind that found nothing free of what it needs; it made no write then, and is noted with
     /// what it lacks. To a pass that is alone `Full` comes exactly where the map lacks that, or where there is
-    /// no room for the key. The pass made no write in this turn.
+    /// no room for the key; and where its first try is answered the rooms stay, and no range is swept. The
+    /// pass made no write in this turn.
     pub fn put<R: Wait>(&self, rt: &R, pass: &mut MapPass, key: &[u8], value: &[u8]) -> Wrote
         requires ready { IsReady self.now pass.old }
         requires key { IsKey key.now }
@@ -37,6 +38,7 @@ impl OakMap {
         ensures wrote { PutFits result (sizes self.now) (call_of pass.old) key.now (Put value.now) (state pass.old) (state pass.new) }
         ensures alone_reply { IsAlone (state pass.old) → PutAlone result (sizes self.now) key.now (Put value.now) (state pass.old) (state pass.new) }
         ensures alone { Runs (PutsAlone (sizes self.now) key.now (Put value.now) (state pass.old) result) (state pass.old) (state pass.new) }
+        ensures alone_rooms { IsAlone (state pass.old) → Runs (RoomsAlone (sizes self.now) key.now (Put value.now) (state pass.old) (state pass.new)) (state pass.old) (state pass.new) }
     {
         let mut settled = false;
         for _ in rt.forever() {
@@ -77,6 +79,7 @@ impl OakMap {
         ensures wrote { PutFits result (sizes self.now) (call_of pass.old) key.now (PutNew value.now) (state pass.old) (state pass.new) }
         ensures alone_reply { IsAlone (state pass.old) → PutAlone result (sizes self.now) key.now (PutNew value.now) (state pass.old) (state pass.new) }
         ensures alone { Runs (PutsAlone (sizes self.now) key.now (PutNew value.now) (state pass.old) result) (state pass.old) (state pass.new) }
+        ensures alone_rooms { IsAlone (state pass.old) → Runs (RoomsAlone (sizes self.now) key.now (PutNew value.now) (state pass.old) (state pass.new)) (state pass.old) (state pass.new) }
     {
         let mut settled = false;
         for _ in rt.forever() {
@@ -120,6 +123,7 @@ impl OakMap {
         ensures wrote { PutFits result (sizes self.now) (call_of pass.old) key.now (Upsert value.now (told_kind recipe.old) (told_argument recipe.old)) (state pass.old) (state pass.new) }
         ensures alone_reply { IsAlone (state pass.old) → PutAlone result (sizes self.now) key.now (Upsert value.now (told_kind recipe.old) (told_argument recipe.old)) (state pass.old) (state pass.new) }
         ensures alone { Runs (PutsAlone (sizes self.now) key.now (Upsert value.now (told_kind recipe.old) (told_argument recipe.old)) (state pass.old) result) (state pass.old) (state pass.new) }
+        ensures alone_rooms { IsAlone (state pass.old) → Runs (RoomsAlone (sizes self.now) key.now (Upsert value.now (told_kind recipe.old) (told_argument recipe.old)) (state pass.old) (state pass.new)) (state pass.old) (state pass.new) }
         ensures counted { calls recipe.new ≡ calls recipe.old + times_done (Ok result) }
         ensures fed { Feeds (Ok result) key.now (fed recipe.old) (fed recipe.new) (state pass.new) }
         ensures alone_fed { IsAlone (state pass.old) → FeedsAlone (Ok result) key.now (fed recipe.new) (state pass.old) }

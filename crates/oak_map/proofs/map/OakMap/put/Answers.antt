@@ -1,4 +1,4 @@
-use Rattle.std.proofs.Common.{ℕ, refl, ◌∙◌, subst}
+use Rattle.std.proofs.Common.{ℕ, Some, None, inl, inr, refl, ◌∙◌, subst}
 use Rattle.oak_model.specs.declared.cells.CellCall.TheVariants.{Put}
 use Rattle.oak_model.specs.declared.replies.Wrote.TheVariants.{Full}
 use Rattle.oak_model.proofs.KeyLaws.{is_key-of}
@@ -11,6 +11,7 @@ use Rattle.oak_map.specs.Replying.{GivesUp}
 use Rattle.oak_map.proofs.AnsweredPuts.{put_fits, put_idle}
 use Rattle.oak_map.proofs.GoingCalls.{going_first, last_try}
 use Rattle.oak_map.proofs.LonePutCalls.{idle_behind, lone_first, put_gives_up, put_goes_on, put_sees}
+use Rattle.oak_map.proofs.LoneRooms.{refused_alone, refused_rooms, replied_rooms}
 use Rattle.oak_map.proofs.ReplyAnswers.{replied_alone}
 use Rattle.oak_map.proofs.ReplyWords.{replied_words}
 use Rattle.oak_map.proofs.SameScratch.{slots_then}
@@ -47,6 +48,7 @@ loop-preserved g c = let z = sizes c.args.self.now in let key = c.args.key.now i
       (c.in_default.ensures.going ask u v (last_try z (call_of c.args.pass.now) (call_of c.loop.pass) (table_call c.try_put.new.pass) key c.in-Err.halt c.loop.settled ask u v w i.stays.call o.call i.going e.refused e.halted));
   lone = let is = is_key-of key c.requires.key (slice_bytes key c.type_inv.key) in let idle = idle_behind (call_of c.loop.pass) (call_of c.args.pass.now) c.loop.settled u v w c.requires.ready.idle i.going e.refused in
       put_goes_on z (call_of c.loop.pass) key c.args.value.now ask c.in-Err.halt c.loop.settled u v w is refl i.going.tries.holds.numbers e.refused.holds.numbers idle i.lone e.alone_same e.halted e.alone (table_call c.try_put.new.pass) c.make_way.new.settled (table_state c.make_way.new.pass) c.in_default.ensures.way;
+  first = λ alone. let is = is_key-of key c.requires.key (slice_bytes key c.type_inv.key) in inr (refused_rooms z (call_of c.loop.pass) key c.args.value.now ask c.in-Err.halt c.loop.settled u v w is refl alone (i.first alone) e.alone_same e.halted e.alone (table_call c.try_put.new.pass) c.make_way.new.settled None (table_state c.make_way.new.pass) c.in_default.ensures.way);
 }
 
 -- to a pass that is alone
@@ -57,6 +59,7 @@ loop-init g c = record {
   stays = record { table = refl; seat = refl; call = refl; scratch = refl; sorting = refl };
   going = going_first (call_of c.args.pass.now) (state c.args.pass.now);
   lone = lone_first (sizes c.args.self.now) c.args.key.now (Put c.args.value.now) (state c.args.pass.now);
+  first = λ _. inl refl;
 }
 
 pub returns-in-Some-make_way-clause-alone_reply : goal.returns-in-Some-make_way-clause-alone_reply
@@ -74,3 +77,12 @@ returns-in-Ok-clause-alone_reply g c = let z = sizes c.args.self.now in let call
 pub returns-in-Ok-clause-alone : goal.returns-in-Ok-clause-alone
 returns-in-Ok-clause-alone g c = let z = sizes c.args.self.now in let call = call_of c.loop.pass in let key = c.args.key.now in let ask = Put c.args.value.now in let u = state c.args.pass.now in let v = state c.loop.pass in let w = table_state c.try_put.new.pass in let i = c.loop.invariant in let e = c.in-Ok.ensures in
     replied_words z call (call_of c.args.pass.now) key c.args.value.now ask c.loop.settled u v w c.in-Ok.wrote (is_key-of key c.requires.key (slice_bytes key c.type_inv.key)) c.requires.ready.idle i.going i.lone e.wrote e.alone_reply e.ended e.alone
+
+pub returns-in-Some-make_way-clause-alone_rooms : goal.returns-in-Some-make_way-clause-alone_rooms
+returns-in-Some-make_way-clause-alone_rooms g c alone = let z = sizes c.args.self.now in let key = c.args.key.now in let ask = Put c.args.value.now in let u = state c.args.pass.now in let v = state c.loop.pass in let w = table_state c.try_put.new.pass in let i = c.loop.invariant in let e = c.in-Err.ensures in
+    let is = is_key-of key c.requires.key (slice_bytes key c.type_inv.key) in let x = table_state c.make_way.new.pass in
+    refused_alone z key ask u x (refused_rooms z (call_of c.loop.pass) key c.args.value.now ask c.in-Err.halt c.loop.settled u v w is refl alone (i.first alone) e.alone_same e.halted e.alone (table_call c.try_put.new.pass) c.make_way.new.settled (Some c.in-Some-make_way.lack) x c.in-Some-make_way.ensures.way)
+
+pub returns-in-Ok-clause-alone_rooms : goal.returns-in-Ok-clause-alone_rooms
+returns-in-Ok-clause-alone_rooms g c alone = let z = sizes c.args.self.now in let key = c.args.key.now in let ask = Put c.args.value.now in let u = state c.args.pass.now in let v = state c.loop.pass in let w = table_state c.try_put.new.pass in let i = c.loop.invariant in let e = c.in-Ok.ensures in
+    replied_rooms z (call_of c.loop.pass) key c.args.value.now ask u v w c.in-Ok.wrote (i.first alone) e.wrote e.alone

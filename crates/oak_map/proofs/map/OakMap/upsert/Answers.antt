@@ -1,4 +1,4 @@
-use Rattle.std.proofs.Common.{ℕ, Ok, refl, ◌∙◌, subst, arith}
+use Rattle.std.proofs.Common.{ℕ, Ok, refl, ◌∙◌, subst, arith, Some, None, inl, inr}
 use Rattle.oak_model.specs.declared.cells.CellCall.{CellCall}
 use Rattle.oak_model.specs.declared.cells.CellCall.TheVariants.{Upsert}
 use Rattle.oak_model.specs.declared.recipes.RecipeKind.{RecipeKind}
@@ -16,6 +16,7 @@ use Rattle.oak_map.specs.Replying.{GivesUp}
 use Rattle.oak_map.proofs.AnsweredPuts.{put_fits, put_idle}
 use Rattle.oak_map.proofs.GoingCalls.{going_first, last_try}
 use Rattle.oak_map.proofs.LonePutCalls.{idle_behind, lone_first, put_gives_up, put_goes_on, put_sees}
+use Rattle.oak_map.proofs.LoneRooms.{refused_alone, refused_rooms, replied_rooms}
 use Rattle.oak_map.proofs.ReplyAnswers.{replied_alone}
 use Rattle.oak_map.proofs.ReplyWords.{replied_words}
 use Rattle.oak_map.proofs.RepliesSince.{same_both, upsert_same}
@@ -69,6 +70,8 @@ loop-preserved g c = let z = sizes c.args.self.now in let key = c.args.key.now i
       fed = says_both (x.fed first.value) (y.fed now.value) (t.fed next.value) i.fed e.fed;
       lone = let same = upsert_same c.args.value.now (y.told_kind now.value) (x.told_kind first.value) (y.told_argument now.value) (x.told_argument first.value) i.kind i.argument in let is = is_key-of key c.requires.key (slice_bytes key c.type_inv.key) in let idle = idle_behind (call_of c.loop.pass) (call_of c.args.pass.now) c.loop.settled u v w c.requires.ready.idle i.going e.refused in
           put_goes_on z (call_of c.loop.pass) key c.args.value.now (Upsert c.args.value.now (x.told_kind first.value) (x.told_argument first.value)) c.in-Err.halt c.loop.settled u v w is refl i.going.tries.holds.numbers e.refused.holds.numbers idle i.lone e.alone_same (subst (λ (a : CellCall). Halts c.in-Err.halt z (call_of c.loop.pass) key a v w) same e.halted) e.alone (table_call c.try_upsert.new.pass) c.make_way.new.settled (table_state c.make_way.new.pass) c.in_default.ensures.way;
+      first = λ alone. let same = upsert_same c.args.value.now (y.told_kind now.value) (x.told_kind first.value) (y.told_argument now.value) (x.told_argument first.value) i.kind i.argument in let is = is_key-of key c.requires.key (slice_bytes key c.type_inv.key) in
+          inr (refused_rooms z (call_of c.loop.pass) key c.args.value.now (Upsert c.args.value.now (x.told_kind first.value) (x.told_argument first.value)) c.in-Err.halt c.loop.settled u v w is refl alone (i.first alone) e.alone_same (subst (λ (a : CellCall). Halts c.in-Err.halt z (call_of c.loop.pass) key a v w) same e.halted) e.alone (table_call c.try_upsert.new.pass) c.make_way.new.settled None (table_state c.make_way.new.pass) c.in_default.ensures.way);
     }
 
 -- to a pass that is alone
@@ -79,6 +82,7 @@ loop-init g c = let first = c.args.recipe.now in let x = goal.Recipe-dyn g (firs
   stays = record { table = refl; seat = refl; call = refl; scratch = refl; sorting = refl };
   going = going_first (call_of c.args.pass.now) (state c.args.pass.now);
   lone = lone_first (sizes c.args.self.now) c.args.key.now (Upsert c.args.value.now (x.told_kind first.value) (x.told_argument first.value)) (state c.args.pass.now);
+  first = λ _. inl refl;
   counted = refl;
   kind = refl;
   argument = refl;
@@ -128,3 +132,16 @@ returns-in-Ok-clause-alone_fed g c = let first = c.args.recipe.now in let now = 
 pub returns-in-Some-make_way-clause-fed : goal.returns-in-Some-make_way-clause-fed
 returns-in-Some-make_way-clause-fed g c = let first = c.args.recipe.now in let now = c.loop.recipe in let next = c.try_upsert.new.recipe in let x = goal.Recipe-dyn g (first.vtable, first.value) in let y = goal.Recipe-dyn g (now.vtable, now.value) in let t = goal.Recipe-dyn g (next.vtable, next.value) in
     says_both (x.fed first.value) (y.fed now.value) (t.fed next.value) c.loop.invariant.fed c.in-Err.ensures.fed
+
+pub returns-in-Some-make_way-clause-alone_rooms : goal.returns-in-Some-make_way-clause-alone_rooms
+returns-in-Some-make_way-clause-alone_rooms g c alone = let z = sizes c.args.self.now in let key = c.args.key.now in let u = state c.args.pass.now in let v = state c.loop.pass in let w = table_state c.try_upsert.new.pass in let i = c.loop.invariant in let e = c.in-Err.ensures in
+    let first = c.args.recipe.now in let now = c.loop.recipe in let x = goal.Recipe-dyn g (first.vtable, first.value) in let y = goal.Recipe-dyn g (now.vtable, now.value) in let ask = Upsert c.args.value.now (x.told_kind first.value) (x.told_argument first.value) in
+    let same = upsert_same c.args.value.now (y.told_kind now.value) (x.told_kind first.value) (y.told_argument now.value) (x.told_argument first.value) i.kind i.argument in
+    let is = is_key-of key c.requires.key (slice_bytes key c.type_inv.key) in let t = table_state c.make_way.new.pass in
+    refused_alone z key ask u t (refused_rooms z (call_of c.loop.pass) key c.args.value.now ask c.in-Err.halt c.loop.settled u v w is refl alone (i.first alone) e.alone_same (subst (λ (a : CellCall). Halts c.in-Err.halt z (call_of c.loop.pass) key a v w) same e.halted) e.alone (table_call c.try_upsert.new.pass) c.make_way.new.settled (Some c.in-Some-make_way.lack) t c.in-Some-make_way.ensures.way)
+
+pub returns-in-Ok-clause-alone_rooms : goal.returns-in-Ok-clause-alone_rooms
+returns-in-Ok-clause-alone_rooms g c alone = let z = sizes c.args.self.now in let key = c.args.key.now in let u = state c.args.pass.now in let v = state c.loop.pass in let w = table_state c.try_upsert.new.pass in let i = c.loop.invariant in let e = c.in-Ok.ensures in
+    let first = c.args.recipe.now in let now = c.loop.recipe in let x = goal.Recipe-dyn g (first.vtable, first.value) in let y = goal.Recipe-dyn g (now.vtable, now.value) in let ask = Upsert c.args.value.now (x.told_kind first.value) (x.told_argument first.value) in
+    let same = upsert_same c.args.value.now (y.told_kind now.value) (x.told_kind first.value) (y.told_argument now.value) (x.told_argument first.value) i.kind i.argument in
+    replied_rooms z (call_of c.loop.pass) key c.args.value.now ask u v w c.in-Ok.wrote (i.first alone) (subst (λ (a : CellCall). WroteFits c.in-Ok.wrote (call_of c.loop.pass) key a v w) same e.wrote) e.alone
