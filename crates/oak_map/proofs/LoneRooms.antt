@@ -1,5 +1,5 @@
 -- A call that puts changes rooms only behind a first try that was refused, where its pass is alone.
-use Rattle.std.proofs.Common.{◌≡◌, ℕ, Bool, true, false, List, [], Option, Some, None, inl, inr, ⊎_elim, sym, refl, ap, ◌∙◌, subst, Ok}
+use Rattle.std.proofs.Common.{◌≡◌, ℕ, Bool, true, false, List, Option, Some, None, inl, inr, sym, refl, subst, Ok}
 use Rattle.oak_model.specs.declared.cells.CellCall.{CellCall}
 use Rattle.oak_model.specs.declared.classes.Class.{Class}
 use Rattle.oak_model.specs.declared.replies.Lack.{Lack}
@@ -12,7 +12,7 @@ use Rattle.oak_model.specs.Limits.{Sizes}
 use Rattle.oak_model.specs.State.{State}
 use Rattle.oak_core.specs.declared.states.PassState.{PassState}
 use Rattle.oak_core.specs.AloneWords.{LeavesWords, Runs, RunsTo}
-use Rattle.oak_core.specs.PassState.{IsAlone, seen_of}
+use Rattle.oak_core.specs.PassState.{IsAlone}
 use Rattle.oak_core.proofs.AloneRuns.{Then, runs_as, runs_none, runs_then}
 use Rattle.lone_counts.specs.Maps.{last_states}
 use Rattle.point_ops.specs.declared.halts.Halt.{Halt}
@@ -23,7 +23,7 @@ use Rattle.point_ops.specs.LonePuts.{KeepsRooms, LoneHalts, PutsIn}
 use Rattle.point_ops.specs.LoneReplies.{SameAlone}
 use Rattle.point_ops.specs.Needs.{Needs, NeedsNow}
 use Rattle.point_ops.specs.Parts.{WroteFits}
-use Rattle.oak_map.specs.LonePuts.{FirstRefused, RefusedIn, RoomsAlone}
+use Rattle.oak_map.specs.LonePuts.{FirstRefused, RoomsAlone}
 use Rattle.oak_map.specs.LoneRetrying.{FirstTry, WasRefused}
 use Rattle.oak_map.specs.MakingRoom.{IsRefused, MakesWay}
 use Rattle.oak_map.proofs.LoneFull.{noted_words}
