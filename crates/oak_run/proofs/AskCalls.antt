@@ -42,17 +42,17 @@ use Rattle.oak_run.proofs.HeldLaws.{keeps_later}
 use Rattle.oak_run.proofs.OkLaws.{if_ok-map}
 
 -- a reply of the cell
-reply_turns : (n : ℕ) (a : Ask) (word : CellReply) (at : ℕ) (y : Reply) (v w : PassState) → is_key a.key ≡ true → TellsWord a.key word at y → MapReplies n a.key a.cell word at v w → (c : Call) → ask_of c ≡ Some a → (names : Names) → TurnsWith n names c y v w
-reply_turns n a word at y v w is said r c asked names = let t = key_turn c y a.key (length (seen_of (key_number a.key) w.knowledge)) in record { places = t.places; floors = t.floors; turned = reply_turned n names c a.key a.cell y word at v w is asked r said }
+reply_turns : (z : Sizes) (n : ℕ) (a : Ask) (word : CellReply) (at : ℕ) (y : Reply) (v w : PassState) → is_key a.key ≡ true → TellsWord a.key word at y → MapReplies n a.key a.cell word at v w → (c : Call) → ask_of c ≡ Some a → (names : Names) → TurnsWith z n names c y v w
+reply_turns z n a word at y v w is said r c asked names = let t = key_turn c y a.key (length (seen_of (key_number a.key) w.knowledge)) in record { places = t.places; floors = t.floors; turned = reply_turned z n names c a.key a.cell y word at v w is asked r said }
 
 -- what a call that puts answers
-pub put_turns : (y : Wrote) (z : Sizes) (n : ℕ) (a : Ask) (v w : PassState) → is_key a.key ≡ true → PutFits y z n a.key a.cell v w → (c : Call) → ask_of c ≡ Some a → (names : Names) → TurnsWith n names c (replies.Wrote y) v w
-put_turns (New at) z n a v w is f = reply_turns n a words.New at (replies.Wrote (New at)) v w is (record { tells = refl; number = refl; not_full = refl; writes = refl }) f
-put_turns (Over at) z n a v w is f = reply_turns n a words.Over at (replies.Wrote (Over at)) v w is (record { tells = refl; number = refl; not_full = refl; writes = refl }) f
-put_turns (Kept at) z n a v w is f = reply_turns n a words.Kept at (replies.Wrote (Kept at)) v w is (record { tells = refl; number = refl; not_full = refl; writes = refl }) f
-put_turns (Done at) z n a v w is f = reply_turns n a words.Done at (replies.Wrote (Done at)) v w is (record { tells = refl; number = refl; not_full = refl; writes = refl }) f
-put_turns (Removed at) z n a v w is f = reply_turns n a words.Removed at (replies.Wrote (Removed at)) v w is (record { tells = refl; number = refl; not_full = refl; writes = refl }) f
-put_turns (Absent at) z n a v w is f = reply_turns n a words.Absent at (replies.Wrote (Absent at)) v w is (record { tells = refl; number = refl; not_full = refl; writes = refl }) f
+pub put_turns : (y : Wrote) (z : Sizes) (n : ℕ) (a : Ask) (v w : PassState) → is_key a.key ≡ true → PutFits y z n a.key a.cell v w → (c : Call) → ask_of c ≡ Some a → (names : Names) → TurnsWith z n names c (replies.Wrote y) v w
+put_turns (New at) z n a v w is f = reply_turns z n a words.New at (replies.Wrote (New at)) v w is (record { tells = refl; number = refl; not_full = refl; writes = refl }) f
+put_turns (Over at) z n a v w is f = reply_turns z n a words.Over at (replies.Wrote (Over at)) v w is (record { tells = refl; number = refl; not_full = refl; writes = refl }) f
+put_turns (Kept at) z n a v w is f = reply_turns z n a words.Kept at (replies.Wrote (Kept at)) v w is (record { tells = refl; number = refl; not_full = refl; writes = refl }) f
+put_turns (Done at) z n a v w is f = reply_turns z n a words.Done at (replies.Wrote (Done at)) v w is (record { tells = refl; number = refl; not_full = refl; writes = refl }) f
+put_turns (Removed at) z n a v w is f = reply_turns z n a words.Removed at (replies.Wrote (Removed at)) v w is (record { tells = refl; number = refl; not_full = refl; writes = refl }) f
+put_turns (Absent at) z n a v w is f = reply_turns z n a words.Absent at (replies.Wrote (Absent at)) v w is (record { tells = refl; number = refl; not_full = refl; writes = refl }) f
 put_turns (Full lack) z n a v w is f = λ c asked names. let t = full_turn c lack in record { places = t.places; floors = t.floors; turned = full_turned z n names c a.key a.cell lack v w is asked f }
 
 -- a reply that refused nothing and swept no range
@@ -77,7 +77,7 @@ put_fits (Removed at) z n key cell v w f = map_replies n key cell words.Removed 
 put_fits (Absent at) z n key cell v w f = map_replies n key cell words.Absent at v w f
 put_fits (Full lack) z n key cell v w f = absurd f
 
-pub wrote_turns : (y : Wrote) (z : Sizes) (n : ℕ) (a : Ask) (v w : PassState) → is_key a.key ≡ true → WroteFits y n a.key a.cell v w → (c : Call) → ask_of c ≡ Some a → (names : Names) → TurnsWith n names c (replies.Wrote y) v w
+pub wrote_turns : (y : Wrote) (z : Sizes) (n : ℕ) (a : Ask) (v w : PassState) → is_key a.key ≡ true → WroteFits y n a.key a.cell v w → (c : Call) → ask_of c ≡ Some a → (names : Names) → TurnsWith z n names c (replies.Wrote y) v w
 wrote_turns y z n a v w is f = put_turns y z n a v w is (put_fits y z n a.key a.cell v w f)
 
 -- ---- replies that the calls can have
@@ -162,7 +162,7 @@ found_none z n k at v w is r = record { can = tt; turns = wrote_turns (Absent at
 pub found_value : (z : Sizes) (n : ℕ) (k value : List ℕ) (at : ℕ) (v w : PassState) → is_key k ≡ true → RepliesAt n k asks.Get (words.Holds value) at v w → CallTurned z n (calls.Get k) (replies.Value k value at) v w
 found_value z n k value at v w is r = record {
   can = tt;
-  turns = reply_turns n (record { key = k; cell = asks.Get }) (words.Holds value) at (replies.Value k value at) v w is (record { tells = (refl, refl); number = refl; not_full = refl; writes = refl })
+  turns = reply_turns z n (record { key = k; cell = asks.Get }) (words.Holds value) at (replies.Value k value at) v w is (record { tells = (refl, refl); number = refl; not_full = refl; writes = refl })
       (map_replies n k asks.Get (words.Holds value) at v w r) (calls.Get k) refl;
   lone = tt;
 }

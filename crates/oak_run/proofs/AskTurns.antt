@@ -49,7 +49,7 @@ key_turn c y key place = record { call = c; reply = y; places = only_at key plac
 pub seen_here : (v : PassState) (key : List ℕ) → is_key key ≡ true → seen_length v key ≡ length (seen_of (key_number key) v.knowledge)
 seen_here v key is = ap (λ (b : Bool). cond b (length (seen_of (key_number key) v.knowledge)) 0) is
 
-module _ (n : ℕ) (names : Names) (c : Call) (key : List ℕ) (cell : CellCall) (y : Reply) (word : CellReply) (at : ℕ) (v w : PassState) (is : is_key key ≡ true) (asks : ask_of c ≡ Some (record { key = key; cell = cell })) (r : MapReplies n key cell word at v w) (said : TellsWord key word at y) where
+module _ (z : Sizes) (n : ℕ) (names : Names) (c : Call) (key : List ℕ) (cell : CellCall) (y : Reply) (word : CellReply) (at : ℕ) (v w : PassState) (is : is_key key ≡ true) (asks : ask_of c ≡ Some (record { key = key; cell = cell })) (r : MapReplies n key cell word at v w) (said : TellsWord key word at y) where
   abbrev k : ℕ
   k = key_number key
 
@@ -102,9 +102,9 @@ module _ (n : ℕ) (names : Names) (c : Call) (key : List ℕ) (cell : CellCall)
   -- ---- what it found
 
   finds : FindsMore v.findings w.findings
-  finds = record { sights = (r.goes.sights.more, r.goes.sights.sights); gones = r.goes.gones; fulls = begins_same v.findings.fulls w.findings.fulls r.holds.fulls }
+  finds = record { met = (r.goes.met.more, r.goes.met.met); sights = (r.goes.sights.more, r.goes.sights.sights); gones = r.goes.gones; fulls = begins_same v.findings.fulls w.findings.fulls r.holds.fulls; swept = r.holds.swept }
 
-  module _ (by : ℕ → Findings) (hs : ℕ → List KeyedWrite) (used : Usage) (z : Sizes) (retired open_rooms : ℕ) (behind : GoesBehind w hs) (more : FindsMore w.findings (by w.numbers.number)) where
+  module _ (by : ℕ → Findings) (hs : ℕ → List KeyedWrite) (used : Usage) (retired open_rooms : ℕ) (behind : GoesBehind w hs) (more : FindsMore w.findings (by w.numbers.number)) where
     abbrev shown : Closing
     shown = closing_by by hs used z retired open_rooms
 
@@ -133,7 +133,7 @@ module _ (n : ℕ) (names : Names) (c : Call) (key : List ℕ) (cell : CellCall)
       removal = ask_removal shown me n names c a y asks;
     }
 
-  pub reply_turned : Turned n names t v w
+  pub reply_turned : Turned z n names t v w
   reply_turned = record {
     extends = r.goes.seen;
     remembers = r.goes.remembers;
@@ -149,6 +149,6 @@ module _ (n : ℕ) (names : Names) (c : Call) (key : List ℕ) (cell : CellCall)
     answers = answer;
     view = λ hs b. ask-views (histories hs) names t c a asks;
     scan = λ hs b. ask-scans (histories hs) t c a asks;
-    refusal = λ by hs used z retired open_rooms b m. refusal-none (closing_by by hs used z retired open_rooms) v.numbers.number n t y said.not_full;
+    refusal = λ by hs used retired open_rooms b m. refusal-none (closing_by by hs used z retired open_rooms) v.numbers.number n t y said.not_full;
     finding = finding;
   }

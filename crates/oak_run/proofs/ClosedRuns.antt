@@ -87,7 +87,7 @@ own_distinct hs mine own rise k l i j v w there here caller call =
     (key_number_is k l p.1 q.1 p.0 q.0 same.0, same.1)
 
 module _ (c : Closed) (ends : Ends (closed_key c) (closed_words c) (closed_state c)) (number : (closed_state c).numbers.number ≡ 1) (idle_joined : Each (λ (j : Joined). j.mine ≡ []) (closed_state c).numbers.joined)
-    (v : PassState) (cs : List Call) (ys : List Reply) (x : ThreadFits v cs ys) (reads : OnlyReads v (closed_state c)) where
+    (v : PassState) (cs : List Call) (ys : List Reply) (x : ThreadFits (closed_key c) v cs ys) (reads : OnlyReads v (closed_state c)) where
   abbrev u : PassState
   u = closed_state c
 
@@ -135,7 +135,7 @@ module _ (c : Closed) (ends : Ends (closed_key c) (closed_words c) (closed_state
       order = (x.order, tt);
       views = (x.views hs behind, tt);
       scans = (x.scans hs behind, tt);
-      refusals = (its_number (λ n. RefusalsFit (closing_of c) n 1 x.turns) (x.refusals (closed_findings c) hs (usage_of (closed_key c) (memory (closed_key c) (closed_words c))) (closed_key c) (retired_in (closed_key c) (closed_words c)) (used_chunks (closed_key c) (memory (closed_key c) (closed_words c))) behind found), tt);
+      refusals = (its_number (λ n. RefusalsFit (closing_of c) n 1 x.turns) (x.refusals (closed_findings c) hs (usage_of (closed_key c) (memory (closed_key c) (closed_words c))) (retired_in (closed_key c) (closed_words c)) (used_chunks (closed_key c) (memory (closed_key c) (closed_words c))) behind found), tt);
       ending = end_fits c ends before now finals scan since remembers same alone idle uses;
-      findings = (its_number (λ n. FindingsFit (closing_of c) n 1 no_names x.turns) (x.findings (closed_findings c) hs (usage_of (closed_key c) (memory (closed_key c) (closed_words c))) (closed_key c) (retired_in (closed_key c) (closed_words c)) (used_chunks (closed_key c) (memory (closed_key c) (closed_words c))) behind found), tt);
+      findings = (its_number (λ n. FindingsFit (closing_of c) n 1 no_names x.turns) (x.findings (closed_findings c) hs (usage_of (closed_key c) (memory (closed_key c) (closed_words c))) (retired_in (closed_key c) (closed_words c)) (used_chunks (closed_key c) (memory (closed_key c) (closed_words c))) behind found), tt);
     }

@@ -36,12 +36,14 @@ use Rattle.oak_run.specs.Answers.{CellAnswer, asks_for, mark_of, writes_key}
 use Rattle.oak_run.specs.Behind.{GoesBehind, histories}
 use Rattle.oak_run.specs.Closing.{Closing}
 use Rattle.oak_run.specs.MapTurns.{Turned}
-use Rattle.oak_run.specs.Refusals.{Needs}
+use Rattle.oak_run.specs.Refusals.{IsLacking, Needs}
 use Rattle.oak_run.specs.Shown.{FindsMore, SightedIn, closing_by}
 use Rattle.oak_run.specs.Told.{Ask, ask_of}
 use Rattle.oak_run.specs.Turn.{Turn}
 use Rattle.oak_run.specs.Views.{Names}
 use Rattle.oak_run.proofs.AnsweredBehind.{behind_before, behind_state, key_history}
+use Rattle.oak_run.proofs.BehindLaws.{finds_before}
+use Rattle.oak_run.proofs.LackedCalls.{lacked_by, lacked_more, notes_find, spare_fits, tries_find}
 use Rattle.oak_run.proofs.LackNeeds.{NeedsBare, needs_on}
 use Rattle.oak_run.proofs.OwnMarks.{MarkedSo, marks_none}
 use Rattle.oak_run.proofs.SightedCalls.{ask_removal, bare_by, sighted_by, sighted_more}
@@ -83,12 +85,11 @@ module _ (z : Sizes) (n : ℕ) (names : Names) (c : Call) (key : List ℕ) (cell
   sighted : w.findings.sights ≡ g.last.findings.sights
   sighted = ap (λ (x : PassState). x.findings.sights) g.notes.after
 
+  noting_finds : FindsMore g.last.findings w.findings
+  noting_finds = notes_find z n lack g.last w g.notes
+
   finds : FindsMore v.findings w.findings
-  finds = record {
-    sights = (g.tries.goes.sights.more, sighted ∙ g.tries.goes.sights.sights);
-    gones = subst (λ (l : List Gone). Begins v.findings.gones l) (sym (ap (λ (x : PassState). x.findings.gones) g.notes.after)) g.tries.goes.gones;
-    fulls = (refused ∷ [], noted);
-  }
+  finds = finds_before v.findings g.last.findings w.findings (tries_find n v g.last g.tries) noting_finds
 
   own : MarkedSo n key 0 false v w
   own = marks_none n key 0 v w (ap (λ (q : Knowledge). q.mine) knows ∙ g.tries.mine)
@@ -114,9 +115,9 @@ module _ (z : Sizes) (n : ℕ) (names : Names) (c : Call) (key : List ℕ) (cell
       ap (λ (h : History). state_at h (place_of h g.needs.at)) (key_history hs key is)
       ∙ (ap (λ (m : ℕ). state_at (writes_of (hs k)) m) (p.places k g.needs.at g.needs.read.place g.needs.read.known) ∙ (behind_state g.last hs k g.needs.read.place p g.needs.read.to ∙ g.needs.read.state))
 
-  module _ (by : ℕ → Findings) (hs : ℕ → List KeyedWrite) (used : Usage) (y : Sizes) (retired open_rooms : ℕ) (behind : GoesBehind w hs) (more : FindsMore w.findings (by w.numbers.number)) where
+  module _ (by : ℕ → Findings) (hs : ℕ → List KeyedWrite) (used : Usage) (retired open_rooms : ℕ) (behind : GoesBehind w hs) (more : FindsMore w.findings (by w.numbers.number)) where
     abbrev shown : Closing
-    shown = closing_by by hs used y retired open_rooms
+    shown = closing_by by hs used z retired open_rooms
 
     abbrev me : ℕ
     me = v.numbers.number
@@ -135,10 +136,21 @@ module _ (z : Sizes) (n : ℕ) (names : Names) (c : Call) (key : List ℕ) (cell
       needs = subst (λ (s : State). NeedsOn s (length key) needed.bare cell lack) (sym (state_there hs behind)) needed.needs;
     }
 
-    refusal : Has refused (by me).fulls × IsSomeAnd (ask_of c) (λ x. Needs shown me n x lack)
-    refusal = (stands, subst (λ (o : Option Ask). IsSomeAnd o (λ x. Needs shown me n x lack)) (sym asks) needs_there)
+    -- a spare block is the call's own
+    sighted_bare : (at : ℕ) → SightedBare n k at v g.last → SightedIn n k at true (by me).sights
+    sighted_bare at f = sighted_more n k at true w.findings.sights (by me).sights more_here.sights (subst (λ (l : List Sight). SightedIn n k at true l) (sym sighted) (bare_by n k at v g.last f))
 
-  pub full_turned : Turned n names t v w
+    lacking_there : IsLacking shown me n a lack
+    lacking_there = record {
+      spare = g.spare;
+      spared = spare_fits lack g.spare n v g.last shown me a (λ at f. sighted_bare at f) g.spared;
+      lacked = lacked_more z n lack k g.spare g.last.findings (by me) (finds_before g.last.findings w.findings (by me) noting_finds more_here) (lacked_by z n key cell lack v w g);
+    }
+
+    refusal : Has refused (by me).fulls × IsSomeAnd (ask_of c) (λ x. Needs shown me n x lack × IsLacking shown me n x lack)
+    refusal = (stands, subst (λ (o : Option Ask). IsSomeAnd o (λ x. Needs shown me n x lack × IsLacking shown me n x lack)) (sym asks) (needs_there, lacking_there))
+
+  pub full_turned : Turned z n names t v w
   full_turned = record {
     extends = λ j. subst (λ (q : Knowledge). Begins (seen_of j v.knowledge) (seen_of j q)) (sym knows) (g.tries.goes.seen j);
     remembers = subst (λ (q : Knowledge). Remembers v.knowledge q) (sym knows) g.tries.goes.remembers;
@@ -155,9 +167,9 @@ module _ (z : Sizes) (n : ℕ) (names : Names) (c : Call) (key : List ℕ) (cell
     view = λ hs b. ask-views (histories hs) names t c a asks;
     scan = λ hs b. ask-scans (histories hs) t c a asks;
     refusal = refusal;
-    finding = λ by hs used y retired open_rooms b m. record {
+    finding = λ by hs used retired open_rooms b m. record {
       numbers = tt;
       absences = λ reads q s j e. absurd (none_some s e);
-      removal = ask_removal (closing_by by hs used y retired open_rooms) v.numbers.number n names c a (replies.Wrote (wrote.Full lack)) asks;
+      removal = ask_removal (closing_by by hs used z retired open_rooms) v.numbers.number n names c a (replies.Wrote (wrote.Full lack)) asks;
     };
   }

@@ -37,7 +37,7 @@ view_held z n v w old now a k x is f updates = record {
     turns = record {
       places = only_at k place;
       floors = only_at k place;
-      turned = reply_turned n names (Hold a k) k asks.Get (replies.Held x.at) (words.Holds f.bytes) x.at v w is refl (map_replies n k asks.Get (words.Holds f.bytes) x.at v w f.replies)
+      turned = reply_turned z n names (Hold a k) k asks.Get (replies.Held x.at) (words.Holds f.bytes) x.at v w is refl (map_replies n k asks.Get (words.Holds f.bytes) x.at v w f.replies)
           (record { tells = (f.bytes, refl); number = refl; not_full = refl; writes = refl });
     };
     keeps = subst (λ (o : Option ℕ). KeepsViews z now w (named names a (option_map (λ r. record { key = k; place = r }) o))) (sym (only_itself k place))
@@ -57,7 +57,7 @@ none_held z n at v w old now a k is r updates = record {
     turns = record {
       places = only_at k (length (seen_of (key_number k) w.knowledge));
       floors = only_at k (length (seen_of (key_number k) w.knowledge));
-      turned = reply_turned n names (Hold a k) k asks.Get (replies.Wrote (wrote.Absent at)) words.Absent at v w is refl (map_replies n k asks.Get words.Absent at v w r)
+      turned = reply_turned z n names (Hold a k) k asks.Get (replies.Wrote (wrote.Absent at)) words.Absent at v w is refl (map_replies n k asks.Get words.Absent at v w r)
           (record { tells = refl; number = refl; not_full = refl; writes = refl });
     };
     keeps = keeps_named z v w r.goes.seen r.goes.loaded old now names a None None updates refl keeps;

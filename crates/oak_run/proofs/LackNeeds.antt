@@ -38,14 +38,14 @@ other_class B1024 B64 ne = refl
 other_class B1024 B256 ne = refl
 other_class B1024 B1024 ne = absurd (ne refl)
 
-is_class : (c : Class) (o : Option Class) → o ≡ Some c → option_map_or (λ (d : Class). class_number d == class_number c) o false ≡ true
+pub is_class : (c : Class) (o : Option Class) → o ≡ Some c → option_map_or (λ (d : Class). class_number d == class_number c) o false ≡ true
 is_class c o e = ap (λ (x : Option Class). option_map_or (λ (d : Class). class_number d == class_number c) x false) e ∙ same_class c
 
 not_class : (c : Class) (o : Option Class) → o ≢ Some c → option_map_or (λ (d : Class). class_number d == class_number c) o false ≡ false
 not_class c None ne = refl
 not_class c (Some d) ne = other_class c d ne
 
-takes : (c : Class) (s : State) → value_class s ≡ Some c → takes_class c s ≡ true
+pub takes : (c : Class) (s : State) → value_class s ≡ Some c → takes_class c s ≡ true
 takes c None e = absurd cc
 takes c (Some b) e = is_class c (class_of (length b)) e
 

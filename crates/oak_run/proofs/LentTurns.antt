@@ -57,7 +57,7 @@ module _ (z : Sizes) (n : ℕ) (x : Viewed) (v w : PassState) (r q : Reading) (i
   life_read = reads_on x.header x.generation x.key (stamp r) (value r) v (under r) w stands.knowledge stands.sights l.life
 
   -- it is the turn of a look at each name that stands for the life
-  pub lent_turned : (names : Names) (a : List ℕ) (y : View) → names a ≡ Some y → HoldsLife z v x y → Turned n names (value_turn a y (value r) (stamp r) (length (seen_of (key_number y.key) w.knowledge))) v w
+  pub lent_turned : (names : Names) (a : List ℕ) (y : View) → names a ≡ Some y → HoldsLife z v x y → Turned z n names (value_turn a y (value r) (stamp r) (length (seen_of (key_number y.key) w.knowledge))) v w
   lent_turned names a y is held = look_turned z n names a v w x y (stamp r) (value r) is held (life_refuses z n x v w r q idle l sized same on undone) life_read
 
 -- ---- names

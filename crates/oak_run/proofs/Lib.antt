@@ -49,6 +49,7 @@ pub mod ScanTurns
 pub mod OwnMarks
 pub mod AskTurns
 pub mod LackNeeds
+pub mod LackedCalls
 pub mod FullTurns
 pub mod AnsweredBehind
 pub mod SightedCalls

@@ -22,6 +22,7 @@ use Rattle.oak_run.specs.ClosedRuns.{closing_of}
 use Rattle.oak_run.specs.EndsRun.{EndsRun}
 use Rattle.oak_run.specs.FullsExactly.{FullsExactly}
 use Rattle.oak_run.specs.LoneCalls.{LoneCalls}
+use Rattle.oak_run.specs.MapThreads.{ThreadFits}
 use Rattle.oak_run.specs.Reads.{IsOnlyThread, OnlyReads}
 use Rattle.oak_run.specs.RunFits.{RunFits}
 use Rattle.oak_run.specs.ScriptRun.{RunsThreads}
@@ -47,10 +48,10 @@ met_behind z call v finals c e = met_both call v e.settled (closed_state c) (sub
 
 -- first is the state of the pass before the calls, v the one behind them
 pub lone_run : (z shape : Sizes) (last : ℕ) (first v : PassState) (cs : List Call) (a : Answered) (finals : List Pair) (c : Closed) → z ≡ shape → 1 + length cs ≤ last → IsOnlyThread first → first.knowledge.mine ≡ [] → v.numbers ≡ first.numbers
-    → AnswersThread v cs a → LoneCalls z 1 first cs a.replies.items v → EndsRun z last v finals c → RunsThreads shape (cs ∷ []) (a ∷ []) finals c
+    → AnswersThread z v cs a → LoneCalls z 1 first cs a.replies.items v → EndsRun z last v finals c → RunsThreads shape (cs ∷ []) (a ∷ []) finals c
 lone_run z shape last first v cs a finals c same few only none still answers lone e = record {
   fits = subst (λ (s : Sizes). RunFits (closing_of c) s (cs ∷ []) (a.replies.items ∷ []) finals) (e.key ∙ same)
-      (lone_run_fits c v cs a.replies.items (view_of z e.begun e.settled) (view_of z e.ended (closed_state c)) finals answers.fits now (leaves_reads e.settling v e.settled e.settles.leaves)
+      (lone_run_fits c v cs a.replies.items (view_of z e.begun e.settled) (view_of z e.ended (closed_state c)) finals (subst (λ (y : Sizes). ThreadFits y v cs a.replies.items) (sym e.key) answers.fits) now (leaves_reads e.settling v e.settled e.settles.leaves)
       (subst (λ (y : Sizes). HadMoment y e.settled) (sym e.key) e.settles.ended) e.scan (reads_itself (closed_state c)) e.idle here (uses_just z last v finals c now.alone e));
   counted = (answers.counted, tt);
   exact = λ calls replies calls_are replies_are. subst (λ (l : List Call × List Reply). FullsExactly c 1 l.0 l.1) (λ i. (one_of calls_are i, one_of replies_are i)) exactly;

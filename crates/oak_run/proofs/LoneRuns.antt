@@ -22,7 +22,7 @@ use Rattle.oak_run.proofs.OnlyThreads.{only_still}
 use Rattle.oak_run.proofs.ReadsLaws.{learns_reads, reads_then, seen_settled}
 
 -- v is the state behind the calls, and the scan goes from one moment behind them to another; the pass that is closed only read since
-pub lone_run_fits : (c : Closed) (v : PassState) (cs : List Call) (ys : List Reply) (before now : View) (finals : List Pair) → ThreadFits v cs ys → IsOnlyThread v → OnlyReads v before.state → HadMoment (closed_key c) before.state → HasScanned Up None None before now finals
+pub lone_run_fits : (c : Closed) (v : PassState) (cs : List Call) (ys : List Reply) (before now : View) (finals : List Pair) → ThreadFits (closed_key c) v cs ys → IsOnlyThread v → OnlyReads v before.state → HadMoment (closed_key c) before.state → HasScanned Up None None before now finals
     → OnlyReads now.state (closed_state c) → HoldsNothing (closed_state c) → Ends (closed_key c) (closed_words c) (closed_state c) → UsesJustMap c → RunFits (closing_of c) (closed_key c) (cs ∷ []) (ys ∷ []) finals
 lone_run_fits c v cs ys before now finals x only first had scan rest idle ends uses =
     let u : PassState = closed_state c in

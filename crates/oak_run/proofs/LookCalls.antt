@@ -30,11 +30,11 @@ idle_then v w h idle = record { hand = ap (λ (n : Numbers). n.hand) h.numbers �
 
 -- the value that was read, at the life that is held
 value_did : (z : Sizes) (n : ℕ) (v w : PassState) (h : HeldView) (bytes : List ℕ) (at : ℕ)
-    → ((names : Names) (a : List ℕ) (x : View) → names a ≡ Some x → HoldsLife z v h.view x → Turned n names (value_turn a x bytes at (length (seen_of (key_number x.key) w.knowledge))) v w)
+    → ((names : Names) (a : List ℕ) (x : View) → names a ≡ Some x → HoldsLife z v h.view x → Turned z n names (value_turn a x bytes at (length (seen_of (key_number x.key) w.knowledge))) v w)
     → LookDid z n h (replies.Value h.key bytes at) v w
 value_did z n v w h bytes at turned = record {
   can = λ a. tt;
-  turns = λ names a x is held. subst (λ (k : List ℕ). TurnsWith n names (Look a) (replies.Value k bytes at) v w) (sym held.key) (record {
+  turns = λ names a x is held. subst (λ (k : List ℕ). TurnsWith z n names (Look a) (replies.Value k bytes at) v w) (sym held.key) (record {
     places = only_at x.key (length (seen_of (key_number x.key) w.knowledge));
     floors = only_at x.key (length (seen_of (key_number x.key) w.knowledge));
     turned = turned names a x is held.life;
@@ -42,7 +42,7 @@ value_did z n v w h bytes at turned = record {
 }
 
 pub copy_did : (z : Sizes) (n : ℕ) (v w : PassState) (h : HeldView) (bytes : List ℕ) (at : ℕ) (y : Result Reply OutOfMemory) (copy : Result (List ℕ) OutOfMemory)
-    → ((names : Names) (a : List ℕ) (x : View) → names a ≡ Some x → HoldsLife z v h.view x → Turned n names (value_turn a x bytes at (length (seen_of (key_number x.key) w.knowledge))) v w)
+    → ((names : Names) (a : List ℕ) (x : View) → names a ≡ Some x → HoldsLife z v h.view x → Turned z n names (value_turn a x bytes at (length (seen_of (key_number x.key) w.knowledge))) v w)
     → TellsCopy h.key copy at y → IfOk copy (λ b. b ≡ bytes) → IfOk y (λ r. LookDid z n h r v w)
 copy_did z n v w h bytes at y copy turned tells same = copied h.key bytes at copy y (λ r. LookDid z n h r v w) (value_did z n v w h bytes at turned) same tells
 
@@ -58,7 +58,7 @@ pub unheld_did : (z : Sizes) (n : ℕ) (v : PassState) (m : BTreeMap (List ℕ) 
 unheld_did z n v m a missing = record {
   can = tt;
   does = λ names keeps. record {
-    turns = record { places = λ q. None; floors = λ q. None; turned = unheld_turned n names a v (subst (λ (o : Option HeldView). Stands z v o (names a)) missing (keeps a)) };
+    turns = record { places = λ q. None; floors = λ q. None; turned = unheld_turned z n names a v (subst (λ (o : Option HeldView). Stands z v o (names a)) missing (keeps a)) };
     keeps = keeps;
   };
   lone = tt;

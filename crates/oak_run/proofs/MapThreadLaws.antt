@@ -6,6 +6,7 @@ use Rattle.oak_model.specs.declared.replies.Reply.{Reply}
 use Rattle.oak_model.specs.History.{History}
 use Rattle.oak_model.specs.Key.{is_key}
 use Rattle.oak_model.specs.KeyNumber.{key_number}
+use Rattle.oak_model.specs.Limits.{Sizes}
 use Rattle.oak_core.specs.declared.states.KeyedWrite.{KeyedWrite}
 use Rattle.oak_core.specs.declared.states.Numbers.{Numbers}
 use Rattle.oak_core.specs.declared.states.PassState.{PassState}
@@ -37,8 +38,8 @@ unfolding of_key
 none_marked k mine e = subst (λ (ws : List KeyedWrite). [] ≡ map mark_of (writes_of (of_key k ws))) (sym e) refl
 
 -- before its first call
-pub nothing_done : (v : PassState) → v.knowledge.mine ≡ [] → ThreadFits v [] []
-nothing_done v none = record {
+pub nothing_done : (z : Sizes) (v : PassState) → v.knowledge.mine ≡ [] → ThreadFits z v [] []
+nothing_done z v none = record {
   turns = [];
   of_calls = refl;
   of_replies = refl;
@@ -49,13 +50,13 @@ nothing_done v none = record {
   views = λ hs b. tt;
   scans = λ hs b. tt;
   once = λ q is. none_marked (key_number q) v.knowledge.mine none;
-  refusals = λ by hs used z retired open_rooms b f. tt;
-  findings = λ by hs used z retired open_rooms b f. tt;
+  refusals = λ by hs used retired open_rooms b f. tt;
+  findings = λ by hs used retired open_rooms b f. tt;
 }
 
-pub no_turns : (v : PassState) (none : v.knowledge.mine ≡ []) → (nothing_done v none).turns ≡ []
+pub no_turns : (z : Sizes) (v : PassState) (none : v.knowledge.mine ≡ []) → (nothing_done z v none).turns ≡ []
 unfolding nothing_done
-no_turns v none = refl
+no_turns z v none = refl
 
 -- ---- one more turn
 
@@ -91,15 +92,15 @@ follows_seen v w u t between floors q r s floor place =
     by true low later = let l = later refl in omega arith
     by false low later = tt
 
-module _ (v w : PassState) (cs : List Call) (ys : List Reply) (n : ℕ) (t : Turn) (x : ThreadFits v cs ys) (number : n ≡ suc (length cs)) (turned : Turned n (names_of no_names x.turns) t v w) (can : CanReply t.call t.reply) where
+module _ (z : Sizes) (v w : PassState) (cs : List Call) (ys : List Reply) (n : ℕ) (t : Turn) (x : ThreadFits z v cs ys) (number : n ≡ suc (length cs)) (turned : Turned z n (names_of no_names x.turns) t v w) (can : CanReply t.call t.reply) where
   counted : n ≡ 1 + length x.turns
   counted = let e : length x.turns ≡ length cs = sym (length-map x.turns (λ (u : Turn). u.call)) ∙ ap length x.of_calls in omega arith
 
   before : (hs : ℕ → List KeyedWrite) → GoesBehind w hs → GoesBehind v hs
   before hs b = behind_before v w hs turned.extends turned.remembers b
 
-  on_later : (P : Closing → Type 0) → OnClosing v P → OnClosing w P
-  on_later P = closing_before v w P turned.extends turned.remembers turned.finds turned.numbers
+  on_later : (P : Closing → Type 0) → OnClosing z v P → OnClosing z w P
+  on_later P = closing_before z v w P turned.extends turned.remembers turned.finds turned.numbers
 
   its_number : (P : ℕ → Type 0) → P v.numbers.number → P w.numbers.number
   its_number P p = subst (λ (a : Numbers). P a.number) (sym turned.numbers) p
@@ -111,7 +112,7 @@ module _ (v w : PassState) (cs : List Call) (ys : List Reply) (n : ℕ) (t : Tur
       ∙ sym (marked (key_number q) v.knowledge.mine turned.wrote)
       ∙ ap (λ (ws : List KeyedWrite). map mark_of (writes_of (of_key (key_number q) ws))) (sym turned.mine)
 
-  pub one_turn_more : ThreadFits w (cs ++ t.call ∷ []) (ys ++ t.reply ∷ [])
+  pub one_turn_more : ThreadFits z w (cs ++ t.call ∷ []) (ys ++ t.reply ∷ [])
   one_turn_more = record {
     turns = x.turns ++ t ∷ [];
     of_calls = map_push (λ (u : Turn). u.call) x.turns t ∙ ap (λ (l : List Call). l ++ t.call ∷ []) x.of_calls;
@@ -123,10 +124,10 @@ module _ (v w : PassState) (cs : List Call) (ys : List Reply) (n : ℕ) (t : Tur
     views = λ hs b. views-push (histories hs) no_names x.turns t (x.views hs (before hs b)) (turned.view hs b);
     scans = λ hs b. all-push (λ (u : Turn). ScanTurnFits (histories hs) u u.call) x.turns t (x.scans hs (before hs b)) (turned.scan hs b);
     once = λ q is. its_number (λ a. marks q a 1 (x.turns ++ t ∷ []) ≡ map mark_of (writes_of (of_key (key_number q) w.knowledge.mine))) (once q is);
-    refusals = λ by hs used z retired open_rooms b f. its_number (λ a. RefusalsFit (closing_by by hs used z retired open_rooms) a 1 (x.turns ++ t ∷ []))
-        (refusals-push (closing_by by hs used z retired open_rooms) v.numbers.number 1 n x.turns t counted (on_later (λ c. RefusalsFit c v.numbers.number 1 x.turns) x.refusals by hs used z retired open_rooms b f) (turned.refusal by hs used z retired open_rooms b f));
-    findings = λ by hs used z retired open_rooms b f. its_number (λ a. FindingsFit (closing_by by hs used z retired open_rooms) a 1 no_names (x.turns ++ t ∷ []))
-        (findings-push (closing_by by hs used z retired open_rooms) v.numbers.number 1 n no_names x.turns t counted (on_later (λ c. FindingsFit c v.numbers.number 1 no_names x.turns) x.findings by hs used z retired open_rooms b f) (turned.finding by hs used z retired open_rooms b f));
+    refusals = λ by hs used retired open_rooms b f. its_number (λ a. RefusalsFit (closing_by by hs used z retired open_rooms) a 1 (x.turns ++ t ∷ []))
+        (refusals-push (closing_by by hs used z retired open_rooms) v.numbers.number 1 n x.turns t counted (on_later (λ c. RefusalsFit c v.numbers.number 1 x.turns) x.refusals by hs used retired open_rooms b f) (turned.refusal by hs used retired open_rooms b f));
+    findings = λ by hs used retired open_rooms b f. its_number (λ a. FindingsFit (closing_by by hs used z retired open_rooms) a 1 no_names (x.turns ++ t ∷ []))
+        (findings-push (closing_by by hs used z retired open_rooms) v.numbers.number 1 n no_names x.turns t counted (on_later (λ c. FindingsFit c v.numbers.number 1 no_names x.turns) x.findings by hs used retired open_rooms b f) (turned.finding by hs used retired open_rooms b f));
   }
 
   pub more_turns : one_turn_more.turns ≡ x.turns ++ t ∷ []

@@ -11,7 +11,7 @@ use Rattle.oak_core.specs.declared.states.PassState.{PassState}
 use Rattle.oak_core.specs.PassState.{IsAlone, both_state}
 use Rattle.oak_map.specs.declared.map.MapPass.{MapPass}
 use Rattle.oak_map.specs.declared.map.OakMap.{OakMap}
-use Rattle.oak_map.specs.Maps.{IsReady, state}
+use Rattle.oak_map.specs.Maps.{IsReady, sizes, state}
 use Rattle.oak_model.specs.Limits.{Sizes}
 use Rattle.oak_script.specs.declared.scripts.Call.{Call}
 use Rattle.oak_run.specs.declared.worker.Answered.{Answered}
@@ -88,11 +88,11 @@ answered_in rs = map (λ (r : ThreadRun). r.answered) rs
 abbrev some_of : List Answered → List (Option Answered)
 some_of answers = map (λ (a : Answered). Some a) answers
 
-its_answer : (m : OakMap) (r : ThreadRun) (a : Answered) → r.answered ≡ Some a → HasRun m r.calls r.before r.now r.answered → AnswersThread (state r.now) r.calls a
-its_answer m r a e run = subst (λ (o : Option Answered). IfSome o (AnswersThread (state r.now) r.calls)) e run.answers
+its_answer : (m : OakMap) (r : ThreadRun) (a : Answered) → r.answered ≡ Some a → HasRun m r.calls r.before r.now r.answered → AnswersThread (sizes m) (state r.now) r.calls a
+its_answer m r a e run = subst (λ (o : Option Answered). IfSome o (AnswersThread (sizes m) (state r.now) r.calls)) e run.answers
 
 each_answer : (m : OakMap) (rs : List ThreadRun) (answers : List Answered) → answered_in rs ≡ some_of answers → AllByRecursion (λ (r : ThreadRun). HasRun m r.calls r.before r.now r.answered) rs
-    → EachFits (ends_in rs answers) × AllByRecursion (λ (a : Answered). a.computed ≡ times_computed a.replies.items) answers
+    → EachFits (sizes m) (ends_in rs answers) × AllByRecursion (λ (a : Answered). a.computed ≡ times_computed a.replies.items) answers
 unfolding ends_in
 each_answer m [] [] e each = (tt, tt)
 each_answer m [] (a ∷ answers) e each = absurd cc
@@ -138,7 +138,7 @@ its_numbers n (r ∷ rs) (a ∷ answers) e bare are =
 
 -- The first pass, in the state v behind all splits, has all of them back, and all answered.
 pub all_came : (z : Sizes) (m : OakMap) (v w : PassState) (threads : List (List Call)) (before now : List MapPass) (answered : List (Option Answered)) (answers : List Answered) → HasSplit z v (numbers_at before) → z.passes ≡ length before + 1
-    → AllRan m threads before now answered → w ≡ joined_passes v (map state now) → answered ≡ some_of answers → AllCame w threads answers
+    → AllRan m threads before now answered → w ≡ joined_passes v (map state now) → answered ≡ some_of answers → AllCame (sizes m) w threads answers
 all_came z m v w threads before now answered answers split few ran joined all =
     let fits = each_answer m ran.runs answers whole ran.each in
     record {
@@ -174,7 +174,7 @@ module _ {W : Type 0} (p : W → MapPass) (a : W → Option Answered) (z : Sizes
   pub alone_home : map (λ x. (state (p x)).numbers) zs ≡ map (λ x. (state (p x)).numbers) xs → IsAlone w
   alone_home same = subst IsAlone (sym joined) (alone_again z v (map (λ x. (state (p x)).numbers) xs) (map (λ x. state (p x)) zs) split (map-map (λ (s : PassState). s.numbers) (λ x. state (p x)) zs ∙ same))
 
-  pub came_home : (threads : List (List Call)) (answers : List Answered) → z.passes ≡ length xs + 1 → AllRan m threads (map p xs) (map p zs) (map a zs) → map a zs ≡ some_of answers → AllCame w threads answers
+  pub came_home : (threads : List (List Call)) (answers : List Answered) → z.passes ≡ length xs + 1 → AllRan m threads (map p xs) (map p zs) (map a zs) → map a zs ≡ some_of answers → AllCame (sizes m) w threads answers
   came_home threads answers few ran all = all_came z m v w threads (map p xs) (map p zs) (map a zs) answers
       (subst (HasSplit z v) (sym (map-map (λ (q : MapPass). (state q).numbers) p xs)) split) (few ∙ ap (λ (k : ℕ). k + 1) (sym (length-map xs p))) ran
       (joined ∙ ap (joined_passes v) (sym (map-map state p zs))) all

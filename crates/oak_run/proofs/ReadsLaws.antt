@@ -27,7 +27,7 @@ reads_itself v = record {
   met = begins_self v.findings.met;
   extends = extends_self v;
   remembers = remembers_self v.knowledge;
-  finds = record { sights = begins_self v.findings.sights; gones = begins_self v.findings.gones; fulls = begins_self v.findings.fulls };
+  finds = record { met = begins_self v.findings.met; sights = begins_self v.findings.sights; gones = begins_self v.findings.gones; fulls = begins_self v.findings.fulls; swept = begins_self v.findings.swept };
   numbers = refl;
   mine = refl;
 }
@@ -48,7 +48,7 @@ learns_reads call v w l = record {
   met = (l.met.more, l.met.met);
   extends = l.all.seen;
   remembers = l.all.remembers;
-  finds = record { sights = (l.sights.more, l.sights.sights); gones = l.all.gones; fulls = begins_same v.findings.fulls w.findings.fulls l.all.fulls };
+  finds = record { met = (l.met.more, l.met.met); sights = (l.sights.more, l.sights.sights); gones = l.all.gones; fulls = begins_same v.findings.fulls w.findings.fulls l.all.fulls; swept = begins_same v.findings.swept w.findings.swept l.all.swept };
   numbers = l.all.numbers;
   mine = l.all.mine;
 }
@@ -59,7 +59,7 @@ leaves_reads call v w l = record {
   met = (l.met.more, l.met.met);
   extends = λ k. begins_same (seen_of k v.knowledge) (seen_of k w.knowledge) (ap (seen_of k) l.knowledge);
   remembers = λ k at r knows. subst (λ (q : Knowledge). KnowsPlace k at r q) (sym l.knowledge) knows;
-  finds = record { sights = begins_same v.findings.sights w.findings.sights l.sights; gones = begins_same v.findings.gones w.findings.gones l.gones; fulls = begins_same v.findings.fulls w.findings.fulls l.fulls };
+  finds = record { met = (l.met.more, l.met.met); sights = begins_same v.findings.sights w.findings.sights l.sights; gones = begins_same v.findings.gones w.findings.gones l.gones; fulls = begins_same v.findings.fulls w.findings.fulls l.fulls; swept = l.swept };
   numbers = l.numbers;
   mine = ap (λ (q : Knowledge). q.mine) l.knowledge;
 }

@@ -178,12 +178,12 @@ module _ (way : Way) (low high : Option (List ℕ)) (z : Sizes) (n : ℕ) (v w :
     asked Down = refl
 
     -- Behind a scan of which the pass learned in its n-th call.
-    pub scan_turned : Turned n names scan_turn v w
+    pub scan_turned : Turned z n names scan_turn v w
     scan_turned = let l = x.later.learns in record {
       extends = l.all.seen;
       remembers = l.all.remembers;
       met = l.met;
-      finds = finds_more n v w l.sights l.all;
+      finds = finds_more n v w l;
       loaded = l.all.loaded;
       numbers = l.all.numbers;
       order = order;
@@ -194,14 +194,14 @@ module _ (way : Way) (low high : Option (List ℕ)) (z : Sizes) (n : ℕ) (v w :
       answers = λ hs b. rw (asked way) tt;
       view = λ hs b. views way (histories hs) scan_turn;
       scan = λ hs b. in_order way (histories hs) x.ordered (fits hs b);
-      refusal = λ by hs used s retired open_rooms b f. tt;
-      finding = λ by hs used s retired open_rooms b f.
+      refusal = λ by hs used retired open_rooms b f. tt;
+      finding = λ by hs used retired open_rooms b f.
           let found = pairs_found (histories hs) way low high (view_of z n v) (view_of z n w) pairs low_bound high_bound x (go_on w hs b) in
           let more : Begins w.findings.sights (by v.numbers.number).sights = subst (λ (i : ℕ). Begins w.findings.sights (by i).sights) (ap (λ (m : Numbers). m.number) l.all.numbers) f.sights in
           let all = (by v.numbers.number).sights in
           record {
             numbers = numbers hs b all more pairs found;
             absences = λ m q r k e. absences hs b all more q r k e;
-            removal = removal way (closing_by by hs used s retired open_rooms) v.numbers.number (replies.Pairs pairs);
+            removal = removal way (closing_by by hs used z retired open_rooms) v.numbers.number (replies.Pairs pairs);
           };
     }

@@ -134,8 +134,8 @@ module _ (z : Sizes) (v w : PassState) (x : Viewed) (y : View) (held : HoldsLife
 
 -- The bytes that a look lent are those of the life that its name stands for.
 value_of_own : (z : Sizes) (n : ℕ) (names : Names) (a : List ℕ) (v w : PassState) (x : Viewed) (p at : ℕ) (bytes : List ℕ) → names a ≡ Some (record { key = x.key; place = p }) → HoldsLife z v x (record { key = x.key; place = p }) → Refuses n v w
-    → ReadsLife x.header x.generation x.key at bytes v w → Turned n names (value_turn a (record { key = x.key; place = p }) bytes at (length (seen_of (key_number x.key) w.knowledge))) v w
-value_of_own z n names a v w x p at bytes is held quiet r = quiet_turned n names t v w quiet refl (record {
+    → ReadsLife x.header x.generation x.key at bytes v w → Turned z n names (value_turn a (record { key = x.key; place = p }) bytes at (length (seen_of (key_number x.key) w.knowledge))) v w
+value_of_own z n names a v w x p at bytes is held quiet r = quiet_turned z n names t v w quiet refl (record {
   order = record {
     places = at_least v x.key (length seen) (let s = seen_is z v x y held v in let g = grown z v w x y held more in omega arith);
     later = λ q s e m. absurd cc;
@@ -144,7 +144,7 @@ value_of_own z n names a v w x p at bytes is held quiet r = quiet_turned n names
   answers = λ hs goes. tt;
   view = λ hs goes. subst (λ (o : Option View). IsSomeAnd o (λ u. Shows (histories hs) u x.key bytes at t)) (sym is) (shows z v w x y held more hs goes at bytes r t (record { places = λ q. refl; floors = λ q. refl }));
   scan = λ hs goes. tt;
-  refusal = λ by hs used limits retired open_rooms goes finds. tt;
+  refusal = λ by hs used retired open_rooms goes finds. tt;
   finding = finds_it;
 })
   where
@@ -163,18 +163,18 @@ value_of_own z n names a v w x p at bytes is held quiet r = quiet_turned n names
     found : (by : ℕ → Findings) → FindsMore w.findings (by w.numbers.number) → SightedIn n (key_number x.key) at false (by v.numbers.number).sights
     found by f = sighted_in n (key_number x.key) at v w quiet.learns.sights r.last.sighted (by v.numbers.number).sights (subst (λ (m : Numbers). Begins w.findings.sights (by m.number).sights) quiet.learns.all.numbers f.sights)
 
-    finds_it : (by : ℕ → Findings) (hs : ℕ → List KeyedWrite) (used : Usage) (limits : Sizes) (retired open_rooms : ℕ) → GoesBehind w hs → FindsMore w.findings (by w.numbers.number) → FindingFits (closing_by by hs used limits retired open_rooms) v.numbers.number n names t
-    finds_it by hs used limits retired open_rooms goes f = record {
+    finds_it : (by : ℕ → Findings) (hs : ℕ → List KeyedWrite) (used : Usage) (retired open_rooms : ℕ) → GoesBehind w hs → FindsMore w.findings (by w.numbers.number) → FindingFits (closing_by by hs used z retired open_rooms) v.numbers.number n names t
+    finds_it by hs used retired open_rooms goes f = record {
       numbers = (false, found by f);
       absences = λ read q s key placed. let g = only-here x.key (length seen) q s placed in
-          subst (λ (i : List ℕ × ℕ). (m : ℕ) × WasFound (closing_by by hs used limits retired open_rooms) v.numbers.number n i.0 m × (place_of (histories hs i.0) m ≡ i.1)) (λ j. (g.0 j, g.1 j)) (at, (false, found by f), place z v w x y held more hs goes at bytes r);
+          subst (λ (i : List ℕ × ℕ). (m : ℕ) × WasFound (closing_by by hs used z retired open_rooms) v.numbers.number n i.0 m × (place_of (histories hs i.0) m ≡ i.1)) (λ j. (g.0 j, g.1 j)) (at, (false, found by f), place z v w x y held more hs goes at bytes r);
       removal = tt;
     }
 
 pub look_turned : (z : Sizes) (n : ℕ) (names : Names) (a : List ℕ) (v w : PassState) (x : Viewed) (y : View) (at : ℕ) (bytes : List ℕ) → names a ≡ Some y → HoldsLife z v x y → Refuses n v w → ReadsLife x.header x.generation x.key at bytes v w
-    → Turned n names (value_turn a y bytes at (length (seen_of (key_number y.key) w.knowledge))) v w
+    → Turned z n names (value_turn a y bytes at (length (seen_of (key_number y.key) w.knowledge))) v w
 look_turned z n names a v w x y at bytes is held quiet reads =
-    subst (λ (q : List ℕ). names a ≡ Some (record { key = q; place = y.place }) → HoldsLife z v x (record { key = q; place = y.place }) → Turned n names (value_turn a (record { key = q; place = y.place }) bytes at (length (seen_of (key_number q) w.knowledge))) v w) held.key
+    subst (λ (q : List ℕ). names a ≡ Some (record { key = q; place = y.place }) → HoldsLife z v x (record { key = q; place = y.place }) → Turned z n names (value_turn a (record { key = q; place = y.place }) bytes at (length (seen_of (key_number q) w.knowledge))) v w) held.key
     (λ i h. value_of_own z n names a v w x y.place at bytes i h quiet reads) is held
 
 -- ---- a life that is over
@@ -188,8 +188,8 @@ over_place z n x v w f = removal_place (key_number x.key) (home_of x.header x.ge
 
 -- The life that the name stands for was found over.
 over_of_own : (z : Sizes) (n : ℕ) (names : Names) (a : List ℕ) (v w : PassState) (x : Viewed) (p : ℕ) → names a ≡ Some (record { key = x.key; place = p }) → HoldsLife z v x (record { key = x.key; place = p }) → (f : FindsOver z n x v w)
-    → Turned n names (over_turn a (record { key = x.key; place = p }) (over_place z n x v w f)) v w
-over_of_own z n names a v w x p is held f = quiet_turned n names t v w quiet refl (record {
+    → Turned z n names (over_turn a (record { key = x.key; place = p }) (over_place z n x v w f)) v w
+over_of_own z n names a v w x p is held f = quiet_turned z n names t v w quiet refl (record {
   order = record {
     places = λ q s e. absurd (none_some s e);
     later = λ q s e m. absurd (none_some s e);
@@ -203,8 +203,8 @@ over_of_own z n names a v w x p is held f = quiet_turned n names t v w quiet ref
     floors = λ q. refl;
   });
   scan = λ hs goes. tt;
-  refusal = λ by hs used limits retired open_rooms goes finds. tt;
-  finding = λ by hs used limits retired open_rooms goes finds. record { numbers = tt; absences = λ read q s key placed. absurd (none_some s placed); removal = finds_it by hs goes finds };
+  refusal = λ by hs used retired open_rooms goes finds. tt;
+  finding = λ by hs used retired open_rooms goes finds. record { numbers = tt; absences = λ read q s key placed. absurd (none_some s placed); removal = finds_it by hs goes finds };
 })
   where
     y : View
@@ -236,19 +236,22 @@ over_of_own z n names a v w x p is held f = quiet_turned n names t v w quiet ref
         (subst (λ (home : ℕ). OverIn n x.key home (by v.numbers.number).gones) (sym (home_was z v w x y held more hs goes))
         (over_in z n x v w f (by v.numbers.number).gones (subst (λ (m : Numbers). Begins w.findings.gones (by m.number).gones) quiet.learns.all.numbers finds.gones)))
 
-pub gone_turned : (z : Sizes) (n : ℕ) (names : Names) (a : List ℕ) (v w : PassState) (x : Viewed) (y : View) → names a ≡ Some y → HoldsLife z v x y → (f : FindsOver z n x v w) → Turned n names (over_turn a y (over_place z n x v w f)) v w
+pub gone_turned : (z : Sizes) (n : ℕ) (names : Names) (a : List ℕ) (v w : PassState) (x : Viewed) (y : View) → names a ≡ Some y → HoldsLife z v x y → (f : FindsOver z n x v w) → Turned z n names (over_turn a y (over_place z n x v w f)) v w
 gone_turned z n names a v w x y is held f =
-    subst (λ (q : List ℕ). names a ≡ Some (record { key = q; place = y.place }) → HoldsLife z v x (record { key = q; place = y.place }) → Turned n names (over_turn a (record { key = q; place = y.place }) (over_place z n x v w f)) v w) held.key
+    subst (λ (q : List ℕ). names a ≡ Some (record { key = q; place = y.place }) → HoldsLife z v x (record { key = q; place = y.place }) → Turned z n names (over_turn a (record { key = q; place = y.place }) (over_place z n x v w f)) v w) held.key
     (λ i h. over_of_own z n names a v w x y.place i h f) is held
 
 -- ---- a name that stands for nothing
 
 pub unheld_turned : (n : ℕ) (names : Names) (a : List ℕ) (v : PassState) → names a ≡ None → Turned n names (unheld_turn a) v v
 unheld_turned n names a v is = quiet_turned n names (unheld_turn a) v v (record { learns = learns_none n v; holds = record { blocks = refl; headers = refl; rooms = refl; numbers = refl; fulls = refl; swept = refl; rebalances = refl } }) refl (record {
+
+pub unheld_turned : (z : Sizes) (n : ℕ) (names : Names) (a : List ℕ) (v : PassState) → names a ≡ None → Turned z n names (unheld_turn a) v v
+unheld_turned z n names a v is = quiet_turned z n names (unheld_turn a) v v (record { learns = learns_none n v; holds = record { blocks = refl; headers = refl; rooms = refl; numbers = refl; fulls = refl; swept = refl } }) refl (record {
   order = record { places = λ q s e. absurd (none_some s e); later = λ q s e m. absurd (none_some s e); floors = λ q s e. absurd (none_some s e) };
   answers = λ hs goes. tt;
   view = λ hs goes. (is, record { places = λ q. refl; floors = λ q. refl });
   scan = λ hs goes. tt;
-  refusal = λ by hs used limits retired open_rooms goes finds. tt;
-  finding = λ by hs used limits retired open_rooms goes finds. record { numbers = tt; absences = λ read q s key placed. absurd (none_some s placed); removal = tt };
+  refusal = λ by hs used retired open_rooms goes finds. tt;
+  finding = λ by hs used retired open_rooms goes finds. record { numbers = tt; absences = λ read q s key placed. absurd (none_some s placed); removal = tt };
 })

@@ -6,7 +6,7 @@ use Rattle.oak_model.specs.Key.{is_key}
 use Rattle.oak_model.specs.KeyNumber.{key_number}
 use Rattle.oak_core.specs.declared.states.KeyedWrite.{KeyedWrite}
 use Rattle.oak_core.specs.declared.states.PassState.{PassState}
-use Rattle.oak_core.specs.CallSteps.{KeepsAll, SightsMore}
+use Rattle.oak_core.specs.CallSteps.{Learns}
 use Rattle.oak_core.specs.KeyHistories.{writes_of}
 use Rattle.oak_core.specs.PassState.{seen_of}
 use Rattle.oak_core.proofs.CallSteps.{begins_same}
@@ -16,8 +16,14 @@ use Rattle.oak_run.specs.Behind.{GoesBehind, histories}
 use Rattle.oak_run.specs.Shown.{FindsMore}
 
 -- the findings of a call that wrote nothing go on
-pub finds_more : (n : ℕ) (v w : PassState) → SightsMore n v w → KeepsAll v w → FindsMore v.findings w.findings
-finds_more n v w m k = record { sights = (m.more, m.sights); gones = k.gones; fulls = begins_same v.findings.fulls w.findings.fulls k.fulls }
+pub finds_more : (n : ℕ) (v w : PassState) → Learns n v w → FindsMore v.findings w.findings
+finds_more n v w l = record {
+  met = (l.met.more, l.met.met);
+  sights = (l.sights.more, l.sights.sights);
+  gones = l.all.gones;
+  fulls = begins_same v.findings.fulls w.findings.fulls l.all.fulls;
+  swept = begins_same v.findings.swept w.findings.swept l.all.swept;
+}
 
 -- histories that go on from what a pass has seen are such ones by their keys
 pub go_on : (v : PassState) (hs : ℕ → List KeyedWrite) → GoesBehind v hs → GoOnFrom v (histories hs)

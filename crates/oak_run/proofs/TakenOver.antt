@@ -21,7 +21,7 @@ unfolding of_key
 none_written k l e = ap (of_key k) e
 
 finds_self : (f g : Findings) → g ≡ f → FindsMore f g
-finds_self f g e = subst (FindsMore f) (sym e) (record { sights = begins_self f.sights; gones = begins_self f.gones; fulls = begins_self f.fulls })
+finds_self f g e = subst (FindsMore f) (sym e) (record { met = begins_self f.met; sights = begins_self f.sights; gones = begins_self f.gones; fulls = begins_self f.fulls; swept = begins_self f.swept })
 
 module _ (z : Sizes) (words : List ℕ) (u : PassState) (closed : Ends z words u) (alone : IsAlone u) (ts : List ThreadEnd)
     (number : u.numbers.number ≡ 0) (joined : u.numbers.joined ≡ joined_of ts) (none : u.knowledge.mine ≡ []) where

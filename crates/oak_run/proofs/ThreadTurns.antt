@@ -7,6 +7,7 @@ use Rattle.std.proofs.lemmas.List.Sorted.{IsPermutation-map, IsPermutation-refl}
 use Rattle.oak_model.specs.declared.writes.Write.{Write}
 use Rattle.oak_model.specs.Key.{is_key}
 use Rattle.oak_model.specs.KeyNumber.{key_number}
+use Rattle.oak_model.specs.Limits.{Sizes}
 use Rattle.oak_core.specs.declared.states.Findings.{Findings}
 use Rattle.oak_core.specs.declared.states.KeyedWrite.{KeyedWrite}
 use Rattle.oak_core.specs.Callers.{of_caller}
@@ -25,25 +26,25 @@ use Rattle.oak_run.proofs.ClosedRuns.{at_key, at_other}
 use Rattle.oak_run.proofs.ForeignMarks.{no_marks}
 use Rattle.oak_run.proofs.MapThreadLaws.{marked-append, writes-append}
 
--- The thread has the number n. The histories go on from what its pass saw, the findings by its number from what it found, and the writes with its number are its own.
-pub record IsThread (hs : ℕ → List KeyedWrite) (by : ℕ → Findings) (n : ℕ) (t : ThreadEnd) : Type 0 where
-  pub fits : ThreadFits t.state t.calls t.replies
+-- The thread has the number n, over a map of these sizes. The histories go on from what its pass saw, the findings by its number from what it found, and the writes with its number are its own.
+pub record IsThread (z : Sizes) (hs : ℕ → List KeyedWrite) (by : ℕ → Findings) (n : ℕ) (t : ThreadEnd) : Type 0 where
+  pub fits : ThreadFits z t.state t.calls t.replies
   pub number : t.state.numbers.number ≡ n
   pub behind : GoesBehind t.state hs
   pub found : FindsMore t.state.findings (by t.state.numbers.number)
   pub mine : (k : ℕ) → of_key k t.state.knowledge.mine ≡ of_caller n (hs k)
 
-module _ (hs : ℕ → List KeyedWrite) (by : ℕ → Findings) where
+module _ (z : Sizes) (hs : ℕ → List KeyedWrite) (by : ℕ → Findings) where
   -- from the number n on
   abbrev pub AreThreads : ℕ → List ThreadEnd → Type 0
   AreThreads n [] = ⊤
-  AreThreads n (t ∷ ts) = IsThread hs by n t × AreThreads (suc n) ts
+  AreThreads n (t ∷ ts) = IsThread z hs by n t × AreThreads (suc n) ts
 
   abbrev pub turns_of : (n : ℕ) (ts : List ThreadEnd) → AreThreads n ts → List (List Turn)
   turns_of n [] are = []
   turns_of n (t ∷ ts) are = are.0.fits.turns ∷ turns_of (suc n) ts are.1
 
-  pub each_thread : (P : ℕ → List Turn → Type 0) → ((n : ℕ) (t : ThreadEnd) (x : IsThread hs by n t) → P n x.fits.turns) → (n : ℕ) (ts : List ThreadEnd) (are : AreThreads n ts) → EachThread P n (turns_of n ts are)
+  pub each_thread : (P : ℕ → List Turn → Type 0) → ((n : ℕ) (t : ThreadEnd) (x : IsThread z hs by n t) → P n x.fits.turns) → (n : ℕ) (ts : List ThreadEnd) (are : AreThreads n ts) → EachThread P n (turns_of n ts are)
   each_thread P f n [] are = tt
   each_thread P f n (t ∷ ts) are = (f n t are.0, each_thread P f (suc n) ts are.1)
 
@@ -59,7 +60,7 @@ module _ (hs : ℕ → List KeyedWrite) (by : ℕ → Findings) where
   all_answered n [] are = tt
   all_answered n (t ∷ ts) are = (are.0.fits.answered, all_answered (suc n) ts are.1)
 
-  pub its_answers : (n : ℕ) (t : ThreadEnd) (x : IsThread hs by n t) → AnswersFit (histories hs) n 1 x.fits.turns
+  pub its_answers : (n : ℕ) (t : ThreadEnd) (x : IsThread z hs by n t) → AnswersFit (histories hs) n 1 x.fits.turns
   its_answers n t x = subst (λ (i : ℕ). AnswersFit (histories hs) i 1 x.fits.turns) x.number (x.fits.answers hs x.behind)
 
   -- ---- the writes that the turns tell
@@ -70,7 +71,7 @@ module _ (hs : ℕ → List KeyedWrite) (by : ℕ → Findings) where
   marks-append : (g h : List KeyedWrite) → marks_in (g ++ h) ≡ marks_in g ++ marks_in h
   marks-append g h = ap (map mark_of) (writes-append g h) ∙ marked-append (writes_of g) (writes_of h)
 
-  its_marks : (q : List ℕ) → is_key q ≡ true → (n : ℕ) (t : ThreadEnd) (x : IsThread hs by n t) → marks q n 1 x.fits.turns ≡ marks_in (of_caller n (hs (key_number q)))
+  its_marks : (q : List ℕ) → is_key q ≡ true → (n : ℕ) (t : ThreadEnd) (x : IsThread z hs by n t) → marks q n 1 x.fits.turns ≡ marks_in (of_caller n (hs (key_number q)))
   its_marks q is n t x = subst (λ (i : ℕ). marks q i 1 x.fits.turns ≡ marks_in (of_key (key_number q) t.state.knowledge.mine)) x.number (x.fits.once q is)
       ∙ ap marks_in (x.mine (key_number q))
 

@@ -17,7 +17,7 @@ use Rattle.oak_run.specs.ClosedRuns.{closing_of}
 use Rattle.oak_run.specs.EndsRun.{EndsRun}
 use Rattle.oak_run.specs.RunFits.{RunFits}
 use Rattle.oak_run.specs.ScriptRun.{RunsThreads}
-use Rattle.oak_run.specs.ThreadsRun.{AllCame, joined_all}
+use Rattle.oak_run.specs.ThreadsRun.{AllCame, EachFits, joined_all}
 use Rattle.oak_run.specs.Workers.{replies_in}
 use Rattle.oak_run.proofs.LoneEnds.{reads_behind, uses_just}
 use Rattle.oak_run.proofs.ReadsLaws.{leaves_reads, leaves_seen, reads_itself}
@@ -25,10 +25,10 @@ use Rattle.oak_run.proofs.SawBefore.{alone_before}
 use Rattle.oak_run.proofs.ThreadsRuns.{threads_run_fit}
 
 -- v is the state of the pass behind all joins
-threads_fit : (z : Sizes) (call : ℕ) (v : PassState) (threads : List (List Call)) (answers : List Answered) (finals : List Pair) (c : Closed) → AllCame v threads answers → IsAlone v → EndsRun z call v finals c → RunFits (closing_of c) z threads (replies_in answers) finals
+threads_fit : (z : Sizes) (call : ℕ) (v : PassState) (threads : List (List Call)) (answers : List Answered) (finals : List Pair) (c : Closed) → AllCame z v threads answers → IsAlone v → EndsRun z call v finals c → RunFits (closing_of c) z threads (replies_in answers) finals
 threads_fit z call v threads answers finals c came alone ended =
     subst (λ (l : Sizes × (List (List Call) × List (List Reply))). RunFits (closing_of c) l.0 l.1.0 l.1.1 finals) (λ i. (e.key i, (came.calls_are i, came.replies_are i)))
-    (threads_run_fit c came.first came.ends (view_of z e.begun e.settled) (view_of z e.ended (closed_state c)) finals came.number came.joined_before came.unwritten came.numbered came.fit
+    (threads_run_fit c came.first came.ends (view_of z e.begun e.settled) (view_of z e.ended (closed_state c)) finals came.number came.joined_before came.unwritten came.numbered (subst (λ (y : Sizes). EachFits y came.ends) (sym e.key) came.fit)
     (leaves_reads e.settling (joined_all came.first came.ends) e.settled e.settles.leaves) (leaves_seen e.settling (joined_all came.first came.ends) e.settled e.settles.leaves) (subst (λ (y : Sizes). HadMoment y e.settled) (sym e.key) e.settles.ended) e.scan
     (reads_itself (closed_state c)) (alone_before (closed_state c) (joined_all came.first came.ends) (sym (reads_behind z call (joined_all came.first came.ends) finals c e).numbers) alone_all) e.idle (subst (λ (y : Sizes). Ends y (closed_words c) (closed_state c)) (sym e.key) e.ends) (uses_just z call (joined_all came.first came.ends) finals c alone_all e))
   where
@@ -39,7 +39,7 @@ threads_fit z call v threads answers finals c came alone ended =
     alone_all = subst IsAlone came.joined alone
 
 -- they are not one alone
-pub threads_end : (z shape : Sizes) (call : ℕ) (v : PassState) (threads : List (List Call)) (answers : List Answered) (finals : List Pair) (c : Closed) → z ≡ shape → length threads ≢ 1 → AllCame v threads answers → IsAlone v → EndsRun z call v finals c
+pub threads_end : (z shape : Sizes) (call : ℕ) (v : PassState) (threads : List (List Call)) (answers : List Answered) (finals : List Pair) (c : Closed) → z ≡ shape → length threads ≢ 1 → AllCame z v threads answers → IsAlone v → EndsRun z call v finals c
     → RunsThreads shape threads answers finals c
 threads_end z shape call v threads answers finals c same several came alone ended = record {
   fits = subst (λ (s : Sizes). RunFits (closing_of c) s threads (replies_in answers) finals) same (threads_fit z call v threads answers finals c came alone ended);

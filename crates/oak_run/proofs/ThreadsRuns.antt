@@ -43,7 +43,7 @@ use Rattle.oak_run.proofs.TakenOver.{all_theirs, finds_its, wrote_its}
 use Rattle.oak_run.proofs.ThreadTurns.{AreThreads, IsThread, all_answered, all_once, calls_are, each_thread, its_answers, replies_are, turns_of}
 
 -- The pass is in the state `before.state` at a moment behind the threads, up to which it kept all that they had seen. Without `kept` a thread could have seen what no history has: that a pass goes on from what was seen before says something of the longest list alone.
-module _ (c : Closed) (first : PassState) (ts : List ThreadEnd) (before now : View) (finals : List Pair) (number : first.numbers.number ≡ 0) (joined : first.numbers.joined ≡ []) (none : first.knowledge.mine ≡ []) (are : AreNumbered 1 ts) (fit : EachFits ts)
+module _ (c : Closed) (first : PassState) (ts : List ThreadEnd) (before now : View) (finals : List Pair) (number : first.numbers.number ≡ 0) (joined : first.numbers.joined ≡ []) (none : first.knowledge.mine ≡ []) (are : AreNumbered 1 ts) (fit : EachFits (closed_key c) ts)
     (reads : OnlyReads (joined_all first ts) before.state) (kept : Begins (joined_all first ts).knowledge.seen before.state.knowledge.seen) (had : HadMoment (closed_key c) before.state) (scan : HasScanned Up None None before now finals)
     (rest : OnlyReads now.state (closed_state c)) (alone : IsAlone (closed_state c)) (idle : HoldsNothing (closed_state c)) (closed : Ends (closed_key c) (closed_words c) (closed_state c)) (uses : UsesJustMap c) where
   abbrev u : PassState
@@ -72,7 +72,7 @@ module _ (c : Closed) (first : PassState) (ts : List ThreadEnd) (before now : Vi
   last_mine : u.knowledge.mine ≡ []
   last_mine = all.mine ∙ (first_mine first ts ∙ none)
 
-  its_thread : (n : ℕ) (t : ThreadEnd) → t.state.numbers.number ≡ n → EachFits (t ∷ []) → IsFound 1 (joined_of ts) t → IsBefore u t → IsThread hs (closed_findings c) n t
+  its_thread : (n : ℕ) (t : ThreadEnd) → t.state.numbers.number ≡ n → EachFits (closed_key c) (t ∷ []) → IsFound 1 (joined_of ts) t → IsBefore u t → IsThread (closed_key c) hs (closed_findings c) n t
   its_thread n t e fits found seen = record {
     fits = fits.0;
     number = e;
@@ -81,46 +81,46 @@ module _ (c : Closed) (first : PassState) (ts : List ThreadEnd) (before now : Vi
     mine = wrote_its (closed_key c) (closed_words c) u closed alone ts last_number last_joined last_mine n t found e;
   }
 
-  they_are : (n : ℕ) (left : List ThreadEnd) → AreNumbered n left → EachFits left → Each (IsFound 1 (joined_of ts)) left → Each (IsBefore u) left → AreThreads hs (closed_findings c) n left
+  they_are : (n : ℕ) (left : List ThreadEnd) → AreNumbered n left → EachFits (closed_key c) left → Each (IsFound 1 (joined_of ts)) left → Each (IsBefore u) left → AreThreads (closed_key c) hs (closed_findings c) n left
   they_are n [] nums fits found seen = tt
   they_are n (t ∷ left) nums fits found seen = (its_thread n t nums.0 (fits.0, tt) found.0 seen.0, they_are (suc n) left nums.2 fits.1 found.1 seen.1)
 
-  threads : AreThreads hs (closed_findings c) 1 ts
+  threads : AreThreads (closed_key c) hs (closed_findings c) 1 ts
   threads = they_are 1 ts are fit (each_found 1 ts are) (each_before (closed_key c) first before.state u ts reads kept had lone last)
 
   -- ---- what holds of each thread's turns
 
-  refusals : (n : ℕ) (t : ThreadEnd) (x : IsThread hs (closed_findings c) n t) → RefusalsFit (closing_of c) n 1 x.fits.turns
+  refusals : (n : ℕ) (t : ThreadEnd) (x : IsThread (closed_key c) hs (closed_findings c) n t) → RefusalsFit (closing_of c) n 1 x.fits.turns
   refusals n t x = subst (λ (i : ℕ). RefusalsFit (closing_of c) i 1 x.fits.turns) x.number
-      (x.fits.refusals (closed_findings c) hs (usage_of (closed_key c) (memory (closed_key c) (closed_words c))) (closed_key c) (retired_in (closed_key c) (closed_words c)) (used_chunks (closed_key c) (memory (closed_key c) (closed_words c))) x.behind x.found)
+      (x.fits.refusals (closed_findings c) hs (usage_of (closed_key c) (memory (closed_key c) (closed_words c))) (retired_in (closed_key c) (closed_words c)) (used_chunks (closed_key c) (memory (closed_key c) (closed_words c))) x.behind x.found)
 
-  findings : (n : ℕ) (t : ThreadEnd) (x : IsThread hs (closed_findings c) n t) → FindingsFit (closing_of c) n 1 no_names x.fits.turns
+  findings : (n : ℕ) (t : ThreadEnd) (x : IsThread (closed_key c) hs (closed_findings c) n t) → FindingsFit (closing_of c) n 1 no_names x.fits.turns
   findings n t x = subst (λ (i : ℕ). FindingsFit (closing_of c) i 1 no_names x.fits.turns) x.number
-      (x.fits.findings (closed_findings c) hs (usage_of (closed_key c) (memory (closed_key c) (closed_words c))) (closed_key c) (retired_in (closed_key c) (closed_words c)) (used_chunks (closed_key c) (memory (closed_key c) (closed_words c))) x.behind x.found)
+      (x.fits.findings (closed_findings c) hs (usage_of (closed_key c) (memory (closed_key c) (closed_words c))) (retired_in (closed_key c) (closed_words c)) (used_chunks (closed_key c) (memory (closed_key c) (closed_words c))) x.behind x.found)
 
   pub threads_fit : RunFits (closing_of c) (closed_key c) (map (λ (t : ThreadEnd). t.calls) ts) (map (λ (t : ThreadEnd). t.replies) ts) finals
   threads_fit = record {
-    threads = turns_of hs (closed_findings c) 1 ts threads;
-    of_calls = calls_are hs (closed_findings c) 1 ts threads;
-    of_replies = replies_are hs (closed_findings c) 1 ts threads;
-    answered = all_answered hs (closed_findings c) 1 ts threads;
+    threads = turns_of (closed_key c) hs (closed_findings c) 1 ts threads;
+    of_calls = calls_are (closed_key c) hs (closed_findings c) 1 ts threads;
+    of_replies = replies_are (closed_key c) hs (closed_findings c) 1 ts threads;
+    answered = all_answered (closed_key c) hs (closed_findings c) 1 ts threads;
     sizes = refl;
     legal = behind_legal u hs (closed_behind c closed);
     distinct = distinct_calls hs (λ i. mine_in i (all_passes u)) (ended_writes (closed_key c) (closed_words c) u closed alone);
     replies = record {
-      each = each_thread hs (closed_findings c) (λ n. AnswersFit (histories hs) n 1) (its_answers hs (closed_findings c)) 1 ts threads;
-      once = all_once hs (closed_findings c) 1 ts threads (all_theirs (closed_key c) (closed_words c) u closed alone ts last_number last_joined last_mine are);
+      each = each_thread (closed_key c) hs (closed_findings c) (λ n. AnswersFit (histories hs) n 1) (its_answers (closed_key c) hs (closed_findings c)) 1 ts threads;
+      once = all_once (closed_key c) hs (closed_findings c) 1 ts threads (all_theirs (closed_key c) (closed_words c) u closed alone ts last_number last_joined last_mine are);
     };
-    order = each_thread hs (closed_findings c) (λ _. Ordered) (λ n t x. x.fits.order) 1 ts threads;
-    views = each_thread hs (closed_findings c) (λ _. ViewsFit (histories hs) no_names) (λ n t x. x.fits.views hs x.behind) 1 ts threads;
-    scans = each_thread hs (closed_findings c) (λ _. ScansFit (histories hs)) (λ n t x. x.fits.scans hs x.behind) 1 ts threads;
-    refusals = each_thread hs (closed_findings c) (λ n. RefusalsFit (closing_of c) n 1) refusals 1 ts threads;
+    order = each_thread (closed_key c) hs (closed_findings c) (λ _. Ordered) (λ n t x. x.fits.order) 1 ts threads;
+    views = each_thread (closed_key c) hs (closed_findings c) (λ _. ViewsFit (histories hs) no_names) (λ n t x. x.fits.views hs x.behind) 1 ts threads;
+    scans = each_thread (closed_key c) hs (closed_findings c) (λ _. ScansFit (histories hs)) (λ n t x. x.fits.scans hs x.behind) 1 ts threads;
+    refusals = each_thread (closed_key c) hs (closed_findings c) (λ n. RefusalsFit (closing_of c) n 1) refusals 1 ts threads;
     ending = end_fits c closed before now finals scan rest.extends rest.remembers (all_seen (closed_key c) (closed_words c) before.state u had lone last closed alone) alone idle uses;
-    findings = each_thread hs (closed_findings c) (λ n. FindingsFit (closing_of c) n 1 no_names) findings 1 ts threads;
+    findings = each_thread (closed_key c) hs (closed_findings c) (λ n. FindingsFit (closing_of c) n 1 no_names) findings 1 ts threads;
   }
 
 -- the same in one statement
-pub threads_run_fit : (c : Closed) (first : PassState) (ts : List ThreadEnd) (before now : View) (finals : List Pair) → first.numbers.number ≡ 0 → first.numbers.joined ≡ [] → first.knowledge.mine ≡ [] → AreNumbered 1 ts → EachFits ts
+pub threads_run_fit : (c : Closed) (first : PassState) (ts : List ThreadEnd) (before now : View) (finals : List Pair) → first.numbers.number ≡ 0 → first.numbers.joined ≡ [] → first.knowledge.mine ≡ [] → AreNumbered 1 ts → EachFits (closed_key c) ts
     → OnlyReads (joined_all first ts) before.state → Begins (joined_all first ts).knowledge.seen before.state.knowledge.seen → HadMoment (closed_key c) before.state → HasScanned Up None None before now finals → OnlyReads now.state (closed_state c)
     → IsAlone (closed_state c) → HoldsNothing (closed_state c) → Ends (closed_key c) (closed_words c) (closed_state c) → UsesJustMap c → RunFits (closing_of c) (closed_key c) (map (λ (t : ThreadEnd). t.calls) ts) (map (λ (t : ThreadEnd). t.replies) ts) finals
 threads_run_fit = threads_fit

@@ -33,8 +33,8 @@ none_held m a empty = rw empty refl
 
 pub working_start : (z : Sizes) (v : PassState) (holds : BTreeMap (List ℕ) HeldView) → v.knowledge.mine ≡ [] → holds.entries ≡ [] → Working z v v holds [] []
 working_start z v holds none empty = record {
-  fits = nothing_done v none;
-  keeps = λ a. subst (λ (ts : List Turn). MatchOption (get key_cmp holds a) (names_of no_names ts a ≡ None) (λ h. IsSomeAnd (names_of no_names ts a) (λ x. IsHeld z v h x))) (sym (no_turns v none))
+  fits = nothing_done z v none;
+  keeps = λ a. subst (λ (ts : List Turn). MatchOption (get key_cmp holds a) (names_of no_names ts a ≡ None) (λ h. IsSomeAnd (names_of no_names ts a) (λ x. IsHeld z v h x))) (sym (no_turns z v none))
       (subst (λ (o : Option HeldView). MatchOption o (no_names a ≡ None) (λ h. IsSomeAnd (no_names a) (λ x. IsHeld z v h x))) (sym (none_held holds a empty)) refl);
   early = subst (Each (λ (w : KeyedWrite). w.write.call ≤ 0)) (sym none) tt;
   lone = refl;
@@ -85,14 +85,14 @@ module _ (z : Sizes) (first v w : PassState) (old now : BTreeMap (List ℕ) Held
   abbrev t : Turn
   t = record { call = c; reply = y; places = does.turns.places; floors = does.turns.floors }
 
-  turned : Turned n names t v w
+  turned : Turned z n names t v w
   turned = does.turns.turned
 
-  abbrev more : ThreadFits w (cs ++ c ∷ []) (ys ++ y ∷ [])
-  more = one_turn_more v w cs ys n t x.fits number turned did.can
+  abbrev more : ThreadFits z w (cs ++ c ∷ []) (ys ++ y ∷ [])
+  more = one_turn_more z v w cs ys n t x.fits number turned did.can
 
   names_then : names_of no_names more.turns ≡ names_after names t
-  names_then = ap (names_of no_names) (more_turns v w cs ys n t x.fits number turned did.can) ∙ fold-append names_after no_names x.fits.turns (t ∷ [])
+  names_then = ap (names_of no_names) (more_turns z v w cs ys n t x.fits number turned did.can) ∙ fold-append names_after no_names x.fits.turns (t ∷ [])
 
   goes : CallGoes n v w
   goes = record { extends = turned.extends; numbers = turned.numbers; met = turned.met; wrote = turned.wrote; mine = turned.mine; calls = turned.calls }

@@ -13,15 +13,15 @@ use Rattle.oak_run.specs.MapTurns.{Turned}
 use Rattle.oak_run.specs.Views.{Names}
 
 -- the n-th call, with this reply, is a turn that fits where the names stand for these
-pub record TurnsWith (n : ℕ) (names : Names) (c : Call) (y : Reply) (v w : PassState) : Type 0 where
+pub record TurnsWith (z : Sizes) (n : ℕ) (names : Names) (c : Call) (y : Reply) (v w : PassState) : Type 0 where
   pub places : List ℕ → Option ℕ
   pub floors : List ℕ → Option ℕ
-  pub turned : Turned n names (record { call = c; reply = y; places = places; floors = floors }) v w
+  pub turned : Turned z n names (record { call = c; reply = y; places = places; floors = floors }) v w
 
 -- it is so whatever the names stand for
 pub record CallTurned (z : Sizes) (n : ℕ) (c : Call) (y : Reply) (v w : PassState) : Type 0 where
   pub can : CanReply c y
-  pub turns : (names : Names) → TurnsWith n names c y v w
+  pub turns : (names : Names) → TurnsWith z n names c y v w
   pub lone : LoneCall z n c y v w
 
 -- the reply tells a value that was read under a pin, or that there was no memory for its copy

@@ -25,7 +25,7 @@ KeepsViews z m v names = (a : List ℕ) → MatchOption (get key_cmp m a) (names
 
 -- the call is a turn that fits, and what is held is what the names stand for behind it
 pub record TurnsNames (z : Sizes) (n : ℕ) (names : Names) (now : BTreeMap (List ℕ) HeldView) (c : Call) (y : Reply) (v w : PassState) : Type 0 where
-  pub turns : TurnsWith n names c y v w
+  pub turns : TurnsWith z n names c y v w
   pub keeps : KeepsViews z now w (renamed names (record { call = c; reply = y; places = turns.places; floors = turns.floors }) c)
 
 -- what the n-th call did, whatever the names that are held stand for
@@ -37,4 +37,4 @@ pub record CallDid (z : Sizes) (n : ℕ) (old now : BTreeMap (List ℕ) HeldView
 -- a look at a life that is held
 pub record LookDid (z : Sizes) (n : ℕ) (h : HeldView) (y : Reply) (v w : PassState) : Type 0 where
   pub can : (a : List ℕ) → CanReply (Look a) y
-  pub turns : (names : Names) (a : List ℕ) (x : View) → names a ≡ Some x → IsHeld z v h x → TurnsWith n names (Look a) y v w
+  pub turns : (names : Names) (a : List ℕ) (x : View) → names a ≡ Some x → IsHeld z v h x → TurnsWith z n names (Look a) y v w

@@ -4,6 +4,7 @@ use Rattle.std.specs.List.{AllByRecursion}
 use Rattle.oak_model.specs.declared.replies.Reply.{Reply}
 use Rattle.oak_model.specs.Key.{is_key}
 use Rattle.oak_model.specs.KeyNumber.{key_number}
+use Rattle.oak_model.specs.Limits.{Sizes}
 use Rattle.oak_core.specs.declared.states.KeyedWrite.{KeyedWrite}
 use Rattle.oak_core.specs.declared.states.PassState.{PassState}
 use Rattle.oak_core.specs.KeyHistories.{writes_of}
@@ -26,7 +27,7 @@ abbrev pub FloorsSeen : PassState → Turn → Type 0
 FloorsSeen v t = (q : List ℕ) (r : ℕ) → t.floors q ≡ Some r → r ≤ seen_length v q
 
 -- The turns fit all histories and findings that go on from what the pass saw and found, and its writes are those that they tell.
-pub record ThreadFits (v : PassState) (calls : List Call) (replies : List Reply) : Type 0 where
+pub record ThreadFits (z : Sizes) (v : PassState) (calls : List Call) (replies : List Reply) : Type 0 where
   pub turns : List Turn
   pub of_calls : map (λ (t : Turn). t.call) turns ≡ calls
   pub of_replies : map (λ (t : Turn). t.reply) turns ≡ replies
@@ -37,5 +38,5 @@ pub record ThreadFits (v : PassState) (calls : List Call) (replies : List Reply)
   pub views : (hs : ℕ → List KeyedWrite) → GoesBehind v hs → ViewsFit (histories hs) no_names turns
   pub scans : (hs : ℕ → List KeyedWrite) → GoesBehind v hs → ScansFit (histories hs) turns
   pub once : (q : List ℕ) → is_key q ≡ true → marks q v.numbers.number 1 turns ≡ map mark_of (writes_of (of_key (key_number q) v.knowledge.mine))
-  pub refusals : OnClosing v (λ c. RefusalsFit c v.numbers.number 1 turns)
-  pub findings : OnClosing v (λ c. FindingsFit c v.numbers.number 1 no_names turns)
+  pub refusals : OnClosing z v (λ c. RefusalsFit c v.numbers.number 1 turns)
+  pub findings : OnClosing z v (λ c. FindingsFit c v.numbers.number 1 no_names turns)

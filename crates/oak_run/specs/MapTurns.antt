@@ -31,12 +31,12 @@ pub record StaysBetween (v w : PassState) (t : Turn) : Type 0 where
   pub later : (q : List ℕ) (r : ℕ) → t.places q ≡ Some r → makes_write t.reply ≡ true → seen_length v q < r
   pub floors : (q : List ℕ) (r : ℕ) → t.floors q ≡ Some r → r ≤ seen_length w q
 
--- P holds of what any passes show whose histories and findings go on from the pass's own
-abbrev pub OnClosing : PassState → (Rattle.oak_run.specs.Closing.Closing → Type 0) → Type 0
-OnClosing w P = (by : ℕ → Findings) (hs : ℕ → List KeyedWrite) (used : Usage) (z : Sizes) (retired open_rooms : ℕ) → GoesBehind w hs → FindsMore w.findings (by w.numbers.number) → P (closing_by by hs used z retired open_rooms)
+-- P holds of what any passes show, over a table of these sizes, whose histories and findings go on from the pass's own
+abbrev pub OnClosing : Sizes → PassState → (Rattle.oak_run.specs.Closing.Closing → Type 0) → Type 0
+OnClosing z w P = (by : ℕ → Findings) (hs : ℕ → List KeyedWrite) (used : Usage) (retired open_rooms : ℕ) → GoesBehind w hs → FindsMore w.findings (by w.numbers.number) → P (closing_by by hs used z retired open_rooms)
 
 -- The turn of the n-th call fits all histories and findings that go on from what the pass saw and found then.
-pub record Turned (n : ℕ) (names : Names) (t : Turn) (v w : PassState) : Type 0 where
+pub record Turned (z : Sizes) (n : ℕ) (names : Names) (t : Turn) (v w : PassState) : Type 0 where
   pub extends : Extends v w
   pub remembers : Remembers v.knowledge w.knowledge
   pub met : MetMore n v w
@@ -51,8 +51,8 @@ pub record Turned (n : ℕ) (names : Names) (t : Turn) (v w : PassState) : Type 
   pub answers : (hs : ℕ → List KeyedWrite) → GoesBehind w hs → AnswerFits (histories hs) v.numbers.number n t
   pub view : (hs : ℕ → List KeyedWrite) → GoesBehind w hs → ViewFits (histories hs) names t t.call
   pub scan : (hs : ℕ → List KeyedWrite) → GoesBehind w hs → ScanTurnFits (histories hs) t t.call
-  pub refusal : OnClosing w (λ c. RefusalFits c v.numbers.number n t t.reply)
-  pub finding : OnClosing w (λ c. FindingFits c v.numbers.number n names t)
+  pub refusal : OnClosing z w (λ c. RefusalFits c v.numbers.number n t t.reply)
+  pub finding : OnClosing z w (λ c. FindingFits c v.numbers.number n names t)
 
 -- A view of the key stands for the life that the key had at the place, and the pass knows it.
 pub record HoldsLife (z : Sizes) (v : PassState) (view : Viewed) (x : View) : Type 0 where

@@ -2,6 +2,7 @@
 use Rattle.std.specs.Prelude.{◌≡◌, ℕ, suc, List, [], ◌∷◌, map, ⊤}
 use Rattle.std.specs.List.{AllByRecursion}
 use Rattle.oak_model.specs.declared.replies.Reply.{Reply}
+use Rattle.oak_model.specs.Limits.{Sizes}
 use Rattle.oak_core.specs.declared.states.PassState.{PassState}
 use Rattle.oak_core.specs.PassState.{both_state}
 use Rattle.oak_script.specs.declared.scripts.Call.{Call}
@@ -27,12 +28,12 @@ AreNumbered n [] = ⊤
 AreNumbered n (t ∷ ts) = (t.state.numbers.number ≡ n) × (t.state.numbers.joined ≡ []) × AreNumbered (suc n) ts
 
 -- what each thread's calls came to
-abbrev pub EachFits : List ThreadEnd → Type 0
-EachFits [] = ⊤
-EachFits (t ∷ ts) = ThreadFits t.state t.calls t.replies × EachFits ts
+abbrev pub EachFits : Sizes → List ThreadEnd → Type 0
+EachFits z [] = ⊤
+EachFits z (t ∷ ts) = ThreadFits z t.state t.calls t.replies × EachFits z ts
 
--- All threads of a script came back to the pass in the state w, each at the end of its calls, with these answers.
-pub record AllCame (w : PassState) (threads : List (List Call)) (answers : List Answered) : Type 0 where
+-- All threads of a script, over a map of these sizes, came back to the pass in the state w, each at the end of its calls, with these answers.
+pub record AllCame (z : Sizes) (w : PassState) (threads : List (List Call)) (answers : List Answered) : Type 0 where
   pub first : PassState
   pub ends : List ThreadEnd
   pub joined : w ≡ joined_all first ends
@@ -40,7 +41,7 @@ pub record AllCame (w : PassState) (threads : List (List Call)) (answers : List 
   pub joined_before : first.numbers.joined ≡ []
   pub unwritten : first.knowledge.mine ≡ []
   pub numbered : AreNumbered 1 ends
-  pub fit : EachFits ends
+  pub fit : EachFits z ends
   pub calls_are : map (λ (t : ThreadEnd). t.calls) ends ≡ threads
   pub replies_are : map (λ (t : ThreadEnd). t.replies) ends ≡ replies_in answers
   pub counted : AllByRecursion (λ (a : Answered). a.computed ≡ times_computed a.replies.items) answers

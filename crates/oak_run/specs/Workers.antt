@@ -3,10 +3,11 @@ use Rattle.std.specs.Prelude.{◌≡◌, ℕ, ◌≤◌, List, [], length, map, 
 use Rattle.std.specs.List.{AllByRecursion}
 use Rattle.std.specs.Global.{Vec}
 use Rattle.oak_model.specs.declared.replies.Reply.{Reply}
+use Rattle.oak_model.specs.Limits.{Sizes}
 use Rattle.oak_core.specs.declared.states.PassState.{PassState}
 use Rattle.oak_map.specs.declared.map.MapPass.{MapPass}
 use Rattle.oak_map.specs.declared.map.OakMap.{OakMap}
-use Rattle.oak_map.specs.Maps.{IsReady, call_of, state}
+use Rattle.oak_map.specs.Maps.{IsReady, call_of, sizes, state}
 use Rattle.oak_script.specs.declared.limits.TheConstants.{GREATEST_CALLS}
 use Rattle.oak_script.specs.declared.scripts.Call.{Call}
 use Rattle.oak_run.specs.declared.worker.Answered.{Answered}
@@ -30,15 +31,15 @@ pub record IsFresh (m : OakMap) (p : MapPass) : Type 0 where
   pub unwritten : (state p).knowledge.mine ≡ []
 
 -- what a thread answered fits, where v is the state of its pass behind its calls
-pub record AnswersThread (v : PassState) (calls : List Call) (a : Answered) : Type 0 where
-  pub fits : ThreadFits v calls a.replies.items
+pub record AnswersThread (z : Sizes) (v : PassState) (calls : List Call) (a : Answered) : Type 0 where
+  pub fits : ThreadFits z v calls a.replies.items
   pub counted : a.computed ≡ times_computed a.replies.items
 
 -- The thread with these calls ran, from the pass p to the pass q. Where memory was lacking it answered nothing.
 pub record HasRun (m : OakMap) (calls : List Call) (p q : MapPass) (answered : Option Answered) : Type 0 where
   pub ready : IsReady m q
   pub numbers : (state q).numbers ≡ (state p).numbers
-  pub answers : IfSome answered (AnswersThread (state q) calls)
+  pub answers : IfSome answered (AnswersThread (sizes m) (state q) calls)
 
 -- a thread that ran: its calls, its pass before and behind, and what it answered
 pub record ThreadRun : Type 0 where

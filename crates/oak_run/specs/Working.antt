@@ -15,7 +15,7 @@ use Rattle.oak_run.specs.Views.{names_of, no_names}
 
 -- the turns fit, the views that are held are what the names stand for, and all writes are of these calls
 pub record Working (z : Sizes) (first v : PassState) (holds : BTreeMap (List ℕ) HeldView) (calls : List Call) (replies : List Reply) : Type 0 where
-  pub fits : ThreadFits v calls replies
+  pub fits : ThreadFits z v calls replies
   pub keeps : KeepsViews z holds v (names_of no_names fits.turns)
   pub early : Each (λ (w : KeyedWrite). w.write.call ≤ length calls) v.knowledge.mine
   pub lone : LoneCalls z 1 first calls replies v

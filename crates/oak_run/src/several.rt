@@ -69,7 +69,7 @@ fn run_threads<R: Threads + Wait + AllocGlobal + Sync, G: Gate>(
     requires threads { AllByRecursion (λ v. CanRun v.items) threads.now }
     ensures ready { IsReady map.now first.new }
     ensures alone { IsAlone (state first.new) }
-    ensures came { IfOk result (λ a. AllCame (state first.new) (mapped (λ v. v.items) threads.now) a.items) }
+    ensures came { IfOk result (λ a. AllCame (sizes map.now) (state first.new) (mapped (λ v. v.items) threads.now) a.items) }
 {
     let mut workers = match Vec::with_capacity(rt.alloc(), threads.len()) {
         Ok(workers) => workers,

@@ -112,7 +112,7 @@ pub fn run_calls<R: Wait, G: Gate>(
     ensures ready { IsReady map.now pass.new }
     ensures few { call_of pass.new ≤ length thread.now }
     ensures numbers { (state pass.new).numbers ≡ (state pass.old).numbers }
-    ensures answers { IfOk result (λ a. AnswersThread (state pass.new) thread.now a) }
+    ensures answers { IfOk result (λ a. AnswersThread (sizes map.now) (state pass.new) thread.now a) }
     ensures rose { IfOk result (λ a. calls recipe.new ≡ calls recipe.old + a.computed) }
     ensures lone { IfOk result (λ a. LoneCalls (sizes map.now) 1 (state pass.old) thread.now a.replies.items (state pass.new)) }
 {
