@@ -21,10 +21,10 @@ pub record ReadsPast (old new : Option (List ℕ)) (most : ℕ) (bytes : List �
 abbrev pub ConsumesUpTo : Option (List ℕ) → Option (List ℕ) → ℕ → Type 0
 ConsumesUpTo old new most = (bytes : List ℕ) × Consumes old new bytes × (length bytes ≤ most)
 
--- what was read of a source, by the answer
+-- what was read of a source, by the answer: a fault is told only where no more came than there may be
 abbrev pub ReadsWhole :
     Option (List ℕ) → Option (List ℕ) → ℕ → ℕ → ℕ → Result (Vec ℕ) ReadStop → Type 0
 ReadsWhole old new before now most (Ok all) = ReadsToEnd old new most all.items
-ReadsWhole old new before now most (Err Failed) = Rose before now
+ReadsWhole old new before now most (Err Failed) = Rose before now × ConsumesUpTo old new most
 ReadsWhole old new before now most (Err TooLong) = (bytes : List ℕ) × ReadsPast old new most bytes
 ReadsWhole old new before now most (Err OutOfMemory) = ⊤

@@ -22,8 +22,8 @@ pub enum ReadStop {
 }
 
 /// Reads a source to its end, but takes no more than one byte past the first `most`: if that one
-/// comes, the answer is `TooLong`, and a fault that would come later is not met. After a stop the
-/// bytes that were read are lost, and no others.
+/// comes, the answer is `TooLong`, and a fault that would come later is not met, so `Failed` comes
+/// only where no more than those came. After a stop the bytes that were read are lost, and no others.
 pub fn read_whole<S: Source>(
     alloc: Global,
     source: &mut S,
