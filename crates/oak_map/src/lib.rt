@@ -2,6 +2,8 @@
 #![tactic(auto)]
 
 mod changing;
+#[cfg(test)]
+mod error_tests;
 mod finding;
 mod lending;
 #[cfg(test)]

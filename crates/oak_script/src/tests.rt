@@ -368,3 +368,30 @@ fn gives_each_thread_its_calls(rt: HostRuntime) -> Result<(), Fail> {
     assert_eq!(rt; shape_of(alloc, &text)?, Some(shape));
     Ok(())
 }
+
+/// What is told of each fault.
+const TOLD: [(What, &str); 13] = [
+    (What::Head, "line 7: head"),
+    (What::AfterEnd, "line 7: after end"),
+    (What::Word, "line 7: word"),
+    (What::Shape, "line 7: shape"),
+    (What::Name, "line 7: name"),
+    (What::Hex, "line 7: hex"),
+    (What::Key, "line 7: key"),
+    (What::Value, "line 7: value"),
+    (What::Recipe, "line 7: recipe"),
+    (What::Threads, "line 7: threads"),
+    (What::Calls, "line 7: calls"),
+    (What::Scans, "line 7: scans"),
+    (What::NoEnd, "line 7: no end"),
+];
+
+#[test]
+fn a_fault_tells_its_line_and_word(rt: HostRuntime) -> Result<(), Fail> {
+    for (what, says) in TOLD {
+        let fault = ScriptFault { line: 7, what };
+        let told = format!(in rt.alloc(); "{fault}")?;
+        assert_eq!(rt; told.as_str(), says);
+    }
+    Ok(())
+}

@@ -157,7 +157,8 @@ fn a_view_is_gone_behind_the_removal_of_another_thread(rt: HostRuntime) -> Resul
     Ok(())
 }
 
-/// A gate that counts how often it is asked, and keeps for each thread which of its calls it was asked for.
+/// A gate that counts how often it is asked, and keeps for each of two threads which of its calls it was asked
+/// for.
 #[derive(Drop)]
 struct CountingGate {
     asks: AtomicU32,
@@ -165,13 +166,23 @@ struct CountingGate {
     second: AtomicU32,
 }
 
+impl CountingGate {
+    fn make() -> CountingGate {
+        CountingGate {
+            asks: AtomicU32::new(0),
+            first: AtomicU32::new(0),
+            second: AtomicU32::new(0),
+        }
+    }
+}
+
 impl Gate for CountingGate {
     fn pass_by(&self, thread: u32, call: u32) {
         self.asks.fetch_add(1, Ordering::SeqCst);
-        let calls = if thread == 1 {
-            &self.first
-        } else {
-            &self.second
+        let calls = match thread {
+            1 => &self.first,
+            2 => &self.second,
+            _ => return,
         };
         if call < 32 {
             calls.fetch_or(1 << call, Ordering::SeqCst);
@@ -179,21 +190,27 @@ impl Gate for CountingGate {
     }
 }
 
+/// Scripts, and how often they ask the gate: in all, and for which calls of the first and of the second thread,
+/// a bit for each call.
+const ASKS: [(&str, u32, u32, u32); 3] = [
+    ("oak 1/thread/get 61/get 62/end/", 3, 0b1110, 0),
+    ("oak 1/thread/end/", 1, 0b10, 0),
+    (
+        "oak 1/thread/get 61/get 62/get 63/thread/end/",
+        5,
+        0b11110,
+        0b10,
+    ),
+];
+
 #[test]
 fn each_call_and_each_end_asks_the_gate(rt: HostRuntime) -> Result<(), Fail> {
-    let gate = CountingGate {
-        asks: AtomicU32::new(0),
-        first: AtomicU32::new(0),
-        second: AtomicU32::new(0),
-    };
-    written(
-        &rt,
-        "oak 1/thread/get 61/get 62/get 63/thread/end/",
-        &gate,
-        0,
-    )?;
-    assert_eq!(rt; gate.asks.load(Ordering::SeqCst), 5);
-    assert_eq!(rt; gate.first.load(Ordering::SeqCst), 0b11110);
-    assert_eq!(rt; gate.second.load(Ordering::SeqCst), 0b10);
+    for (text, asks, first, second) in ASKS {
+        let gate = CountingGate::make();
+        written(&rt, text, &gate, 0)?;
+        assert_eq!(rt; gate.asks.load(Ordering::SeqCst), asks, "{text}");
+        assert_eq!(rt; gate.first.load(Ordering::SeqCst), first, "{text}");
+        assert_eq!(rt; gate.second.load(Ordering::SeqCst), second, "{text}");
+    }
     Ok(())
 }

@@ -35,7 +35,7 @@ fn tells_the_first_fault(rt: HostRuntime) -> Result<(), Fail> {
 #[test]
 fn judges_the_words_first(rt: HostRuntime) -> Result<(), Fail> {
     let alloc = rt.alloc();
-    for words in ["run x", "Run", ""] {
+    for words in ["run x", "ran", "Run", ""] {
         let mut source = SureSource::make(Vec::new(alloc));
         let mut sink = sink_of(alloc, &[])?;
         end(&rt, words, &mut source, &mut sink, &FreeGate, 2)?;

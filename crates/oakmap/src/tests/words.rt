@@ -43,10 +43,11 @@ impl<R> Env for Called<R> {
 
 /// Each way to call the program on a script of no call, the status, and the text that it says, with a slash
 /// for a line's end.
-const CALLS: [(&[&[u8]], u8, &str); 5] = [
+const CALLS: [(&[&[u8]], u8, &str); 6] = [
     (&[b"oakmap", b"run"], 0, EMPTY),
     (&[b"run", b"run"], 0, EMPTY),
     (&[b"run"], 2, USAGE),
+    (&[b"oakmap", b"ran"], 2, USAGE),
     (&[b"oakmap", b"run", b"run"], 2, USAGE),
     (&[b"oakmap", b"run\xff"], 2, USAGE),
 ];
