@@ -28,6 +28,7 @@ pub mod TakenApart
 pub mod SplitLaws
 pub mod RanLaws
 pub mod ThreadsRuns
+pub mod LentLaws
 pub mod ThreadsEnds
 pub mod ScriptRuns
 pub mod SightLaws

@@ -19,6 +19,7 @@ pub mod Reads
 pub mod SplitPasses
 pub mod Workers
 pub mod ThreadsRun
+pub mod LentRecipes
 pub mod Arguments
 pub mod LoneCalls
 pub mod CallTurns

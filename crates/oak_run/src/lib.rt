@@ -17,4 +17,4 @@ mod worker;
 
 pub use laws::one_text;
 pub use looks::{HeldView, HeldViews};
-pub use runner::{Ran, run_script};
+pub use runner::{Ran, run_script, run_script_lent};

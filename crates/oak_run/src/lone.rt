@@ -1,5 +1,5 @@
 //! A run of one thread, whose pass is alone from its first call on.
-ghost use Rattle.std.specs.Prelude.{◌≡◌, ◌<◌, ◌^◌, ◌∷◌, [], IfOk};
+ghost use Rattle.std.specs.Prelude.{◌≡◌, ◌+◌, ◌<◌, ◌^◌, ◌∷◌, [], IfOk};
 ghost use Rattle.oak_map.specs.Maps.{IsReady, call_of, sizes, state};
 ghost use Rattle.oak_run.specs.Reads.{IsOnlyThread};
 ghost use Rattle.oak_run.specs.ScriptRun.{RunsThreads};
@@ -25,24 +25,16 @@ pub fn run_one<R: Wait + AllocGlobal, G: Gate>(
     shape: &Shape,
     gate: &G,
     thread: &[Call],
-    mut recipe: Box<dyn Recipe + Send>,
+    recipe: &mut Box<dyn Recipe + Send>,
 ) -> Result<(Answered, Vec<Pair>, Closed), OutOfMemory>
     requires passes { shape.now.passes ≡ 2 }
-    requires counts { calls recipe < 2 ^ 63 }
+    requires counts { calls recipe.old < 2 ^ 63 }
     requires thread { CanRun thread.now }
     ensures runs { IfOk result (λ r. RunsThreads shape.now (thread.now ∷ []) (r.0 ∷ []) r.1.items r.2) }
+    ensures rose { IfOk result (λ r. calls recipe.new ≡ calls recipe.old + r.0.computed) }
 {
     let (map, mut pass) = begin(rt, shape)?;
-    let answered = run_calls(
-        rt,
-        rt.alloc(),
-        &map,
-        &mut pass,
-        &mut recipe,
-        gate,
-        1,
-        thread,
-    );
+    let answered = run_calls(rt, rt.alloc(), &map, &mut pass, recipe, gate, 1, thread);
     pass.turn(END);
     let ended = end(rt, map, pass);
     let answered = answered?;

@@ -11,31 +11,31 @@ use oak_map::{MapPass, OakMap};
 use std::sync::Wait;
 use value_ops::Recipe;
 
-/// A worker with a pass that is split off, unless memory or numbers are lacking.
-fn split_worker<R: Wait + AllocGlobal>(
-    rt: &R,
-    map: &OakMap,
-    first: &mut MapPass,
-    recipe: Box<dyn Recipe + Send>,
-) -> Option<Worker>
+/// A pass that is split off, unless memory or numbers are lacking.
+fn split_pass<R: Wait + AllocGlobal>(rt: &R, map: &OakMap, first: &mut MapPass) -> Option<MapPass>
     requires ready { IsReady map.now first.old }
     requires unwritten { (state first.old).knowledge.mine ≡ [] }
     ensures ready { IsReady map.now first.new }
-    ensures split { IfSome result (λ w. SplitsOff (sizes map.now) (call_of first.old) (state first.old) (state first.new) (state w.pass)) }
-    ensures fresh { IfSome result (λ w. IsFresh map.now w.pass) }
-    ensures counts { IfSome result (λ w. calls w.recipe ≡ calls recipe) }
+    ensures split { IfSome result (λ p. SplitsOff (sizes map.now) (call_of first.old) (state first.old) (state first.new) (state p)) }
+    ensures fresh { IfSome result (λ p. IsFresh map.now p) }
     ensures numbers { IfNone result ((state first.new).numbers ≡ (state first.old).numbers) }
     ensures unwritten { (state first.new).knowledge.mine ≡ [] }
 {
     match map.split(rt, first) {
-        Ok(pass) => {
-            Some(Worker {
-                pass,
-                recipe,
-                answered: None,
-            })
-        }
+        Ok(pass) => Some(pass),
         Err(_) => None,
+    }
+}
+
+/// A worker with this pass and this recipe, before its thread runs.
+fn worker_of(pass: MapPass, recipe: Box<dyn Recipe + Send>) -> Worker
+    ensures pass { result.pass ≡ pass }
+    ensures recipe { result.recipe ≡ recipe }
+{
+    Worker {
+        pass,
+        recipe,
+        answered: None,
     }
 }
 
@@ -51,13 +51,13 @@ fn add_worker(workers: &mut Vec<Worker>, worker: Worker)
     }
 }
 
-/// Splits off a pass for each thread, and gives each a recipe. Where it answers false memory was lacking, and
-/// the passes that were split off stand in the workers.
+/// Splits off a pass for each thread, and moves the first recipes over to the workers, one to each. Where it
+/// answers false memory was lacking, and the passes that were split off stand in the workers.
 pub fn split_workers<R: Wait + AllocGlobal>(
     rt: &R,
     map: &OakMap,
     first: &mut MapPass,
-    mut recipes: Vec<Box<dyn Recipe + Send>>,
+    recipes: &mut Vec<Box<dyn Recipe + Send>>,
     threads: usize,
     workers: &mut Vec<Worker>,
 ) -> bool
@@ -65,19 +65,23 @@ pub fn split_workers<R: Wait + AllocGlobal>(
     requires first { HasSplit (sizes map.now) (state first.old) [] }
     requires empty { workers.old.items ≡ [] }
     requires room { threads ≤ vec_capacity workers.old }
-    requires recipes { threads ≤ length recipes.items }
-    requires counts { AllByRecursion (λ r. calls r < 2 ^ 63) recipes.items }
+    requires recipes { threads ≤ length recipes.old.items }
+    requires counts { AllByRecursion (λ r. calls r < 2 ^ 63) recipes.old.items }
     ensures ready { IsReady map.now first.new }
     ensures split { HasSplit (sizes map.now) (state first.new) (mapped (λ w. (state w.pass).numbers) workers.new.items) }
     ensures fresh { AllByRecursion (λ w. IsFresh map.now w.pass) workers.new.items }
     ensures counts { AllByRecursion (λ w. calls w.recipe < 2 ^ 63) workers.new.items }
+    ensures few { length workers.new.items ≤ threads }
+    ensures moved { mapped (λ w. w.recipe) workers.new.items ++ recipes.new.items ≡ recipes.old.items }
+    ensures capacity { vec_capacity recipes.new ≡ vec_capacity recipes.old }
     ensures whole { MatchBool result (length workers.new.items ≡ threads) ⊤ }
 {
     for _i in 0..threads {
-        let recipe = recipes.remove(0);
-        let Some(worker) = split_worker(rt, map, first, recipe) else {
+        let Some(pass) = split_pass(rt, map, first) else {
             return false;
         };
+        let recipe = recipes.remove(0);
+        let worker = worker_of(pass, recipe);
         add_worker(workers, worker);
     }
     true

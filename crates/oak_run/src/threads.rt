@@ -1,6 +1,7 @@
 //! The workers of a run, and their threads, which run beside each other.
 ghost use Rattle.std.specs.Prelude.{◌≡◌, ◌<◌, ◌≤◌, ◌^◌, ℕ, All, length, slice_index_or};
 ghost use Rattle.oak_script.specs.declared.limits.TheConstants.{GREATEST_THREADS};
+ghost use Rattle.oak_run.specs.LentRecipes.{RoseBy};
 ghost use Rattle.oak_run.specs.Workers.{CanRun, HasRun, IsFresh, calls_at};
 
 use crate::worker::{Answered, run_calls};
@@ -34,6 +35,7 @@ fn run_worker<R: Wait + AllocGlobal, G: Gate>(
     requires counts { calls worker.old.recipe < 2 ^ 63 }
     requires threads { All (λ v. CanRun v.items) threads.now }
     ensures ran { HasRun map.now (calls_at threads.now place) worker.old.pass worker.new.pass worker.new.answered }
+    ensures rose { RoseBy (calls worker.old.recipe) (calls worker.new.recipe) worker.new.answered }
 {
     let answered = run_calls(
         rt,
@@ -63,6 +65,7 @@ pub fn run_workers<R: Threads + Wait + AllocGlobal + Sync, G: Gate>(
     requires threads { All (λ v. CanRun v.items) threads.now }
     ensures long { length workers.new ≡ length workers.old }
     ensures ran { (i : ℕ) (d : _) → i < length workers.old → HasRun map.now (calls_at threads.now i) (slice_index_or workers.old i d).pass (slice_index_or workers.new i d).pass (slice_index_or workers.new i d).answered }
+    ensures rose { (i : ℕ) (d : _) → i < length workers.old → RoseBy (calls (slice_index_or workers.old i d).recipe) (calls (slice_index_or workers.new i d).recipe) (slice_index_or workers.new i d).answered }
 {
     if workers.is_empty() {
         return;
@@ -70,7 +73,7 @@ pub fn run_workers<R: Threads + Wait + AllocGlobal + Sync, G: Gate>(
     let count = workers.len();
     let run = |i: usize, worker: &mut Worker|
         requires { (i < length threads.now) × (length threads.now ≤ GREATEST_THREADS) × IsFresh map.now worker.now.pass × (calls worker.now.recipe < 2 ^ 63) × All (λ v. CanRun v.items) threads.now }
-        ensures { HasRun map.entry.now (calls_at threads.entry.now i) worker.entry.now.pass worker.exit.now.pass worker.exit.now.answered }
+        ensures { HasRun map.entry.now (calls_at threads.entry.now i) worker.entry.now.pass worker.exit.now.pass worker.exit.now.answered × RoseBy (calls worker.entry.now.recipe) (calls worker.exit.now.recipe) worker.exit.now.answered }
     { run_worker(rt, map, gate, threads, i, worker) };
     for_each_mut(rt, workers, count, &run);
 }

@@ -16,12 +16,10 @@ run_one-requires-clause-thread g c κs within =
     let one : length vs ≡ 1 = (let f = c.if-threads-ne1.false in omega arith) in
     subst CanRun (sym c.deref.ensures.value) (one_can_run vs v (only_one vs v one c.index-threads-0.is) (all_threads c.args.script.now c.requires.script vs c.as_slice-threads.ensures))
 
-pub returns : goal.returns
-returns g c =
+pub returns-clause-runs : goal.returns-clause-runs
+returns-clause-runs g c =
     let vs = c.as_slice-threads.result.now in let v = c.index-threads-0.result in
     let one : length vs ≡ 1 = (let f = c.if-threads-ne1.false in omega arith) in
     let threads : c.deref.result.now ∷ [] ≡ c.args.script.now.threads = ap (λ (cs : List Call). cs ∷ []) c.deref.ensures.value ∙ (ap (map (λ (u : Vec Call Global). u.items)) (sym (only_one vs v one c.index-threads-0.is)) ∙ c.as_slice-threads.ensures) in
     let answers : c.in_ok-answered.answered ∷ [] ≡ c.push.new.self.items = sym (c.in_ok-push.ensures.items ∙ ap (λ (as_before : List Answered). as_before ++ c.in_ok-answered.answered ∷ []) c.new-answers.ensures.items) in
-    record {
-      runs = subst (λ (l : List (List Call) × List Answered). RunsThreads c.args.script.now.shape l.0 l.1 c.in_ok-answered.finals.items c.in_ok-answered.closed) (λ i. (threads i, answers i)) c.in_ok-answered.ensures.runs;
-    }
+    subst (λ (l : List (List Call) × List Answered). RunsThreads c.args.script.now.shape l.0 l.1 c.in_ok-answered.finals.items c.in_ok-answered.closed) (λ i. (threads i, answers i)) c.in_ok-answered.ensures.runs

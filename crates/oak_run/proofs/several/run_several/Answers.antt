@@ -8,8 +8,7 @@ use Rattle.oak_run.proofs.several.run_several.Goals as goal
 pub run_threads-answered-requires-clause-first : goal.run_threads-answered-requires-clause-first
 run_threads-answered-requires-clause-first g c κs within = split_none (sizes c.in-Ok.made.0) (state c.in-Ok.made.1) c.in-Ok.ensures.first.0
 
-pub returns : goal.returns
-returns g c = record {
-  runs = threads_end (sizes c.in-Ok.made.0) c.args.shape.now (call_of c.run_threads-answered.new.first) (state c.run_threads-answered.new.first) (map (λ v. v.items) c.args.threads.now) c.in_ok-answers.answers.items c.in_ok-finals.finals.items c.in_ok-finals.closed
-      c.in-Ok.ensures.key (λ one. c.requires.several (sym (length-map c.args.threads.now (λ v. v.items)) ∙ one)) c.in_ok-answers.ensures.came c.run_threads-answered.ensures.alone c.in_ok-finals.ensures.ends;
-}
+pub returns-clause-runs : goal.returns-clause-runs
+returns-clause-runs g c =
+    threads_end (sizes c.in-Ok.made.0) c.args.shape.now (call_of c.run_threads-answered.new.first) (state c.run_threads-answered.new.first) (map (λ v. v.items) c.args.threads.now) c.in_ok-answers.answers.items c.in_ok-finals.finals.items c.in_ok-finals.closed
+    c.in-Ok.ensures.key (λ one. c.requires.several (sym (length-map c.args.threads.now (λ v. v.items)) ∙ one)) c.in_ok-answers.ensures.came c.run_threads-answered.ensures.alone c.in_ok-finals.ensures.ends

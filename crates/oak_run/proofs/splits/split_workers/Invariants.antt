@@ -1,4 +1,4 @@
-use Rattle.std.proofs.Common.{◌≡◌, ◌+◌, ◌<◌, ◌≤◌, ◌^◌, length, map, vec_capacity}
+use Rattle.std.proofs.Common.{◌≡◌, ◌+◌, ◌++◌, ◌<◌, ◌≤◌, ◌^◌, length, map, vec_capacity}
 use Rattle.std.specs.List.{AllByRecursion}
 use Rattle.oak_map.specs.Maps.{IsReady, sizes, state}
 use Rattle.oak_run.specs.SplitPasses.{HasSplit}
@@ -14,5 +14,7 @@ invariant-loop-i g l = record {
   made : length l.workers.items ≡ l._i;
   room : l.threads ≤ vec_capacity l.workers;
   left : l.threads ≤ length l.recipes.items + l._i;
+  moved : map (λ w. w.recipe) l.workers.items ++ l.recipes.items ≡ l.fn.recipes.items;
+  capacity : vec_capacity l.recipes ≡ vec_capacity l.fn.recipes;
   unused : AllByRecursion (λ r. (goal.Recipe-dyn g (r.vtable, r.value)).calls r.value < 2 ^ 63) l.recipes.items;
 }
