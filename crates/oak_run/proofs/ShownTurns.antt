@@ -243,11 +243,8 @@ gone_turned z n names a v w x y is held f =
 
 -- ---- a name that stands for nothing
 
-pub unheld_turned : (n : ℕ) (names : Names) (a : List ℕ) (v : PassState) → names a ≡ None → Turned n names (unheld_turn a) v v
-unheld_turned n names a v is = quiet_turned n names (unheld_turn a) v v (record { learns = learns_none n v; holds = record { blocks = refl; headers = refl; rooms = refl; numbers = refl; fulls = refl; swept = refl; rebalances = refl } }) refl (record {
-
 pub unheld_turned : (z : Sizes) (n : ℕ) (names : Names) (a : List ℕ) (v : PassState) → names a ≡ None → Turned z n names (unheld_turn a) v v
-unheld_turned z n names a v is = quiet_turned z n names (unheld_turn a) v v (record { learns = learns_none n v; holds = record { blocks = refl; headers = refl; rooms = refl; numbers = refl; fulls = refl; swept = refl } }) refl (record {
+unheld_turned z n names a v is = quiet_turned z n names (unheld_turn a) v v (record { learns = learns_none n v; holds = record { blocks = refl; headers = refl; rooms = refl; numbers = refl; fulls = refl; swept = refl; rebalances = refl } }) refl (record {
   order = record { places = λ q s e. absurd (none_some s e); later = λ q s e m. absurd (none_some s e); floors = λ q s e. absurd (none_some s e) };
   answers = λ hs goes. tt;
   view = λ hs goes. (is, record { places = λ q. refl; floors = λ q. refl });

@@ -74,8 +74,6 @@ fn run_threads<R: Threads + Wait + AllocGlobal + Sync, G: Gate>(
     ensures ready { IsReady map.now first.new }
     ensures alone { IsAlone (state first.new) }
     ensures came { IfOk result (λ a. AllCame (sizes map.now) (state first.new) (mapped (λ v. v.items) threads.now) a.items) }
-
-    ensures came { IfOk result (λ a. AllCame (state first.new) (mapped (λ v. v.items) threads.now) a.items) }
     ensures rose { IfOk result (λ v. mapped (λ c. calls c) recipes.new.items ≡ risen (mapped (λ c. calls c) recipes.old.items) (mapped (λ a. a.computed) v.items)) }
     ensures long { length recipes.new.items ≡ length recipes.old.items }
     ensures others { drop (length threads.now) recipes.new.items ≡ drop (length threads.now) recipes.old.items }
