@@ -162,6 +162,7 @@ pub mod LockNames
 pub mod HeaderPlaces
 pub mod OffsetPlaces
 pub mod Splits
+mod LoneSplits
 pub mod Owing
 pub mod Alone
 pub mod ClosedFulls

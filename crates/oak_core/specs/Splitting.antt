@@ -1,5 +1,5 @@
 -- What a load, a split, a join and a close tell.
-use Rattle.std.specs.Prelude.{◌≡◌, ◌≢◌, ℕ, ◌<◌, ◌≤◌, List, [], ◌∷◌, ◌++◌, map, length, Some}
+use Rattle.std.specs.Prelude.{◌≡◌, ◌≢◌, ℕ, ◌^◌, ◌<◌, ◌≤◌, List, [], ◌∷◌, ◌++◌, map, length, slice_index, slice_set, Some, bit_or}
 use Rattle.std.specs.Int.{bit_at}
 use mathlib.Core.Option.{some}
 use lib.ListN.{get_elem?}
@@ -7,6 +7,7 @@ use Rattle.oak_model.specs.Counts.{Each}
 use Rattle.oak_model.specs.Limits.{Sizes}
 use Rattle.oak_core.specs.declared.states.Finding.{Finding}
 use Rattle.oak_core.specs.declared.states.PassState.{PassState}
+use Rattle.oak_core.specs.AloneWords.{LeavesWords}
 use Rattle.oak_core.specs.Memory.{Spot, index, IsInside}
 use Rattle.oak_core.specs.Finding.{finding, grown, Shows}
 use Rattle.oak_core.specs.PassState.{has_number, knowledge_of, seen_of, history, bare_state, spent_state}
@@ -51,6 +52,25 @@ pub record SplitsOff (z : Sizes) (call : ℕ) (v w x : PassState) : Type 0 where
   pub unowned : has_number number v.numbers ≡ 0
   pub above : Each (λ (m : ℕ). m < number) v.numbers.made
   pub least : Shows more 0 (λ n. (bit_at n number ≡ 0) × ((j : ℕ) → j < number → bit_at n j ≡ 1))
+
+-- these words with the bit of the number set in word 0
+abbrev pub with_given : ℕ → List ℕ → List ℕ
+with_given k words = slice_set words 0 (bit_or (slice_index words 0) (2 ^ k))
+
+-- the pass's last step left these words, whether or not it was alone behind that
+pub record LastWords (words : List ℕ) (v : PassState) : Type 0 where
+  pub met : List Finding
+  pub finding : Finding
+  pub last : v.findings.met ≡ met ++ finding ∷ []
+  pub are : finding.words ≡ words
+
+-- Where the pass was alone at its last step before, the words that it left stood until its own last step, which set the bit of the number in word 0 and changed no other word.
+abbrev pub GivesWords : ℕ → PassState → PassState → Type 0
+GivesWords k v w = (words : List ℕ) → LeavesWords words v → LastWords (with_given k words) w
+
+-- where it was so, it left the same words
+abbrev pub LeavesSame : PassState → PassState → Type 0
+LeavesSame v w = (words : List ℕ) → LeavesWords words v → LeavesWords words w
 
 -- all numbers were found given at one step, and all that was met was met in the call and at word 0
 pub record FindsAllGiven (z : Sizes) (call : ℕ) (v w : PassState) : Type 0 where

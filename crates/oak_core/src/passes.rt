@@ -7,7 +7,7 @@ ghost use Rattle.oak_core.specs.Opening.{IsOpened, first_state};
 ghost use Rattle.oak_core.specs.Schedule.{MaySplit, opening};
 ghost use Rattle.oak_core.specs.Step.{MayGive, Told, give_number};
 ghost use Rattle.oak_core.specs.Passes.{IsPassOf, Stays, SearchesStay, Turns, state, key, call_of};
-ghost use Rattle.oak_core.specs.Splitting.{LooksAtGiven, FindsLeast, SplitsOff, FindsAllGiven, SeesLonger};
+ghost use Rattle.oak_core.specs.Splitting.{LooksAtGiven, FindsLeast, SplitsOff, FindsAllGiven, SeesLonger, GivesWords, LeavesSame};
 
 use crate::atoms::or_said;
 use crate::layout::{rooms_at, word_count};
@@ -164,6 +164,8 @@ impl Pass {
         ensures refused { IfErr result (λ _. LooksAtGiven (call_of self.old) (state self.old) (state self.new)) }
         ensures limit { (made : ℕ) → result ≡ Err (SplitFault.Limit made) → (made ≡ (key table.now).passes) × FindsAllGiven (key table.now) (call_of self.old) (state self.old) (state self.new) }
         ensures memory { result ≡ Err SplitFault.OutOfMemory → state self.new ≡ state self.old }
+        ensures alone_given { IfOk result (λ p. GivesWords (state p).numbers.number (state self.old) (state self.new)) }
+        ensures alone_refused { IfErr result (λ _. LeavesSame (state self.old) (state self.new)) }
     {
         let Ok(scratch) = Writing::make(alloc) else {
             return Err(SplitFault::OutOfMemory);

@@ -8,7 +8,7 @@ ghost use Rattle.oak_core.specs.Opening.{IsOpened, first_state};
 ghost use Rattle.oak_core.specs.Passes.{SearchesStay, Stays, Turns};
 ghost use Rattle.oak_core.specs.PassState.{IsAlone, both_state};
 ghost use Rattle.oak_core.specs.Schedule.{opening};
-ghost use Rattle.oak_core.specs.Splitting.{Ends, FindsAllGiven, LooksAtGiven, SeesLonger, SplitsOff};
+ghost use Rattle.oak_core.specs.Splitting.{Ends, FindsAllGiven, GivesWords, LeavesSame, LooksAtGiven, SeesLonger, SplitsOff};
 ghost use Rattle.oak_core.specs.declared.passes.SplitFault.TheVariants as SplitFault;
 ghost use Rattle.rebalance.specs.LoneCalls.{IsSettled};
 ghost use Rattle.oak_map.specs.Closings.{UsesJustMap};
@@ -69,7 +69,8 @@ impl OakMap {
 
     /// Splits off a pass for another caller, with the least number that no pass has. It has seen what
     /// this one has seen, and holds nothing. `Limit` comes exactly where one load found all numbers of the
-    /// shape given.
+    /// shape given. Where the pass is alone only the bit of that number changed in the words, and none where it is
+    /// refused.
     pub fn split<R: Wait + AllocGlobal>(
         &self,
         rt: &R,
@@ -84,6 +85,8 @@ impl OakMap {
         ensures refused { IfErr result (λ _. LooksAtGiven (call_of pass.old) (state pass.old) (state pass.new)) }
         ensures limit { (made : ℕ) → result ≡ Err (SplitFault.Limit made) → (made ≡ (sizes self.now).passes) × FindsAllGiven (sizes self.now) (call_of pass.old) (state pass.old) (state pass.new) }
         ensures memory { result ≡ Err SplitFault.OutOfMemory → state pass.new ≡ state pass.old }
+        ensures alone_given { IfOk result (λ p. GivesWords (state p).numbers.number (state pass.old) (state pass.new)) }
+        ensures alone_refused { IfErr result (λ _. LeavesSame (state pass.old) (state pass.new)) }
     {
         match pass.pass.split(rt.alloc(), &self.table) {
             Ok(pass) => Ok(MapPass { pass }),

@@ -1,10 +1,11 @@
-use Rattle.std.proofs.Common.{rules, ◌≡◌, ℕ, ◌+◌, ◌-◌, ◌<◌, ◌∙◌, arith}
+use Rattle.std.proofs.Common.{rules, ◌≡◌, ℕ, ◌+◌, ◌-◌, ◌<◌, ◌∙◌, sym, subst, arith}
 use Rattle.std.specs.Int.{bit_at}
 use Rattle.oak_model.specs.Limits.{Sizes}
 use Rattle.oak_core.specs.declared.states.PassState.{PassState}
 use Rattle.oak_core.specs.Passes.{state, key, call_of}
-use Rattle.oak_core.specs.Splitting.{FindsLeast}
+use Rattle.oak_core.specs.Splitting.{FindsLeast, GivesWords}
 use Rattle.oak_core.specs.Step.{give_number, Told}
+use Rattle.oak_core.proofs.LoneSplits.{gives_words, leaves_same, least_stays, not_given, number_is}
 use Rattle.oak_core.proofs.MetMore.{told_in}
 use Rattle.oak_core.proofs.Splits.{Tried, none_tried, may_give, tried_load, tried_more, splits_off, all_given, tried_looks, least_further, least_in}
 use Rattle.oak_core.proofs.table.Pass.split.Goals as goal
@@ -13,6 +14,7 @@ pub loop-number-init : goal.loop-number-init
 loop-number-init c = let f = c.least_free-number.ensures.least in let v : PassState = state c.args.self.now in record {
   stays = c.least_free-number.ensures.own;
   searches = c.least_free-number.ensures.searches;
+  alone = least_stays (key c.args.table.now) (call_of c.args.self.now) c.least_free-number.result v (state c.least_free-number.new.self) f;
   tried = tried_load (key c.args.table.now) (call_of c.args.self.now) 0 v v (state c.least_free-number.new.self) f.number (none_tried (call_of c.args.self.now) v) f.loads c.least_free-number.result f.lower;
 }
 
@@ -45,6 +47,8 @@ loop-number-preserved c = let z : Sizes = key c.args.table.now in let call : ℕ
     let f : FindsLeast z call (state c.give_number-found.new.self) i (state c.least_free-number-in-loop-number.new.self) = least_in z call (call_of c.give_number-found.new.self) (state c.give_number-found.new.self) i (state c.least_free-number-in-loop-number.new.self) (c.give_number-found.ensures.own.call ∙ c.loop-number.invariant.stays.call) c.least_free-number-in-loop-number.ensures.least in record {
       stays = search rules;
       searches = search rules;
+      alone = let e = c.passes-passes.ensures.few in let lt = c.loop-number-test.true in not_given z (call_of c.loop-number.self) k (state c.args.self.now) (state c.loop-number.self) (state c.give_number-found.new.self) c.give_number-found.result c.loop-number.invariant.alone c.give_number-found.ensures.told (omega arith) c.if-not-is_set.ensures
+          (state c.least_free-number-in-loop-number.new.self) i;
       tried = tried_load z call (k + 1) (state c.args.self.now) (state c.give_number-found.new.self) (state c.least_free-number-in-loop-number.new.self) f.number t f.loads i f.lower;
     }
 
@@ -54,3 +58,14 @@ returns-clause-refused c = tried_looks (call_of c.args.self.now) c.loop-number.n
 pub returns-clause-limit : goal.returns-clause-limit
 returns-clause-limit c made e = let is = c.passes-passes.ensures.is in let some_pass = c.passes-passes.ensures.some in let t = c.loop-number-test.false in
     (search rules, all_given (key c.args.table.now) (call_of c.args.self.now) c.loop-number.number (state c.args.self.now) (state c.loop-number.self) (omega arith) (omega arith) c.loop-number.invariant.tried)
+
+pub returns-then-not-is_set-clause-alone_given : goal.returns-then-not-is_set-clause-alone_given
+returns-then-not-is_set-clause-alone_given c = let z : Sizes = key c.args.table.now in let k : ℕ = c.loop-number.number in
+    let e : bit_at c.give_number-found.result k ≡ 0 = c.if-not-is_set.ensures in
+    subst (λ (m : ℕ). GivesWords m (state c.args.self.now) (state c.cut.new.self))
+    (sym (number_is z (call_of c.args.self.now) k (state c.args.self.now) (state c.loop-number.self) (state c.give_number-found.new.self) (state c.cut.result) c.give_number-found.result c.loop-number.invariant.tried
+    (told_in z (call_of c.args.self.now) (call_of c.loop-number.self) (give_number k) (state c.loop-number.self) c.give_number-found.result (state c.give_number-found.new.self) c.loop-number.invariant.stays.call c.give_number-found.ensures.told) e c.cut.ensures.cut.1))
+    (gives_words z (call_of c.loop-number.self) k (state c.args.self.now) (state c.loop-number.self) (state c.give_number-found.new.self) c.give_number-found.result c.loop-number.invariant.alone c.give_number-found.ensures.told (state c.cut.new.self) c.cut.ensures.cut.0)
+
+pub returns-clause-alone_refused : goal.returns-clause-alone_refused
+returns-clause-alone_refused c = leaves_same c.loop-number.number (state c.args.self.now) (state c.loop-number.self) c.loop-number.invariant.alone
