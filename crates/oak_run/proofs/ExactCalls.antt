@@ -8,7 +8,7 @@ use Rattle.oak_model.specs.declared.replies.Pair.{Pair}
 use Rattle.oak_model.specs.declared.replies.Wrote.{Wrote}
 use Rattle.oak_model.specs.declared.replies.Wrote.TheVariants.{New, Over, Kept, Done, Removed, Absent, Full}
 use Rattle.oak_model.specs.Cell.{is_write, reply_of, state_after}
-use Rattle.oak_model.specs.Counts.{Begins, Each}
+use Rattle.oak_model.specs.Counts.{Each}
 use Rattle.oak_model.specs.KeyNumber.{key_number}
 use Rattle.oak_model.specs.Limits.{Sizes}
 use Rattle.oak_model.specs.State.{State}

@@ -16,7 +16,6 @@ use Rattle.oak_model.specs.State.{State}
 use Rattle.oak_core.specs.declared.states.Finding.{Finding}
 use Rattle.oak_core.specs.declared.states.Findings.{Findings}
 use Rattle.oak_core.specs.declared.states.Full.{Full}
-use Rattle.oak_core.specs.declared.states.Gone.{Gone}
 use Rattle.oak_core.specs.declared.states.KeyedWrite.{KeyedWrite}
 use Rattle.oak_core.specs.declared.states.Knowledge.{Knowledge}
 use Rattle.oak_core.specs.declared.states.Numbers.{Numbers}
