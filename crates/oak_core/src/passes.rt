@@ -153,7 +153,7 @@ impl Pass {
     /// Splits off a pass for another caller, with the least number that no pass has. It has seen what
     /// this one has seen. `Limit` comes exactly where one load found all numbers of the shape given. All
     /// memory is taken before the number. It loads word 0, and sets one bit there; it does so again only
-    /// where another pass took the number between the two.
+    /// where another pass took the number between the two. To a pass that is alone no other word changes.
     pub fn split(&mut self, alloc: Global, table: &OakTable) -> Result<Pass, SplitFault>
         requires own { IsPassOf table.now self.old }
         requires idle { HoldsNothing (state self.old) }
