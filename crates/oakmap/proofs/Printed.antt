@@ -1,5 +1,5 @@
 -- The text that is printed has the places of the closed map's histories.
-use Rattle.std.proofs.Common.{◌≡◌, ℕ, List, ◌∙◌, sym, ap}
+use Rattle.std.proofs.Common.{◌≡◌, ℕ, List, ◌∙◌, refl, sym, ap}
 use Rattle.oak_model.specs.declared.replies.Pair.{Pair}
 use Rattle.oak_model.specs.declared.replies.Reply.{Reply}
 use Rattle.oak_core.specs.declared.closing.Closed.{Closed}
@@ -9,6 +9,7 @@ use Rattle.oak_script.specs.Text.{run_text}
 use Rattle.oak_run.specs.ClosedRuns.{closed_usage, closing_of}
 use Rattle.oak_run.specs.ScriptRun.{RunsScript}
 use Rattle.oak_run.proofs.PlaceLaws.{same-places}
+use Rattle.oakmap.specs.LentRun.{PrintsCounts}
 use Rattle.oakmap.specs.RunOf.{PrintsRun, places_in}
 
 module _ (script : Script) (said : List (List Reply)) (finals : List Pair) (computed : List ℕ) (closed : Closed) (runs : RunsScript script said finals computed closed) where
@@ -27,3 +28,7 @@ module _ (script : Script) (said : List (List Reply)) (finals : List Pair) (comp
         runs = runs;
         printed = is ∙ ap (λ (p : Places). run_text p script.threads said finals (closed_usage closed) script.shape) (sym same);
       }
+
+  pub prints-counts : (text : List ℕ) → text ≡ run_text (written_upto script.threads said) script.threads said finals (closed_usage closed) script.shape → PrintsCounts script closed text computed
+  unfolding prints-run
+  prints-counts text is = (prints-run text is, refl)

@@ -5,7 +5,7 @@ use Rattle.std.specs.Io.KnownBytes.{Appends, Keeps}
 use Rattle.oak_core.specs.declared.closing.Closed.{Closed}
 use Rattle.outside.specs.Cause.{Rose}
 use Rattle.outside.specs.Taken.{AppendsFront}
-use Rattle.outside.specs.Whole.{ReadsToEnd, ReadsPast}
+use Rattle.outside.specs.Whole.{ConsumesUpTo, ReadsToEnd, ReadsPast}
 use Rattle.oak_script.specs.declared.faults.ScriptFault.{ScriptFault}
 use Rattle.oak_script.specs.Faults.{IsFirstFault}
 use Rattle.oakmap.specs.declared.status.TheConstants.{GREATEST_INPUT}
@@ -71,10 +71,10 @@ abbrev pub Answers : Status → Input → Input → Output → Output → Type 0
 Answers s source source_after sink sink_after = (input : List ℕ) × ReadsToEnd source.left source_after.left GREATEST_INPUT input × Answered s input sink sink_after
 
 -- The program's end by its status, in the order of its work: the words are judged, the input is read, the script is read, the
--- threads run, the text is made and written.
+-- threads run, the text is made and written. A read fault is told only where no more came than may.
 abbrev pub Ends : Status → Bool → Input → Input → Output → Output → Type 0
 Ends Usage run source source_after sink sink_after = (run ≡ false) × (source_after ≡ source) × Says sink sink_after usage_line
-Ends ReadFault run source source_after sink sink_after = (run ≡ true) × Rose source.faults source_after.faults × Says sink sink_after read_fault_line
+Ends ReadFault run source source_after sink sink_after = (run ≡ true) × Rose source.faults source_after.faults × ConsumesUpTo source.left source_after.left GREATEST_INPUT × Says sink sink_after read_fault_line
 Ends NoMemory run source source_after sink sink_after = (run ≡ true) × Keeps sink.written sink_after.written
 Ends NoScript run source source_after sink sink_after = (run ≡ true) × ((TooLong source source_after × Says sink sink_after long_line) ⊎ Answers NoScript source source_after sink sink_after)
 Ends (Done closed) run source source_after sink sink_after = (run ≡ true) × Answers (Done closed) source source_after sink sink_after

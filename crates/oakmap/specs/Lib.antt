@@ -2,3 +2,4 @@ pub mod Messages
 pub mod RunOf
 pub mod Ends
 pub mod InputLength
+pub mod LentRun

@@ -9,14 +9,14 @@ ghost use Rattle.oak_script.specs.Grammar.{IsScript, Spells};
 ghost use Rattle.oak_run.specs.ScriptRun.{RunsScript};
 ghost use Rattle.oakmap.specs.declared.status.Status.{Status};
 ghost use Rattle.oakmap.specs.Messages.{script_fault_line};
-ghost use Rattle.oakmap.specs.RunOf.{PrintsRun};
-ghost use Rattle.oakmap.specs.Ends.{Input, Output, Unrisen, Ends, Answered, Says, closed_of, code_of, is_run};
+ghost use Rattle.oakmap.specs.LentRun.{AnsweredLent, EndsLent, PrintsCounts, PrintsLent};
+ghost use Rattle.oakmap.specs.Ends.{Input, Output, Unrisen, Ends, Says, closed_of, code_of, is_run};
 
 use crate::ended::Ended;
 use crate::status::{GREATEST_INPUT, Status};
 use oak_core::Closed;
 use oak_model::OutOfMemory;
-use oak_run::{Ran, run_script};
+use oak_run::{Ran, run_script_lent};
 use oak_script::{NoScript, Script, ScriptFault, print_run, read_script};
 use outside::{Gate, ReadStop, Sink, Source, read_whole, write_whole};
 use std::alloc::{AllocError, Global};
@@ -32,7 +32,7 @@ use value_ops::Recipe;
 ///   answered too, and so do the used numbers.
 /// - 2: exactly where the words are not the one word `run`.
 /// - 3: exactly where the input is no script, or longer than 16,777,216 bytes.
-/// - 4: only where the source counted a fault.
+/// - 4: only where the source counted a fault, and no more than 16,777,216 bytes came.
 /// - 5: only where the sink counted a fault while the run's text was written. Of a text as with 0, some first bytes
 ///   or none were written, and the closed map is answered too.
 /// - 6: no memory was found, and nothing was written.
@@ -44,13 +44,34 @@ pub fn top<R: Threads + Wait + AllocGlobal + Sync, S: Source, K: Sink, G: Gate>(
     source: &mut S,
     sink: &mut K,
     gate: &G,
-    recipes: Vec<Box<dyn Recipe + Send>>,
+    mut recipes: Vec<Box<dyn Recipe + Send>>,
 ) -> Ended
     requires enough { GREATEST_THREADS ≤ length recipes.items }
     requires counts { AllByRecursion (λ r. calls r < 2 ^ 63) recipes.items }
     ensures { (s : Status) × (result.status ≡ code_of s) × (result.closed ≡ closed_of s) × Ends s (is_run (map (λ w. string_bytes w) words.now))
         (record { left = S.left source.old; faults = S.faults source.old }) (record { left = S.left source.new; faults = S.faults source.new })
         (record { written = K.written sink.old; faults = K.faults sink.old }) (record { written = K.written sink.new; faults = K.faults sink.new }) }
+{
+    top_lent(rt, words, source, sink, gate, &mut recipes)
+}
+
+/// [`top`] by recipes that are lent, sixteen or more. Behind the run each stands where it stood. With 0 and 5 the count of
+/// the i-th rose as often as the i-th thread's replies, which the text tells, are `done`, and the others are as they
+/// were, as all are with 2, 3 and 4; with 6 they may have been called.
+pub fn top_lent<R: Threads + Wait + AllocGlobal + Sync, S: Source, K: Sink, G: Gate>(
+    rt: &R,
+    words: &[String],
+    source: &mut S,
+    sink: &mut K,
+    gate: &G,
+    recipes: &mut Vec<Box<dyn Recipe + Send>>,
+) -> Ended
+    requires enough { GREATEST_THREADS ≤ length recipes.old.items }
+    requires counts { AllByRecursion (λ r. calls r < 2 ^ 63) recipes.old.items }
+    ensures { (s : Status) × (result.status ≡ code_of s) × (result.closed ≡ closed_of s) × EndsLent s (is_run (map (λ w. string_bytes w) words.now))
+        (record { left = S.left source.old; faults = S.faults source.old }) (record { left = S.left source.new; faults = S.faults source.new })
+        (record { written = K.written sink.old; faults = K.faults sink.old }) (record { written = K.written sink.new; faults = K.faults sink.new })
+        (map (λ c. calls c) recipes.old.items) (map (λ c. calls c) recipes.new.items) }
 {
     run(rt, words, source, sink, gate, recipes).told()
 }
@@ -61,13 +82,14 @@ fn run<R: Threads + Wait + AllocGlobal + Sync, S: Source, K: Sink, G: Gate>(
     source: &mut S,
     sink: &mut K,
     gate: &G,
-    recipes: Vec<Box<dyn Recipe + Send>>,
+    recipes: &mut Vec<Box<dyn Recipe + Send>>,
 ) -> Status
-    requires enough { GREATEST_THREADS ≤ length recipes.items }
-    requires counts { AllByRecursion (λ r. calls r < 2 ^ 63) recipes.items }
-    ensures { Ends result (is_run (map (λ w. string_bytes w) words.now))
+    requires enough { GREATEST_THREADS ≤ length recipes.old.items }
+    requires counts { AllByRecursion (λ r. calls r < 2 ^ 63) recipes.old.items }
+    ensures { EndsLent result (is_run (map (λ w. string_bytes w) words.now))
         (record { left = S.left source.old; faults = S.faults source.old }) (record { left = S.left source.new; faults = S.faults source.new })
-        (record { written = K.written sink.old; faults = K.faults sink.old }) (record { written = K.written sink.new; faults = K.faults sink.new }) }
+        (record { written = K.written sink.old; faults = K.faults sink.old }) (record { written = K.written sink.new; faults = K.faults sink.new })
+        (map (λ c. calls c) recipes.old.items) (map (λ c. calls c) recipes.new.items) }
 {
     if !is_run(words) {
         say(sink, b"oakmap: usage: oakmap run\n");
@@ -111,11 +133,12 @@ fn answer<R: Threads + Wait + AllocGlobal + Sync, K: Sink, G: Gate>(
     text: &[u8],
     sink: &mut K,
     gate: &G,
-    recipes: Vec<Box<dyn Recipe + Send>>,
+    recipes: &mut Vec<Box<dyn Recipe + Send>>,
 ) -> Status
-    requires enough { GREATEST_THREADS ≤ length recipes.items }
-    requires counts { AllByRecursion (λ r. calls r < 2 ^ 63) recipes.items }
-    ensures { Answered result text.now (record { written = K.written sink.old; faults = K.faults sink.old }) (record { written = K.written sink.new; faults = K.faults sink.new }) }
+    requires enough { GREATEST_THREADS ≤ length recipes.old.items }
+    requires counts { AllByRecursion (λ r. calls r < 2 ^ 63) recipes.old.items }
+    ensures { AnsweredLent result text.now (record { written = K.written sink.old; faults = K.faults sink.old }) (record { written = K.written sink.new; faults = K.faults sink.new })
+        (map (λ c. calls c) recipes.old.items) (map (λ c. calls c) recipes.new.items) }
 {
     match read_script(rt.alloc(), text) {
         Ok(script) => put_run(rt, &script, sink, gate, recipes),
@@ -126,7 +149,7 @@ fn answer<R: Threads + Wait + AllocGlobal + Sync, K: Sink, G: Gate>(
 
 /// Tells the first fault of a text that is no script.
 fn refuse<K: Sink>(alloc: Global, fault: ScriptFault, sink: &mut K) -> Status
-    ensures { (input : List ℕ) → IsFirstFault input fault → Answered result input (record { written = K.written sink.old; faults = K.faults sink.old }) (record { written = K.written sink.new; faults = K.faults sink.new }) }
+    ensures { (input counts : List ℕ) → IsFirstFault input fault → AnsweredLent result input (record { written = K.written sink.old; faults = K.faults sink.old }) (record { written = K.written sink.new; faults = K.faults sink.new }) counts counts }
 {
     match fault_text(alloc, fault) {
         Ok(text) => {
@@ -151,12 +174,13 @@ fn put_run<R: Threads + Wait + AllocGlobal + Sync, K: Sink, G: Gate>(
     script: &Script,
     sink: &mut K,
     gate: &G,
-    recipes: Vec<Box<dyn Recipe + Send>>,
+    recipes: &mut Vec<Box<dyn Recipe + Send>>,
 ) -> Status
     requires script { IsScript script.now }
-    requires enough { GREATEST_THREADS ≤ length recipes.items }
-    requires counts { AllByRecursion (λ r. calls r < 2 ^ 63) recipes.items }
-    ensures { (input : List ℕ) → Spells input script.now → Answered result input (record { written = K.written sink.old; faults = K.faults sink.old }) (record { written = K.written sink.new; faults = K.faults sink.new }) }
+    requires enough { GREATEST_THREADS ≤ length recipes.old.items }
+    requires counts { AllByRecursion (λ r. calls r < 2 ^ 63) recipes.old.items }
+    ensures { (input : List ℕ) → Spells input script.now → AnsweredLent result input (record { written = K.written sink.old; faults = K.faults sink.old }) (record { written = K.written sink.new; faults = K.faults sink.new })
+        (map (λ c. calls c) recipes.old.items) (map (λ c. calls c) recipes.new.items) }
 {
     let (text, closed) = match run_text(rt, script, gate, recipes) {
         Ok(made) => made,
@@ -173,14 +197,15 @@ fn run_text<R: Threads + Wait + AllocGlobal + Sync, G: Gate>(
     rt: &R,
     script: &Script,
     gate: &G,
-    recipes: Vec<Box<dyn Recipe + Send>>,
+    recipes: &mut Vec<Box<dyn Recipe + Send>>,
 ) -> Result<(Vec<u8>, Closed), OutOfMemory>
     requires script { IsScript script.now }
-    requires enough { GREATEST_THREADS ≤ length recipes.items }
-    requires counts { AllByRecursion (λ r. calls r < 2 ^ 63) recipes.items }
-    ensures { IfOk result (λ t. PrintsRun script.now t.1 t.0.items) }
+    requires enough { GREATEST_THREADS ≤ length recipes.old.items }
+    requires counts { AllByRecursion (λ r. calls r < 2 ^ 63) recipes.old.items }
+    ensures printed { IfOk result (λ t. PrintsLent script.now t.1 t.0.items (map (λ c. calls c) recipes.old.items) (map (λ c. calls c) recipes.new.items)) }
+    ensures long { length recipes.new.items ≡ length recipes.old.items }
 {
-    let ran = run_script(rt, script, gate, recipes)?;
+    let ran = run_script_lent(rt, script, gate, recipes)?;
     let text = text_of(rt.alloc(), script, &ran)?;
     Ok((text, ran.closed))
 }
@@ -188,7 +213,7 @@ fn run_text<R: Threads + Wait + AllocGlobal + Sync, G: Gate>(
 /// The text of a run that came to an end.
 pub(crate) fn text_of(alloc: Global, script: &Script, ran: &Ran) -> Result<Vec<u8>, OutOfMemory>
     requires run { RunsScript script.now (map (λ v. v.items) ran.now.replies.items) ran.now.finals.items ran.now.recipe_calls.items ran.now.closed }
-    ensures { IfOk result (λ v. PrintsRun script.now ran.now.closed v.items) }
+    ensures { IfOk result (λ v. PrintsCounts script.now ran.now.closed v.items ran.now.recipe_calls.items) }
 {
     print_run(
         alloc,

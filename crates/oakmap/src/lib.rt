@@ -12,7 +12,7 @@ mod status;
 mod tests;
 
 pub use ended::Ended;
-pub use ending::{completeness, top};
+pub use ending::{completeness, top, top_lent};
 pub use lengths::length_limit;
 pub use process::program;
 pub use status::{GREATEST_INPUT, Status};

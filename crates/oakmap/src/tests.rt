@@ -7,6 +7,7 @@ ghost use Rattle.oak_script.specs.Grammar.{IsScript};
 mod answers;
 mod counting;
 mod gates;
+mod lent;
 mod small_shapes;
 mod statuses;
 mod threads;
