@@ -13,7 +13,12 @@ use std::test::Fail;
 use value_ops::{BadPin, NoHeader, NoLock, NoRead};
 
 /// Asserts that the error tells this.
-fn tells<R: Abort, E: Display>(rt: &R, alloc: Global, error: E, says: &str) -> Result<(), Fail> {
+fn tells<R: Abort, E: Display + Drop>(
+    rt: &R,
+    alloc: Global,
+    error: E,
+    says: &str,
+) -> Result<(), Fail> {
     let told = format!(in alloc; "{error}")?;
     assert_eq!(rt; told.as_str(), says);
     Ok(())
