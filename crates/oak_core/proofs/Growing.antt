@@ -16,7 +16,7 @@ use Rattle.oak_core.specs.Growing.{GrowsTo}
 use Rattle.oak_core.specs.PassState.{knowledge_of, no_findings, left_state, right_state, both_state, joined_from}
 use Rattle.oak_core.specs.Step.{Step, load, give_number, on_arena, on_headers, on_rooms, store_locked, note_full, state_after}
 use Rattle.oak_core.specs.Sweeping.{sweep, swept_by}
-use Rattle.oak_core.specs.RebalanceSteps.{is_rebalance}
+use Rattle.oak_core.specs.RebalanceSteps.{is_claim, is_rebalance}
 use Rattle.oak_core.specs.TableState.{TableState}
 use Rattle.chunk_core.specs.RoomCopies.{copy_of}
 use Rattle.chunk_core.specs.RoomStep.{RoomStep, pin_room, unpin_room, latch_room, store_entry, publish_entry, unlatch_room, set_value, unlink_entry, freeze_room, hold_room, claim_room, store_room, open_room, retire_room}
@@ -24,13 +24,13 @@ use Rattle.oak_core.specs.Memory.{Memory, memory}
 use Rattle.oak_core.proofs.PlainLoads.{gones_with_grow, sights_grow, sights_with_grow}
 
 pub grows_self : (fs : Findings) → GrowsTo fs fs
-grows_self fs = record { met = begins_self fs.met; fulls = begins_self fs.fulls; swept = begins_self fs.swept; sights = begins_self fs.sights; gones = begins_self fs.gones; rebalances = begins_self fs.rebalances }
+grows_self fs = record { met = begins_self fs.met; fulls = begins_self fs.fulls; swept = begins_self fs.swept; sights = begins_self fs.sights; gones = begins_self fs.gones; rebalances = begins_self fs.rebalances.steps; claims = begins_self fs.rebalances.claims }
 
 grows_met : (fs : Findings) (f : Finding) → GrowsTo fs (record fs { met = fs.met ++ f ∷ [] })
-grows_met fs f = record { met = (f ∷ [], refl); fulls = begins_self fs.fulls; swept = begins_self fs.swept; sights = begins_self fs.sights; gones = begins_self fs.gones; rebalances = begins_self fs.rebalances }
+grows_met fs f = record { met = (f ∷ [], refl); fulls = begins_self fs.fulls; swept = begins_self fs.swept; sights = begins_self fs.sights; gones = begins_self fs.gones; rebalances = begins_self fs.rebalances.steps; claims = begins_self fs.rebalances.claims }
 
 grows_noted : (fs : Findings) (f : Finding) (n : Full) → GrowsTo fs (record fs { met = fs.met ++ f ∷ []; fulls = fs.fulls ++ n ∷ [] })
-grows_noted fs f n = record { met = (f ∷ [], refl); fulls = (n ∷ [], refl); swept = begins_self fs.swept; sights = begins_self fs.sights; gones = begins_self fs.gones; rebalances = begins_self fs.rebalances }
+grows_noted fs f n = record { met = (f ∷ [], refl); fulls = (n ∷ [], refl); swept = begins_self fs.swept; sights = begins_self fs.sights; gones = begins_self fs.gones; rebalances = begins_self fs.rebalances.steps; claims = begins_self fs.rebalances.claims }
 
 -- what a step on a header found for keys, and which lives it found to be over, is only added to
 
@@ -80,16 +80,16 @@ swept_grows (open_room r) v = (sweep (copy_of r v.rooms.held) (length v.findings
 swept_grows (retire_room r) v = begins_self v.findings.swept
 
 -- the steps of rebalances are only added to
-rebalances_grow : (b : Bool) (v : PassState) → Begins v.findings.rebalances (cond b (v.findings.rebalances ++ length v.findings.met ∷ []) v.findings.rebalances)
-rebalances_grow true v = (length v.findings.met ∷ [], refl)
-rebalances_grow false v = begins_self v.findings.rebalances
+places_grow : (b : Bool) (places : List ℕ) (n : ℕ) → Begins places (cond b (places ++ n ∷ []) places)
+places_grow true places n = (n ∷ [], refl)
+places_grow false places n = begins_self places
 
 pub step_grows : (z : Sizes) (call : ℕ) (x : Step) (s : TableState) (v : PassState) → GrowsTo v.findings (state_after z call x s v).findings
-step_grows z call (load p) s v = record { met = (_, refl); fulls = begins_self v.findings.fulls; swept = begins_self v.findings.swept; sights = sights_grow p call (memory z s.words) v; gones = begins_self v.findings.gones; rebalances = begins_self v.findings.rebalances }
+step_grows z call (load p) s v = record { met = (_, refl); fulls = begins_self v.findings.fulls; swept = begins_self v.findings.swept; sights = sights_grow p call (memory z s.words) v; gones = begins_self v.findings.gones; rebalances = begins_self v.findings.rebalances.steps; claims = begins_self v.findings.rebalances.claims }
 step_grows z call (give_number k) s v = grows_met v.findings _
 step_grows z call (on_arena a) s v = grows_met v.findings _
-step_grows z call (on_headers x) s v = record { met = (_, refl); fulls = begins_self v.findings.fulls; swept = begins_self v.findings.swept; sights = header_sights_grow call x (memory z s.words) (map knowledge_of s.states) v; gones = header_gones_grow call x (memory z s.words) v; rebalances = begins_self v.findings.rebalances }
-step_grows z call (on_rooms x) s v = record { met = (_, refl); fulls = begins_self v.findings.fulls; swept = swept_grows x v; sights = begins_self v.findings.sights; gones = begins_self v.findings.gones; rebalances = rebalances_grow (is_rebalance x) v }
+step_grows z call (on_headers x) s v = record { met = (_, refl); fulls = begins_self v.findings.fulls; swept = begins_self v.findings.swept; sights = header_sights_grow call x (memory z s.words) (map knowledge_of s.states) v; gones = header_gones_grow call x (memory z s.words) v; rebalances = begins_self v.findings.rebalances.steps; claims = begins_self v.findings.rebalances.claims }
+step_grows z call (on_rooms x) s v = record { met = (_, refl); fulls = begins_self v.findings.fulls; swept = swept_grows x v; sights = begins_self v.findings.sights; gones = begins_self v.findings.gones; rebalances = places_grow (is_rebalance x) v.findings.rebalances.steps (length v.findings.met); claims = places_grow (is_claim x) v.findings.rebalances.claims (length v.findings.met) }
 step_grows z call (store_locked h c b k x) s v = grows_met v.findings _
 step_grows z call (note_full lack began) s v = grows_noted v.findings _ _
 

@@ -10,13 +10,13 @@ use Rattle.oak_model.proofs.Lists.{at_map, map_set, map_set_same}
 use Rattle.arena_core.specs.declared.blocks.HeldBlocks.{HeldBlocks}
 use Rattle.arena_core.specs.Arena.{read_arena, IsInArena, blocks}
 use Rattle.arena_core.specs.Blocks.{BlocksAreOwned}
-use Rattle.arena_core.specs.ArenaStep.{ArenaStep, take_bit, clear_bit, store_word, arena_spot, bit_of, arena_effect, arena_found, MayArena, blocks_after, put_arena}
+use Rattle.arena_core.specs.ArenaStep.{ArenaStep, take_bit, clear_bit, store_word, arena_spot, bit_of, arena_effect, MayArena, blocks_after, put_arena}
 use Rattle.arena_core.proofs.ArenaSteps.{bit_of_below, arena_owned}
 pub use Rattle.arena_core.proofs.PlaceLaws.{class_below}
 use Rattle.chunk_core.specs.declared.holds.RoomHolds.{RoomHolds}
 use Rattle.oak_core.specs.declared.states.PassState.{PassState}
 use Rattle.oak_core.specs.Memory.{Memory, Spot, in_arena, same_spot, read, write, memory, index, IsInside}
-use Rattle.oak_core.specs.Finding.{finding}
+use Rattle.oak_core.specs.Finding.{arena_finding}
 use Rattle.oak_core.specs.PassState.{blocks_of, headers_held, rooms_held, knowledge_of, kept_of}
 use Rattle.oak_core.specs.TableState.{TableState}
 use Rattle.oak_core.specs.EntryOwners.{all_others}
@@ -92,5 +92,5 @@ module _ (z : Sizes) (s : TableState) (call seat : ℕ) (v : PassState) (r : Rul
       (arena_kept z m (all_others z m rs) s.states seat v here r.blocks (λ c b. let o = headers_own z s r c b in omega arith) r.kept x may))
 
   pub arena_keeps : Rule z (table_after z call (on_arena x) seat v s)
-  arena_keeps = elsewhere_rule z s call seat v r here going (on_arena x) (finding z call p (arena_found x n) y s.words v) inside (arena_small z x v.blocks n may (r.words.small (index z p))) refl refl (met_only _ _) refl refl owned_after headers_after_it (of_rooms z s call seat v r here going w refl (RoomBundles z m.rooms (write m p y).arena.bytes) (rooms_on_arena z s seat v r here x y may))
+  arena_keeps = elsewhere_rule z s call seat v r here going (on_arena x) (arena_finding z call x n s.words v) inside (arena_small z x v.blocks n may (r.words.small (index z p))) refl refl (met_only _ _) refl refl owned_after headers_after_it (of_rooms z s call seat v r here going w refl (RoomBundles z m.rooms (write m p y).arena.bytes) (rooms_on_arena z s seat v r here x y may))
       (keys_idle z m (write m p y) s.states seat v w here (keys_now z s r) (λ F. rooms_still z (write m p y) s.states seat v w here refl F ∙ sums_on_arena z s seat v r here x y may F) refl refl refl refl (shown_on_arena z m s.states seat v here r.blocks knows r.headers (live_inside z s.words) x y may) (pins_same v w refl refl refl (r.heard.pins seat v here))) kept_after (r.passes seat v here)

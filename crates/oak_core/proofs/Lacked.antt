@@ -17,10 +17,28 @@ use Rattle.oak_core.specs.declared.states.PassState.{PassState}
 use Rattle.oak_core.specs.declared.states.Swept.{Swept}
 use Rattle.oak_core.specs.Finding.{grown}
 use Rattle.oak_core.specs.FoundBehind.{FoundBehind}
-use Rattle.oak_core.specs.Lack.{FoundHeld, FoundRenewed, FoundSet, FoundTaken, KeySwept, LackFound, Lacks, Lacked, FullsStand, full_state}
-use Rattle.oak_core.specs.RoomLacks.{FoundWhole}
+use Rattle.oak_core.specs.Lack.{FoundHeld, FoundRenewed, FoundSet, FoundTaken, KeySwept, LackFound, Lacks, Lacked, FullsStand, TookBut, full_state}
+use Rattle.oak_core.specs.RoomLacks.{FoundWhole, HeldFull}
 use Rattle.oak_core.proofs.MetLists.{at_shorter, from_behind, each_at}
 use Rattle.oak_core.proofs.MetMore.{grown_met, grown_length}
+
+-- a room that was held full was so, whatever is met later
+abbrev pub holds_longer : (z : Sizes) (behind to : ℕ) (met more : List Finding) → to ≤ length met → (r k : ℕ) → HeldFull z behind to met r k → HeldFull z behind to (met ++ more) r k
+holds_longer z behind to met more le r k w = record {
+  held = w.held;
+  after = w.after;
+  order = w.order;
+  hold = w.hold;
+  there = at_longer met more w.held w.hold w.there;
+  word_is = w.word_is;
+  number = w.number;
+  found_is = w.found_is;
+  frozen = w.frozen;
+  unpinned = w.unpinned;
+  left_is = w.left_is;
+  still = λ i f after before at. w.still i f after before (at_shorter met more i f (omega arith) at);
+  full = w.full;
+}
 
 module _ (z : Sizes) (behind ended : ℕ) (met more : List Finding) where
   abbrev found_longer : (word : ℕ) (P : ℕ → ℕ → Type 0) → FoundBehind behind ended met word P → FoundBehind behind ended (met ++ more) word P
@@ -38,21 +56,9 @@ module _ (z : Sizes) (behind ended : ℕ) (met more : List Finding) where
 
   whole_longer : ended ≤ length met → (r k : ℕ) → FoundWhole z behind ended met r k → FoundWhole z behind ended (met ++ more) r k
   whole_longer le r k w = record {
-    held = w.held;
     to = w.to;
-    after = w.after;
-    order = w.order;
     within = w.within;
-    hold = w.hold;
-    there = at_longer met more w.held w.hold w.there;
-    word_is = w.word_is;
-    number = w.number;
-    found_is = w.found_is;
-    frozen = w.frozen;
-    unpinned = w.unpinned;
-    left_is = w.left_is;
-    still = λ i f after before at. w.still i f after before (at_shorter met more i f (let l = w.within in omega arith) at);
-    full = w.full;
+    holds = holds_longer z behind w.to met more (let l = w.within in omega arith) r k w.holds;
     values = λ i lt. longer_at (w.values i lt);
   }
     where
@@ -82,6 +88,7 @@ lacks_longer z call lack spare began ended fs fs' m s l = record {
     inside = c.inside;
   };
   found = subst (λ (x : List Finding). LackFound z l.behind ended x lack spare) (sym m.1) (lack_longer z l.behind ended fs.met m.0 l.met lack spare l.found);
+  own = λ i f b e at. l.own i f b e (at_shorter fs.met m.0 i f (let k = l.met in omega arith) (subst (λ (x : List Finding). get_elem? x i ≡ some f) m.1 at));
 }
 
 each_longer : (z : Sizes) (fs fs' : Findings) → Begins fs.met fs'.met → Begins fs.swept fs'.swept → (ns : List Full) → Each (λ (n : Full). Lacked z n.call n.lack fs) ns → Each (λ (n : Full). Lacked z n.call n.lack fs') ns
@@ -106,8 +113,8 @@ fulls_noted z call lack spare began f v l h = let fs : Findings = (full_state ca
 module _ (z : Sizes) (call : ℕ) (v w : PassState) (more : List Finding) (after : w ≡ grown more v) (calls : Each (λ (f : Finding). f.call ≡ call) more) where
   pub lacks_then : (lack : Lack) (spare : Option ℕ) (began : ℕ) → began ≤ length v.findings.met → ((i : ℕ) (f : Finding) → began ≤ i → get_elem? v.findings.met i ≡ some f → f.call ≡ call)
       → ((k : List ℕ) → IsKey k → KeySwept began (length v.findings.met) v.findings.swept k) → LackFound z (length v.findings.met) (length w.findings.met) w.findings.met lack spare
-      → Lacks z call lack spare began (length w.findings.met) w.findings
-  lacks_then lack spare began le own swept found = record {
+      → Each (TookBut lack spare) more → Lacks z call lack spare began (length w.findings.met) w.findings
+  lacks_then lack spare began le own swept found took = record {
     behind = length v.findings.met;
     from = le;
     to = let l = grown_length v w more after in omega arith;
@@ -117,4 +124,5 @@ module _ (z : Sizes) (call : ℕ) (v w : PassState) (more : List Finding) (after
         (λ no. each_at (λ (g : Finding). g.call ≡ call) more calls (i - length v.findings.met) f (from_behind v.findings.met more i f (omega arith) at));
     covered = λ k is. subst (λ (s : List Swept). KeySwept began (length v.findings.met) s k) (ap (λ (y : PassState). y.findings.swept) (sym after)) (swept k is);
     found = found;
+    own = λ i f b lt e. each_at (TookBut lack spare) more took (i - length v.findings.met) f (from_behind v.findings.met more i f b (subst (λ (l : List Finding). get_elem? l i ≡ some f) (grown_met v w more after) e));
   }

@@ -83,6 +83,8 @@ pub mod MetLists
 pub mod MetMore
 pub mod FoundThere
 pub mod Lacked
+pub mod FullClaims
+pub mod QuietCalls
 pub mod RoomBundles
 pub mod KeptWhole
 pub mod EntryBlocks

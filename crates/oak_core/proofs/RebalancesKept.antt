@@ -11,8 +11,9 @@ use Rattle.oak_model.specs.Limits.{Sizes}
 use Rattle.oak_model.proofs.Lists.{at_longer, set_else, set_there}
 use Rattle.chunk_core.specs.RoomStep.{RoomStep, pin_room, unpin_room, latch_room, store_entry, publish_entry, unlatch_room, set_value, unlink_entry, freeze_room, hold_room, claim_room, store_room, open_room, retire_room}
 use Rattle.oak_core.specs.declared.states.PassState.{PassState}
+use Rattle.oak_core.specs.declared.states.Rebalanced.{Rebalanced}
 use Rattle.oak_core.specs.PassState.{both_state, left_state, right_state, spent_state}
-use Rattle.oak_core.specs.RebalanceSteps.{is_rebalance, rebalances_by}
+use Rattle.oak_core.specs.RebalanceSteps.{is_rebalance, rebalances_by, KeepsRooms}
 use Rattle.oak_core.specs.Rebalancing.{IsRebalance, MovesRooms, RebalancesAt}
 use Rattle.oak_core.specs.Schedule.{Event, steps, splits, joins, Goes, IsSchedule}
 use Rattle.oak_core.specs.Step.{Step, load, give_number, on_arena, on_headers, on_rooms, store_locked, note_full, state_after}
@@ -20,19 +21,19 @@ use Rattle.oak_core.specs.TableState.{TableState}
 
 -- how many the pass has kept
 abbrev kept : PassState → ℕ
-kept v = length v.findings.rebalances
+kept v = length v.findings.rebalances.steps
 
 -- ---- one step
 
 longer : (l : List ℕ) (n : ℕ) → length l < length (l ++ n ∷ [])
 longer l n = let e = length-append l (n ∷ []) in omega arith
 
-room_kept : (b : Bool) (v : PassState) → kept v ≤ length (cond b (v.findings.rebalances ++ length v.findings.met ∷ []) v.findings.rebalances)
-room_kept true v = let e = longer v.findings.rebalances (length v.findings.met) in omega arith
+room_kept : (b : Bool) (v : PassState) → kept v ≤ length (cond b (v.findings.rebalances.steps ++ length v.findings.met ∷ []) v.findings.rebalances.steps)
+room_kept true v = let e = longer v.findings.rebalances.steps (length v.findings.met) in omega arith
 room_kept false v = omega arith
 
 -- of a step of a rebalance it is how many findings were met before it
-pub room_kept_by : (x : RoomStep) (v : PassState) → IsRebalance x → rebalances_by x v ≡ v.findings.rebalances ++ length v.findings.met ∷ []
+pub room_kept_by : (x : RoomStep) (v : PassState) → IsRebalance x → (rebalances_by x v).steps ≡ v.findings.rebalances.steps ++ length v.findings.met ∷ []
 room_kept_by (freeze_room r old) v is = refl
 room_kept_by (hold_room r old) v is = refl
 room_kept_by (claim_room r old) v is = refl
@@ -48,8 +49,8 @@ room_kept_by (unlatch_room r) v is = absurd is
 room_kept_by (set_value r i old new kind) v is = absurd is
 room_kept_by (unlink_entry r i x) v is = absurd is
 
-room_won : (x : RoomStep) (v : PassState) → IsRebalance x → kept v < length (rebalances_by x v)
-room_won x v is = subst (λ (l : List ℕ). kept v < length l) (sym (room_kept_by x v is)) (longer v.findings.rebalances (length v.findings.met))
+room_won : (x : RoomStep) (v : PassState) → IsRebalance x → kept v < length (rebalances_by x v).steps
+room_won x v is = subst (λ (l : List ℕ). kept v < length l) (sym (room_kept_by x v is)) (longer v.findings.rebalances.steps (length v.findings.met))
 
 at_least : (n : ℕ) → n ≤ n
 at_least n = omega arith
@@ -151,6 +152,6 @@ schedule_ends z [] s t g seat v w here there = subst (λ (u : PassState). Ends s
 schedule_ends z (e ∷ es) s t g seat v w here there = let f = event_follows z e s g.0 g.1 seat v here in then_ends seat e es v g.0 f w (schedule_ends z es g.0 t g.2 seat f.next w f.here there)
 
 -- where the pass that is not spent has kept as many, none of the events is its step of a rebalance
-pub none_rebalances : (z : Sizes) (es : List Event) (s t : TableState) (seat : ℕ) (v w : PassState) → IsSchedule z s es t → get_elem? s.states seat ≡ some v → get_elem? t.states seat ≡ some w → w.numbers.spent ≡ false → w.findings.rebalances ≡ v.findings.rebalances → Each (λ (e : Event). RebalancesAt seat e → ⊥) es
+pub none_rebalances : (z : Sizes) (es : List Event) (s t : TableState) (seat : ℕ) (v w : PassState) → IsSchedule z s es t → get_elem? s.states seat ≡ some v → get_elem? t.states seat ≡ some w → w.numbers.spent ≡ false → KeepsRooms v w → Each (λ (e : Event). RebalancesAt seat e → ⊥) es
 none_rebalances z es s t seat v w g here there going same = ⊎_elim (λ (q : w.numbers.spent ≡ true). absurd (true≢false (sym q ∙ going)))
-    (λ (a : (kept v ≤ kept w) × (kept w ≤ kept v → Each (λ (e : Event). RebalancesAt seat e → ⊥) es)). a.1 (let e = ap length same in omega arith)) (schedule_ends z es s t g seat v w here there).wins
+    (λ (a : (kept v ≤ kept w) × (kept w ≤ kept v → Each (λ (e : Event). RebalancesAt seat e → ⊥) es)). a.1 (let e = ap (λ (r : Rebalanced). length r.steps) same in omega arith)) (schedule_ends z es s t g seat v w here there).wins

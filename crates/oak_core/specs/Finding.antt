@@ -1,10 +1,12 @@
 -- What a step notes of the word that it found.
-use Rattle.std.specs.Prelude.{◌≡◌, ℕ, ◌+◌, ◌*◌, ◌/◌, ◌%◌, ◌^◌, ◌<◌, false, List, [], ◌∷◌, ◌++◌, slice_set, Option, Some}
+use Rattle.std.specs.Prelude.{◌≡◌, ℕ, ◌+◌, ◌*◌, ◌/◌, ◌%◌, ◌^◌, ◌<◌, ◌==◌, cond, false, List, [], ◌∷◌, ◌++◌, slice_set, Option, Some, None}
+use Rattle.std.specs.Int.{bit_at}
 use mathlib.Core.Option.{some}
 use lib.ListN.{get_elem?}
 use Rattle.oak_model.specs.Counts.{Each, one_at, total}
 use Rattle.oak_model.specs.Limits.{Sizes}
 use Rattle.arena_core.specs.Arena.{ArenaSpot, at_bits}
+use Rattle.arena_core.specs.ArenaStep.{ArenaStep, take_bit, clear_bit, store_word, arena_spot, arena_found, arena_effect}
 use Rattle.arena_core.specs.HeldBlocks.{had_bits}
 use Rattle.arena_core.specs.Place.{block_in, class_in}
 use Rattle.header_core.specs.declared.holds.HeaderHolds.{HeaderHolds}
@@ -17,6 +19,7 @@ use Rattle.chunk_core.specs.Rooms.{RoomSpot, at_room_pin, at_latch}
 use Rattle.chunk_core.specs.RoomHolds.{had_room, had_latch}
 use Rattle.oak_core.specs.declared.states.Finding.{Finding}
 use Rattle.oak_core.specs.declared.states.PassState.{PassState}
+use Rattle.oak_core.specs.declared.states.Taken.{Taken}
 use Rattle.oak_core.specs.PassState.{is_alone}
 use Rattle.oak_core.specs.Memory.{Spot, at_given, in_arena, in_headers, in_rooms, index, rooms_at}
 
@@ -51,9 +54,19 @@ had (in_arena p) v = had_in_arena p v
 had (in_headers p) v = had_in_headers p v
 had (in_rooms p) v = had_in_rooms p v
 
--- it has the words of the table behind the step, which were `words` before, and says whether the pass is alone
+-- It has the words of the table behind the step, which were `words` before, and says whether the pass is alone. The step took no block.
 abbrev pub finding : Sizes → ℕ → Spot → Option ℕ → ℕ → List ℕ → PassState → Finding
-finding z call p found left words v = record { call = call; word = index z p; found = found; left = left; had = had p v; words = slice_set words (index z p) left; alone = is_alone v.numbers }
+finding z call p found left words v = record { call = call; word = index z p; found = found; left = left; had = had p v; took = None; words = slice_set words (index z p) left; alone = is_alone v.numbers }
+
+-- the block that a step on the arena takes where it finds n
+abbrev pub taken_by : ArenaStep → ℕ → Option Taken
+taken_by (take_bit c b) n = cond (bit_at n (b % 64) == 0) (Some (record { class = c; block = b })) None
+taken_by (clear_bit c b) n = None
+taken_by (store_word c b k x) n = None
+
+-- so it is of a step on the arena that finds n, but for the block that it takes
+abbrev pub arena_finding : Sizes → ℕ → ArenaStep → ℕ → List ℕ → PassState → Finding
+arena_finding z call a n words v = record (finding z call (in_arena (arena_spot a)) (arena_found a n) (arena_effect a n) words v) { took = taken_by a n }
 
 -- the finding of a step behind which the pass need not be alone
 abbrev pub leaving : Finding → Finding
@@ -67,12 +80,16 @@ abbrev pub noted : Finding → PassState → PassState
 noted f v = grown (f ∷ []) v
 
 -- the finding is of the call, at a word in front of those of the rooms
-abbrev pub IsOf : Sizes → ℕ → Finding → Type 0
-IsOf z call f = (f.call ≡ call) × (f.word < rooms_at z)
+abbrev pub IsBefore : Sizes → ℕ → Finding → Type 0
+IsBefore z call f = (f.call ≡ call) × (f.word < rooms_at z)
 
--- and the step left the word as it was found
+-- and the step took no block
+abbrev pub IsOf : Sizes → ℕ → Finding → Type 0
+IsOf z call f = (f.call ≡ call) × (f.word < rooms_at z) × (f.took ≡ None)
+
+-- and it left the word as it was found
 abbrev pub IsLoadOf : Sizes → ℕ → Finding → Type 0
-IsLoadOf z call f = (f.call ≡ call) × (f.word < rooms_at z) × (f.found ≡ Some f.left)
+IsLoadOf z call f = (f.call ≡ call) × (f.word < rooms_at z) × (f.found ≡ Some f.left) × (f.took ≡ None)
 
 -- The pass only met more: loads of the call, of words in front of those of the rooms.
 pub record LoadsMore (z : Sizes) (call : ℕ) (v w : PassState) : Type 0 where

@@ -9,4 +9,5 @@ pub record GrowsTo (fs fs' : Findings) : Type 0 where
   pub swept : Begins fs.swept fs'.swept
   pub sights : Begins fs.sights fs'.sights
   pub gones : Begins fs.gones fs'.gones
-  pub rebalances : Begins fs.rebalances fs'.rebalances
+  pub rebalances : Begins fs.rebalances.steps fs'.rebalances.steps
+  pub claims : Begins fs.rebalances.claims fs'.rebalances.claims

@@ -19,6 +19,7 @@ use Rattle.oak_core.specs.declared.states.Findings.{Findings}
 use Rattle.oak_core.specs.declared.states.Full.{Full}
 use Rattle.oak_core.specs.declared.states.PassState.{PassState}
 use Rattle.oak_core.specs.declared.states.Swept.{Swept}
+use Rattle.oak_core.specs.declared.states.Taken.{Taken}
 use Rattle.oak_core.specs.Memory.{in_arena, in_headers, index}
 use Rattle.oak_core.specs.FoundBehind.{FoundBehind}
 use Rattle.oak_core.specs.RoomLacks.{RoomLackFound}
@@ -70,7 +71,13 @@ LackFound z behind ended met (Block c) spare = BlocksTaken z behind ended met c 
 LackFound z behind ended met Header spare = (h : ℕ) → h < z.headers → FoundTaken z behind ended met h ⊎ FoundRenewed z behind ended met h
 LackFound z behind ended met Room spare = (k : ℕ) × RoomLackFound z behind ended met k
 
--- The findings from the place `began` on and before `ended` are the call's. Ranges that it swept before `behind` cover every key, and from there on it found nothing free of what it lacks.
+-- Of what is lacking the step took nothing but the spare block, where there is one.
+abbrev pub TookBut : Lack → Option ℕ → Finding → Type 0
+TookBut (Block c) spare f = (t : Taken) → f.took ≡ Some t → t.class ≡ c → spare ≡ Some t.block
+TookBut Header spare f = Unit {0}
+TookBut Room spare f = Unit {0}
+
+-- The findings from the place `began` on and before `ended` are the call's. Ranges that it swept before `behind` cover every key, and from there on it found nothing free of what it lacks, and took none of it itself, to give it to a header or to an entry, but for the spare block.
 pub record Lacks (z : Sizes) (call : ℕ) (lack : Lack) (spare : Option ℕ) (began ended : ℕ) (fs : Findings) : Type 0 where
   pub behind : ℕ
   pub from : began ≤ behind
@@ -79,6 +86,7 @@ pub record Lacks (z : Sizes) (call : ℕ) (lack : Lack) (spare : Option ℕ) (be
   pub of_call : (i : ℕ) (f : Finding) → began ≤ i → i < ended → get_elem? fs.met i ≡ some f → f.call ≡ call
   pub covered : (k : List ℕ) → IsKey k → KeySwept began behind fs.swept k
   pub found : LackFound z behind ended fs.met lack spare
+  pub own : (i : ℕ) (f : Finding) → behind ≤ i → i < ended → get_elem? fs.met i ≡ some f → TookBut lack spare f
 
 -- a part of what the pass met shows that the call lacked it
 abbrev pub Lacked : Sizes → ℕ → Lack → Findings → Type 0

@@ -25,7 +25,7 @@ opening_words z g = rows 0 (word_count z) (opening_number z g)
 
 -- the making of the table, as its first pass met it: in call 0 the number 1 was stored to word 0, behind which the table has these words, and the pass is alone
 abbrev pub making : Sizes → ℕ → Finding
-making z g = record { call = 0; word = 0; found = None; left = 1; had = 0; words = opening_words z g; alone = true }
+making z g = record { call = 0; word = 0; found = None; left = 1; had = 0; took = None; words = opening_words z g; alone = true }
 
 -- the state of the pass that a table is made with
 abbrev pub first_state : Sizes → ℕ → PassState

@@ -106,7 +106,7 @@ pub record HoldsNothing (v : PassState) : Type 0 where
   pub rooms : v.rooms ≡ no_rooms
 
 abbrev pub no_findings : Findings
-no_findings = record { met = []; fulls = []; swept = []; sights = []; gones = []; rebalances = [] }
+no_findings = record { met = []; fulls = []; swept = []; sights = []; gones = []; rebalances = record { steps = []; claims = [] } }
 
 -- a pass that has the number 0, and has seen, done and holds nothing
 abbrev pub bare_state : PassState

@@ -1,7 +1,8 @@
 -- Which steps are those of a rebalance, and what a pass keeps of them: as each of them, done or tried in vain, is kept, a call that leaves the list as it was made none.
-use Rattle.std.specs.Prelude.{◌≡◌, ℕ, cond, Bool, true, false, List, [], ◌∷◌, ◌++◌, length}
+use Rattle.std.specs.Prelude.{◌≡◌, cond, Bool, true, false, [], ◌∷◌, ◌++◌, length}
 use Rattle.chunk_core.specs.RoomStep.{RoomStep, freeze_room, hold_room, claim_room, store_room, open_room, retire_room}
 use Rattle.oak_core.specs.declared.states.PassState.{PassState}
+use Rattle.oak_core.specs.declared.states.Rebalanced.{Rebalanced}
 
 -- the step is one of a rebalance: it freezes, holds or claims a room, stores to one that is held, or opens or retires it
 abbrev pub is_rebalance : RoomStep → Bool
@@ -13,9 +14,17 @@ is_rebalance (open_room r) = true
 is_rebalance (retire_room r) = true
 is_rebalance _ = false
 
--- of each step of a rebalance that the pass has made after a step, how many findings it had met before it
-abbrev pub rebalances_by : RoomStep → PassState → List ℕ
-rebalances_by x v = cond (is_rebalance x) (v.findings.rebalances ++ length v.findings.met ∷ []) v.findings.rebalances
+-- among them those that claim a room
+abbrev pub is_claim : RoomStep → Bool
+is_claim (claim_room r old) = true
+is_claim _ = false
+
+-- those that the pass has made after a step, each by how many findings it had met before it
+abbrev pub rebalances_by : RoomStep → PassState → Rebalanced
+rebalances_by x v = record {
+  steps = cond (is_rebalance x) (v.findings.rebalances.steps ++ length v.findings.met ∷ []) v.findings.rebalances.steps;
+  claims = cond (is_claim x) (v.findings.rebalances.claims ++ length v.findings.met ∷ []) v.findings.rebalances.claims;
+}
 
 -- from the one state to the other the pass made no step of a rebalance, nor tried one
 abbrev pub KeepsRooms : PassState → PassState → Type 0

@@ -12,7 +12,7 @@ use Rattle.oak_model.specs.Limits.{Sizes}
 use Rattle.oak_core.specs.declared.states.Numbers.{Numbers}
 use Rattle.oak_core.specs.declared.states.PassState.{PassState}
 use Rattle.arena_core.specs.Arena.{at_bytes, block_words}
-use Rattle.arena_core.specs.ArenaStep.{ArenaStep, arena_spot, arena_effect, arena_found, MayArena, blocks_after}
+use Rattle.arena_core.specs.ArenaStep.{ArenaStep, arena_spot, arena_effect, MayArena, blocks_after}
 use Rattle.arena_core.specs.declared.blocks.HeldBlocks.{HeldBlocks}
 use Rattle.arena_core.specs.Blocks.{HoldsBlock, block_from, without, words_held}
 use Rattle.arena_core.specs.Place.{IsPlace, class_in, block_in, class_from, content}
@@ -30,7 +30,7 @@ use Rattle.chunk_core.specs.RoomStep.{RoomStep, publish_entry, set_value, unlink
 use Rattle.chunk_core.specs.Rooms.{IsInRooms, at_count, at_value}
 use Rattle.chunk_core.specs.RoomsAfter.{rooms_after}
 use Rattle.oak_core.specs.Memory.{Memory, Spot, at_given, in_arena, in_headers, in_rooms, index, IsInside, memory}
-use Rattle.oak_core.specs.Finding.{finding, leaving, noted, Shows}
+use Rattle.oak_core.specs.Finding.{arena_finding, finding, leaving, noted, Shows}
 use Rattle.oak_core.specs.Known.{knows_life, KnowsHeader}
 use Rattle.oak_core.specs.Lack.{Lacks, full_state}
 use Rattle.oak_core.specs.TableState.{TableState}
@@ -226,7 +226,7 @@ state_after z call (load p) s v =
 state_after z call (give_number k) s v = let n = found z (give_number k) s in record (noted (leaving (finding z call at_given (Some n) (bit_or n (2 ^ k)) s.words v)) v) { numbers = numbered n k v.numbers }
 state_after z call (on_arena a) s v =
     let n = found z (on_arena a) s in
-    record (noted (finding z call (in_arena (arena_spot a)) (arena_found a n) (arena_effect a n) s.words v) v) { blocks = blocks_after (memory z s.words).arena.bytes a n v.blocks }
+    record (noted (arena_finding z call a n s.words v) v) { blocks = blocks_after (memory z s.words).arena.bytes a n v.blocks }
 state_after z call (on_headers x) s v =
     let n = found z (on_headers x) s in let m = memory z s.words in
     record v {

@@ -12,8 +12,6 @@ pub mod loads;
 pub mod notes;
 mod offsets;
 pub mod passes;
-#[cfg(test)]
-mod rebalance_tests;
 mod room_steps;
 pub mod rooms;
 pub mod schedules;
@@ -22,8 +20,6 @@ pub mod sorting;
 pub mod states;
 pub mod steps;
 pub mod table;
-#[cfg(test)]
-mod tests;
 mod usage;
 pub mod writing;
 
@@ -36,7 +32,7 @@ pub use schedules::every_schedule;
 pub use sorting::{SortSlot, Sorting};
 pub use states::{
     Finding, Findings, Full, Gone, Joined, KeyedNumber, KeyedWrite, Knowledge, KnownLife, Lesson,
-    Numbers, PassState, Sight, Swept, Taught,
+    Numbers, PassState, Rebalanced, Sight, Swept, Taken, Taught,
 };
 pub use table::{OakTable, Pass};
 pub use writing::Writing;

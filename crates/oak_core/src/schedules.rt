@@ -5,7 +5,7 @@ ghost use Rattle.pin_word.specs.PinWord.{state_of};
 ghost use Rattle.oak_model.specs.Counts.{Each};
 ghost use Rattle.oak_model.specs.Limits.{Sizes, IsInLimits};
 ghost use Rattle.chunk_core.specs.declared.states.TheConstants.{HELD};
-ghost use Rattle.chunk_core.specs.RoomStep.{RoomStep, pin_room};
+ghost use Rattle.chunk_core.specs.RoomStep.{RoomStep, claim_room, pin_room};
 ghost use Rattle.oak_core.specs.declared.states.PassState.{PassState};
 ghost use Rattle.oak_core.specs.Memory.{memory};
 ghost use Rattle.oak_core.specs.RebalanceSteps.{KeepsRooms};
@@ -32,9 +32,10 @@ pub fn every_schedule()
 {}
 
 /// A law: a pass keeps each step of a rebalance that it makes or tries, by how many findings it had met
-/// before it. So where a pass that is not spent has kept behind some events what it had kept before
+/// before it, and so, besides, each that claims a room. So where a pass that is not spent has kept behind some events what it had kept before
 /// them, none of them was a step of a rebalance of its seat.
 pub fn rebalances_are_kept()
-    ensures kept { (z : Sizes) (call : ℕ) (x : RoomStep) (v : PassState) (n : ℕ) (w : PassState) → IsRebalance x → Told z call (on_rooms x) v n w → w.findings.rebalances ≡ v.findings.rebalances ++ length v.findings.met ∷ [] }
+    ensures kept { (z : Sizes) (call : ℕ) (x : RoomStep) (v : PassState) (n : ℕ) (w : PassState) → IsRebalance x → Told z call (on_rooms x) v n w → w.findings.rebalances.steps ≡ v.findings.rebalances.steps ++ length v.findings.met ∷ [] }
+    ensures claims { (z : Sizes) (call r old : ℕ) (v : PassState) (n : ℕ) (w : PassState) → Told z call (on_rooms (claim_room r old)) v n w → w.findings.rebalances.claims ≡ v.findings.rebalances.claims ++ length v.findings.met ∷ [] }
     ensures none { (z : Sizes) (events : List Event) (s t : TableState) (seat : ℕ) (v w : PassState) → IsSchedule z s events t → get_elem? s.states seat ≡ some v → get_elem? t.states seat ≡ some w → w.numbers.spent ≡ false → KeepsRooms v w → Each (λ (e : Event). RebalancesAt seat e → ⊥) events }
 {}

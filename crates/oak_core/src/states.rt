@@ -4,18 +4,25 @@
 use arena_core::HeldBlocks;
 use chunk_core::{PinnedRoom, RoomHolds};
 use header_core::HeaderHolds;
-use oak_model::{Key, Lack, Write};
+use oak_model::{Class, Key, Lack, Write};
 use std::collections::LinkedList;
 
+/// A block that a step took: its class, and its number within the class.
+pub struct Taken {
+    pub class: Class,
+    pub block: u32,
+}
+
 /// A step of the pass on a word: the call that it belongs to, the word's number, what was found (none
-/// by a plain store) and what was left there, what the pass had at the word before, all words of the
-/// table behind the step, and whether the pass is alone then.
+/// by a plain store) and what was left there, what the pass had at the word before, the block that it
+/// took, all words of the table behind the step, and whether the pass is alone then.
 pub struct Finding {
     pub call: u32,
     pub word: u32,
     pub found: Option<u64>,
     pub left: u64,
     pub had: u64,
+    pub took: Option<Taken>,
     pub words: LinkedList<u64>,
     pub alone: bool,
 }
@@ -49,16 +56,23 @@ pub struct Gone {
     pub key: Key,
 }
 
+/// Of each step of a rebalance, done or tried in vain, how many findings the pass had met before it, and
+/// so of those among them that claim a room.
+pub struct Rebalanced {
+    pub steps: LinkedList<usize>,
+    pub claims: LinkedList<usize>,
+}
+
 /// What the pass met, in order, the calls that it noted as refused, the ranges that it swept, what its
-/// calls were taught, the lives that they found to be over, and of each step of a rebalance how many
-/// findings it had met before it. No list loses anything, or its order.
+/// calls were taught, the lives that they found to be over, and which of its steps were those of a
+/// rebalance. No list loses anything, or its order.
 pub struct Findings {
     pub met: LinkedList<Finding>,
     pub fulls: LinkedList<Full>,
     pub swept: LinkedList<Swept>,
     pub sights: LinkedList<Sight>,
     pub gones: LinkedList<Gone>,
-    pub rebalances: LinkedList<usize>,
+    pub rebalances: Rebalanced,
 }
 
 /// A write with its key, and the value word that names the life that it is of; whether that life begins

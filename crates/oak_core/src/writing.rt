@@ -35,8 +35,8 @@ fn as_bytes(bytes: &[u8]) -> &[u8]
 }
 
 impl Writing {
-    /// An empty one.
-    pub(crate) fn make(alloc: Global) -> Result<Writing, OutOfMemory>
+    /// An empty one: that of a new pass, or one to try a recipe on.
+    pub fn make(alloc: Global) -> Result<Writing, OutOfMemory>
         ensures { IfOk result (λ w. w ≡ []) }
     {
         let bytes = vec![in alloc; 0u8; GREATEST_VALUE]?;

@@ -10,7 +10,7 @@ use Rattle.oak_core.specs.PassState.{bare_state, has_number, IsAlone}
 use Rattle.oak_core.specs.Opening.{first_state}
 use Rattle.oak_core.specs.Splitting.{SplitsOff}
 use Rattle.oak_core.proofs.Alone.{alone_again, numbers_alone}
-use Rattle.oak_core.proofs.tests.split_twice.Goals as goal
+use Rattle.oak_core_tests.proofs.pass_tests.split_twice.Goals as goal
 
 -- the number 0 is taken, so of two the other is 1
 second_number : (z : Sizes) (call : ℕ) (v w x : PassState) → z.passes ≡ 2 → v ≡ first_state z 0 → SplitsOff z call v w x → x.numbers.number ≡ 1

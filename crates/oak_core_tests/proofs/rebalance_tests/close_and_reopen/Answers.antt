@@ -12,7 +12,7 @@ use Rattle.oak_core.specs.Schedule.{opening}
 use Rattle.oak_core.proofs.ReopenedPass.{next_word, may_hold, comes_to_hold, may_store, holds_stored, may_open, holds_no_more, else_then, else_frozen, else_held, else_stored, else_opened, else_loaded, holds_nothing, alone_still}
 use Rattle.oak_core.proofs.ReopenedSteps.{HasPin, opened_pin, pin_stands, frozen_rooms}
 use Rattle.oak_core.proofs.RoomNames.{room_pin_below}
-use Rattle.oak_core.proofs.rebalance_tests.close_and_reopen.Goals as goal
+use Rattle.oak_core_tests.proofs.rebalance_tests.close_and_reopen.Goals as goal
 
 pub freeze-before-requires-clause-names : goal.freeze-before-requires-clause-names
 freeze-before-requires-clause-names g c = let some_room = c.rooms-rooms.ensures.some in let are = c.rooms-rooms.ensures.is in

@@ -3,7 +3,7 @@ use Rattle.oak_model.specs.Counts.{one_at, total}
 use Rattle.oak_core.specs.declared.states.Numbers.{Numbers}
 use Rattle.oak_core.specs.Passes.{state}
 use Rattle.oak_core.specs.PassState.{rooted}
-use Rattle.oak_core.proofs.tests.write_between_loads.Goals as goal
+use Rattle.oak_core_tests.proofs.pass_tests.write_between_loads.Goals as goal
 use Rattle.oak_core.specs.declared.states.PassState.{PassState}
 
 pub returns-clause-alone : goal.returns-clause-alone

@@ -5,9 +5,9 @@ ghost use Rattle.oak_core.specs.Passes.{IsPassOf, Stays, state, key, call_of, sc
 ghost use Rattle.oak_core.specs.Scratch.{StaysButScratch};
 ghost use Rattle.oak_core.specs.Splitting.{LooksAtGiven};
 
-use crate::steps::{pin_room, unpin_room};
-use crate::{OakTable, Pass, SortSlot, SplitFault, Writing, load};
 use chunk_core::OPEN;
+use oak_core::steps::{pin_room, unpin_room};
+use oak_core::{OakTable, Pass, SortSlot, SplitFault, Writing, load};
 use oak_model::{BadShape, Shape, ShapeField, Usage};
 use pin_word::pack;
 use std::alloc::Global;

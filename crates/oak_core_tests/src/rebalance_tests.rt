@@ -5,9 +5,9 @@ ghost use Rattle.oak_core.specs.PassState.{HoldsNothing, IsAlone};
 ghost use Rattle.oak_core.specs.Passes.{IsPassOf, Stays, state, key};
 ghost use Rattle.oak_core.specs.Schedule.{opening};
 
-use crate::steps::{freeze, hold_room, open_room, store_room};
-use crate::{OakTable, Pass, load};
 use chunk_core::{FROZEN, HELD, OPEN};
+use oak_core::steps::{freeze, hold_room, open_room, store_room};
+use oak_core::{OakTable, Pass, load};
 use oak_model::Shape;
 use pin_word::pack;
 use std::process::Abort;

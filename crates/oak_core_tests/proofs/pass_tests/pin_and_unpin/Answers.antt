@@ -8,7 +8,7 @@ use Rattle.chunk_core.specs.RoomRule.{room_pins}
 use Rattle.oak_core.specs.Memory.{memory}
 use Rattle.oak_core.specs.Passes.{state, key}
 use Rattle.oak_core.specs.RoomCalls.{NamesRoomPin}
-use Rattle.oak_core.proofs.tests.pin_and_unpin.Goals as goal
+use Rattle.oak_core_tests.proofs.pass_tests.pin_and_unpin.Goals as goal
 
 pub unpin_room-pinned-requires-clause-names : goal.unpin_room-pinned-requires-clause-names
 unpin_room-pinned-requires-clause-names g c = let z : Sizes = key c.args.table.now in let some_room = c.rooms-rooms.ensures.some in let are = c.rooms-rooms.ensures.is in
