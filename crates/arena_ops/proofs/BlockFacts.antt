@@ -53,7 +53,7 @@ module _ (z : Sizes) (call : ℕ) (c : Class) (b : ℕ) (v : PassState) (lb : b 
       free = sym (rule_after.blocks.owned (class_number c) b) ∙ (ap (λ (m : ℕ). bit_at m (b % 64)) word_after ∙ clear_there (found z x t.table) b);
       still = runs_as (DoesStep z x n) (ClearsBit z c b) v w (λ a a' d. (ap (λ (m : ℕ). bit_at m (b % 64)) (memory_read z a (bit_spot c b) (bit_inside z c b lb) ∙ sym d.0) ∙ was_set, d.1)) (step_runs z call x v n w tt t);
       more = finding z call (bit_spot c b) (Some (found z x t.table)) (bit_and (found z x t.table) (2 ^ 64 - 1 - bit_of b)) t.table.words v ∷ [];
-      calls = ((refl, arena_before z (at_bits (class_number c) (b / 64)) (bit_inside z c b lb)), tt);
+      calls = ((refl, arena_before z (at_bits (class_number c) (b / 64)) (bit_inside z c b lb), refl), tt);
       after = t.after;
     }
 
@@ -64,6 +64,6 @@ module _ (z : Sizes) (call : ℕ) (c : Class) (b : ℕ) (v : PassState) (lb : b 
       alone = memory_set z t.table.words (in_arena (at_bytes (class_number c) b k)) y t.rule.words.counted (class_below c, lb, lk);
       still = runs_as (DoesStep z x written.0) (SetsWord z (in_arena (at_bytes (class_number c) b k)) y) v w (λ a a' d. d.1) (step_runs z call x v written.0 w tt t);
       more = finding z call (in_arena (at_bytes (class_number c) b k)) None y t.table.words v ∷ [];
-      calls = ((refl, arena_before z (at_bytes (class_number c) b k) (class_below c, lb, lk)), tt);
+      calls = ((refl, arena_before z (at_bytes (class_number c) b k) (class_below c, lb, lk), refl), tt);
       after = t.after;
     }

@@ -1,5 +1,5 @@
 -- A search that found no block shows that its class is lacking.
-use Rattle.std.proofs.Common.{◌≡◌, ℕ, ◌+◌, ◌%◌, ◌/◌, ◌<◌, ◌≤◌, List, length, sym, ap, ◌∙◌, subst, None, inl}
+use Rattle.std.proofs.Common.{◌≡◌, ℕ, ◌+◌, ◌%◌, ◌/◌, ◌<◌, ◌≤◌, List, length, sym, ◌∙◌, subst, None, inl}
 use Rattle.std.specs.Int.{bit_at}
 use Rattle.std.proofs.lemmas.Nat.Bits.{bit_at-zero}
 use mathlib.Core.Option.{some}
@@ -20,6 +20,7 @@ use Rattle.oak_core.proofs.FoundThere.{found_behind}
 use Rattle.oak_core.proofs.Lacked.{lacks_then}
 use Rattle.arena_ops.specs.Looking.{bit_spot}
 use Rattle.arena_ops.specs.Taking.{FindsNone}
+use Rattle.arena_ops.proofs.TookFacts.{loads_but}
 
 module _ (z : Sizes) (call : ℕ) (c : Class) (v w : PassState) (idle : v.blocks ≡ no_blocks) (bare : (k i : ℕ) → had_placed k i v.headers ≡ 0) (found : FindsNone z call c v w) where
   -- the pass held no block, and had none in a header
@@ -34,4 +35,4 @@ module _ (z : Sizes) (call : ℕ) (c : Class) (v w : PassState) (idle : v.blocks
   -- so where the call swept every key before it, and met nothing of another call, it may be noted
   pub class_lacks : (began : ℕ) → began ≤ length v.findings.met → ((i : ℕ) (f : Finding) → began ≤ i → get_elem? v.findings.met i ≡ some f → f.call ≡ call)
       → ((k : List ℕ) → IsKey k → KeySwept began (length v.findings.met) v.findings.swept k) → Lacks z call (Block c) None began (length w.findings.met) w.findings
-  class_lacks began le own swept = lacks_then z call v w found.more found.after (each_map (IsLoadOf z call) (λ (f : Finding). f.call ≡ call) found.more (λ f l. l.0) found.looks) (Block c) None began le own swept (λ b lt. inl (set_for_all b lt))
+  class_lacks began le own swept = lacks_then z call v w found.more found.after (each_map (IsLoadOf z call) (λ (f : Finding). f.call ≡ call) found.more (λ f l. l.0) found.looks) (Block c) None began le own swept (λ b lt. inl (set_for_all b lt)) (loads_but z call c found.more found.looks None)

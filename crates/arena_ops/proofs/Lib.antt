@@ -7,3 +7,4 @@ pub mod StackLaws
 pub mod LackedBlocks
 pub mod PutWords
 pub mod StoredBytes
+pub mod TookFacts

@@ -8,7 +8,7 @@ use Rattle.arena_core.specs.Arena.{blocks}
 use Rattle.arena_core.specs.Blocks.{holds, block_from}
 use Rattle.oak_core.specs.declared.states.PassState.{PassState}
 use Rattle.oak_core.specs.Memory.{memory}
-use Rattle.oak_core.specs.Finding.{had, grown, IsOf, IsLoadOf}
+use Rattle.oak_core.specs.Finding.{had, grown, IsBefore, IsLoadOf}
 use Rattle.arena_core.specs.ArenaStep.{take_bit}
 use Rattle.oak_core.specs.ArenaCalls.{Sets}
 use Rattle.oak_core.specs.Step.{on_arena}
@@ -16,7 +16,8 @@ use Rattle.oak_core.proofs.AloneRuns.{Then, runs_then, runs_as, runs_none}
 use Rattle.oak_core.proofs.FoundThere.{found_first, found_later}
 use Rattle.oak_core.proofs.MetMore.{grown_twice, grown_none, told_of}
 use Rattle.arena_ops.specs.Looking.{bit_spot, IsSetIn, AllSet, Looked}
-use Rattle.arena_ops.specs.Taking.{SetsBit, Takes}
+use Rattle.arena_ops.specs.Taking.{SetsBit, Takes, TookThis}
+use Rattle.arena_ops.proofs.TookFacts.{loads_took}
 
 module _ (z : Sizes) (call : ℕ) (c : Class) where
   -- nothing was looked at
@@ -62,7 +63,8 @@ module _ (z : Sizes) (call : ℕ) (c : Class) where
       still = runs_as (Then (AllSet z c P) (SetsBit z c b)) (SetsBit z c b) v x (λ a a' d. subst (λ (m : List ℕ). SetsBit z c b m a') d.1.0 d.2) (runs_then (AllSet z c P) (SetsBit z c b) v w x l.still t.still);
       unheld = subst (λ (y : PassState). holds (class_number c) b y.blocks ≡ 0) l.after t.unheld;
       more = l.more ++ t.more;
-      calls = each_append (IsOf z call) l.more t.more (each_map (IsLoadOf z call) (IsOf z call) l.more (λ f k. (k.0, k.1)) l.looks) t.calls;
+      calls = each_append (IsBefore z call) l.more t.more (each_map (IsLoadOf z call) (IsBefore z call) l.more (λ f k. (k.0, k.1)) l.looks) t.calls;
+      own = each_append (TookThis c b) l.more t.more (loads_took z call c l.more l.looks b) t.own;
       after = t.after
           ∙ (ap (λ (y : PassState). record (grown t.more y) { blocks = record y.blocks { held = block_from (memory z t.told.table.words).arena.bytes c b ∷ y.blocks.held } }) l.after
           ∙ ap (λ (y : PassState). record y { blocks = record v.blocks { held = block_from (memory z t.told.table.words).arena.bytes c b ∷ v.blocks.held } }) (grown_twice v l.more t.more));

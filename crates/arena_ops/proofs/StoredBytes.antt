@@ -23,6 +23,8 @@ use Rattle.oak_core.proofs.CallSteps.{stands_none, stands_both}
 use Rattle.oak_core.specs.AloneWords.{Runs}
 use Rattle.oak_core.specs.Memory.{in_arena, index}
 use Rattle.oak_core.proofs.AloneRuns.{runs_as}
+use Rattle.oak_core.proofs.QuietCalls.{only_both, only_none}
+use Rattle.oak_core.specs.QuietSteps.{MetOnly}
 use Rattle.arena_ops.specs.PutWords.{PutsWord}
 use Rattle.arena_ops.specs.Storing.{StoresBytes, given}
 use Rattle.arena_ops.specs.Taking.{SetsWord, Stores}
@@ -46,13 +48,14 @@ module _ (z : Sizes) (call : ℕ) (c : Class) (b : ℕ) (bytes : List ℕ) where
     pub times : holds (class_number c) b u.blocks ≡ holds (class_number c) b v.blocks
     pub words : words_held (class_number c) b u.blocks.held ≡ so_far bytes (words_held (class_number c) b v.blocks.held) i
     pub stands : Stands call v u
+    pub own : MetOnly (IsOf z call) v u
     pub blocks : given c b u.blocks ≡ given c b v.blocks
     pub headers : u.headers ≡ v.headers
     pub rooms : u.rooms ≡ v.rooms
     pub still : Runs (PutsSome first bytes i) v u
 
   pub none_stored : (v : PassState) → HoldsBlock z (class_number c) b v.blocks → BytesStored 0 v v
-  none_stored v held = record { block = held; times = refl; words = refl; stands = stands_none call v; blocks = refl; headers = refl; rooms = refl; still = puts_none first bytes v }
+  none_stored v held = record { block = held; times = refl; words = refl; stands = stands_none call v; own = only_none (IsOf z call) v v refl; blocks = refl; headers = refl; rooms = refl; still = puts_none first bytes v }
 
   module _ (fits : class_of (length bytes) ≡ Some c) (i : ℕ) (v u w : PassState) (so : BytesStored i v u) (lt : 8 * i < length bytes) (n : ℕ) (is : n ≡ get_or (words_of bytes) i 0) (s : Stores z call c b i n u w) where
     abbrev ws : List ℕ
@@ -85,6 +88,7 @@ module _ (z : Sizes) (call : ℕ) (c : Class) (b : ℕ) (bytes : List ℕ) where
       words = ap (λ (a : HeldBlocks). words_held (class_number c) b a.held) held_after ∙ (words_rewritten (class_number c) b i n u.blocks.held
           ∙ ((λ j. set (so.words j) i (is j)) ∙ (words_step (words_of bytes) ws i inside wide ∙ ap (so_far bytes ws) (let e : suc i ≡ i + 1 = omega arith in e))));
       stands = stands_both call v u w so.stands stood;
+      own = only_both (IsOf z call) v u w so.own record { more = s.more; met = ap (λ (y : PassState). y.findings.met) s.after; each = s.calls };
       blocks = ap (given c b) held_after ∙ (ap (λ (l : List _). record u.blocks { held = l }) (without_rewritten (class_number c) b i n u.blocks.held) ∙ so.blocks);
       headers = ap (λ (y : PassState). y.headers) s.after ∙ so.headers;
       rooms = ap (λ (y : PassState). y.rooms) s.after ∙ so.rooms;
@@ -99,6 +103,7 @@ module _ (z : Sizes) (call : ℕ) (c : Class) (b : ℕ) (bytes : List ℕ) where
       fits = fits;
     };
     stands = so.stands;
+    own = so.own;
     blocks = so.blocks;
     headers = so.headers;
     rooms = so.rooms;

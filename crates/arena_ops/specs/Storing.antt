@@ -9,6 +9,8 @@ use Rattle.arena_core.specs.Blocks.{HoldsBlock, without, words_held}
 use Rattle.oak_core.specs.declared.states.PassState.{PassState}
 use Rattle.oak_core.specs.AloneWords.{Runs}
 use Rattle.oak_core.specs.CallSteps.{Stands}
+use Rattle.oak_core.specs.Finding.{IsOf}
+use Rattle.oak_core.specs.QuietSteps.{MetOnly}
 use Rattle.arena_ops.specs.PutWords.{PutsBytesIn}
 
 -- the block is one that the pass holds, of the class that the bytes have, and its first bytes are these
@@ -21,10 +23,11 @@ pub record HasBytes (z : Sizes) (c : Class) (b : ℕ) (bytes : List ℕ) (v : Pa
 abbrev pub given : Class → ℕ → HeldBlocks → HeldBlocks
 given c b a = record a { held = without (class_number c) b a.held }
 
--- the block has the bytes, and the pass holds and knows what it did
+-- the block has the bytes, and the pass holds and knows what it did; what it met is at words in front of the rooms, and it took no block
 pub record StoresBytes (z : Sizes) (call : ℕ) (c : Class) (b : ℕ) (bytes : List ℕ) (v w : PassState) : Type 0 where
   pub has : HasBytes z c b bytes w
   pub stands : Stands call v w
+  pub own : MetOnly (IsOf z call) v w
   pub blocks : given c b w.blocks ≡ given c b v.blocks
   pub headers : w.headers ≡ v.headers
   pub rooms : w.rooms ≡ v.rooms

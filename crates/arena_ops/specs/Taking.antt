@@ -1,5 +1,5 @@
 -- What the calls on blocks do.
-use Rattle.std.specs.Prelude.{◌≡◌, ℕ, ◌+◌, ◌-◌, ◌/◌, ◌%◌, ◌^◌, ◌<◌, List, ◌∷◌, map, bit_and, bit_or, slice_set, slice_index}
+use Rattle.std.specs.Prelude.{◌≡◌, ℕ, ◌+◌, ◌-◌, ◌/◌, ◌%◌, ◌^◌, ◌<◌, List, ◌∷◌, map, Some, bit_and, bit_or, slice_set, slice_index}
 use Rattle.std.specs.Int.{bit_at}
 use Rattle.oak_model.specs.declared.classes.Class.{Class}
 use Rattle.oak_model.specs.Class.{class_number}
@@ -9,8 +9,9 @@ use Rattle.arena_core.specs.Arena.{at_bytes, blocks}
 use Rattle.arena_core.specs.Blocks.{holds, block_from, without, rewritten}
 use Rattle.oak_core.specs.declared.states.Finding.{Finding}
 use Rattle.oak_core.specs.declared.states.PassState.{PassState}
+use Rattle.oak_core.specs.declared.states.Taken.{Taken}
 use Rattle.oak_core.specs.Memory.{Spot, in_arena, index, memory, write}
-use Rattle.oak_core.specs.Finding.{IsOf, IsLoadOf, grown}
+use Rattle.oak_core.specs.Finding.{IsBefore, IsOf, IsLoadOf, grown}
 use Rattle.oak_core.specs.PassState.{blocks_of, rooms_held}
 use Rattle.oak_core.specs.ArenaCalls.{of_pass, store_step, Sets, Clears, Writes}
 use Rattle.oak_core.specs.EntryOwners.{all_others}
@@ -36,7 +37,11 @@ ClearsBit z c b before after = IsSetIn z c b before × (after ≡ slice_set befo
 abbrev pub SetsWord : Sizes → Spot → ℕ → List ℕ → List ℕ → Type 0
 SetsWord z p x before after = after ≡ slice_set before (index z p) x
 
--- The step that set the bit of the block, after others that only looked, found it clear. No owner had the block at that moment. The pass holds it now, with the words that it had then, and else only met more, all in the call.
+-- a step that took a block took this one
+abbrev pub TookThis : Class → ℕ → Finding → Type 0
+TookThis c b f = (t : Taken) → f.took ≡ Some t → t ≡ record { class = c; block = b }
+
+-- The step that set the bit of the block, after others that only looked, found it clear. No owner had the block at that moment. The pass holds it now, with the words that it had then, and else only met more, all in the call, and took no other block.
 pub record Takes (z : Sizes) (call : ℕ) (c : Class) (b : ℕ) (v w : PassState) : Type 0 where
   pub inside : b < blocks z (class_number c)
   pub before : List Finding
@@ -49,7 +54,8 @@ pub record Takes (z : Sizes) (call : ℕ) (c : Class) (b : ℕ) (v w : PassState
   -- to a pass that is alone
   pub still : Runs (SetsBit z c b) v w
   pub more : List Finding
-  pub calls : Each (IsOf z call) more
+  pub calls : Each (IsBefore z call) more
+  pub own : Each (TookThis c b) more
   pub after : w ≡ record (grown more v) { blocks = record v.blocks { held = block_from (memory z told.table.words).arena.bytes c b ∷ v.blocks.held } }
 
 -- the pass only met more, and the bit of each block of the class was found set

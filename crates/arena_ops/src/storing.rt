@@ -11,7 +11,7 @@ use oak_core::{Block, OakTable, Pass};
 
 /// Stores bytes in a block that the pass holds, of the class that they have: they are the first of the
 /// block from then on, and it is held as often as before. Each word is stored once, with zeros behind the
-/// last byte. To a pass that is alone no other word of the table changes by it.
+/// last byte, and no block is taken. To a pass that is alone no other word of the table changes by it.
 pub fn store_bytes(table: &OakTable, pass: &mut Pass, block: &Block, bytes: &[u8])
     requires own { IsPassOf table.now pass.old }
     requires held { HoldsBlock (key table.now) (class_number block.now.class) block.now.number (state pass.old).blocks }

@@ -17,8 +17,8 @@ use thiserror::Error;
 #[error("no block of class {0:?} is free")]
 pub struct NoBlock(pub Class);
 
-/// Takes a block that had no owner, one whose bit was found clear. `NoBlock` comes only where every bit
-/// of the class was found set in this call; to a pass that is alone all of them are set then.
+/// Takes a block that had no owner, one whose bit was found clear, and no other. `NoBlock` comes only where
+/// every bit of the class was found set in this call; to a pass that is alone all of them are set then.
 pub fn take(table: &OakTable, pass: &mut Pass, class: Class) -> Result<Block, NoBlock>
     requires own { IsPassOf table.now pass.old }
     ensures own { Stays pass.old pass.new }
