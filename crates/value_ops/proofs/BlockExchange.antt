@@ -107,7 +107,7 @@ module _ (z : Sizes) (call h g : ℕ) (c : Class) (b len : ℕ) (v u : PassState
     came : ComesTo z call held_then headers_then u w
     came = record {
       more = met_then ∷ [];
-      calls = ((refl, header_before z (at_place h) lock.inside), tt);
+      calls = ((refl, header_before z (at_place h) lock.inside, refl), tt);
       after = t.1.after ∙ (λ i. record (noted met_then u) {
         blocks = record u.blocks { held = cond (two_blocks i) u.blocks.held (block_at z t.1.table t.1.rule t.1.seat u t.1.here h LOCKED (omega arith) (omega arith) locked.locked i ∷ without (class_is i) (number_is i) u.blocks.held) };
         headers = record u.headers { held = changed_at h x (new_words i) u.headers.held };

@@ -42,7 +42,7 @@ generations_apart n k f g ne e = ne (sym (parts_equal n k e (f.state ∙ sym g.s
 
 -- a load of a pin word alone finds nothing
 pub loaded : (z : Sizes) (call word n h : ℕ) (v w : PassState) → h < z.headers → word ≡ index z (pin_spot h) → Loads z call word v n w → Looked z call v w (λ k. ⊥)
-loaded z call word n h v w inside is l = record { more = finding z call l.spot (Some n) n l.told.table.words v ∷ []; after = met_at z call word n v w (pin_spot h) inside tt is l; looks = ((refl, subst (λ (i : ℕ). i < rooms_at z) (sym (l.at ∙ is)) (header_before z (at_pin h) inside), refl), tt); found = λ k lk p. absurd p; still = runs_as (λ a b. (n ≡ get_or a (index z l.spot) 0) × (b ≡ a)) (NoneFree z (λ k. ⊥)) v w (λ a b d. (d.1, λ h lh p. absurd p)) (load_runs z call l.spot v n w l.told) }
+loaded z call word n h v w inside is l = record { more = finding z call l.spot (Some n) n l.told.table.words v ∷ []; after = met_at z call word n v w (pin_spot h) inside tt is l; looks = ((refl, subst (λ (i : ℕ). i < rooms_at z) (sym (l.at ∙ is)) (header_before z (at_pin h) inside), refl, refl), tt); found = λ k lk p. absurd p; still = runs_as (λ a b. (n ≡ get_or a (index z l.spot) 0) × (b ≡ a)) (NoneFree z (λ k. ⊥)) v w (λ a b d. (d.1, λ h lh p. absurd p)) (load_runs z call l.spot v n w l.told) }
 
 module _ (z : Sizes) (call h : ℕ) (inside : h < z.headers) where
   abbrev Unfree : PassState → List Finding → Type 0
@@ -67,7 +67,7 @@ module _ (z : Sizes) (call h : ℕ) (inside : h < z.headers) where
   loaded_unfree word n v w is l unfree = record {
     more = finding z call l.spot (Some n) n l.told.table.words v ∷ [];
     after = met_at z call word n v w (pin_spot h) inside tt is l;
-    looks = ((refl, subst (λ (i : ℕ). i < rooms_at z) (sym (l.at ∙ is)) in_front, refl), tt);
+    looks = ((refl, subst (λ (i : ℕ). i < rooms_at z) (sym (l.at ∙ is)) in_front, refl, refl), tt);
     found = this_one v (finding z call l.spot (Some n) n l.told.table.words v ∷ []) (inl (met_here z call (pin_spot h) n n l.told.table.words l.spot v [] (λ k. is_free k ≡ false) (spot_is word n v w is l) unfree));
     still = runs_as (λ a b. (n ≡ get_or a (index z l.spot) 0) × (b ≡ a)) (NoneFree z (λ k. k ≡ h)) v w
         (λ a b d. (d.1, λ k lk e. ap (λ (i : ℕ). is_free ((memory z a).headers.pin i)) e ∙ (ap is_free (pin_in a n (subst (λ (q : Spot). n ≡ get_or a (index z q) 0) (spot_is word n v w is l) d.0)) ∙ unfree))) (load_runs z call l.spot v n w l.told);
@@ -109,7 +109,7 @@ module _ (z : Sizes) (call h : ℕ) (inside : h < z.headers) where
       still = runs_as (DoesStep z (on_headers (claim_header h old)) n) (OwnsPin z h) v w (λ a b d. let p = pin_in a n d.0 in (ap is_free (p ∙ hit_old) ∙ is_free-word old free, d.1 ∙ ap (set a (index z (pin_spot h))) (exchanged (get_or a (index z (pin_spot h)) 0) (sym d.0 ∙ hit_old) ∙ ap (λ (i : ℕ). i + STATE) (sym (p ∙ hit_old)))))
           (step_runs z call (on_headers (claim_header h old)) v n w tt t);
       more = met_now ∷ [];
-      calls = ((refl, in_front), tt);
+      calls = ((refl, in_front, refl), tt);
       after = hit z call h inside old front t.table n v w t.finds t.after hit_old;
     }
 
@@ -148,7 +148,7 @@ module _ (z : Sizes) (call h : ℕ) (inside : h < z.headers) where
     lost = record {
       more = f ∷ g ∷ [];
       after = missed_claim n k u w t ne ∙ (ap (grown (g ∷ [])) (met_at z call word n v u (pin_spot h) inside tt is l) ∙ grown_twice v (f ∷ []) (g ∷ []));
-      looks = ((refl, subst (λ (i : ℕ). i < rooms_at z) (sym (l.at ∙ is)) in_front, refl), ((refl, in_front, ap Some (sym (kept_word k n ne))), tt));
+      looks = ((refl, subst (λ (i : ℕ). i < rooms_at z) (sym (l.at ∙ is)) in_front, refl, refl), ((refl, in_front, ap Some (sym (kept_word k n ne)), refl), tt));
       found = this_one v (f ∷ g ∷ []) two;
       -- a pass that is alone loses no exchange
       still = runs_as (Then (λ a b. (n ≡ get_or a (index z l.spot) 0) × (b ≡ a)) (DoesStep z (on_headers (claim_header h n)) k)) (NoneFree z (λ i. i ≡ h)) v w

@@ -69,7 +69,7 @@ module _ (z : Sizes) (call : ℕ) where
       unpinned = t.unpinned;
       still = runs_as (Then (NoneFree z P) (OwnsPin z h)) (OwnsPin z h) v x (λ a b d. subst (λ (m : List ℕ). OwnsPin z h m b) d.1.0 d.2) (runs_then (NoneFree z P) (OwnsPin z h) v w x l.still t.still);
       more = l.more ++ t.more;
-      calls = each_append (IsOf z call) l.more t.more (each_map (IsLoadOf z call) (IsOf z call) l.more (λ f k. (k.0, k.1)) l.looks) t.calls;
+      calls = each_append (IsOf z call) l.more t.more (each_map (IsLoadOf z call) (IsOf z call) l.more (λ f k. (k.0, k.1, k.3)) l.looks) t.calls;
       after = t.after
           ∙ (ap (λ (y : PassState). record (grown t.more y) { headers = record y.headers { held = owned_at (memory z t.told.table.words).headers h ∷ y.headers.held } }) l.after
           ∙ ap (λ (y : PassState). record y { headers = record v.headers { held = owned_at (memory z t.told.table.words).headers h ∷ v.headers.held } }) (grown_twice v l.more t.more));

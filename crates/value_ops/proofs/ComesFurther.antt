@@ -36,7 +36,7 @@ loads_none z call v = record { more = []; loads = tt; after = grown_none v }
 
 -- a word in front of those of the rooms, whose load teaches nothing
 pub loads_at : (z : Sizes) (call word n : ℕ) (v w : PassState) (q : Spot) → IsInside z q → IsPlain q → index z q < rooms_at z → word ≡ index z q → Loads z call word v n w → LoadsMore z call v w
-loads_at z call word n v w q inside plain front at l = record { more = _ ∷ []; loads = ((refl, subst (λ (i : ℕ). i < rooms_at z) (sym (l.at ∙ at)) front, refl), tt); after = met_at z call word n v w q inside plain at l }
+loads_at z call word n v w q inside plain front at l = record { more = _ ∷ []; loads = ((refl, subst (λ (i : ℕ). i < rooms_at z) (sym (l.at ∙ at)) front, refl, refl), tt); after = met_at z call word n v w q inside plain at l }
 
 -- a place word was loaded
 pub place_loaded : (z : Sizes) (call word n : ℕ) (v w : PassState) (h : ℕ) → h < z.headers → word ≡ index z (in_headers (at_place h)) → Loads z call word v n w → LoadsMore z call v w
@@ -44,7 +44,7 @@ place_loaded z call word n v w h inside at l = loads_at z call word n v w (in_he
 
 -- so was the stamp word of a header that the pass has locked
 pub stamp_loaded : (z : Sizes) (call word n : ℕ) (v w : PassState) (h : ℕ) → h < z.headers → word ≡ index z (in_headers (at_stamp h)) → 0 < in_state h LOCKED v.headers → Loads z call word v n w → LoadsMore z call v w
-stamp_loaded z call word n v w h inside at locked l = record { more = _ ∷ []; loads = ((refl, subst (λ (i : ℕ). i < rooms_at z) (sym (l.at ∙ at)) (header_before z (at_stamp h) inside), refl), tt); after = met_locked z call word h n v w inside at locked l }
+stamp_loaded z call word n v w h inside at locked l = record { more = _ ∷ []; loads = ((refl, subst (λ (i : ℕ). i < rooms_at z) (sym (l.at ∙ at)) (header_before z (at_stamp h) inside), refl, refl), tt); after = met_locked z call word h n v w inside at locked l }
 
 -- a pass that only met one thing more learned nothing
 pub loads_learn : (call : ℕ) (v u : PassState) (f : Finding) → f.call ≡ call → u ≡ grown (f ∷ []) v → Learns call v u
@@ -57,7 +57,7 @@ pub loads_in : (z : Sizes) (first now : ℕ) (v w : PassState) → now ≡ first
 loads_in z first now v w e l = subst (λ (k : ℕ). LoadsMore z k v w) e l
 
 pub comes_loaded : (z : Sizes) (call : ℕ) (v w : PassState) → LoadsMore z call v w → ComesTo z call v.blocks.held v.headers.held v w
-comes_loaded z call v w l = record { more = l.more; calls = each_map (IsLoadOf z call) (IsOf z call) l.more (λ f is. (is.0, is.1)) l.loads; after = l.after }
+comes_loaded z call v w l = record { more = l.more; calls = each_map (IsLoadOf z call) (IsOf z call) l.more (λ f is. (is.0, is.1, is.3)) l.loads; after = l.after }
 
 pub comes_none : (z : Sizes) (call : ℕ) (v : PassState) → ComesTo z call v.blocks.held v.headers.held v v
 comes_none z call v = comes_loaded z call v v (loads_none z call v)

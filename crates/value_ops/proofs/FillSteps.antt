@@ -134,7 +134,7 @@ module _ (z : Sizes) (call h : ℕ) (c : Class) (b len stamp : ℕ) (v : PassSta
           told = t3;
           generation_is = refl;
           more = first ∷ second ∷ third ∷ [];
-          calls = ((refl, header_before z (at_place h) inside), ((refl, header_before z (at_stamp h) inside), ((refl, header_before z (at_pin h) inside), tt)));
+          calls = ((refl, header_before z (at_place h) inside, refl), ((refl, header_before z (at_stamp h) inside, refl), ((refl, header_before z (at_pin h) inside, refl), tt)));
           still = fill_runs z h inside call place stamp v u y n w t1 t2 t3 was_owned;
           after = opened ∙ (ap (with_open (class_number c) b (words_held (class_number c) b v.blocks.held)) both_is
               ∙ ap (λ (s : PassState). record s { blocks = (filled_state h c b len stamp v).blocks; headers = (filled_state h c b len stamp v).headers }) (grown_twice v (first ∷ second ∷ []) (third ∷ [])));

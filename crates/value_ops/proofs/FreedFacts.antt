@@ -55,7 +55,7 @@ releases_owned z call h v n w t = record {
   told = t;
   freed = freed z call h Owned v n w t;
   more = finding z call (pin_spot h) _ _ t.table.words v ∷ [];
-  calls = ((refl, header_before z (at_pin h) t.may.0.inside), tt);
+  calls = ((refl, header_before z (at_pin h) t.may.0.inside, refl), tt);
   still = frees z call h Owned v n w t;
   after = t.after;
 }

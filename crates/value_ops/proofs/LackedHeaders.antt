@@ -11,7 +11,7 @@ use Rattle.oak_core.specs.declared.states.Finding.{Finding}
 use Rattle.oak_core.specs.declared.states.PassState.{PassState}
 use Rattle.oak_core.specs.Finding.{had, IsLoadOf}
 use Rattle.oak_core.specs.FoundBehind.{FoundBehind}
-use Rattle.oak_core.specs.Lack.{FoundTaken, FoundRenewed, KeySwept, Lacks}
+use Rattle.oak_core.specs.Lack.{FoundTaken, FoundRenewed, KeySwept, Lacks, TookBut}
 use Rattle.oak_core.specs.Memory.{index}
 use Rattle.oak_core.proofs.FoundThere.{found_behind}
 use Rattle.oak_core.proofs.Lacked.{lacks_then}
@@ -33,4 +33,4 @@ module _ (z : Sizes) (call : ℕ) (v w : PassState) (idle : v.headers ≡ no_hea
   -- so where the call swept every key before it, and met nothing of another call, it may be noted
   pub headers_lack : (began : ℕ) → began ≤ length v.findings.met → ((i : ℕ) (f : Finding) → began ≤ i → get_elem? v.findings.met i ≡ some f → f.call ≡ call)
       → ((k : List ℕ) → IsKey k → KeySwept began (length v.findings.met) v.findings.swept k) → Lacks z call Header None began (length w.findings.met) w.findings
-  headers_lack began le own swept = lacks_then z call v w none.more none.after (each_map (IsLoadOf z call) (λ (f : Finding). f.call ≡ call) none.more (λ f l. l.0) none.looks) Header None began le own swept unfree_for_all
+  headers_lack began le own swept = lacks_then z call v w none.more none.after (each_map (IsLoadOf z call) (λ (f : Finding). f.call ≡ call) none.more (λ f l. l.0) none.looks) Header None began le own swept unfree_for_all (each_map (IsLoadOf z call) (TookBut Header None) none.more (λ f l. tt) none.looks)

@@ -23,7 +23,7 @@ use Rattle.oak_core.specs.Step.{Step, load, on_headers, Told}
 use Rattle.oak_core.proofs.CallSteps.{learns_both, learns_none, stands_learns}
 use Rattle.oak_core.proofs.PinTold.{pin_knows, pin_learns}
 use Rattle.oak_core.proofs.StampSteps.{stamp_knows, stamp_learns}
-use Rattle.oak_core.proofs.TaughtSteps.{heard_more, loaded_same, over_later, removal_stays, seen_more, sighted_later}
+use Rattle.oak_core.proofs.TaughtSteps.{heard_more, loaded_same, over_later, removal_stays, seen_more}
 use Rattle.oak_core.proofs.Words.{header_before, index_apart}
 use Rattle.value_ops.specs.Pinning.{with_pin, FindsGone, KnowsLife, KnowsMore, MeetsMore, OnlyLearns}
 
@@ -93,7 +93,7 @@ knows_taught z call x v n w t b y e = record { loaded = loaded_same z call x v n
 pub learned_pin : (z : Sizes) (call h g n : ℕ) (v w : PassState) → Pins z call h g v n w → Learned z call v w
 learned_pin z call h g n v w t = record {
   more = _ ∷ [];
-  calls = ((refl, header_before z (at_pin h) t.may.0.inside), tt);
+  calls = ((refl, header_before z (at_pin h) t.may.0.inside, refl), tt);
   met = ap (λ (x : PassState). x.findings.met) t.after;
   learns = pin_learns z call h g v n w t;
   knows = knows_taught z call (on_headers (pin_header h g)) v n w t _ _ (pin_knows z call h g v n w t);
@@ -105,7 +105,7 @@ learned_pin z call h g n v w t = record {
 stamp_told : (z : Sizes) (call h n : ℕ) (v w : PassState) → h < z.headers → Told z call (load (in_headers (at_stamp h))) v n w → Learned z call v w
 stamp_told z call h n v w inside t = record {
   more = _ ∷ [];
-  calls = ((refl, header_before z (at_stamp h) inside), tt);
+  calls = ((refl, header_before z (at_stamp h) inside, refl), tt);
   met = ap (λ (x : PassState). x.findings.met) t.after;
   learns = stamp_learns z call h v n w t;
   knows = knows_taught z call (load (in_headers (at_stamp h))) v n w t _ _ (stamp_knows z call h v n w t);

@@ -83,7 +83,7 @@ module _ (z : Sizes) (call h g : ℕ) (inside : h < z.headers) (word n : ℕ) (v
   looks = subst (λ (i : ℕ). Loads z call i v n u) at l
 
   loaded_of : IsOf z call f
-  loaded_of = (refl, subst (λ (i : ℕ). i < rooms_at z) (sym (l.at ∙ at)) (header_before z (at_pin h) inside))
+  loaded_of = (refl, subst (λ (i : ℕ). i < rooms_at z) (sym (l.at ∙ at)) (header_before z (at_pin h) inside), refl)
 
   -- the load found another word than that of a live header without a pin
   pub refused_first : may_lock n g ≡ false → FindsNoLock z call h g (refusal n g) v u
@@ -131,7 +131,7 @@ module _ (z : Sizes) (call h g : ℕ) (inside : h < z.headers) (word n : ℕ) (v
         looks = record { between = u; loads = looks; live = (live_word n g is_so).0; told = t };
         cause = is_cause k g (busy_word k g (not_lockable ne) in_use_now);
         more = f ∷ met_now ∷ [];
-        calls = (loaded_of, ((refl, header_before z (at_pin h) inside), tt));
+        calls = (loaded_of, ((refl, header_before z (at_pin h) inside, refl), tt));
         after = lock_missed z call h n u k w t ne ∙ (ap (grown (met_now ∷ [])) now_met ∙ grown_twice v (f ∷ []) (met_now ∷ []));
       }
 
@@ -166,7 +166,7 @@ module _ (z : Sizes) (call h g : ℕ) (inside : h < z.headers) (word n : ℕ) (v
           unheld = unheld;
           unpinned = t.rule.headers.counted h ∙ (ap count_of is_seen ∙ live.0.count);
           more = f ∷ met_hit ∷ [];
-          calls = (loaded_of, ((refl, header_before z (at_pin h) inside), tt));
+          calls = (loaded_of, ((refl, header_before z (at_pin h) inside, refl), tt));
           met = ap (λ (y : PassState). y.findings.met) t.after ∙ (ap (λ (y : PassState). y.findings.met ++ met_hit ∷ []) now_met ∙ append_assoc v.findings.met (f ∷ []) (met_hit ∷ []));
           learns = learns_both call v u w (loads_learn call v u f refl now_met) (lock_learns z call h n u k w t);
           blocks = lock_blocks z call h n u k w t ∙ ap (λ (y : PassState). y.blocks) now_met;

@@ -22,12 +22,14 @@ use Rattle.oak_core.specs.HeaderTeaching.{finds_over, is_over}
 use Rattle.oak_core.specs.Loading.{IsPlain}
 use Rattle.oak_core.specs.Memory.{Memory, Spot, IsInside, in_headers, index, rooms_at, memory}
 use Rattle.oak_core.specs.PassState.{headers_held}
+use Rattle.oak_core.specs.QuietSteps.{IsQuiet, Quiet}
 use Rattle.oak_core.specs.Splitting.{Loads}
 use Rattle.oak_core.specs.Step.{load, on_headers, found, MayOnHeaders, Told}
 use Rattle.oak_core.proofs.HeadersInArena.{pin_fact}
 use Rattle.oak_core.proofs.MetMore.{grown_twice, grown_none}
 use Rattle.oak_core.proofs.AloneRuns.{Then, runs_then, runs_as, runs_none}
 use Rattle.oak_core.proofs.PinTold.{dead_over, dead_stamp, none_over, other_over, over_found, over_removal, over_stamp, pin_quiet}
+use Rattle.oak_core.proofs.QuietCalls.{only_both, only_none, quiet_load, quiet_pin_header, quiet_unpin_header}
 use Rattle.oak_core.proofs.Words.{index_apart, memory_read, header_before}
 use Rattle.value_ops.specs.declared.pinning.BadPin.{BadPin}
 use Rattle.value_ops.specs.declared.pinning.BadPin.TheVariants.{Locked, Dead, Other}
@@ -55,7 +57,7 @@ may_unpin z h v p = record { inside = p.inside; headers = ap (pins_of h) p.is �
 
 pub loads_at : (z : Sizes) (call word n : ℕ) (v w : PassState) (q : Spot) → IsInside z q → IsPlain q → word ≡ index z q → index z q < rooms_at z → Loads z call word v n w → OnlyLoads z call v w
 loads_at z call word n v w q inside plain is front l = record {
-  loads = record { more = _ ∷ []; loads = ((refl, subst (λ (i : ℕ). i < rooms_at z) (sym (l.at ∙ is)) front, refl), tt); after = met_at z call word n v w q inside plain is l };
+  loads = record { more = _ ∷ []; loads = ((refl, subst (λ (i : ℕ). i < rooms_at z) (sym (l.at ∙ is)) front, refl, refl), tt); after = met_at z call word n v w q inside plain is l };
   still = load_stays z call word n v w l;
 }
 
@@ -76,7 +78,7 @@ pub loads_in : (z : Sizes) (first now : ℕ) (v w : PassState) → now ≡ first
 loads_in z first now v w e l = subst (λ (k : ℕ). OnlyLoads z k v w) e l
 
 pub loads_meet : (z : Sizes) (call : ℕ) (v w : PassState) → OnlyLoads z call v w → MeetsMore z call v w
-loads_meet z call v w l = record { more = l.loads.more; calls = each_map (IsLoadOf z call) (IsOf z call) l.loads.more (λ f k. (k.0, k.1)) l.loads.loads; after = l.loads.after }
+loads_meet z call v w l = record { more = l.loads.more; calls = each_map (IsLoadOf z call) (IsOf z call) l.loads.more (λ f k. (k.0, k.1, k.3)) l.loads.loads; after = l.loads.after }
 
 pub pin_stays : (v w : PassState) (more : List Finding) → w ≡ grown more v → w.headers.pin ≡ v.headers.pin
 pin_stays v w more after = ap (λ (x : PassState). x.headers.pin) after
@@ -112,8 +114,9 @@ module _ (z : Sizes) (call h n : ℕ) (v w : PassState) (t : Unpins z call h v n
   pin_ends = record {
     number = n;
     told = t;
-    meets = record { more = _ ∷ []; calls = ((refl, header_before z (at_pin h) t.may.0.inside), tt); after = t.after };
+    meets = record { more = _ ∷ []; calls = ((refl, header_before z (at_pin h) t.may.0.inside, refl), tt); after = t.after };
     still = pin_changes z call (unpin_header h) h refl v n w t (λ k. 0 < count_of k) (λ k. k - 1) counts (less_is n (small z call (unpin_header h) h refl v n w t) counts);
+    quiet = quiet_unpin_header z call h v n w t;
   }
 
 module _ (z : Sizes) (call h g n : ℕ) (v w : PassState) (t : Pins z call h g v n w) where
@@ -130,7 +133,7 @@ module _ (z : Sizes) (call h g n : ℕ) (v w : PassState) (t : Pins z call h g v
   met_pin = finding z call (pin_spot h) (Some (found z (on_headers (pin_header h g)) t.table)) (header_effect (pin_header h g) (found z (on_headers (pin_header h g)) t.table)) t.table.words v
 
   of_call : Each (IsOf z call) (met_pin ∷ [])
-  of_call = ((refl, header_before z (at_pin h) t.may.0.inside), tt)
+  of_call = ((refl, header_before z (at_pin h) t.may.0.inside, refl), tt)
 
   -- where it finds no life over
   pinned_is : finds_over h g n v.knowledge ≡ false → w ≡ with_pin (Some pin) (grown (met_pin ∷ []) v)
@@ -149,6 +152,7 @@ module _ (z : Sizes) (call h g n : ℕ) (v w : PassState) (t : Pins z call h g v
     told = t;
     live = live;
     generation = e;
+    quiet = quiet_pin_header z call h g v n w t;
     still = changes (IsLiveAt g) (e, live);
     more = met_pin ∷ [];
     calls = of_call;
@@ -198,8 +202,8 @@ module _ (z : Sizes) (call h g n : ℕ) (v w : PassState) (t : Pins z call h g v
   headers_pinned = ap (λ (y : PassState). y.headers) t.after
 
   -- the pin is undone
-  pub pinned_dud : (why : BadPin) (x u : PassState) → v.headers.pin ≡ None → IsCause why g n → LooksUnder z call h why m w x → Learned z call w x → x.headers ≡ w.headers → Runs (Between why) w x → EndsPin z call h x u → LearnsCause z call h g why v u → PinsDud z call h g why v u
-  pinned_dud why x u none cause looks learned headers between undo tells = record {
+  pub pinned_dud : (why : BadPin) (x u : PassState) → v.headers.pin ≡ None → IsCause why g n → LooksUnder z call h why m w x → Learned z call w x → x.headers ≡ w.headers → Quiet w x → Runs (Between why) w x → EndsPin z call h x u → LearnsCause z call h g why v u → PinsDud z call h g why v u
+  pinned_dud why x u none cause looks learned headers quiet between undo tells = record {
     number = n;
     pinned = w;
     told = t;
@@ -210,6 +214,7 @@ module _ (z : Sizes) (call h g n : ℕ) (v w : PassState) (t : Pins z call h g v
     only = only_learned z call v u (learned_both z call v w u (learned_pin z call h g n v w t) (learned_both z call w x u learned (learned_met z call x u None undo.meets)))
         (ap (λ (y : PassState). y.headers) undo.meets.after ∙ (ap (λ (a : HeaderHolds). record a { pin = None }) (headers ∙ headers_pinned) ∙ ap (λ (y : PassState). y.headers) (unpinned_is v none)));
     learned = tells;
+    quiet = only_both IsQuiet v w u (quiet_pin_header z call h g v n w t) (only_both IsQuiet w x u quiet undo.quiet);
     still = dud_runs why x u cause between undo.still;
   }
 
@@ -232,7 +237,7 @@ module _ (z : Sizes) (call h g n : ℕ) (v w : PassState) (t : Pins z call h g v
 
   module _ (none : v.headers.pin ≡ None) (later : ℕ) where
     at_once : (why : BadPin) (u : PassState) → IsCause why g n → LooksUnder z call h why m w w → ((k : ℕ) → IsStampOf why k) → EndsPin z call h w u → LearnsCause z call h g why v u → PinsDud z call h g why v u
-    at_once why u cause looks any undo tells = pinned_dud why w u none cause looks (learned_none z call w) refl (runs_none (Between why) w (λ a. (refl, any ((memory z a).headers.stamp h)))) undo tells
+    at_once why u cause looks any undo tells = pinned_dud why w u none cause looks (learned_none z call w) refl (only_none IsQuiet w w refl) (runs_none (Between why) w (λ a. (refl, any ((memory z a).headers.stamp h)))) undo tells
 
     undone_here : (x u : PassState) → later ≡ call → EndsPin z later h x u → EndsPin z call h x u
     undone_here x u e undo = subst (λ (i : ℕ). EndsPin z i h x u) e undo
@@ -247,7 +252,7 @@ module _ (z : Sizes) (call h g n : ℕ) (v w : PassState) (t : Pins z call h g v
 
     pub dead_dud : (last word stamp : ℕ) (x u : PassState) → later ≡ call → last ≡ call → generation_of n ≡ g → state_of n ≡ DEAD → word ≡ index z (in_headers (at_stamp h)) → Loads z later word w stamp x → EndsPin z last h x u → PinsDud z call h g (Dead stamp) v u
     dead_dud last word stamp x u e f same dead at l undo = pinned_dud (Dead stamp) x u none (same, dead)
-        (subst (λ (i : ℕ × ℕ). Loads z i.0 i.1 w stamp x) (λ i. (e i, at i)) l, stays) looked (headers_loaded z later word stamp w x l)
+        (subst (λ (i : ℕ × ℕ). Loads z i.0 i.1 w stamp x) (λ i. (e i, at i)) l, stays) looked (headers_loaded z later word stamp w x l) (quiet_load z call (in_headers (at_stamp h)) w stamp x told)
         (runs_as (FindsWord z (in_headers (at_stamp h)) stamp) (Between (Dead stamp)) w x (λ a b d. (d.1, d.0)) (load_finds z later word stamp w x (in_headers (at_stamp h)) t.may.0.inside at l))
         here (λ key knows. record {
           gone = subst (λ (k : ℕ). FindsGone h g key k v u) (dead_stamp z call h g v n w t key knows (dead_over g n same dead) dead same ∙ sym stays)

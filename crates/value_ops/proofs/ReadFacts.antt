@@ -1,5 +1,5 @@
 -- What the two loads of a reading leave: the pass learned all that was written of the key of the life under its pin, and read it.
-use Rattle.std.proofs.Common.{◌≡◌, ℕ, ◌<◌, List, [], ◌∷◌, ◌++◌, sym, refl, ap, ◌∙◌, subst, append_assoc, Some}
+use Rattle.std.proofs.Common.{◌≡◌, ℕ, ◌<◌, List, [], ◌∷◌, ◌++◌, sym, refl, ap, ◌∙◌, subst, append_assoc, Some, inl}
 use Rattle.oak_model.specs.KeyNumber.{key_number}
 use Rattle.oak_model.specs.Limits.{Sizes}
 use Rattle.header_core.specs.declared.holds.HeaderHolds.{HeaderHolds}
@@ -34,13 +34,13 @@ module _ (z : Sizes) (call h g : ℕ) (p : PinnedHeader) (v : PassState) (place 
   first_met = met_at z call (index z (in_headers (at_place h))) place v u (in_headers (at_place h)) has.inside tt refl l
 
   of_first : IsLoadOf z call first
-  of_first = (refl, subst (λ (i : ℕ). i < rooms_at z) (sym l.at) (header_before z (at_place h) has.inside), refl)
+  of_first = (refl, subst (λ (i : ℕ). i < rooms_at z) (sym l.at) (header_before z (at_place h) has.inside), refl, refl)
 
   of_second : IsLoadOf z call second
-  of_second = (refl, subst (λ (i : ℕ). i < rooms_at z) (sym k.at) (header_before z (at_stamp h) has.inside), refl)
+  of_second = (refl, subst (λ (i : ℕ). i < rooms_at z) (sym k.at) (header_before z (at_stamp h) has.inside), refl, refl)
 
   placed : Learned z call v u
-  placed = learned_met z call v u v.headers.pin record { more = first ∷ []; calls = ((of_first.0, of_first.1), tt); after = first_met }
+  placed = learned_met z call v u v.headers.pin record { more = first ∷ []; calls = ((of_first.0, of_first.1, of_first.3), tt); after = first_met }
 
   read_all : Learned z call v w
   read_all = learned_both z call v u w placed (learned_stamp z call (index z (in_headers (at_stamp h))) h stamp u w has.inside refl k)
@@ -52,7 +52,7 @@ module _ (z : Sizes) (call h g : ℕ) (p : PinnedHeader) (v : PassState) (place 
   reading_loads = record {
     only = record {
       more = first ∷ second ∷ [];
-      calls = ((of_first.0, of_first.1), ((of_second.0, of_second.1), tt));
+      calls = ((of_first.0, of_first.1, of_first.3), ((of_second.0, of_second.1, of_second.3), tt));
       met = met_both;
       learns = read_all.learns;
       knows = read_all.knows;
@@ -61,6 +61,7 @@ module _ (z : Sizes) (call h g : ℕ) (p : PinnedHeader) (v : PassState) (place 
       rooms = read_all.rooms;
     };
     loads = (of_first, (of_second, tt));
+    quiet = record { more = first ∷ second ∷ []; met = met_both; each = ((of_first.3, inl of_first.2), ((of_second.3, inl of_second.2), tt)) };
     still = both_stay v u w (load_stays z call (index z (in_headers (at_place h))) place v u l) (load_stays z call (index z (in_headers (at_stamp h))) stamp u w k);
   }
     where

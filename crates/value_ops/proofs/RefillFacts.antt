@@ -111,7 +111,7 @@ module _ (z : Sizes) (call h g first : ℕ) (v : PassState) (is : HasWords z h g
     came : ComesTo z call u.blocks.held (changed_at h x over u.headers.held) u w
     came = record {
       more = met_then ∷ [];
-      calls = ((refl, header_before z (at_place h) is.lock.inside), tt);
+      calls = ((refl, header_before z (at_place h) is.lock.inside, refl), tt);
       after = t.1.after ∙ (λ i. record (noted met_then u) {
         blocks = record u.blocks { held = cond (block_stays i) u.blocks.held (block_from m.arena.bytes (class_from (class_in (m.headers.place h))) (block_in (m.headers.place h)) ∷ without (class_in x) (block_in x) u.blocks.held) };
         headers = record u.headers { held = changed_at h x (words_stay i) u.headers.held };

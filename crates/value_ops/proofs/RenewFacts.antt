@@ -95,7 +95,7 @@ module _ (z : Sizes) (call h g stamp : ℕ) (v u : PassState) (has : HasBuried z
     came : ComesTo z call (given ∷ u.blocks.held) (without_header h u.headers.held) u w
     came = record {
       more = met_then ∷ [];
-      calls = ((refl, header_before z (at_pin h) has.inside), tt);
+      calls = ((refl, header_before z (at_pin h) has.inside, refl), tt);
       after = t.after ∙ (λ i. record (noted met_then u) {
         blocks = record u.blocks { held = block_at z t.table t.rule t.seat u t.here h DEAD (omega arith) (omega arith) buried.buried i ∷ u.blocks.held };
         headers = record u.headers { held = without_header h u.headers.held };

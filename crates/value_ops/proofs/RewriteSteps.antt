@@ -77,4 +77,4 @@ module _ (z : Sizes) (h g first : ℕ) (v : PassState) (is : HasWords z h g firs
   may_store = record { locked = is.lock.locked; class = is.block.named.is_in; block = refl }
 
 pub stores : (z : Sizes) (call h : ℕ) (d : Class) (b i word x : ℕ) (v w : PassState) → NamesWord z d b i word → Writes z call (of_locked h) d b i x v w → ComesTo z call v.blocks.held (reworded h i x v.headers.held) v w
-stores z call h d b i word x v w is t = record { more = _ ∷ []; calls = ((refl, arena_before z (at_bytes (class_number d) b i) (class_below d, is.inside, is.place)), tt); after = t.1.after }
+stores z call h d b i word x v w is t = record { more = _ ∷ []; calls = ((refl, arena_before z (at_bytes (class_number d) b i) (class_below d, is.inside, is.place), refl), tt); after = t.1.after }

@@ -51,7 +51,7 @@ module _ (z : Sizes) (call h g x : ℕ) (v : PassState) (lock : HasLock z h g v)
   may_stamp = record { inside = lock.inside; headers = ((let l = lock.locked in omega arith), small); block = tt; known = tt }
 
   pub stamp_stored : (w : PassState) → StoresStamp z call h x v w → ComesTo z call v.blocks.held (stamped_at h x v.headers.held) v w
-  stamp_stored w t = record { more = _ ∷ []; calls = ((refl, header_before z (at_stamp h) lock.inside), tt); after = t.1.after }
+  stamp_stored w t = record { more = _ ∷ []; calls = ((refl, header_before z (at_stamp h) lock.inside, refl), tt); after = t.1.after }
 
 -- by a pass that only met more since
 pub stored_since : (z : Sizes) (call h g x : ℕ) (v u w : PassState) → HasLock z h g v → LoadsMore z call v u → x < 2 ^ 64 → StoresStamp z call h x u w → ComesTo z call v.blocks.held (stamped_at h x v.headers.held) v w

@@ -60,13 +60,13 @@ module _ (z : Sizes) (call h g stamp : ℕ) (v u : PassState) (i : IsStamped z c
     left = left z call x h refl u n w t LIVE g (let d = down.1 in let e = was_locked x refl n w t in omega arith) (down.2 ∙ generation_was x refl n w t) down.0;
     value = value_left x refl n w t;
     comes = ends_as z call w.knowledge v.blocks.held (without_header h u.headers.held) (without_header h v.headers.held) v w i.others
-        (ends_after z call v.blocks.held u.headers.held (without_header h u.headers.held) v u w (step_finding x n w t) (refl, header_before z (at_pin h) i.lock.inside) i.comes
+        (ends_after z call v.blocks.held u.headers.held (without_header h u.headers.held) v u w (step_finding x n w t) (refl, header_before z (at_pin h) i.lock.inside, refl) i.comes
         (t.after ∙ (λ j. record (noted (step_finding x n w t) u) { knowledge = ap (λ (y : PassState). y.knowledge) (sym t.after) j; headers = record u.headers { held = without_header h u.headers.held } })));
   }
 
   module _ (n : ℕ) (w : PassState) (t : MarksDead z call h u n w) where
     marked : EndsTo z call w.knowledge v.blocks.held (buried_at h u.headers.held) v w
-    marked = ends_after z call v.blocks.held u.headers.held (buried_at h u.headers.held) v u w (step_finding (mark_dead h) n w t) (refl, header_before z (at_pin h) i.lock.inside) i.comes
+    marked = ends_after z call v.blocks.held u.headers.held (buried_at h u.headers.held) v u w (step_finding (mark_dead h) n w t) (refl, header_before z (at_pin h) i.lock.inside, refl) i.comes
         (t.after ∙ (λ j. record (noted (step_finding (mark_dead h) n w t) u) { knowledge = ap (λ (y : PassState). y.knowledge) (sym t.after) j; headers = record u.headers { held = buried_at h u.headers.held } }))
 
     pub buries : StoresNext z call h stamp v u → u.headers.held ≡ stamped_at h stamp v.headers.held → Buries z call h g stamp v w

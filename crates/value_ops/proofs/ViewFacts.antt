@@ -9,12 +9,14 @@ use Rattle.oak_core.specs.Known.{KnowsHeader}
 use Rattle.oak_core.specs.Memory.{memory}
 use Rattle.oak_core.specs.Passes.{state}
 use Rattle.oak_core.specs.PassState.{seen_of}
+use Rattle.oak_core.specs.QuietSteps.{IsQuiet}
 use Rattle.oak_core.specs.Sights.{SightedSince}
 use Rattle.oak_core.proofs.AloneRuns.{runs_as}
 use Rattle.oak_core.proofs.CallSteps.{begins_same}
 use Rattle.oak_core.proofs.KnownHeaders.{known_life}
 use Rattle.oak_core.proofs.KnownReads.{read_since}
 use Rattle.oak_core.proofs.PinTold.{dead_over, other_over}
+use Rattle.oak_core.proofs.QuietCalls.{only_both}
 use Rattle.value_ops.specs.declared.pinning.BadPin.{BadPin}
 use Rattle.value_ops.specs.declared.pinning.BadPin.TheVariants.{Locked, Dead, Other}
 use Rattle.value_ops.specs.declared.reading.Reading.{Reading}
@@ -73,6 +75,7 @@ module _ (z : Sizes) (call : ℕ) (x : Viewed) (v w : PassState) (known : KnowsV
     pinned = w;
     pins = pins;
     loads = loads;
+    quiet = only_both IsQuiet v w (state r.pass.now) pins.quiet loads.quiet;
     found = found;
     reading = reading;
     header_is = sym reading.pinned.has.header_is ∙ ap header_pinned (sym reading.pinned.has.is ∙ (ap (λ (a : HeaderHolds). a.pin) loads.only.headers ∙ pins.pin.is));

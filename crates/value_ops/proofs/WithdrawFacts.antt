@@ -45,7 +45,7 @@ module _ (z : Sizes) (call h g : ℕ) (v : PassState) (inside : h < z.headers) (
     now_met = met_at z call word n v u (in_headers (at_place h)) inside tt is l
 
     first_of : IsLoadOf z call first
-    first_of = (refl, subst (λ (i : ℕ). i < rooms_at z) (sym (l.at ∙ is)) (header_before z (at_place h) inside), refl)
+    first_of = (refl, subst (λ (i : ℕ). i < rooms_at z) (sym (l.at ∙ is)) (header_before z (at_place h) inside), refl, refl)
 
     named : n ≡ place_held h v.headers.held
     named = held_place z call h LIVE word n v u inside (omega arith) (omega arith) fresh l is
@@ -105,7 +105,7 @@ module _ (z : Sizes) (call h g : ℕ) (v : PassState) (inside : h < z.headers) (
         told = told_of z call (on_headers (release_header h Fresh)) u (grown (first ∷ []) v) now_met k w t;
         freed = freed z call h Fresh (grown (first ∷ []) v) k w (told_of z call (on_headers (release_header h Fresh)) u (grown (first ∷ []) v) now_met k w t);
         more = first ∷ second ∷ [];
-        calls = ((first_of.0, first_of.1), ((refl, header_before z (at_pin h) inside), tt));
+        calls = ((first_of.0, first_of.1, first_of.3), ((refl, header_before z (at_pin h) inside, refl), tt));
         after = after_is ∙ (ap (with_block given) now_met
             ∙ ap (λ (y : PassState). record y { blocks = record v.blocks { held = given ∷ v.blocks.held }; headers = record v.headers { held = without_header h v.headers.held } }) (grown_twice v (first ∷ []) (second ∷ [])));
       }

@@ -17,6 +17,7 @@ use Rattle.oak_core.specs.KeyHistories.{home_behind}
 use Rattle.oak_core.specs.KeyReads.{home_of}
 use Rattle.oak_core.specs.LastReads.{ReadsLast}
 use Rattle.oak_core.specs.PassState.{seen_of}
+use Rattle.oak_core.specs.QuietSteps.{Quiet}
 use Rattle.oak_core.specs.Splitting.{Loads}
 use Rattle.oak_core.specs.declared.states.PassState.{PassState}
 use Rattle.oak_core.specs.declared.table.Pass.{Pass}
@@ -78,6 +79,7 @@ pub record OnlyLoads (z : Sizes) (call : ℕ) (v w : PassState) : Type 0 where
 pub record LearnsByLoads (z : Sizes) (call : ℕ) (v w : PassState) : Type 0 where
   pub only : OnlyLearns z call v w
   pub loads : Each (IsLoadOf z call) only.more
+  pub quiet : Quiet v w
   pub still : Runs WordsStay v w
 
 -- The key was read: at the place of the stamp, which was found for it and at which all ends that the pass has seen of it, it has these bytes, in the life that the header has at the generation.

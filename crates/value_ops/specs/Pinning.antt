@@ -20,6 +20,7 @@ use Rattle.oak_core.specs.KeyReads.{home_of}
 use Rattle.oak_core.specs.Lessons.{KnowsRemoval}
 use Rattle.oak_core.specs.LifeKeys.{key_known, loaded_in}
 use Rattle.oak_core.specs.Memory.{Memory, in_headers, index, memory}
+use Rattle.oak_core.specs.QuietSteps.{Quiet}
 use Rattle.oak_core.specs.Sights.{FoundOverSince, SightedSince}
 use Rattle.oak_core.specs.Splitting.{Loads}
 use Rattle.value_ops.specs.Claiming.{ChangesPin}
@@ -98,6 +99,8 @@ pub record PinsLive (z : Sizes) (call h g : ℕ) (v w : PassState) : Type 0 wher
   pub told : Pins z call h g v number w
   pub live : state_of number ≡ LIVE
   pub generation : generation_of number ≡ g
+  -- it was a pin, and took no block
+  pub quiet : Quiet v w
   -- to a pass that is alone
   pub still : Runs (AddsPin z h g) v w
   pub more : List Finding
@@ -128,6 +131,8 @@ pub record EndsPin (z : Sizes) (call h : ℕ) (v w : PassState) : Type 0 where
   pub number : ℕ
   pub told : Unpins z call h v number w
   pub meets : MeetsMore z call (with_pin None v) w
+  -- it was the end of a pin, and took no block
+  pub quiet : Quiet v w
   -- to a pass that is alone
   pub still : Runs (DropsPin z h) v w
 
@@ -157,5 +162,7 @@ pub record PinsDud (z : Sizes) (call h g : ℕ) (why : BadPin) (v w : PassState)
   pub undone : EndsPin z call h looked w
   pub only : OnlyLearns z call v w
   pub learned : LearnsCause z call h g why v w
+  -- these steps were a pin, its end and a load, and took no block
+  pub quiet : Quiet v w
   -- to a pass that is alone
   pub still : Runs (FindsDud z h g why) v w

@@ -9,6 +9,7 @@ use Rattle.oak_core.specs.HeaderTeaching.{is_over}
 use Rattle.oak_core.specs.LifeKeys.{key_in_loaded}
 use Rattle.oak_core.specs.Memory.{memory}
 use Rattle.oak_core.specs.Passes.{Stays, state}
+use Rattle.oak_core.specs.QuietSteps.{Quiet}
 use Rattle.oak_core.specs.declared.table.Pass.{Pass}
 use Rattle.value_ops.specs.declared.pinning.BadPin.{BadPin}
 use Rattle.value_ops.specs.declared.pinning.BadPin.TheVariants.{Locked, Dead, Other}
@@ -76,6 +77,8 @@ pub record ReadsView (z : Sizes) (call : ℕ) (x : Viewed) (v : PassState) (r : 
   pub pinned : PassState
   pub pins : PinsLive z call x.header x.generation v pinned
   pub loads : LearnsByLoads z call pinned (state r.pass.now)
+  -- the steps were the pin and loads, and took no block
+  pub quiet : Quiet v (state r.pass.now)
   pub found : FindsStamp z call x.header (stamp r) pinned (state r.pass.now)
   pub reading : IsReading r
   pub header_is : header r ≡ x.header

@@ -3,8 +3,6 @@
 
 mod burying;
 mod claiming;
-#[cfg(test)]
-mod claiming_tests;
 mod filling;
 mod locked;
 mod locking;
@@ -12,10 +10,6 @@ mod pinned_value;
 mod pinning;
 mod readers;
 mod reading;
-#[cfg(test)]
-mod reading_tests;
-#[cfg(test)]
-mod recipe_tests;
 mod recipes;
 mod rewriting;
 mod views;

@@ -24,7 +24,7 @@ pub struct PinnedValue {
 }
 
 impl HeaderPin {
-    /// Loads where the value lies that the header had at the pin.
+    /// Loads where the value lies that the header had at the pin. It makes loads alone.
     pub fn value(self, table: &OakTable, pass: &mut Pass) -> PinnedValue
         requires own { IsPassOf table.now pass.old }
         requires pinned { (p : PinnedHeader) × HasPin (key table.now) self.header self.generation p (state pass.old) }
@@ -156,7 +156,7 @@ impl PinnedValue {
         }
     }
 
-    /// Undoes the pin.
+    /// Undoes the pin. It makes no other step, and takes no block.
     pub fn unpin(self, table: &OakTable, pass: &mut Pass)
         requires own { IsPassOf table.now pass.old }
         requires pinned { IsPinnedValue (key table.now) self (state pass.old) }

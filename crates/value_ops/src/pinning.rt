@@ -26,7 +26,7 @@ pub struct HeaderPin {
     pub generation: u32,
 }
 
-/// Undoes the pass's pin, which is one of this header.
+/// Undoes the pass's pin, which is one of this header, and takes no block.
 pub(crate) fn unpin(table: &OakTable, pass: &mut Pass, header: u32)
     requires own { IsPassOf table.now pass.old }
     requires pinned { PinsHeader (key table.now) header (state pass.old) }
@@ -38,7 +38,8 @@ pub(crate) fn unpin(table: &OakTable, pass: &mut Pass, header: u32)
 }
 
 /// Pins a header that the pass knows at this generation. Where the word found says that it is not live
-/// at this generation, the pin is undone and the error says why.
+/// at this generation, the pin is undone and the error says why. The steps are the pin, its end and a load
+/// alone, and take no block.
 pub fn pin_at(
     table: &OakTable,
     pass: &mut Pass,

@@ -20,7 +20,7 @@ pub struct Reading<'p> {
 }
 
 impl HeaderPin {
-    /// Reads the value that the header had at the pin.
+    /// Reads the value that the header had at the pin. It makes loads alone.
     pub fn reading<'p>(self, table: &'p OakTable, pass: &'p mut Pass) -> Reading<'p>
         requires own { IsPassOf table.now pass.old }
         requires pinned { (p : PinnedHeader) × HasPin (key table.now) self.header self.generation p (state pass.old) }
@@ -98,7 +98,7 @@ impl Reading<'_> {
         self.value.copy_into(self.table, self.pass, out);
     }
 
-    /// Undoes the pin.
+    /// Undoes the pin. It makes no other step, and takes no block.
     pub fn done(self)
         requires { IsReading self }
         ensures own { Stays self.entry.pass.now self.exit.1.0.now }

@@ -132,21 +132,3 @@ pub fn apply_once(recipe: &mut Box<dyn Recipe + Send>, value: &mut Writing)
 {
     recipe.apply(value);
 }
-
-#[cfg(test)]
-mod tests {
-    use super::*;
-    use std::test::Fail;
-
-    #[test]
-    fn a_boxed_recipe_is_told_and_not_called(rt: HostRuntime) -> Result<(), Fail> {
-        let mut recipe: Box<dyn Recipe + Send> = Box::new(rt.alloc(), StepRecipe::make())?;
-        assert_eq!(rt; recipe.kind(), RecipeKind::Rev);
-        assert_eq!(rt; recipe.argument(), 0);
-        recipe.tell(RecipeKind::Xor, 15);
-        assert_eq!(rt; recipe.kind(), RecipeKind::Xor);
-        assert_eq!(rt; recipe.argument(), 15);
-        assert_eq!(rt; recipe.calls(), 0);
-        Ok(())
-    }
-}

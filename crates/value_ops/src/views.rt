@@ -89,7 +89,8 @@ impl ValueView {
         self.at
     }
 
-    /// Pins the header of the value, where its life goes on and it is not locked.
+    /// Pins the header of the value, where its life goes on and it is not locked. The steps are the pin, its
+    /// end and a load alone, and take no block.
     pub fn pin(&self, table: &OakTable, pass: &mut Pass) -> Result<HeaderPin, NoRead>
         requires own { IsPassOf table.now pass.old }
         requires known { KnowsView (key table.now) self.now (state pass.old) }
@@ -104,7 +105,8 @@ impl ValueView {
         }
     }
 
-    /// Pins the header of the value, and reads it.
+    /// Pins the header of the value, and reads it. The steps are loads, the pin and its end alone, and take no
+    /// block.
     pub fn read<'p>(&self, table: &'p OakTable, pass: &'p mut Pass) -> Result<Reading<'p>, NoRead>
         requires { IsPassOf table.now pass.old × KnowsView (key table.now) self.now (state pass.old) × ((state pass.old).headers.pin ≡ None) }
         ensures* rests { sem 𝓛 (RestsIfErr table_pass.the_row pass.entry (λ r. r.pass.ghost_name) result (λ n. IfErr result (λ why. RestsUnread (key table.now) (call_of pass.old) self.now why pass.old n))) }
