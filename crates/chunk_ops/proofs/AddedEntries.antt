@@ -22,12 +22,14 @@ use Rattle.oak_core.specs.declared.states.Sight.{Sight}
 use Rattle.oak_core.specs.CallSteps.{Learns, Stands}
 use Rattle.oak_core.specs.CountReads.{EndsAbsent}
 use Rattle.oak_core.specs.Finding.{IsOf}
-use Rattle.oak_core.specs.Memory.{in_rooms}
+use Rattle.oak_core.specs.Memory.{in_rooms, index}
+use Rattle.oak_core.specs.QuietSteps.{MetOnly, TookNone}
 use Rattle.oak_core.specs.Step.{load, on_rooms}
 use Rattle.oak_core.proofs.CallSteps.{learns_both, stands_both, stands_learns, step_in, step_since}
 use Rattle.oak_core.proofs.KnownReads.{read_stays, read_since}
+use Rattle.oak_core.proofs.QuietCalls.{only_both, of_took, quiet_stored, quiet_took}
 use Rattle.arena_ops.specs.Taking.{Gives}
-use Rattle.chunk_ops.specs.Adds.{MayAdd, AddsEntry, FoundCrowded, FoundLatched}
+use Rattle.chunk_ops.specs.Adds.{MayAdd, AddsEntry, FoundCrowded, FoundLatched, LeavesCount}
 use Rattle.chunk_ops.specs.Finds.{FoundAbsent}
 use Rattle.chunk_ops.specs.Latching.{with_latch, AddsUnder, GivesRoomLatch, TakesRoomLatch}
 use Rattle.chunk_ops.specs.PinRecords.{HasEntry, HasRoomPin, RoomPinned, PinKept, UnderPin, OnlyMeets, pin_or, room_pin}
@@ -82,7 +84,7 @@ module _ (z : Sizes) (call r : ℕ) (t u v : PassState) (o : OnlyMeets call t u)
   taken_back none = ap (with_latch None) taken_rooms ∙ ap (λ (q : Option Latch). with_latch q t.rooms) (sym none)
 
 pub latched_since : (z : Sizes) (call r : ℕ) (t u v : PassState) → OnlyMeets call t u → FoundLatched z call r u v → FoundLatched z call r t v
-latched_since z call r t u v o f = record { step = step_since z call (on_rooms (latch_room r)) t u v o.stands.met f.step; taken = f.taken; rooms = f.rooms ∙ o.rooms }
+latched_since z call r t u v o f = record { step = step_since z call (on_rooms (latch_room r)) t u v o.stands.met f.step; taken = f.taken; rooms = f.rooms ∙ o.rooms; stored = only_both (LeavesCount z r) t u v (quiet_stored (index z (in_rooms (at_count r))) t u o.quiet) f.stored }
 
 -- ---- around what is done under it
 
@@ -126,8 +128,8 @@ module _ (z : Sizes) (call r : ℕ) (t u v w x : PassState) (o : OnlyMeets call 
   pin_behind : room_pin x ≡ room_pin w
   pin_behind = ap (λ (a : RoomHolds). pin_or a.pin) g.rooms
 
-  pub crowded_around : (k : List ℕ) → FoundCrowded z call r k v w → FoundCrowded z call r k t x
-  crowded_around k f = record {
+  pub crowded_around : (k : List ℕ) → MetOnly (LeavesCount z r) u v → MetOnly (LeavesCount z r) w x → FoundCrowded z call r k v w → FoundCrowded z call r k t x
+  crowded_around k up down f = record {
     counted = record {
       step = step_in z call (load (in_rooms (at_count r))) t v w x s.met g.stands.met f.counted.step;
       found = ap (λ (p : PinnedRoom). p.count) pin_behind ∙ f.counted.found;
@@ -136,7 +138,20 @@ module _ (z : Sizes) (call r : ℕ) (t u v w x : PassState) (o : OnlyMeets call 
     full = f.full;
     none = subst (λ (p : PinnedRoom). (e : FoundEntry) → Has e p.entries → found_key e ≢ key_number k) (sym pin_behind) f.none;
     absent = absent_in call (key_number k) (room_pin t).base t v w x s g.stands (subst (λ (p : PinnedRoom). FoundAbsent call (key_number k) p.base v w) pin_before f.absent);
+    stored = let P = LeavesCount z r in only_both P t u x (quiet_stored (index z (in_rooms (at_count r))) t u o.quiet) (only_both P u v x up (only_both P v w x f.stored down));
   }
+
+-- ---- none of it took a block
+
+pub took_latched : (call : ℕ) (t u v : PassState) → OnlyMeets call t u → MetOnly TookNone u v → MetOnly TookNone t v
+took_latched call t u v o up = only_both TookNone t u v (quiet_took t u o.quiet) up
+
+pub took_around : (call : ℕ) (t u v w x : PassState) → OnlyMeets call t u → MetOnly TookNone u v → MetOnly TookNone v w → MetOnly TookNone w x → MetOnly TookNone t x
+took_around call t u v w x o up under down = only_both TookNone t v x (took_latched call t u v o up) (only_both TookNone v w x under down)
+
+-- nor did giving it back
+pub took_back : (z : Sizes) (call : ℕ) (c : Class) (b : ℕ) (t x y : PassState) → MetOnly TookNone t x → Gives z call c b x y → MetOnly TookNone t y
+took_back z call c b t x y m g = only_both TookNone t x y m (of_took z call x y g.more (ap (λ (q : PassState). q.findings.met) g.after) g.calls)
 
 -- ---- an entry was found, and the block given back
 

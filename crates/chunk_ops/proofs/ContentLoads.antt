@@ -33,6 +33,7 @@ use Rattle.oak_core.proofs.AloneRuns.{load_runs, runs_as}
 use Rattle.oak_core.proofs.CallSteps.{step_alone}
 use Rattle.oak_core.proofs.FoundValues.{entry_key_is}
 use Rattle.oak_core.proofs.HomeWords.{NamesAt, home_is}
+use Rattle.oak_core.proofs.QuietCalls.{quiet_load}
 use Rattle.oak_core.proofs.ValueTold as told
 use Rattle.oak_core.proofs.Words.{memory_read}
 use Rattle.chunk_ops.specs.declared.entries.Content.{Content}
@@ -151,6 +152,7 @@ module _ (z : Sizes) (call r i n : ℕ) (v w : PassState) (p : HasRoomPin z r v)
   pub content_only : (c : Content) → Says c n → OnlyLearns call v w
   content_only c s = record {
     learns = learns_here c s;
+    quiet = quiet_load z call (in_rooms (at_value r i)) v n w t;
     blocks = ap (λ (y : PassState). y.blocks) t.after;
     headers = ap (λ (y : PassState). y.headers) t.after;
     rooms = ap (λ (y : PassState). y.rooms) t.after;

@@ -16,13 +16,15 @@ use Rattle.chunk_core.specs.PinnedRooms.{AreCounted, OnRoomPin, IsGoodRoom, Room
 use Rattle.chunk_core.specs.Rooms.{at_count, read_room}
 use Rattle.oak_core.specs.declared.states.PassState.{PassState}
 use Rattle.oak_core.specs.AloneWords.{Moment}
-use Rattle.oak_core.specs.Memory.{in_rooms, memory}
+use Rattle.oak_core.specs.Memory.{in_rooms, index, memory}
 use Rattle.oak_core.specs.PassState.{rooms_held}
+use Rattle.oak_core.specs.QuietSteps.{Quiet}
 use Rattle.oak_core.specs.Rule.{Rule}
 use Rattle.oak_core.specs.Step.{load}
 use Rattle.oak_core.specs.TableState.{TableState}
 use Rattle.oak_core.proofs.AloneRuns.{moment_after}
 use Rattle.oak_core.proofs.CallSteps.{learns_both}
+use Rattle.oak_core.proofs.QuietCalls.{quiet_stored}
 use Rattle.oak_core.proofs.Words.{memory_read}
 use Rattle.chunk_ops.specs.Adds.{MayAdd, FoundCrowded}
 use Rattle.chunk_ops.specs.Finds.{CountsRoom, FindsMissing}
@@ -80,12 +82,13 @@ module _ (z : Sizes) (call r : ℕ) (c : Class) (b count : ℕ) (key : List ℕ)
     none = m.none;
   }
 
-  pub crowded_here : MayAdd z c b (length key) key v → entries_in count ≡ z.entries → FoundCrowded z call r key v w
-  crowded_here may full = record {
+  pub crowded_here : Quiet v w → MayAdd z c b (length key) key v → entries_in count ≡ z.entries → FoundCrowded z call r key v w
+  crowded_here quiet may full = record {
     counted = record { step = m.counted.step; found = m.counted.found; pin = ap (λ (a : RoomHolds). a.pin) m.counted.pin };
     full = ap entries_in (sym count_is) ∙ full;
     none = m.none;
     absent = m.read may.covers;
+    stored = quiet_stored (index z (in_rooms (at_count r))) v w quiet;
   }
 
 -- what is added behind a search is added behind all

@@ -12,10 +12,12 @@ use Rattle.chunk_core.specs.RoomStep.{pin_room}
 use Rattle.chunk_core.specs.Spans.{Span}
 use Rattle.oak_core.specs.declared.states.PassState.{PassState}
 use Rattle.oak_core.specs.AloneWords.{Runs}
+use Rattle.oak_core.specs.QuietSteps.{IsQuiet}
 use Rattle.oak_core.specs.RoomCalls.{PinsRoomWord}
 use Rattle.oak_core.specs.Step.{on_rooms}
 use Rattle.oak_core.proofs.AloneRuns.{runs_as}
 use Rattle.oak_core.proofs.CallSteps.{step_alone, step_since, step_until, stands_both}
+use Rattle.oak_core.proofs.QuietCalls as steps
 use Rattle.chunk_ops.specs.LoneRooms.{IsOff, IsShut, LoneTry}
 use Rattle.chunk_ops.specs.PinRecords.{HasRoomPin, RoomPinned, OnlyMeets, pin_or, room_pin, with_room_pin}
 use Rattle.chunk_ops.specs.RoomPins.{AddsRoomPin, HadMoment, PinsNow, FoundShut, PinsOpen, FoundOff, Unpins}
@@ -49,6 +51,7 @@ module _ (z : Sizes) (call r : ℕ) (v w : PassState) (n : PinsNow z call r v w)
     step = step_until z call (on_rooms (pin_room r)) v w x only.stands.met (step_alone z call (on_rooms (pin_room r)) v n.number w n.told);
     opened = n.opened;
     stands = stands_both call v w x (pin_stands z call r n.number v w n.told) only.stands;
+    quiet = steps.only_both IsQuiet v w x (steps.quiet_pin_room z call r v n.number w n.told) only.quiet;
     blocks = only.blocks ∙ pin_blocks z call r n.number v w n.told;
     headers = only.headers ∙ pin_headers z call r n.number v w n.told;
     has = subst (RoomPinned z r) (sym only.rooms) has_pin;
@@ -107,6 +110,7 @@ opens_since z call r P u v w a m f = record {
   step = step_since z call (on_rooms (pin_room r)) u v w a.stands.met f.step;
   opened = f.opened;
   stands = stands_both call u v w a.stands f.stands;
+  quiet = steps.only_both IsQuiet u v w a.quiet f.quiet;
   blocks = f.blocks ∙ a.blocks;
   headers = f.headers ∙ a.headers;
   has = f.has;

@@ -13,22 +13,25 @@ use Rattle.chunk_core.specs.RoomCopies.{entry_with, latch_with}
 use Rattle.chunk_core.specs.RoomHolds.{latches_of}
 use Rattle.chunk_core.specs.RoomReads.{latched_at}
 use Rattle.chunk_core.specs.RoomStep.{EntryField, of_key, of_value, of_next, RoomStep, entry_spot, latch_room, store_entry, unlatch_room}
-use Rattle.chunk_core.specs.Rooms.{IsInRooms, at_latch, at_value}
+use Rattle.chunk_core.specs.Rooms.{IsInRooms, at_count, at_latch, at_value}
 use Rattle.oak_core.specs.declared.states.PassState.{PassState}
 use Rattle.oak_core.specs.AloneWords.{Runs}
 use Rattle.oak_core.specs.CallSteps.{Stands}
 use Rattle.oak_core.specs.Memory.{Memory, in_rooms, index, memory}
 use Rattle.oak_core.specs.RebalanceSteps.{rebalances_by}
 use Rattle.oak_core.specs.RoomCalls.{TakesLatch, StoresEntry, GivesLatch}
+use Rattle.oak_core.specs.QuietSteps.{MetOnly, TookNone}
 use Rattle.oak_core.specs.Step.{on_rooms, MayOnRooms, Told}
 use Rattle.oak_core.specs.Sweeping.{swept_by}
 use Rattle.oak_core.proofs.AloneRuns.{DoesStep, Then, step_runs, runs_as, runs_then}
 use Rattle.oak_core.proofs.CallSteps.{step_alone, step_met, stands_both}
+use Rattle.oak_core.proofs.QuietCalls as steps
 use Rattle.oak_core.proofs.Words.{memory_read}
-use Rattle.chunk_ops.specs.Adds.{FoundLatched}
+use Rattle.chunk_ops.specs.Adds.{FoundLatched, LeavesCount}
 use Rattle.chunk_ops.specs.AddsAlone.{TakesLatchIn, GivesLatchIn, WritesEntryIn}
 use Rattle.chunk_ops.specs.Latching.{with_latch, TakesRoomLatch, GivesRoomLatch, WritesEntry}
 use Rattle.chunk_ops.specs.PinRecords.{OnlyMeets, WordsStay}
+use Rattle.chunk_ops.proofs.StepKinds.{took_none, left_quiet, stored_off, latch_apart}
 
 -- a step on the rooms that teaches nothing, sweeps nothing, and is none of a rebalance
 pub stands_on : (z : Sizes) (call : ℕ) (x : RoomStep) (v : PassState) (n : ℕ) (w : PassState) → Told z call (on_rooms x) v n w → w.knowledge ≡ v.knowledge → swept_by x v ≡ v.findings.swept → rebalances_by x v ≡ v.findings.rebalances → Stands call v w
@@ -57,6 +60,13 @@ module _ (z : Sizes) (call r : ℕ) (v : PassState) (n : ℕ) (w : PassState) (t
   rooms_are : w.rooms ≡ with_latch (cond (n == 0) (Some (latched_at (memory z t.table.words).rooms r ((memory z t.table.words).rooms.count r))) v.rooms.latch) v.rooms
   rooms_are = ap (λ (y : PassState). y.rooms) t.after ∙ ap (λ (k : ℕ). with_latch (cond (k == 0) (Some (latched_at m.rooms r (m.rooms.count r))) v.rooms.latch) v.rooms) number_is
 
+  -- whether it was or not
+  pub latch_took : MetOnly TookNone v w
+  latch_took = took_none z call (latch_room r) v n w t
+
+  pub latch_stored_none : MetOnly (LeavesCount z r) v w
+  latch_stored_none = stored_off z call (latch_room r) v n w t (index z (in_rooms (at_count r))) (latch_apart z r t.may.inside.0)
+
   -- it was free
   pub latch_taken : (n == 0) ≡ true → TakesRoomLatch call r v w
   latch_taken e = record {
@@ -79,9 +89,10 @@ module _ (z : Sizes) (call r : ℕ) (v : PassState) (n : ℕ) (w : PassState) (t
   -- it was taken, and stays so
   pub latch_found : (n == 0) ≡ false → FoundLatched z call r v w × OnlyMeets call v w
   latch_found e = (
-    record { step = step_alone z call (on_rooms (latch_room r)) v n w t; taken = positive n e; rooms = refl },
+    record { step = step_alone z call (on_rooms (latch_room r)) v n w t; taken = positive n e; rooms = refl; stored = latch_stored_none },
     record {
       stands = stands_on z call (latch_room r) v n w t (ap (λ (y : PassState). y.knowledge) t.after) refl refl;
+      quiet = left_quiet z call (latch_room r) v n w t (λ i f. ap (λ (b : Bool). Some (either b 1 i)) (sym (ap (λ (k : ℕ). k == 0) f ∙ e)));
       blocks = ap (λ (y : PassState). y.blocks) t.after;
       headers = ap (λ (y : PassState). y.headers) t.after;
       rooms = rooms_are ∙ ap (λ (b : Bool). with_latch (cond b (Some (latched_at m.rooms r (m.rooms.count r))) v.rooms.latch) v.rooms) e;
@@ -99,6 +110,12 @@ latch_given z call r v w g = record {
   headers = ap (λ (y : PassState). y.headers) g.1.after;
   rooms = ap (λ (y : PassState). y.rooms) g.1.after;
 }
+
+pub given_took : (z : Sizes) (call r : ℕ) (v w : PassState) → GivesLatch z call r v w → MetOnly TookNone v w
+given_took z call r v w g = took_none z call (unlatch_room r) v g.0 w g.1
+
+pub given_stored : (z : Sizes) (call r : ℕ) (v w : PassState) → GivesLatch z call r v w → MetOnly (LeavesCount z r) v w
+given_stored z call r v w g = stored_off z call (unlatch_room r) v g.0 w g.1 (index z (in_rooms (at_count r))) (latch_apart z r g.1.may.inside.0)
 
 -- to a pass that is alone
 pub given_alone : (z : Sizes) (call r : ℕ) (v w : PassState) → GivesLatch z call r v w → Runs (GivesLatchIn z r) v w
@@ -132,6 +149,9 @@ entry_written z call r i place value v u w s t = record {
   headers = ap (λ (y : PassState). y.headers) t.1.after ∙ ap (λ (y : PassState). y.headers) s.1.after;
   rooms = rooms_stored z call of_value r i value u w t ∙ ap (λ (a : RoomHolds). with_latch (latch_with of_value value a.latch) a) (rooms_stored z call of_key r i place v u s);
 }
+
+pub written_took : (z : Sizes) (call r i place value : ℕ) (v u w : PassState) → StoresEntry z call of_key r i place v u → StoresEntry z call of_value r i value u w → MetOnly TookNone v w
+written_took z call r i place value v u w s t = steps.only_both TookNone v u w (took_none z call (store_entry of_key r i place) v s.0 u s.1) (took_none z call (store_entry of_value r i value) u t.0 w t.1)
 
 -- to a pass that is alone
 pub written_alone : (z : Sizes) (call r i place value : ℕ) (v u w : PassState) → StoresEntry z call of_key r i place v u → StoresEntry z call of_value r i value u w → Runs (WritesEntryIn z r i place value) v w

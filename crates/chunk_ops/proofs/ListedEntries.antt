@@ -37,6 +37,7 @@ listed_by z call r n v w s = record {
   entries = λ i lt. let all = all_below n (room_pin w) s.many in (key_at (room_below n (room_pin w)) i, entry_there z r n i w s.under.pin.has (omega arith));
   absent = s.absent;
   under = s.under;
+  quiet = s.quiet;
   few = let m = s.many in let f = s.under.pin.has.few in omega arith;
   alone = runs_as (λ a b. (a ≡ s.words) × (b ≡ a)) WordsStay v w (λ a b d. d.1) s.alone;
 }

@@ -5,15 +5,17 @@ use Rattle.oak_model.specs.Limits.{Sizes}
 use Rattle.chunk_core.specs.declared.holds.PinnedRoom.{PinnedRoom}
 use Rattle.oak_core.specs.declared.states.PassState.{PassState}
 use Rattle.oak_core.specs.AloneWords.{Runs}
+use Rattle.oak_core.specs.QuietSteps.{IsQuiet}
 use Rattle.oak_core.specs.RoomCalls.{PinsRoomWord}
 use Rattle.oak_core.proofs.AloneRuns.{Then, runs_then, runs_as, runs_none}
 use Rattle.oak_core.proofs.CallSteps.{stands_none, stands_both}
+use Rattle.oak_core.proofs.QuietCalls as steps
 use Rattle.chunk_ops.specs.PinRecords.{OnlyMeets, WordsStay, with_room_pin}
 use Rattle.chunk_ops.specs.RoomPins.{ChangesRoomPin, DropsRoomPin, Unpins}
 use Rattle.chunk_ops.proofs.PinSteps.{undone, pin_stands, pin_blocks, pin_headers, pin_rooms, pin_runs}
 
 pub only_none : (call : ℕ) (v : PassState) → OnlyMeets call v v
-only_none call v = record { stands = stands_none call v; blocks = refl; headers = refl; rooms = refl; still = runs_none WordsStay v (λ a. refl) }
+only_none call v = record { stands = stands_none call v; quiet = steps.only_none IsQuiet v v refl; blocks = refl; headers = refl; rooms = refl; still = runs_none WordsStay v (λ a. refl) }
 
 pub both_stay : (u v w : PassState) → Runs WordsStay u v → Runs WordsStay v w → Runs WordsStay u w
 both_stay u v w a b = runs_as (Then WordsStay WordsStay) WordsStay u w (λ x y d. d.2 ∙ d.1) (runs_then WordsStay WordsStay u v w a b)
@@ -28,6 +30,7 @@ then_stays P u v w a b = runs_as (Then P WordsStay) P u w (λ x y d. subst (λ (
 pub only_both : (call : ℕ) (u v w : PassState) → OnlyMeets call u v → OnlyMeets call v w → OnlyMeets call u w
 only_both call u v w a b = record {
   stands = stands_both call u v w a.stands b.stands;
+  quiet = steps.only_both IsQuiet u v w a.quiet b.quiet;
   blocks = b.blocks ∙ a.blocks;
   headers = b.headers ∙ a.headers;
   rooms = b.rooms ∙ a.rooms;
@@ -41,6 +44,7 @@ only_in first now v w e o = subst (λ (k : ℕ). OnlyMeets k v w) e o
 pub round : (z : Sizes) (call r : ℕ) (v w x u : PassState) (n : ℕ) (t : PinsRoomWord z call r v n w) → OnlyMeets call w x → Unpins z call r x u → OnlyMeets call v u
 round z call r v w x u n t a b = record {
   stands = stands_both call v w u (pin_stands z call r n v w t) (stands_both call w x u a.stands b.stands);
+  quiet = steps.only_both IsQuiet v w u (steps.quiet_pin_room z call r v n w t) (steps.only_both IsQuiet w x u a.quiet b.quiet);
   blocks = b.blocks ∙ (a.blocks ∙ pin_blocks z call r n v w t);
   headers = b.headers ∙ (a.headers ∙ pin_headers z call r n v w t);
   rooms = b.rooms ∙ (ap (with_room_pin None) (a.rooms ∙ pin_rooms z call r n v w t) ∙ ap (λ (o : Option PinnedRoom). with_room_pin o v.rooms) (sym t.may.rooms));

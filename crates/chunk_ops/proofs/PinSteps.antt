@@ -28,6 +28,7 @@ use Rattle.oak_core.specs.PassState.{rooms_held}
 use Rattle.oak_core.specs.RoomCalls.{PinsRoomWord, UnpinsRoomWord}
 use Rattle.oak_core.specs.Step.{on_rooms, MayOnRooms, Told}
 use Rattle.oak_core.proofs.AloneRuns.{DoesStep, moment_after, step_runs, runs_as}
+use Rattle.oak_core.proofs.QuietCalls.{quiet_unpin_room}
 use Rattle.oak_core.proofs.Words.{memory_read}
 use Rattle.chunk_ops.specs.PinRecords.{PinIsOn, RoomPinned, with_room_pin}
 use Rattle.chunk_ops.specs.RoomPins.{ChangesRoomPin, Unpins}
@@ -159,6 +160,7 @@ module _ (z : Sizes) (call r n : ℕ) (v w : PassState) (t : UnpinsRoomWord z ca
   pub unpins : Unpins z call r v w
   unpins = record {
     stands = subst (Stands call v) (sym t.after) (record { met = record { more = _ ∷ []; met = refl; calls = (refl, tt) }; numbers = refl; knowledge = refl; fulls = refl; swept = refl; sights = refl; gones = refl; rebalances = refl });
+    quiet = quiet_unpin_room z call r v n w t;
     blocks = ap (λ (y : PassState). y.blocks) t.after;
     headers = ap (λ (y : PassState). y.headers) t.after;
     rooms = ap (λ (y : PassState). y.rooms) t.after;

@@ -15,10 +15,12 @@ use Rattle.oak_core.specs.declared.states.PassState.{PassState}
 use Rattle.oak_core.specs.AloneWords.{Runs}
 use Rattle.oak_core.specs.CountReads.{EndsAbsent}
 use Rattle.oak_core.specs.Memory.{Spot, in_rooms, index, memory}
+use Rattle.oak_core.specs.QuietSteps.{IsQuiet, Quiet}
 use Rattle.oak_core.specs.Step.{load, Told}
 use Rattle.oak_core.proofs.AloneRuns.{Then, load_runs, runs_as, runs_then, step_starts, words_stand}
 use Rattle.oak_core.proofs.CallSteps.{learns_both, stands_learns, step_alone, step_until}
 use Rattle.oak_core.proofs.KnownReads.{read_stays}
+use Rattle.oak_core.proofs.QuietCalls as steps
 use Rattle.chunk_ops.specs.Bits.{bits}
 use Rattle.chunk_ops.specs.Finds.{CountsRoom, FoundAbsent, LoadsFew}
 use Rattle.chunk_ops.specs.PinRecords.{HasRoomPin, OnlyMeets, PinKept, UnderPin, WordsStay, pin_or, room_pin}
@@ -57,6 +59,7 @@ pub record SearchedTo (z : Sizes) (call r n : ℕ) (v w : PassState) : Type 0 wh
   pub counted : CountsRoom z call r v w
   pub number : (room_pin w).count ≡ Some n
   pub under : UnderPin z call r v w
+  pub quiet : Quiet v w
   pub many : length (room_pin w).entries ≡ entries_in n
   pub absent : (k : ℕ) → within (span_of (room_pin v)) k ≡ 1 → ((e : FoundEntry) → Has e (room_pin w).entries → found_key e ≢ k) → FoundAbsent call k (room_pin v).base v w
   pub few : LoadsFew z r v w
@@ -74,6 +77,7 @@ searched z call r n v w more p l each few = let u : PassState = l.0 in let t = l
       counted = record { step = step_until z call (load (in_rooms (at_count r))) v u w o.stands.met (step_alone z call (load (in_rooms (at_count r))) v n u t); found = number; pin = o.rooms };
       number = number;
       under = under_until z call r v u w o k.under;
+      quiet = steps.only_both IsQuiet v u w (steps.quiet_load z call (in_rooms (at_count r)) v n u t) o.quiet;
       many = ap (λ x. length x.entries) same ∙ k.many;
       absent = λ j inside none. absent_until call j (room_pin v).base v u w o (k.absent j inside (λ e h. none e (subst (λ x. Has e x.entries) (sym same) h)));
       few = record { count = n; found = number; more = all.0; met = all.1; few = (let a = all.2 in omega arith) };

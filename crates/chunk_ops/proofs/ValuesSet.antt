@@ -33,6 +33,7 @@ use Rattle.oak_core.proofs.UnlinkTold.{unlinked_life, unlink_blocks, unlink_head
 use Rattle.oak_core.proofs.Words.{memory_read}
 use Rattle.chunk_ops.specs.PinRecords.{HasEntry, HasRoomPin, OnlyMeets, WordsStay, room_pin}
 use Rattle.chunk_ops.specs.Setting.{Clears, ClearsIn, FoundSet, LeavesIn, SetsIn, SetsLife}
+use Rattle.chunk_ops.proofs.StepKinds.{left_quiet}
 use Rattle.chunk_ops.proofs.WordLoads.{found_inside}
 
 -- the word names the header at the generation
@@ -111,6 +112,7 @@ module _ (z : Sizes) (call r i floor h g new : ℕ) (kind : Kind) (v : PassState
     pub set_missed : OnlyMeets call v w
     set_missed = record {
       stands = told.unset_stands z call r i floor new kind v n w t other;
+      quiet = left_quiet z call (set_value r i floor new kind) v n w t (λ j f. ap (λ (b : Bool). Some (either b new j)) (sym (ne_eqb j floor (λ e. other (sym f ∙ e)))));
       blocks = told.set_blocks z call r i floor new kind v n w t;
       headers = told.unset_headers z call r i floor new kind v n w t other;
       rooms = told.set_rooms z call r i floor new kind v n w t;

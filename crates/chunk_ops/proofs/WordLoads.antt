@@ -22,6 +22,7 @@ use Rattle.oak_core.specs.Step.{Step, load, Told}
 use Rattle.oak_core.proofs.AloneRuns.{load_runs, runs_as}
 use Rattle.oak_core.proofs.CallSteps.{step_alone}
 use Rattle.oak_core.proofs.MetLists.{at_inside}
+use Rattle.oak_core.proofs.QuietCalls.{quiet_load}
 use Rattle.oak_core.proofs.Words.{index_apart, memory_read}
 use Rattle.chunk_ops.specs.declared.bounds.Bound.{Bound}
 use Rattle.chunk_ops.specs.declared.bounds.Bound.TheVariants.{Low, High}
@@ -35,6 +36,7 @@ use Rattle.oak_core.proofs.PlainLoads.{met_at}
 pub only_loaded : (z : Sizes) (call word n : ℕ) (v w : PassState) (q : Spot) → IsInside z q → IsPlain q → word ≡ index z q → Loads z call word v n w → OnlyMeets call v w
 only_loaded z call word n v w q inside plain at l = let met = met_at z call word n v w q inside plain at l in record {
   stands = subst (Stands call v) (sym met) (record { met = record { more = _ ∷ []; met = refl; calls = (refl, tt) }; numbers = refl; knowledge = refl; fulls = refl; swept = refl; sights = refl; gones = refl; rebalances = refl });
+  quiet = quiet_load z call l.spot v n w l.told;
   blocks = ap (λ (y : PassState). y.blocks) met;
   headers = ap (λ (y : PassState). y.headers) met;
   rooms = ap (λ (y : PassState). y.rooms) met;

@@ -10,9 +10,11 @@ use Rattle.chunk_core.specs.LinkedEntries.{entries_in}
 use Rattle.chunk_core.specs.PinnedRooms.{span_of, found_key}
 use Rattle.chunk_core.specs.RoomStep.{latch_room}
 use Rattle.chunk_core.specs.Rooms.{at_count}
+use Rattle.oak_core.specs.declared.states.Finding.{Finding}
 use Rattle.oak_core.specs.declared.states.PassState.{PassState}
 use Rattle.oak_core.specs.CallSteps.{Learns, StepOfCall}
-use Rattle.oak_core.specs.Memory.{in_rooms}
+use Rattle.oak_core.specs.Memory.{in_rooms, index}
+use Rattle.oak_core.specs.QuietSteps.{MetOnly, StoredNone}
 use Rattle.oak_core.specs.Step.{load, on_rooms}
 use Rattle.chunk_ops.specs.declared.entries.AddHalt.{AddHalt}
 use Rattle.chunk_ops.specs.declared.entries.AddHalt.TheVariants.{Crowded, Busy}
@@ -42,18 +44,24 @@ pub record CountsUnder (z : Sizes) (call r : ℕ) (v w : PassState) : Type 0 whe
   pub found : (room_pin w).count ≡ Some step.number
   pub pin : w.rooms.pin ≡ step.to.rooms.pin
 
--- the count was found at the room's size, and no entry had the key, which was absent then
+-- the step was no plain store to the count of the room
+abbrev pub LeavesCount : Sizes → ℕ → Finding → Type 0
+LeavesCount z r = StoredNone (index z (in_rooms (at_count r)))
+
+-- the count was found at the room's size, and no entry had the key, which was absent then; no step of the call stored to the count
 pub record FoundCrowded (z : Sizes) (call r : ℕ) (key : List ℕ) (v w : PassState) : Type 0 where
   pub counted : CountsUnder z call r v w
   pub full : entries_in counted.step.number ≡ z.entries
   pub none : (e : FoundEntry) → Has e (room_pin w).entries → found_key e ≢ key_number key
   pub absent : FoundAbsent call (key_number key) (room_pin v).base v w
+  pub stored : MetOnly (LeavesCount z r) v w
 
--- the latch of the room was found taken, by a step at which the pass had of rooms what it had at the call
+-- the latch of the room was found taken, by a step at which the pass had of rooms what it had at the call; no step of the call stored to the count
 pub record FoundLatched (z : Sizes) (call r : ℕ) (v w : PassState) : Type 0 where
   pub step : StepOfCall z call (on_rooms (latch_room r)) v w
   pub taken : 0 < step.number
   pub rooms : step.from.rooms ≡ v.rooms
+  pub stored : MetOnly (LeavesCount z r) v w
 
 abbrev pub NotAddedBy : AddHalt → Sizes → ℕ → ℕ → List ℕ → PassState → PassState → Type 0
 NotAddedBy Crowded z call r key v w = FoundCrowded z call r key v w

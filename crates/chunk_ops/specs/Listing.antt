@@ -7,6 +7,7 @@ use Rattle.chunk_core.specs.PinnedRooms.{span_of, found_key}
 use Rattle.chunk_core.specs.Spans.{within}
 use Rattle.oak_core.specs.declared.states.PassState.{PassState}
 use Rattle.oak_core.specs.AloneWords.{Runs}
+use Rattle.oak_core.specs.QuietSteps.{Quiet}
 use Rattle.chunk_ops.specs.Finds.{CountsRoom, FoundAbsent}
 use Rattle.chunk_ops.specs.PinRecords.{HasEntry, UnderPin, WordsStay, room_pin}
 
@@ -17,5 +18,7 @@ pub record ListsRoom (z : Sizes) (call r n : ℕ) (v w : PassState) : Type 0 whe
   pub entries : (i : ℕ) → i < n → (k : List ℕ) × HasEntry r i k w
   pub absent : (k : ℕ) → within (span_of (room_pin v)) k ≡ 1 → ((e : FoundEntry) → Has e (room_pin w).entries → found_key e ≢ k) → FoundAbsent call k (room_pin v).base v w
   pub under : UnderPin z call r v w
+  -- by loads, pins and their undoing alone
+  pub quiet : Quiet v w
   pub few : n ≤ z.entries
   pub alone : Runs WordsStay v w

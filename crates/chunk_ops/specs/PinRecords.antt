@@ -13,6 +13,7 @@ use Rattle.chunk_core.specs.RoomRule.{AreBounds}
 use Rattle.oak_core.specs.declared.states.PassState.{PassState}
 use Rattle.oak_core.specs.AloneWords.{Runs}
 use Rattle.oak_core.specs.CallSteps.{Learns, Stands}
+use Rattle.oak_core.specs.QuietSteps.{Quiet}
 
 -- the pin of a pass, which says nothing where it has none
 abbrev pub pin_or : Option PinnedRoom → PinnedRoom
@@ -84,17 +85,19 @@ pub record HasEntry (r i : ℕ) (key : List ℕ) (v : PassState) : Type 0 where
 abbrev pub WordsStay : List ℕ → List ℕ → Type 0
 WordsStay before after = after ≡ before
 
--- The pass only met more, all in the call: it learned nothing, and holds what it held. To a pass that is alone the words of the table stay.
+-- The pass only met more, all in the call, by loads, pins and their undoing alone: it learned nothing, and holds what it held. To a pass that is alone the words of the table stay.
 pub record OnlyMeets (call : ℕ) (v w : PassState) : Type 0 where
   pub stands : Stands call v w
+  pub quiet : Quiet v w
   pub blocks : w.blocks ≡ v.blocks
   pub headers : w.headers ≡ v.headers
   pub rooms : w.rooms ≡ v.rooms
   pub still : Runs WordsStay v w
 
--- The call met more and may have learned, and the pass holds what it held. To a pass that is alone the words of the table stay.
+-- The call met more, by loads, pins and their undoing alone, and may have learned, and the pass holds what it held. To a pass that is alone the words of the table stay.
 pub record OnlyLearns (call : ℕ) (v w : PassState) : Type 0 where
   pub learns : Learns call v w
+  pub quiet : Quiet v w
   pub blocks : w.blocks ≡ v.blocks
   pub headers : w.headers ≡ v.headers
   pub rooms : w.rooms ≡ v.rooms

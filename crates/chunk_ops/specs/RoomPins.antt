@@ -11,6 +11,7 @@ use Rattle.oak_core.specs.declared.states.PassState.{PassState}
 use Rattle.oak_core.specs.AloneWords.{Moment, Runs}
 use Rattle.oak_core.specs.CallSteps.{StepOfCall, Stands}
 use Rattle.oak_core.specs.Memory.{in_rooms, index, memory}
+use Rattle.oak_core.specs.QuietSteps.{Quiet}
 use Rattle.oak_core.specs.RoomCalls.{PinsRoomWord}
 use Rattle.oak_core.specs.Step.{on_rooms}
 use Rattle.chunk_ops.specs.LoneRooms.{IsShut, LoneTry}
@@ -47,11 +48,12 @@ pub record FoundShut (z : Sizes) (call r : ℕ) (v w : PassState) : Type 0 where
   -- to a pass that is alone
   pub still : Runs (LoneTry z (IsShut z r) v.rooms) v w
 
--- The room was found open by a step of the call, with a range that has P, and the pass has the pin that this step made. It only met more else.
+-- The room was found open by a step of the call, with a range that has P, and the pass has the pin that this step made. It only met more else, by loads, pins and their undoing alone.
 pub record PinsOpen (z : Sizes) (call r : ℕ) (P : Span → Type 0) (v w : PassState) : Type 0 where
   pub step : StepOfCall z call (on_rooms (pin_room r)) v w
   pub opened : state_of step.number ≡ OPEN
   pub stands : Stands call v w
+  pub quiet : Quiet v w
   pub blocks : w.blocks ≡ v.blocks
   pub headers : w.headers ≡ v.headers
   pub has : HasRoomPin z r w
@@ -71,9 +73,10 @@ pub record FoundOff (z : Sizes) (call r : ℕ) (P : Span → Type 0) (v w : Pass
 abbrev pub FoundMoved : Sizes → ℕ → (Span → Type 0) → PassState → PassState → Type 0
 FoundMoved z call P v w = (r : ℕ) → r < z.chunks → FoundOff z call r P v w
 
--- the pin is gone, and the pass only met more else
+-- the pin is gone, and the pass only met more else, by loads, pins and their undoing alone
 pub record Unpins (z : Sizes) (call r : ℕ) (v w : PassState) : Type 0 where
   pub stands : Stands call v w
+  pub quiet : Quiet v w
   pub blocks : w.blocks ≡ v.blocks
   pub headers : w.headers ≡ v.headers
   pub rooms : w.rooms ≡ with_room_pin None v.rooms

@@ -5,6 +5,7 @@ ghost use Rattle.chunk_core.specs.MayOnRooms.{HasLatch};
 ghost use Rattle.chunk_core.specs.RoomRule.{latches_on};
 ghost use Rattle.oak_core.specs.AloneWords.{Runs};
 ghost use Rattle.oak_core.specs.Passes.{IsPassOf, Stays, state, key as sizes, call_of};
+ghost use Rattle.oak_core.specs.QuietSteps.{MetOnly, TookNone};
 ghost use Rattle.chunk_ops.specs.Adds.{MayAdd, AddsEntry, NotAddedBy};
 ghost use Rattle.chunk_ops.specs.AddsAlone.{AddsIn, NotAddedIn, DoesIn};
 ghost use Rattle.chunk_ops.specs.Latching.{Does};
@@ -42,6 +43,7 @@ fn add_latched(
     ensures own { Stays pass.old pass.new }
     ensures latched { latches_on pin.now.room (state pass.new).rooms ≡ 1 }
     ensures does { Does result (sizes table.now) (call_of pass.old) pin.now.room block.now.class block.now.number key.now (state pass.old) (state pass.new) }
+    ensures took { MetOnly TookNone (state pass.old) (state pass.new) }
     ensures alone { Runs (DoesIn result (sizes table.now) pin.now.room block.now.class block.now.number key.now) (state pass.old) (state pass.new) }
 {
     let (count, found) = find_counted(table, pass, pin, key);
@@ -60,6 +62,7 @@ fn add_latched(
 /// was found taken; both hand the block back. To a pass that is alone `Crowded` comes exactly where the
 /// room has as many entries as it may and none of the key, and `Busy` never; else no words change but the
 /// word of the block's bit, where the entry was there, or the two words of the next entry and the count.
+/// No step of it takes a block, and where it is refused none stores to the room's count.
 pub fn add(
     table: &OakTable,
     pass: &mut Pass,
@@ -73,6 +76,7 @@ pub fn add(
     requires key { (k : List ℕ) × MayAdd (sizes table.now) key.class key.number len k (state pass.old) }
     ensures own { Stays pass.old pass.new }
     ensures added { IfOk result (λ i. (k : List ℕ) → MayAdd (sizes table.now) key.class key.number len k (state pass.old) → AddsEntry (sizes table.now) (call_of pass.old) pin.now.room i.0 key.class key.number k (state pass.old) (state pass.new)) }
+    ensures took { MetOnly TookNone (state pass.old) (state pass.new) }
     ensures block { IfErr result (λ n. n.block ≡ key) }
     ensures under { IfErr result (λ n. UnderPin (sizes table.now) (call_of pass.old) pin.now.room (state pass.old) (state pass.new)) }
     ensures not_added { IfErr result (λ n. (k : List ℕ) → MayAdd (sizes table.now) key.class key.number len k (state pass.old) → NotAddedBy n.why (sizes table.now) (call_of pass.old) pin.now.room k (state pass.old) (state pass.new)) }

@@ -6,7 +6,8 @@ ghost use Rattle.chunk_core.specs.MayOnRooms.{HasLatch};
 ghost use Rattle.chunk_core.specs.RoomRule.{latches_on};
 ghost use Rattle.oak_core.specs.AloneWords.{Runs};
 ghost use Rattle.oak_core.specs.Passes.{IsPassOf, Stays, state, key, call_of};
-ghost use Rattle.chunk_ops.specs.Adds.{FoundLatched, MayAdd};
+ghost use Rattle.oak_core.specs.QuietSteps.{MetOnly, TookNone};
+ghost use Rattle.chunk_ops.specs.Adds.{FoundLatched, LeavesCount, MayAdd};
 ghost use Rattle.chunk_ops.specs.AddsAlone.{TakesLatchIn, GivesLatchIn, WritesEntryIn, EntersIn};
 ghost use Rattle.chunk_ops.specs.Latching.{Never, TakesRoomLatch, GivesRoomLatch, WritesEntry, MayEnter, AddsUnder};
 ghost use Rattle.chunk_ops.specs.PinRecords.{HasRoomPin, OnlyMeets, room_pin};
@@ -25,6 +26,8 @@ pub(crate) fn take_latch(table: &OakTable, pass: &mut Pass, room: u32) -> bool
     ensures own { Stays pass.old pass.new }
     ensures taken { result ≡ true → TakesRoomLatch (call_of pass.old) room (state pass.old) (state pass.new) }
     ensures found { result ≡ false → FoundLatched (key table.now) (call_of pass.old) room (state pass.old) (state pass.new) × OnlyMeets (call_of pass.old) (state pass.old) (state pass.new) }
+    ensures took { MetOnly TookNone (state pass.old) (state pass.new) }
+    ensures stored { MetOnly (LeavesCount (key table.now) room) (state pass.old) (state pass.new) }
     ensures alone { result ≡ false → Runs Never (state pass.old) (state pass.new) }
     ensures alone_taken { result ≡ true → Runs (TakesLatchIn (key table.now) room) (state pass.old) (state pass.new) }
 {
@@ -39,6 +42,8 @@ pub(crate) fn give_latch(table: &OakTable, pass: &mut Pass, room: u32)
     requires latched { latches_on room (state pass.old).rooms ≡ 1 }
     ensures own { Stays pass.old pass.new }
     ensures given { GivesRoomLatch (call_of pass.old) (state pass.old) (state pass.new) }
+    ensures took { MetOnly TookNone (state pass.old) (state pass.new) }
+    ensures stored { MetOnly (LeavesCount (key table.now) room) (state pass.old) (state pass.new) }
     ensures alone { Runs (GivesLatchIn (key table.now) room) (state pass.old) (state pass.new) }
 {
     let word = table.latch_at(room);
@@ -53,6 +58,7 @@ fn write_entry(table: &OakTable, pass: &mut Pass, room: u32, entry: u32, place: 
     requires latched { (l : Latch) × HasLatch room (state pass.old).rooms (room_pin (state pass.old)) l × (entry ≡ entries_in l.count) }
     ensures own { Stays pass.old pass.new }
     ensures written { WritesEntry (call_of pass.old) place value (state pass.old) (state pass.new) }
+    ensures took { MetOnly TookNone (state pass.old) (state pass.new) }
     ensures alone { Runs (WritesEntryIn (key table.now) room entry place value) (state pass.old) (state pass.new) }
 {
     let place_at = table.key_at(room, entry);
@@ -75,6 +81,7 @@ pub(crate) fn enter(
     requires may { (k : List ℕ) × MayEnter (key table.now) pin.now.room block.now.class block.now.number len count k (state pass.old) }
     ensures own { Stays pass.old pass.new }
     ensures next { result ≡ entries_in count }
+    ensures took { MetOnly TookNone (state pass.old) (state pass.new) }
     ensures adds { (k : List ℕ) → MayAdd (key table.now) block.now.class block.now.number len k (state pass.old) → AddsUnder (key table.now) (call_of pass.old) pin.now.room result block.now.class block.now.number k (state pass.old) (state pass.new) }
     ensures alone { (k : List ℕ) → MayAdd (key table.now) block.now.class block.now.number len k (state pass.old) → Runs (EntersIn (key table.now) pin.now.room (record { 0 = result }) block.now.class block.now.number len k) (state pass.old) (state pass.new) }
 {

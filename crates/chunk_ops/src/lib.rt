@@ -3,8 +3,6 @@
 #![tactic(auto)]
 
 mod adding;
-#[cfg(test)]
-mod adding_tests;
 mod bounds;
 mod comparing;
 mod entries;
@@ -13,12 +11,8 @@ mod key_blocks;
 mod key_bytes;
 mod latching;
 mod listing;
-#[cfg(test)]
-mod listing_tests;
 mod loading;
 mod nearest;
-#[cfg(test)]
-mod order_tests;
 mod pinned;
 mod pinning;
 mod pins;
@@ -27,8 +21,6 @@ mod room;
 mod searching;
 mod setting;
 mod stored;
-#[cfg(test)]
-mod tests;
 mod values;
 mod way;
 

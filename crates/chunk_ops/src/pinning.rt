@@ -106,7 +106,7 @@ fn pin_asked(
 /// Pins the room whose range has the key. `Moved` comes only where each room was found in this call not
 /// open, or open with a range without the key, so it never comes to a pass that is alone and has no room
 /// frozen or held. The hinted room is tried first; the hint promises nothing. The pass has no pin of a
-/// room.
+/// room. The call makes loads, pins and their undoing alone.
 pub fn pin_for(table: &OakTable, pass: &mut Pass, key: &[u8], hint: Hint) -> Result<RoomPin, Moved>
     requires own { IsPassOf table.now pass.old }
     requires key { IsKey key.now }
@@ -123,7 +123,8 @@ pub fn pin_for(table: &OakTable, pass: &mut Pass, key: &[u8], hint: Hint) -> Res
 /// Pins the room whose range has the keys next below the bound: its low bound is below it, and its high
 /// bound is none or not below it. Without a bound it is the room that has the last keys. `Moved` comes
 /// only where each room was found in this call not open, or open with another range than that. The
-/// hinted room is tried first. The pass has no pin of a room.
+/// hinted room is tried first. The pass has no pin of a room. The call makes loads, pins and their
+/// undoing alone.
 pub fn pin_last(
     table: &OakTable,
     pass: &mut Pass,

@@ -3,6 +3,7 @@ ghost use Rattle.std.specs.Prelude.{◌≡◌, Some, MatchOption};
 ghost use Rattle.oak_model.specs.Key.{IsKey};
 ghost use Rattle.oak_core.specs.AloneWords.{Runs};
 ghost use Rattle.oak_core.specs.Passes.{IsPassOf, Stays, state, key as sizes, call_of};
+ghost use Rattle.oak_core.specs.QuietSteps.{Quiet};
 ghost use Rattle.chunk_ops.specs.AskedRanges.{IsKeyOrNone, bytes_in_option};
 ghost use Rattle.chunk_ops.specs.Finds.{Finds, FindsKey, FindsMissing, FindsNearest, FindsNone, LoadsFew};
 ghost use Rattle.chunk_ops.specs.FindsAlone.{CountedIn, FindsIn, NearestIn, as_found};
@@ -29,6 +30,7 @@ pub(crate) fn find_counted(
     ensures count { (room_pin (state pass.new)).count ≡ Some result.0 }
     ensures found { MatchOption result.1 (FindsMissing (sizes table.now) (call_of pass.old) pin.now.room key.now (state pass.old) (state pass.new)) (λ i. FindsKey (sizes table.now) (call_of pass.old) pin.now.room i key.now (state pass.old) (state pass.new)) }
     ensures under { UnderPin (sizes table.now) (call_of pass.old) pin.now.room (state pass.old) (state pass.new) }
+    ensures quiet { Quiet (state pass.old) (state pass.new) }
     ensures few { LoadsFew (sizes table.now) pin.now.room (state pass.old) (state pass.new) }
     ensures alone { Runs (CountedIn (sizes table.now) pin.now.room key.now result.0 (as_found result.1)) (state pass.old) (state pass.new) }
 {
@@ -43,7 +45,8 @@ pub(crate) fn find_counted(
 }
 
 /// The entry of a key among all that the room had at one moment of this call, at which its count was
-/// loaded. Where it is missing, a key of the room's range was absent then.
+/// loaded. Where it is missing, a key of the room's range was absent then. The call makes loads, pins and
+/// their undoing alone.
 pub fn find(table: &OakTable, pass: &mut Pass, pin: &RoomPin, key: &[u8]) -> Found
     requires own { IsPassOf table.now pass.old }
     requires key { IsKey key.now }
@@ -51,6 +54,7 @@ pub fn find(table: &OakTable, pass: &mut Pass, pin: &RoomPin, key: &[u8]) -> Fou
     ensures own { Stays pass.old pass.new }
     ensures found { Finds result (sizes table.now) (call_of pass.old) pin.now.room key.now (state pass.old) (state pass.new) }
     ensures under { UnderPin (sizes table.now) (call_of pass.old) pin.now.room (state pass.old) (state pass.new) }
+    ensures quiet { Quiet (state pass.old) (state pass.new) }
     ensures few { LoadsFew (sizes table.now) pin.now.room (state pass.old) (state pass.new) }
     ensures alone { Runs (FindsIn (sizes table.now) pin.now.room key.now result) (state pass.old) (state pass.new) }
 {
@@ -74,6 +78,7 @@ fn beside(
     ensures own { Stays pass.old pass.new }
     ensures nearest { MatchOption result (FindsNone (sizes table.now) (call_of pass.old) pin.now.room way (bytes_in_option key.entry) (state pass.old) (state pass.new)) (λ i. FindsNearest (sizes table.now) (call_of pass.old) pin.now.room way (bytes_in_option key.entry) i.0 (state pass.old) (state pass.new)) }
     ensures under { UnderPin (sizes table.now) (call_of pass.old) pin.now.room (state pass.old) (state pass.new) }
+    ensures quiet { Quiet (state pass.old) (state pass.new) }
     ensures few { LoadsFew (sizes table.now) pin.now.room (state pass.old) (state pass.new) }
     ensures alone { Runs (NearestIn (sizes table.now) pin.now.room way (bytes_in_option key.entry) result) (state pass.old) (state pass.new) }
 {
@@ -91,7 +96,7 @@ fn beside(
 
 /// The entry of the least key above this one, or of the least of all, among all entries that the room had
 /// at one moment of this call, at which its count was loaded. Each key of the range that lies between was
-/// absent then.
+/// absent then. The call makes loads, pins and their undoing alone.
 pub fn above(
     table: &OakTable,
     pass: &mut Pass,
@@ -104,6 +109,7 @@ pub fn above(
     ensures own { Stays pass.old pass.new }
     ensures nearest { MatchOption result (FindsNone (sizes table.now) (call_of pass.old) pin.now.room Way.Up (bytes_in_option key.entry) (state pass.old) (state pass.new)) (λ i. FindsNearest (sizes table.now) (call_of pass.old) pin.now.room Way.Up (bytes_in_option key.entry) i.0 (state pass.old) (state pass.new)) }
     ensures under { UnderPin (sizes table.now) (call_of pass.old) pin.now.room (state pass.old) (state pass.new) }
+    ensures quiet { Quiet (state pass.old) (state pass.new) }
     ensures few { LoadsFew (sizes table.now) pin.now.room (state pass.old) (state pass.new) }
     ensures alone { Runs (NearestIn (sizes table.now) pin.now.room Way.Up (bytes_in_option key.entry) result) (state pass.old) (state pass.new) }
 {
@@ -123,6 +129,7 @@ pub fn below(
     ensures own { Stays pass.old pass.new }
     ensures nearest { MatchOption result (FindsNone (sizes table.now) (call_of pass.old) pin.now.room Way.Down (bytes_in_option key.entry) (state pass.old) (state pass.new)) (λ i. FindsNearest (sizes table.now) (call_of pass.old) pin.now.room Way.Down (bytes_in_option key.entry) i.0 (state pass.old) (state pass.new)) }
     ensures under { UnderPin (sizes table.now) (call_of pass.old) pin.now.room (state pass.old) (state pass.new) }
+    ensures quiet { Quiet (state pass.old) (state pass.new) }
     ensures few { LoadsFew (sizes table.now) pin.now.room (state pass.old) (state pass.new) }
     ensures alone { Runs (NearestIn (sizes table.now) pin.now.room Way.Down (bytes_in_option key.entry) result) (state pass.old) (state pass.new) }
 {

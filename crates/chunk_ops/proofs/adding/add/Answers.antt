@@ -7,7 +7,7 @@ use Rattle.chunk_ops.specs.Adds.{AddsEntry, FoundCrowded, FoundLatched}
 use Rattle.chunk_ops.specs.AddsAlone.{AddsIn, CrowdedIn}
 use Rattle.chunk_ops.specs.Latching.{Never, AddsUnder, GivesRoomLatch, TakesRoomLatch}
 use Rattle.chunk_ops.specs.PinRecords.{HasEntry, UnderPin}
-use Rattle.chunk_ops.proofs.AddedEntries.{latched_since, under_around, entry_around, adds_around, crowded_around, given_back, key_looked}
+use Rattle.chunk_ops.proofs.AddedEntries.{latched_since, under_around, entry_around, adds_around, crowded_around, given_back, key_looked, took_around, took_back, took_latched}
 use Rattle.chunk_ops.proofs.PinsKept.{under_only}
 use Rattle.chunk_ops.proofs.LoneAdds.{crowded_alone, adds_alone, found_alone}
 use Rattle.chunk_ops.proofs.adding.add.Goals as goal
@@ -64,7 +64,7 @@ returns-in-Full-clause-not_added c k m = let z : Sizes = sizes c.args.table.now 
     let up : GivesRoomLatch call w x = subst (λ (n : ℕ). GivesRoomLatch n w x) f c.give_latch.ensures.given in
     let found : FoundCrowded z call r (take c.args.len c.held_bytes-bytes.result) v w = subst (λ (n : ℕ). FoundCrowded z n r (take c.args.len c.held_bytes-bytes.result) v w) e c.in-Full.ensures.does.1 in
     subst (λ (q : List ℕ). FoundCrowded z call r q t x) (sym (key_looked z b.class b.number c.args.len k c.held_bytes-bytes.result t m h.bytes))
-    (crowded_around z call r t u v w x h.only l c.requires.latch up (take c.args.len c.held_bytes-bytes.result) found)
+    (crowded_around z call r t u v w x h.only l c.requires.latch up (take c.args.len c.held_bytes-bytes.result) c.take_latch.ensures.stored c.give_latch.ensures.stored found)
 
 -- to a pass that is alone
 
@@ -96,3 +96,22 @@ returns-in-Full-clause-alone_not_added c k m = let z : Sizes = sizes c.args.tabl
     subst (λ (q : List ℕ). Runs (CrowdedIn z r q) t x) (sym (key_looked z b.class b.number c.args.len k c.held_bytes-bytes.result t m h.bytes))
     (crowded_alone z r c.requires.pinned.inside t u v w x h.only.still (c.take_latch.ensures.alone_taken c.if-not-take_latch.false) c.give_latch.ensures.alone
     (take c.args.len c.held_bytes-bytes.result) c.in-Full.ensures.alone)
+
+-- no step took a block
+
+pub returns-then-not-take_latch-clause-took : goal.returns-then-not-take_latch-clause-took
+returns-then-not-take_latch-clause-took c = took_latched (call_of c.args.pass.now) (state c.args.pass.now) (state c.held_bytes-bytes.new.pass) (state c.take_latch.new.pass) c.held_bytes-bytes.ensures.only c.take_latch.ensures.took
+
+pub returns-in-Found-clause-took : goal.returns-in-Found-clause-took
+returns-in-Found-clause-took c = let b = c.args.key in let t = state c.args.pass.now in let x = state c.give_latch.new.pass in
+    took_back (sizes c.args.table.now) (call_of c.give_latch.new.pass) b.class b.number t x (state c.give.new.pass)
+    (took_around (call_of c.args.pass.now) t (state c.held_bytes-bytes.new.pass) (state c.take_latch.new.pass) (state c.add_latched-outcome.new.pass) x c.held_bytes-bytes.ensures.only c.take_latch.ensures.took c.in-Found.ensures.took c.give_latch.ensures.took)
+    c.give.ensures.given
+
+pub returns-in-Added-clause-took : goal.returns-in-Added-clause-took
+returns-in-Added-clause-took c = took_around (call_of c.args.pass.now) (state c.args.pass.now) (state c.held_bytes-bytes.new.pass) (state c.take_latch.new.pass) (state c.add_latched-outcome.new.pass) (state c.give_latch.new.pass)
+    c.held_bytes-bytes.ensures.only c.take_latch.ensures.took c.in-Added.ensures.took c.give_latch.ensures.took
+
+pub returns-in-Full-clause-took : goal.returns-in-Full-clause-took
+returns-in-Full-clause-took c = took_around (call_of c.args.pass.now) (state c.args.pass.now) (state c.held_bytes-bytes.new.pass) (state c.take_latch.new.pass) (state c.add_latched-outcome.new.pass) (state c.give_latch.new.pass)
+    c.held_bytes-bytes.ensures.only c.take_latch.ensures.took c.in-Full.ensures.took c.give_latch.ensures.took

@@ -2,6 +2,8 @@ use Rattle.std.proofs.Common.{◌≡◌, ℕ, ◌<◌, length, sym, subst, ◌�
 use Rattle.oak_model.specs.Limits.{Sizes}
 use Rattle.oak_core.specs.AloneWords.{Runs}
 use Rattle.oak_core.specs.Passes.{state, key as sizes, call_of}
+use Rattle.oak_core.specs.QuietSteps.{TookNone}
+use Rattle.oak_core.proofs.QuietCalls.{only_both, quiet_took}
 use Rattle.chunk_ops.specs.Finds.{FindsKey, FindsMissing}
 use Rattle.chunk_ops.specs.FindsAlone.{CountedIn, FindsIn, as_found}
 use Rattle.chunk_ops.specs.Latching.{AddsUnder}
@@ -29,7 +31,7 @@ returns-then-entries_in-entries-clause-does c = let z : Sizes = sizes c.args.tab
     let f = c.find_counted-count.ensures in let n = c.find_counted-count.result.0 in (
       f.under,
       crowded_here z call r b.class b.number n k v w f.under f.count
-          (missing c.find_counted-count.result.1 (FindsMissing z call r k v w) (λ i. FindsKey z call r i k v w) c.in_default.is f.found) c.requires.may
+          (missing c.find_counted-count.result.1 (FindsMissing z call r k v w) (λ i. FindsKey z call r i k v w) c.in_default.is f.found) f.quiet c.requires.may
           (sym c.entries_in.ensures ∙ (c.if-entries_in-entries.true ∙ c.entries.ensures.is)),
     )
 
@@ -67,3 +69,15 @@ returns-clause-alone c = let z : Sizes = sizes c.args.table.now in let call = ca
     (λ e. c.if-entries_in-entries.false (c.entries_in.ensures ∙ (e ∙ sym c.entries.ensures.is))) in
     added_alone z r b.class b.number (length k) k x.0 c.enter.result v u w (subst (λ (o : Option ℕ). Runs (CountedIn z r k x.0 (as_found o)) v u) c.in_default.is f.alone)
     c.enter.ensures.next (subst (λ (n : ℕ). n < z.entries) (sym c.enter.ensures.next) may.room) (c.enter.ensures.alone k (still_here z call r b.class b.number (length k) k v u f.under c.requires.may))
+
+-- no step took a block
+
+pub returns-in-Some-clause-took : goal.returns-in-Some-clause-took
+returns-in-Some-clause-took c = quiet_took (state c.args.pass.now) (state c.find_counted-count.new.pass) c.find_counted-count.ensures.quiet
+
+pub returns-then-entries_in-entries-clause-took : goal.returns-then-entries_in-entries-clause-took
+returns-then-entries_in-entries-clause-took c = quiet_took (state c.args.pass.now) (state c.find_counted-count.new.pass) c.find_counted-count.ensures.quiet
+
+pub returns-clause-took : goal.returns-clause-took
+returns-clause-took c = let v = state c.args.pass.now in let u = state c.find_counted-count.new.pass in
+    only_both TookNone v u (state c.enter.new.pass) (quiet_took v u c.find_counted-count.ensures.quiet) c.enter.ensures.took

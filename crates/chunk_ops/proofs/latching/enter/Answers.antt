@@ -1,14 +1,18 @@
 use Rattle.std.proofs.Common.{◌≡◌, ℕ, ◌+◌, ◌<◌, ◌∙◌, refl, sym, subst, arith}
 use Rattle.oak_model.specs.Limits.{Sizes}
 use Rattle.chunk_core.specs.LinkedEntries.{entries_in}
+use Rattle.chunk_core.specs.RoomStep.{publish_entry}
 use Rattle.oak_core.specs.AloneWords.{Runs}
 use Rattle.oak_core.specs.Passes.{state, key, call_of}
+use Rattle.oak_core.specs.QuietSteps.{TookNone}
 use Rattle.oak_core.specs.RoomCalls.{PublishesEntry}
+use Rattle.oak_core.proofs.QuietCalls.{only_both, quiet_took}
 use Rattle.chunk_ops.specs.Latching.{AddsUnder}
 use Rattle.chunk_ops.specs.PinRecords.{room_pin}
 use Rattle.chunk_ops.proofs.EntryAdds.{may_publish, adds_each}
 use Rattle.chunk_ops.proofs.EntrySteps.{count_fits, may_enter, base_still, adds_behind, may_still}
 use Rattle.chunk_ops.proofs.LoneEntries.{PublishesIn, publishes_each, entered}
+use Rattle.chunk_ops.proofs.StepKinds.{took_none}
 use Rattle.chunk_ops.proofs.latching.enter.Goals as goal
 
 pub overflow_add-count : goal.overflow_add-count
@@ -46,3 +50,8 @@ returns-clause-alone c k may = let z : Sizes = key c.args.table.now in let call 
     (publishes_each z r b.class b.number c.args.len c.args.count m.0 w (may_enter z r b.class b.number c.args.len c.args.count m.0 call now place base v u w m.1 f.only x)
     f.base.step.told.rule.sizes c.place_word-place.ensures (base_still z r b.class b.number c.args.len c.args.count m.0 call now place base v u w m.1 f.only x f.base.pinned)
     (call_of c.write_entry.new.pass) y told k (may_still z r b.class b.number c.args.len c.args.count m.0 call now place base v u w m.1 f.only x k may)))
+
+pub returns-clause-took : goal.returns-clause-took
+returns-clause-took c = let z : Sizes = key c.args.table.now in let v = state c.args.pass.now in let u = state c.base_of-base.new.pass in let w = state c.write_entry.new.pass in let y = state c.publish_entry.new.pass in let r = c.args.pin.now.room in
+    let told : PublishesEntry z (call_of c.write_entry.new.pass) r (c.args.count + 1) w y = c.publish_entry.ensures.told r record { inside = c.requires.may.1.pinned.inside; word_is = c.count_at-word.ensures } in
+    only_both TookNone v u y (quiet_took v u c.base_of-base.ensures.only.quiet) (only_both TookNone u w y c.write_entry.ensures.took (took_none z (call_of c.write_entry.new.pass) (publish_entry r (c.args.count + 1)) w told.0 y told.1))

@@ -7,7 +7,7 @@ use Rattle.chunk_core.specs.RoomStep.{of_key, of_value}
 use Rattle.oak_core.specs.Passes.{state, key, call_of}
 use Rattle.oak_core.specs.RoomCalls.{StoresEntry}
 use Rattle.chunk_ops.specs.PinRecords.{room_pin}
-use Rattle.chunk_ops.proofs.LatchSteps.{may_store, latch_stored, rooms_stored, entry_written, written_alone}
+use Rattle.chunk_ops.proofs.LatchSteps.{may_store, latch_stored, rooms_stored, entry_written, written_alone, written_took}
 use Rattle.chunk_ops.proofs.latching.write_entry.Goals as goal
 
 pub store_entry-requires-clause-names : goal.store_entry-requires-clause-names
@@ -40,5 +40,11 @@ returns-clause-written c = let z : Sizes = key c.args.table.now in let call = ca
 pub returns-clause-alone : goal.returns-clause-alone
 returns-clause-alone c = let z : Sizes = key c.args.table.now in let call = call_of c.args.pass.now in let v = state c.args.pass.now in let u = state c.store_entry.new.pass in let w = state c.store_entry-2.new.pass in let r = c.args.room in let i = c.args.entry in
     written_alone z call r i c.args.place c.args.value v u w
+    (c.store_entry.ensures.told of_key r i record { inside = c.requires.pinned.inside; entry = c.requires.inside; word_is = c.key_at-place_at.ensures })
+    (subst (λ (k : ℕ). StoresEntry z k of_value r i c.args.value u w) c.store_entry.ensures.own.call (c.store_entry-2.ensures.told of_value r i record { inside = c.requires.pinned.inside; entry = c.requires.inside; word_is = c.value_at-value_at.ensures }))
+
+pub returns-clause-took : goal.returns-clause-took
+returns-clause-took c = let z : Sizes = key c.args.table.now in let call = call_of c.args.pass.now in let v = state c.args.pass.now in let u = state c.store_entry.new.pass in let w = state c.store_entry-2.new.pass in let r = c.args.room in let i = c.args.entry in
+    written_took z call r i c.args.place c.args.value v u w
     (c.store_entry.ensures.told of_key r i record { inside = c.requires.pinned.inside; entry = c.requires.inside; word_is = c.key_at-place_at.ensures })
     (subst (λ (k : ℕ). StoresEntry z k of_value r i c.args.value u w) c.store_entry.ensures.own.call (c.store_entry-2.ensures.told of_value r i record { inside = c.requires.pinned.inside; entry = c.requires.inside; word_is = c.value_at-value_at.ensures }))

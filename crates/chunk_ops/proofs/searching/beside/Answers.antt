@@ -48,3 +48,11 @@ returns-in-None-clause-few c = let t = c.nearest.new.room in let s = searched_ta
 pub returns-in-None-clause-alone : goal.returns-in-None-clause-alone
 returns-in-None-clause-alone c = let t = c.nearest.new.room in let s = searched_table Looks looks_of_entry _ t c.nearest.ensures.loads c.requires.pinned in
     let f = nearest_alone _ _ _ t.count _ _ s c.nearest.ensures.pinned.ordered c.args.way (bytes_in_option c.args.key) c.requires.key c.nearest.ensures.bytes None c.in-None.ensures.nearest in search (rules, f)
+
+pub returns-in-Some-clause-quiet : goal.returns-in-Some-clause-quiet
+returns-in-Some-clause-quiet c = let t = c.nearest.new.room in let s = searched_table Looks looks_of_entry _ t c.nearest.ensures.loads c.requires.pinned in
+    let f = s.quiet in search (rules, f)
+
+pub returns-in-None-clause-quiet : goal.returns-in-None-clause-quiet
+returns-in-None-clause-quiet c = let t = c.nearest.new.room in let s = searched_table Looks looks_of_entry _ t c.nearest.ensures.loads c.requires.pinned in
+    let f = s.quiet in search (rules, f)

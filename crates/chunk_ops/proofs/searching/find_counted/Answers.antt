@@ -35,3 +35,7 @@ pub returns-clause-alone : goal.returns-clause-alone
 returns-clause-alone c = let t = c.find-found.new.room in let key = c.args.key.now in let s = searched_table (Compares key) (compares_of_entry key) _ t c.find-found.ensures.loads c.requires.pinned in
     let f = counted_alone _ _ _ t.count _ _ s c.find-found.ensures.pinned.ordered key c.requires.key (slice_bytes key c.type_inv.key) c.find-found.result c.find-found.ensures.found in
     search (rules, f)
+
+pub returns-clause-quiet : goal.returns-clause-quiet
+returns-clause-quiet c = let t = c.find-found.new.room in let s = searched_table (Compares c.args.key.now) (compares_of_entry c.args.key.now) _ t c.find-found.ensures.loads c.requires.pinned in let f = s.quiet in
+    search (rules, f)

@@ -1,0 +1,90 @@
+ghost use Rattle.std.specs.Prelude.{◌<◌};
+ghost use Rattle.oak_model.specs.Key.{IsKey};
+ghost use Rattle.oak_core.specs.Passes.{IsPassOf, Stays, state, key as sizes};
+ghost use Rattle.oak_core.specs.PassState.{HoldsNothing};
+ghost use Rattle.chunk_ops.specs.PinRecords.{HasRoomPin};
+ghost use Rattle.chunk_ops.specs.TestStates.{HoldsAPin, IsIdleAgain};
+
+use chunk_core::OPEN;
+use chunk_ops::{
+    Moved, RoomPin, base_of, high_key, high_len, low_key, low_len, pin_for, pin_last, unpin,
+};
+use oak_core::{OakTable, Pass, load};
+use oak_model::{Hint, NO_HINT, Shape};
+use pin_word::pack;
+use std::process::Abort;
+use std::test::Fail;
+
+/// The pin is one of room 0, which has all keys, and is undone.
+fn all_keys(rt: &impl Abort, table: &OakTable, pass: &mut Pass, pin: RoomPin)
+    requires own { IsPassOf table.now pass.old }
+    requires pinned { HasRoomPin (sizes table.now) pin.room (state pass.old) }
+    requires rest { HoldsAPin (state pass.old) }
+    ensures own { Stays pass.old pass.new }
+    ensures idle { IsIdleAgain (state pass.old) (state pass.new) }
+{
+    assert_eq!(rt; pin.room, 0);
+    let low = low_len(table, pass, &pin);
+    let high = high_len(table, pass, &pin);
+    let begin = low_key(table, pass, &pin);
+    let end = high_key(table, pass, &pin);
+    let base = base_of(table, pass, &pin);
+    assert_eq!(rt; low, 0);
+    assert!(rt; high.is_none());
+    assert!(rt; begin.is_none());
+    assert!(rt; end.is_none());
+    assert_eq!(rt; base, 0);
+    unpin(table, pass, pin);
+}
+
+/// Pins the room that has the last keys.
+fn last_keys(rt: &impl Abort, table: &OakTable, pass: &mut Pass)
+    requires own { IsPassOf table.now pass.old }
+    requires idle { HoldsNothing (state pass.old) }
+    ensures own { Stays pass.old pass.new }
+    ensures idle { IsIdleAgain (state pass.old) (state pass.new) }
+{
+    match pin_last(table, pass, None, NO_HINT) {
+        Ok(pin) => all_keys(rt, table, pass, pin),
+        Err(Moved) => assert!(rt; false),
+    }
+}
+
+/// Pins the room that has the key, with this hint.
+fn keys_room(rt: &impl Abort, table: &OakTable, pass: &mut Pass, key: &[u8], hint: Option<u32>)
+    requires own { IsPassOf table.now pass.old }
+    requires key { IsKey key.now }
+    requires idle { HoldsNothing (state pass.old) }
+    ensures own { Stays pass.old pass.new }
+    ensures idle { IsIdleAgain (state pass.old) (state pass.new) }
+{
+    match pin_for(table, pass, key, Hint { room: hint }) {
+        Ok(pin) => all_keys(rt, table, pass, pin),
+        Err(Moved) => assert!(rt; false),
+    }
+}
+
+/// Room 0 is open, and its word counts no pin.
+pub(crate) fn no_pin_left(rt: &impl Abort, table: &OakTable, pass: &mut Pass)
+    requires own { IsPassOf table.now pass.old }
+    requires idle { HoldsNothing (state pass.old) }
+    ensures own { Stays pass.old pass.new }
+    ensures idle { IsIdleAgain (state pass.old) (state pass.new) }
+{
+    let _rooms = table.rooms();
+    let word = load(table, pass, table.room_at(0));
+    assert_eq!(rt; word, pack(0, OPEN, 0));
+}
+
+#[test]
+fn pins_of_one_room(rt: HostRuntime) -> Result<(), Fail> {
+    let shape = Shape::make(1, 1, 4, 1, [1, 1, 1, 1])?;
+    let (table, mut pass) = OakTable::create(rt.alloc(), &shape)?;
+    last_keys(&rt, &table, &mut pass);
+    keys_room(&rt, &table, &mut pass, &[7, 0, 255], None);
+    keys_room(&rt, &table, &mut pass, &[0], Some(0));
+    keys_room(&rt, &table, &mut pass, &[255; 64], Some(5));
+    no_pin_left(&rt, &table, &mut pass);
+    table.close(pass);
+    Ok(())
+}
