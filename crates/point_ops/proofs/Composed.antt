@@ -20,12 +20,15 @@ use Rattle.oak_core.specs.KnownPlaces.{ReadAt}
 use Rattle.oak_core.specs.LastReads.{EndsAs, ReadsLast}
 use Rattle.oak_core.specs.Memory.{Spot}
 use Rattle.oak_core.specs.PassState.{bare_state}
+use Rattle.oak_core.specs.Lack.{TookBut}
+use Rattle.oak_core.specs.QuietSteps.{MetOnly, Quiet}
 use Rattle.oak_core.specs.Sights.{SightedSince}
 use Rattle.oak_core.proofs.CallSteps.{stands_learns, step_in}
 use Rattle.oak_core.proofs.FoundThere.{found_first, found_later}
 use Rattle.oak_core.proofs.KnownReads.{read_since, read_stays}
 use Rattle.oak_core.proofs.MetLists.{at_behind, at_inside}
 use Rattle.oak_core.proofs.PinsKnown.{has_first, has_later}
+use Rattle.chunk_ops.specs.Adds.{LeavesCount}
 use Rattle.chunk_ops.specs.AskedRanges.{CoversKey}
 use Rattle.chunk_ops.specs.Contents.{EntryNamed}
 use Rattle.chunk_ops.specs.RoomPins.{FoundMoved}
@@ -36,6 +39,7 @@ use Rattle.point_ops.specs.Halting.{AllTaken, BusyBy, EntryChanged, Halts, IsTak
 use Rattle.point_ops.specs.Needs.{Needs, NeedsNow}
 use Rattle.point_ops.specs.declared.halts.Halt.{Halt}
 use Rattle.point_ops.specs.declared.halts.Halt.TheVariants.{Busy, Moved, Crowded, NoBlock, NoHeader}
+use Rattle.point_ops.proofs.OwnSteps.{only_in, quiet_but, quiet_leaves}
 
 -- one of the findings in the middle of three lists
 abbrev middle : (z : Sizes) (call : ℕ) (p : Spot) (P : ℕ → Type 0) (a b c : List Finding) → FoundThere z call p bare_state b P → FoundThere z call p bare_state (a ++ (b ++ c)) P
@@ -171,8 +175,9 @@ module _ (z : Sizes) (call : ℕ) (key : List ℕ) (u v w t : PassState) (a : Le
   pub read_in : (at : ℕ) (s : State) → ReadAt (key_number key) at s v w → ReadAt (key_number key) at s u t
   read_in at s r = read_stays (key_number key) at s u w t b.all.seen b.all.remembers (read_since (key_number key) at s u v w a.all.seen r)
 
-  pub crowded_in : RoomCrowded z call key v w → RoomCrowded z call key u t
-  crowded_in f = record {
+  -- no part stored to the count of a room
+  pub crowded_in : ((r : ℕ) → MetOnly (LeavesCount z r) u v) → ((r : ℕ) → MetOnly (LeavesCount z r) w t) → RoomCrowded z call key v w → RoomCrowded z call key u t
+  crowded_in before behind f = record {
     r = f.r;
     step = step_in z call _ u v w t a.met b.met f.step;
     full = f.full;
@@ -180,6 +185,7 @@ module _ (z : Sizes) (call : ℕ) (key : List ℕ) (u v w t : PassState) (a : Le
     none = f.none;
     base = f.base;
     absent = record { read = read_in f.base None f.absent.read; sighted = bare_in call u v w t a.sights b.sights (key_number key) f.base f.absent.sighted };
+    own = only_in (LeavesCount z f.r) u v w t (before f.r) f.own (behind f.r);
   }
 
   pub entry_in : EntryChanged z call key v w → EntryChanged z call key u t
@@ -212,9 +218,11 @@ module _ (z : Sizes) (call : ℕ) (key : List ℕ) (u v w t : PassState) (a : Le
   busy_in ask (latched s f) = latched s (latched_in call u v w t a.met b.met z key f)
   busy_in ask (changed s f) = changed s (entry_in f)
 
-  pub halts_in : (why : Halt) (ask : CellCall) → Halts why z call key ask v w → Halts why z call key ask u t
-  halts_in Busy ask f = busy_in ask f
-  halts_in Moved ask f = moved_in call u v w t a.met b.met z key f
-  halts_in Crowded ask f = (crowded_in f.0, needs_in ask Room f.1)
-  halts_in (NoBlock c) ask f = (f.0, taken_in call u v w t a.met b.met z c f.0 f.1, needs_in ask (Block c) f.2, spare_in ask c f.0 f.3)
-  halts_in NoHeader ask f = (free_in call u v w t a.met b.met z f.0, needs_in ask Header f.1)
+  -- before and behind it the call only loaded, pinned and undid pins
+  module _ (first : Quiet u v) (last : Quiet w t) where
+    pub halts_in : (why : Halt) (ask : CellCall) → Halts why z call key ask v w → Halts why z call key ask u t
+    halts_in Busy ask f = busy_in ask f
+    halts_in Moved ask f = moved_in call u v w t a.met b.met z key f
+    halts_in Crowded ask f = (crowded_in (λ r. quiet_leaves z r u v first) (λ r. quiet_leaves z r w t last) f.0, needs_in ask Room f.1)
+    halts_in (NoBlock c) ask f = (f.0, taken_in call u v w t a.met b.met z c f.0 f.1, needs_in ask (Block c) f.2, spare_in ask c f.0 f.3, only_in (TookBut (Block c) f.0) u v w t (quiet_but u v c f.0 first) f.4 (quiet_but w t c f.0 last))
+    halts_in NoHeader ask f = (free_in call u v w t a.met b.met z f.0, needs_in ask Header f.1)

@@ -25,7 +25,8 @@ use Rattle.value_ops.proofs.OneHeaderLaws.{without_block}
 use Rattle.point_ops.specs.Halting.{RoomCrowded, RoomLatched}
 use Rattle.point_ops.specs.Inserts.{AddingHalts, MakesBlock, halt_of}
 use Rattle.point_ops.proofs.Composed.{crowded_in, latched_in}
-use Rattle.point_ops.proofs.PartsMade.{back_stands, back_blocks, back_headers, back_rooms}
+use Rattle.point_ops.proofs.OwnSteps.{front_leaves, only_leaves}
+use Rattle.point_ops.proofs.PartsMade.{back_stands, back_blocks, back_front, back_headers, back_rooms}
 
 -- what the pass has of rooms is told by two calls in a row
 under_since : (z : Sizes) (r : ℕ) (a b d : RoomHolds) → b ≡ a → PinKept z r b d → PinKept z r a d
@@ -45,6 +46,7 @@ crowded_cause z call r key v w covers f = record {
   none = subst (λ (o : Option PinnedRoom). (e : FoundEntry) → Has e (pin_or o).entries → found_key e ≢ key_number key) f.counted.pin f.none;
   base = (room_pin v).base;
   absent = f.absent.absent;
+  own = f.stored;
 }
 
 latched_cause : (z : Sizes) (call r : ℕ) (key : List ℕ) (v w : PassState) → CoversKey key (span_of (room_pin v)) → v.rooms.latch ≡ None → FoundLatched z call r v w → RoomLatched z call key v w
@@ -98,5 +100,5 @@ module _ (z : Sizes) (call r : ℕ) (c : Class) (b : ℕ) (key : List ℕ) (v u 
     }
 
     pub unadded_halts : CoversKey key (span_of (room_pin v)) → v.rooms.latch ≡ None → (why : AddHalt) → NotAddedBy why z at r key u w → AddingHalts (halt_of why) z call key v x
-    unadded_halts covers latch adds.Crowded f = crowded_in z call key v u w x made back (crowded_cause z call r key u w (subst (CoversKey key) (sym (same_span (room_pin u) (room_pin w) p.pin.stays)) (subst (λ (a : RoomHolds). CoversKey key (span_of (pin_or a.pin))) (sym m.rooms) covers)) (subst (λ (k : ℕ). FoundCrowded z k r key u w) same f))
+    unadded_halts covers latch adds.Crowded f = crowded_in z call key v u w x made back (λ i. only_leaves z i v u c b m.own) (λ i. front_leaves z i w x call (back_front z call c b w x later follows one g)) (crowded_cause z call r key u w (subst (CoversKey key) (sym (same_span (room_pin u) (room_pin w) p.pin.stays)) (subst (λ (a : RoomHolds). CoversKey key (span_of (pin_or a.pin))) (sym m.rooms) covers)) (subst (λ (k : ℕ). FoundCrowded z k r key u w) same f))
     unadded_halts covers latch adds.Busy f = latched_in call v u w x m.stands.met gone.met z key (latched_cause z call r key u w (subst (λ (a : RoomHolds). CoversKey key (span_of (pin_or a.pin))) (sym m.rooms) covers) (ap (λ (a : RoomHolds). a.latch) m.rooms ∙ latch) (subst (λ (k : ℕ). FoundLatched z k r u w) same f))

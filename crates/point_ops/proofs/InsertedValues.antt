@@ -3,6 +3,7 @@ use Rattle.std.proofs.Common.{◌≡◌, ℕ, Bool, cond, [], ◌∷◌, length,
 use mathlib.Core.Logic.{dite}
 use native.Mathlib.Decide.{ℕ_discrete}
 use Rattle.oak_model.specs.declared.classes.Class.{Class}
+use Rattle.oak_model.specs.declared.replies.Lack.TheVariants.{Block}
 use Rattle.oak_model.specs.Class.{class_number, class_of}
 use Rattle.arena_core.specs.Place.{block_in, class_in}
 use Rattle.header_core.specs.declared.holds.HeldAs.TheVariants.{Fresh}
@@ -18,17 +19,21 @@ use Rattle.header_core.specs.declared.holds.HeaderHolds.{HeaderHolds}
 use Rattle.oak_core.specs.declared.states.PassState.{PassState}
 use Rattle.oak_core.specs.CallSteps.{Learns, Stands}
 use Rattle.oak_core.specs.CallWrites.{Writes}
+use Rattle.oak_core.specs.Finding.{IsOf}
 use Rattle.oak_core.specs.HeldRows.{HasFresh}
+use Rattle.oak_core.specs.Lack.{TookBut}
 use Rattle.oak_core.specs.MadeWrites.{held_header}
+use Rattle.oak_core.specs.QuietSteps.{MetOnly, Quiet}
 use Rattle.oak_core.proofs.CallSteps.{learns_both, met_none, stands_learns, stands_in}
 use Rattle.chunk_ops.specs.declared.entries.EntryNo.{EntryNo}
 use Rattle.chunk_ops.specs.PinRecords.{UnderPin}
 use Rattle.chunk_ops.specs.Setting.{FoundSet}
 use Rattle.point_ops.specs.declared.halts.Halt.{Halt}
 use Rattle.point_ops.specs.declared.halts.Halt.TheVariants.{Busy, Moved, Crowded, NoBlock, NoHeader}
-use Rattle.point_ops.specs.Inserts.{AddingHalts, InsertHalts, MakesFresh, MakingHalts}
+use Rattle.point_ops.specs.Inserts.{AddingHalts, InsertHalts, MakesFresh, MakingHalts, TakesOnly}
 use Rattle.point_ops.specs.Halting.{AllTaken}
 use Rattle.point_ops.proofs.Composed.{crowded_in, latched_in, set_in, taken_in}
+use Rattle.point_ops.proofs.OwnSteps.{front_leaves, front_none, none_but, only_but, only_in, only_leaves, quiet_but}
 use Rattle.point_ops.proofs.WritesIn.{writes_behind}
 
 -- a header stays fresh where headers are held as before
@@ -45,7 +50,7 @@ pub unmade_halts : (z : Sizes) (call : ℕ) (d : Class) (key value : List ℕ) (
 unmade_halts z call d key value entry floor v w Busy fits f = absurd f
 unmade_halts z call d key value entry floor v w Moved fits f = absurd f
 unmade_halts z call d key value entry floor v w Crowded fits f = absurd f
-unmade_halts z call d key value entry floor v w (NoBlock b) fits f = (None, subst (λ (i : Class). AllTaken z call i None v w) (sym f.0) f.1, tt, inl (fits ∙ ap Some (sym f.0)))
+unmade_halts z call d key value entry floor v w (NoBlock b) fits f = (None, subst (λ (i : Class). AllTaken z call i None v w) (sym f.0) f.1, tt, inl (fits ∙ ap Some (sym f.0)), quiet_but v w b None f.2)
 unmade_halts z call d key value entry floor v w NoHeader fits f = f
 
 -- ---- a value was made, and an entry looked for under the pin of the room
@@ -74,12 +79,12 @@ module _ (z : Sizes) (call r h g stamp : ℕ) (key bytes : List ℕ) (v u w : Pa
     unset_halts value entry i floor f = inr (r, i, set_in call v w x x entered.met (met_none call x) z r i floor key (subst (λ (k : ℕ). FoundSet z k r i floor key w x) follows f))
 
     -- or where the key got no entry
-    module _ (s : Stands later w x) where
+    module _ (s : Stands later w x) (back : MetOnly (IsOf z later) w x) where
       gone : Learns call w x
       gone = stands_learns call w x (stands_in call later w x follows s)
 
-      pub unentered_halts : (d : Class) (b : ℕ) → NamesBlock h d b u → (value : List ℕ) → class_of (length value) ≡ Some d → (entry : Option EntryNo) (floor : ℕ) → entry ≡ None → (why : Halt) → AddingHalts why z at key u w → InsertHalts why z call key value entry floor v x
-      unentered_halts d b names value fits entry floor none why f = by why (subst (λ (k : ℕ). AddingHalts why z k key u w) same f)
+      pub unentered_halts : (d : Class) (b : ℕ) → NamesBlock h d b u → MetOnly (TakesOnly z d b) v u → (value : List ℕ) → class_of (length value) ≡ Some d → (entry : Option EntryNo) (floor : ℕ) → entry ≡ None → (why : Halt) → AddingHalts why z at key u w → InsertHalts why z call key value entry floor v x
+      unentered_halts d b names own value fits entry floor none why f = by why (subst (λ (k : ℕ). AddingHalts why z k key u w) same f)
         where
           one_place : place_held h u.headers.held ≡ m.one.header.place
           one_place = ap (λ (a : HeaderHolds). place_held h a.held) m.one.alone ∙ ap (λ (t : Bool). cond t m.one.header.place 0) (eq-eqb m.one.header.header h m.one.is)
@@ -93,11 +98,15 @@ module _ (z : Sizes) (call r h g stamp : ℕ) (key bytes : List ℕ) (v u w : Pa
           fits_class : (c : Class) → class_in m.one.header.place ≡ class_number c → class_of (length value) ≡ Some c
           fits_class c e = fits ∙ ap Some (same_class d c (sym names.0 ∙ (ap class_in one_place ∙ e)))
 
+          -- the one block that was taken is the spare one, or of another class
+          took : (c : Class) (spare : Option ℕ) → (d ≡ c → spare ≡ Some b) → Quiet u w → MetOnly (TookBut (Block c) spare) v x
+          took c spare is q = only_in (TookBut (Block c) spare) v u w x (only_but v u z d b c spare is own) (quiet_but u w c spare q) (none_but w x c spare (front_none w x z later back))
+
           by : (why : Halt) → AddingHalts why z call key u w → InsertHalts why z call key value entry floor v x
           by Busy f = inl (latched_in call v u w x made.met gone.met z key f)
           by Moved f = absurd f
-          by Crowded f = (none, crowded_in z call key v u w x made gone f)
+          by Crowded f = (none, crowded_in z call key v u w x made gone (λ i. only_leaves z i v u d b own) (λ i. front_leaves z i w x later back) f)
           by (NoBlock c) f = dite (ℕ_discrete (class_in m.one.header.place) (class_number c))
-              (λ e. (Some (block_in m.one.header.place), taken_in call v u w x made.met gone.met z c (Some (block_in m.one.header.place)) (taken_own z call u w h m.blocks m.one one_fresh c f.1), (fits_class c e, f.0, none), inr (f.0, none)))
-              (λ ne. (None, taken_in call v u w x made.met gone.met z c None (taken_other z call u w h m.blocks m.one one_fresh c ne f.1), tt, inr (f.0, none)))
+              (λ e. (Some (block_in m.one.header.place), taken_in call v u w x made.met gone.met z c (Some (block_in m.one.header.place)) (taken_own z call u w h m.blocks m.one one_fresh c f.1), (fits_class c e, f.0, none), inr (f.0, none), took c (Some (block_in m.one.header.place)) (λ _. ap Some (sym (ap block_in one_place) ∙ names.1)) f.2))
+              (λ ne. (None, taken_in call v u w x made.met gone.met z c None (taken_other z call u w h m.blocks m.one one_fresh c ne f.1), tt, inr (f.0, none), took c None (λ same. absurd (ne (sym (ap class_in one_place) ∙ (names.0 ∙ ap class_number same)))) f.2))
           by NoHeader f = absurd f

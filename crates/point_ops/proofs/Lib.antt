@@ -1,3 +1,4 @@
+pub mod OwnSteps
 pub mod Composed
 pub mod ReplyLaws
 pub mod WritesIn

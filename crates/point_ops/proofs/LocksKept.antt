@@ -34,7 +34,7 @@ pub come_stands : (z : Sizes) (call : ℕ) (bs : List HeldBlock) (hs : List Held
 come_stands z call bs hs v w c = end_stands z call v.knowledge bs hs v w refl record { more = c.more; calls = c.calls; after = c.after }
 
 pub load_stands : (z : Sizes) (call : ℕ) (v w : PassState) → LoadsMore z call v w → Stands call v w
-load_stands z call v w l = come_stands z call v.blocks.held v.headers.held v w record { more = l.more; calls = each_map (IsLoadOf z call) (IsOf z call) l.more (λ f o. (o.0, o.1)) l.loads; after = l.after }
+load_stands z call v w l = come_stands z call v.blocks.held v.headers.held v w record { more = l.more; calls = each_map (IsLoadOf z call) (IsOf z call) l.more (λ f o. (o.0, o.1, o.3)) l.loads; after = l.after }
 
 -- loads leave what a lock says of the key
 pub key_loaded : (z : Sizes) (call now : ℕ) (k : List ℕ) (h g : ℕ) (v u w : PassState) → LoadsMore z now u w → LocksKey z call k h g v u → LocksKey z call k h g v w

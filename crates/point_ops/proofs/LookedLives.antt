@@ -15,8 +15,10 @@ use Rattle.oak_core.specs.KeyHistories.{home_behind}
 use Rattle.oak_core.specs.Memory.{in_headers}
 use Rattle.oak_core.specs.Passes.{state}
 use Rattle.oak_core.specs.PassState.{seen_of}
+use Rattle.oak_core.specs.QuietSteps.{IsQuiet}
 use Rattle.oak_core.proofs.AloneRuns.{Then, runs_as, runs_then}
 use Rattle.oak_core.proofs.CallSteps.{learns_both, stands_learns}
+use Rattle.oak_core.proofs.QuietCalls.{only_both}
 use Rattle.chunk_ops.specs.PinRecords.{OnlyLearns, WordsStay}
 use Rattle.chunk_ops.proofs.MeetingCalls.{stays_then}
 use Rattle.value_ops.specs.declared.pinning.BadPin.{BadPin}
@@ -66,6 +68,7 @@ module _ (z : Sizes) (call h g : ℕ) (p : PinnedHeader) (v : PassState) (r : Re
   under_reading : ReadsUnder z call h g (stamp r) v w
   under_reading = record {
     learns = learns_both call v u w loads.only.learns (stands_learns call u w stands);
+    quiet = only_both IsQuiet v u w loads.quiet ends.quiet;
     knows = knows_both v.knowledge u.knowledge w.knowledge loads.only.knows (knows_same u.knowledge w.knowledge stands.knowledge);
     blocks = ap (λ (x : PassState). x.blocks) ends.meets.after ∙ loads.only.blocks;
     headers = ap (λ (x : PassState). x.headers) ends.meets.after ∙ ap (λ (a : HeaderHolds). record a { pin = None }) loads.only.headers;
@@ -88,6 +91,7 @@ module _ (z : Sizes) (call h g at : ℕ) (v u w : PassState) (none : v.headers �
   pub live_only : OnlyLearns call v w
   live_only = record {
     learns = learns_both call v u w first under.learns;
+    quiet = only_both IsQuiet v u w pins.quiet under.quiet;
     blocks = under.blocks ∙ ap (λ (x : PassState). x.blocks) pins.after;
     headers = under.headers ∙ (ap (λ (x : PassState). record x.headers { pin = None }) pins.after ∙ (ap (λ (a : HeaderHolds). record a { pin = None }) none ∙ sym none));
     rooms = under.rooms ∙ ap (λ (x : PassState). x.rooms) pins.after;
@@ -108,6 +112,7 @@ module _ (z : Sizes) (call h g at : ℕ) (v u w : PassState) (none : v.headers �
 pub dud_only : (z : Sizes) (call h g : ℕ) (why : BadPin) (v w : PassState) → PinsDud z call h g why v w → OnlyLearns call v w
 dud_only z call h g why v w d = record {
   learns = d.only.learns;
+  quiet = d.quiet;
   blocks = d.only.blocks;
   headers = d.only.headers;
   rooms = d.only.rooms;

@@ -1,22 +1,32 @@
 -- A lock that was refused found the header's word so in the call, and only met more.
-use Rattle.std.proofs.Common.{◌≡◌, ◌≢◌, ◌⊎◌, ℕ, ◌<◌, List, ◌∷◌, [], ◌++◌, Option, Some, None, sym, refl, ap, ◌∙◌, subst, inl, inr, ⊎_elim, append_assoc}
+use Rattle.std.proofs.Common.{◌≡◌, ◌≢◌, ◌⊎◌, ℕ, ◌+◌, ◌<◌, Bool, cond, List, ◌∷◌, [], ◌++◌, length, eq-eqb, arith, Option, Some, None, sym, refl, ap, ◌∙◌, subst, inl, inr, ⊎_elim, append_assoc}
+use Rattle.std.proofs.lemmas.List.{length-map}
 use Rattle.pin_word.specs.PinWord.{generation_of, state_of, count_of}
 use Rattle.oak_model.specs.Limits.{Sizes}
+use Rattle.arena_core.specs.Place.{content}
 use Rattle.oak_model.proofs.Lists.{each_map}
 use Rattle.header_core.specs.declared.states.TheConstants.{LOCKED}
+use Rattle.header_core.specs.declared.holds.HeaderHolds.{HeaderHolds}
+use Rattle.header_core.specs.declared.holds.HeldHeader.{HeldHeader}
 use Rattle.header_core.specs.HeaderHolds.{no_headers, had_header}
-use Rattle.header_core.specs.HeaderStep.{lock_header, header_effect}
+use Rattle.header_core.specs.HeaderStep.{lock_header, locked_at, header_effect}
 use Rattle.oak_core.specs.declared.states.Finding.{Finding}
 use Rattle.oak_core.specs.declared.states.PassState.{PassState}
 use Rattle.oak_core.specs.AloneWords.{Runs}
 use Rattle.oak_core.specs.CallSteps.{MetMore, Stands}
 use Rattle.oak_core.specs.Finding.{finding, grown, had, IsOf}
-use Rattle.oak_core.specs.Memory.{Spot, index}
+use Rattle.oak_core.specs.HeaderCalls.{Locks}
+use Rattle.oak_core.specs.KeyedHeaders.{keyed_at}
+use Rattle.oak_core.specs.LifeKeys.{key_known, key_or}
+use Rattle.oak_core.specs.Memory.{Memory, Spot, index, memory}
+use Rattle.oak_core.specs.QuietSteps.{IsQuiet, Quiet}
 use Rattle.oak_core.specs.PassState.{bare_state}
 use Rattle.oak_core.specs.Step.{on_headers, found}
 use Rattle.oak_core.proofs.AloneRuns.{runs_as}
 use Rattle.oak_core.proofs.FoundThere.{found_first, found_later}
+use Rattle.oak_core.proofs.LockTold.{lock_missed, word_found}
 use Rattle.oak_core.proofs.PlainLoads.{met_at}
+use Rattle.oak_core.proofs.QuietCalls.{only_both, quiet_load}
 use Rattle.oak_core.proofs.Words.{index_apart}
 use Rattle.chunk_ops.specs.PinRecords.{OnlyMeets, WordsStay}
 use Rattle.value_ops.specs.declared.locking.NoLock.{NoLock}
@@ -86,10 +96,35 @@ refused_by z call h g why v w inside none f = by_cause why f.cause
         (λ (o : (state_of f.number ≡ LOCKED) ⊎ (0 < count_of f.number)). ⊎_elim (λ (locked : state_of f.number ≡ LOCKED). inl (by_looks z call h inside (IsLockedOut g) f.first v w f.number none f.looks (inl locked)))
         (λ (pinned : 0 < count_of f.number). inr (by_looks z call h inside (IsPinned g) f.first v w f.number none f.looks pinned)) o) cause.1
 
+-- An exchange by which the pass came to hold no header found another word than the one that it wanted.
+module _ (z : Sizes) (call h seen : ℕ) (v : PassState) (n : ℕ) (w : PassState) (t : Locks z call h seen v n w) where
+  abbrev m : Memory
+  m = memory z t.table.words
+
+  abbrev taken : Bool → List HeldHeader
+  taken b = cond b (keyed_at h (key_or (key_known h (generation_of seen) v.knowledge)) (cond b (locked_at m.headers (content m.arena.bytes) h ∷ v.headers.held) v.headers.held)) (cond b (locked_at m.headers (content m.arena.bytes) h ∷ v.headers.held) v.headers.held)
+
+  one_more : n ≡ seen → length w.headers.held ≡ length v.headers.held + 1
+  one_more e = ap (λ (y : PassState). length y.headers.held) t.after ∙ (ap (λ (b : Bool). length (taken b)) (eq-eqb (m.headers.pin h) seen (word_found z call h seen v n w t ∙ e))
+      ∙ (length-map (locked_at m.headers (content m.arena.bytes) h ∷ v.headers.held) _ ∙ (let k : length (locked_at m.headers (content m.arena.bytes) h ∷ v.headers.held) ≡ length v.headers.held + 1 = omega arith in k)))
+
+  quiet_missed : w.headers ≡ v.headers → Quiet v w
+  quiet_missed same = record { more = _ ∷ []; met = ap (λ (y : PassState). y.findings.met) (lock_missed z call h seen v n w t other); each = ((refl, inl refl), tt) }
+    where
+      other : n ≢ seen
+      other e = let k = one_more e in let l : length w.headers.held ≡ length v.headers.held = ap (λ (a : HeaderHolds). length a.held) same in absurd (omega arith)
+
+-- so a lock that was refused took no block, and left the word as it found it
+quiet_looks : (z : Sizes) (call h : ℕ) (inside : h < z.headers) (first : Option ℕ) (v : PassState) (n : ℕ) (w : PassState) → w.headers ≡ v.headers → Looks z call h first v n w → Quiet v w
+quiet_looks z call h inside None v n w same l = quiet_load z call l.spot v n w l.told
+quiet_looks z call h inside (Some seen) v n w same l = only_both IsQuiet v l.between w (quiet_load z call l.loads.spot v seen l.between l.loads.told)
+    (quiet_missed z call h seen l.between n w l.told (same ∙ sym (ap (λ (y : PassState). y.headers) (met_at z call (index z (pin_spot h)) seen v l.between (pin_spot h) inside tt refl l.loads))))
+
 -- a lock that was refused only met more, and to a pass that is alone the words stay
-pub refused_only : (z : Sizes) (call h g : ℕ) (why : NoLock) (v w : PassState) → FindsNoLock z call h g why v w → Runs (RefusesPin z h g why) v w → OnlyMeets call v w
-refused_only z call h g why v w f still = record {
+pub refused_only : (z : Sizes) (call h g : ℕ) (why : NoLock) (v w : PassState) → h < z.headers → FindsNoLock z call h g why v w → Runs (RefusesPin z h g why) v w → OnlyMeets call v w
+refused_only z call h g why v w inside f still = record {
   stands = subst (Stands call v) (sym f.after) record { met = record { more = f.more; met = refl; calls = each_map (IsOf z call) (λ (y : Finding). y.call ≡ call) f.more (λ y o. o.0) f.calls }; numbers = refl; knowledge = refl; fulls = refl; swept = refl; sights = refl; gones = refl; rebalances = refl };
+  quiet = quiet_looks z call h inside f.first v f.number w (ap (λ (y : PassState). y.headers) f.after) f.looks;
   blocks = ap (λ (y : PassState). y.blocks) f.after;
   headers = ap (λ (y : PassState). y.headers) f.after;
   rooms = ap (λ (y : PassState). y.rooms) f.after;

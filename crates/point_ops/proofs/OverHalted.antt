@@ -1,5 +1,5 @@
 -- A value is put over another behind a lock that was given up: what the part behind it did or found, told of the whole call.
-use Rattle.std.proofs.Common.{None, ◌≡◌, ◌⊎◌, ℕ, List, length, Result, IfOk, IfErr, Some, sym, subst, inl, inr, ⊎_elim}
+use Rattle.std.proofs.Common.{None, ◌≡◌, ◌⊎◌, ℕ, List, length, Result, IfOk, IfErr, Some, sym, ap, subst, inl, inr, ⊎_elim}
 use Rattle.std.proofs.lemmas.Result.{IfOk-weaker, IfErr-weaker}
 use Rattle.oak_model.specs.declared.classes.Class.{Class}
 use Rattle.oak_model.specs.declared.writes.Kind.TheVariants.{Put}
@@ -7,9 +7,12 @@ use Rattle.oak_model.specs.Class.{class_of}
 use Rattle.oak_model.specs.Limits.{Sizes}
 use Rattle.oak_core.specs.declared.states.PassState.{PassState}
 use Rattle.oak_core.specs.CallSteps.{Learns, MetMore, Stands}
-use Rattle.oak_core.specs.Finding.{LoadsMore}
+use Rattle.oak_core.specs.Finding.{IsOf, LoadsMore}
+use Rattle.oak_core.specs.QuietSteps.{MetOnly, Quiet, TookNone}
 use Rattle.oak_core.proofs.CallSteps.{learns_both, stands_both, stands_in, stands_learns, met_none}
+use Rattle.oak_core.proofs.QuietCalls.{of_took, only_both, quiet_loads, quiet_took}
 use Rattle.value_ops.specs.declared.locking.NoLock.TheVariants as no_lock
+use Rattle.value_ops.specs.Locking.{LocksHeader}
 use Rattle.value_ops.specs.Pinning.{KnowsLife}
 use Rattle.value_ops.specs.UnderLock.{GivesUp}
 use Rattle.point_ops.specs.declared.halts.Halt.{Halt}
@@ -26,6 +29,11 @@ use Rattle.point_ops.proofs.WritesIn.{wrote_behind}
 -- loads under a lock that is given up then teach nothing
 pub looked_stands : (z : Sizes) (call loaded_at given_at h g stamp : ℕ) (v u w : PassState) → loaded_at ≡ call → given_at ≡ call → LoadsMore z loaded_at v u → GivesUp z given_at h g stamp u w → Stands call v w
 looked_stands z call loaded_at given_at h g stamp v u w e d l t = stands_both call v u w (stands_in call loaded_at v u e (load_stands z loaded_at v u l)) (stands_in call given_at u w d (gave_up_stands z given_at h g stamp u w t))
+
+-- nor is a block taken by them, by the lock before them, or by the search for a block behind them that found none
+pub looked_took : (z : Sizes) (call loaded_at given_at h g i j stamp : ℕ) (v u y x w : PassState) → LocksHeader z call h g v u → LoadsMore z loaded_at u y → GivesUp z given_at i j stamp y x → Quiet x w → MetOnly TookNone v w
+looked_took z call loaded_at given_at h g i j stamp v u y x w a l t q = only_both TookNone v u w (of_took z call v u a.more a.met a.calls) (only_both TookNone u y w (quiet_took u y (quiet_loads z loaded_at u y l))
+    (only_both TookNone y x w (of_took z given_at y x t.ends.comes.more (ap (λ (s : PassState). s.findings.met) t.ends.comes.after) t.ends.comes.calls) (quiet_took x w q)))
 
 -- blocks that were found taken in a part of a call
 taken_behind : (z : Sizes) (call : ℕ) (c : Class) (u v w : PassState) → MetMore call u v → AllTaken z call c None v w → AllTaken z call c None u w
@@ -48,8 +56,8 @@ module _ (call now : ℕ) (same : now ≡ call) where
 
 module _ (z : Sizes) (call now : ℕ) (same : now ≡ call) (h g : ℕ) (value : List ℕ) (v u w : PassState) where
   -- it found no block
-  pub no_block_halts : (why : Halt) (c : Class) → MetMore call v u → (why ≡ NoBlock c) × AllTaken z now c None u w → class_of (length value) ≡ Some c → ((key : List ℕ) → KnowsLife h g key v.knowledge → HasOtherClass c key v w) → OverHalts why z call h g value v w
-  no_block_halts why c m none fits other = subst (λ (o : Halt). OverHalts o z call h g value v w) (sym none.0) (taken_behind z call c v u w m (subst (λ (i : ℕ). AllTaken z i c None u w) same none.1), fits, other)
+  pub no_block_halts : (why : Halt) (c : Class) → MetMore call v u → (why ≡ NoBlock c) × AllTaken z now c None u w → class_of (length value) ≡ Some c → ((key : List ℕ) → KnowsLife h g key v.knowledge → HasOtherClass c key v w) → MetOnly TookNone v w → OverHalts why z call h g value v w
+  no_block_halts why c m none fits other took = subst (λ (o : Halt). OverHalts o z call h g value v w) (sym none.0) (taken_behind z call c v u w m (subst (λ (i : ℕ). AllTaken z i c None u w) same none.1), fits, other, took)
 
   -- it did not lock the header
   abbrev IsUnlocked : ℕ → Halt → Type 0

@@ -15,15 +15,18 @@ use Rattle.header_core.specs.declared.holds.HeaderHolds.{HeaderHolds}
 use Rattle.oak_core.specs.declared.states.Finding.{Finding}
 use Rattle.oak_core.specs.declared.states.PassState.{PassState}
 use Rattle.oak_core.specs.CallSteps.{Stands}
-use Rattle.oak_core.specs.Finding.{IsOf, IsLoadOf, grown}
+use Rattle.oak_core.specs.Finding.{IsBefore, IsOf, IsLoadOf, grown}
+use Rattle.oak_core.specs.QuietSteps.{MetOnly, Quiet}
 use Rattle.oak_core.proofs.CallSteps.{stands_both, stands_in}
+use Rattle.oak_core.proofs.QuietCalls.{only_both, quiet_loads}
 use Rattle.arena_ops.specs.Storing.{StoresBytes, given}
 use Rattle.arena_ops.specs.Taking.{Takes, Gives, FindsNone}
 use Rattle.value_ops.specs.Claiming.{ClaimsHeader, FindsNoneFree}
 use Rattle.value_ops.specs.Filling.{Fills, Withdraws}
 use Rattle.value_ops.specs.OneHeader.{IsOneBlock}
 use Rattle.value_ops.proofs.OneHeaderLaws.{without_block, one_holds, taken_one, taken_headers, given_none, given_headers}
-use Rattle.point_ops.specs.Inserts.{GivesAllBack, MakesBlock}
+use Rattle.point_ops.specs.Inserts.{GivesAllBack, MakesBlock, TakesOnly}
+use Rattle.point_ops.proofs.OwnSteps.{front_at, front_only, taken_only}
 
 -- ---- what is held
 
@@ -49,33 +52,40 @@ stored_one c b a d o same often = record { block = left.0; alone = ap (λ (l : L
 -- ---- what each call leaves
 
 -- the pass met more in the call, and maybe holds other blocks and headers
-others_stand : (z : Sizes) (call : ℕ) (more : List Finding) (b : HeldBlocks) (h : HeaderHolds) (v w : PassState) → Each (IsOf z call) more → w ≡ record (grown more v) { blocks = b; headers = h } → Stands call v w
-others_stand z call more b h v w calls after = subst (Stands call v) (sym after) (record { met = record { more = more; met = refl; calls = each_map (IsOf z call) (λ (f : Finding). f.call ≡ call) more (λ f o. o.0) calls }; numbers = refl; knowledge = refl; fulls = refl; swept = refl; sights = refl; gones = refl; rebalances = refl })
+others_stand : (call : ℕ) (more : List Finding) (b : HeldBlocks) (h : HeaderHolds) (v w : PassState) → Each (λ (f : Finding). f.call ≡ call) more → w ≡ record (grown more v) { blocks = b; headers = h } → Stands call v w
+others_stand call more b h v w calls after = subst (Stands call v) (sym after) (record { met = record { more = more; met = refl; calls = calls }; numbers = refl; knowledge = refl; fulls = refl; swept = refl; sights = refl; gones = refl; rebalances = refl })
 
 module _ (z : Sizes) (call : ℕ) (v w : PassState) where
+  called : (P : Finding → Type 0) (more : List Finding) → ((f : Finding) → P f → f.call ≡ call) → Each P more → Each (λ (f : Finding). f.call ≡ call) more
+  called P more is each = each_map P (λ (f : Finding). f.call ≡ call) more is each
+
   pub taken_stands : (c : Class) (b : ℕ) → Takes z call c b v w → Stands call v w
-  taken_stands c b t = others_stand z call t.more _ _ v w t.calls t.after
+  taken_stands c b t = others_stand call t.more _ _ v w (called (IsBefore z call) t.more (λ f o. o.0) t.calls) t.after
 
   pub given_stands : (c : Class) (b : ℕ) → Gives z call c b v w → Stands call v w
-  given_stands c b t = others_stand z call t.more _ _ v w t.calls t.after
+  given_stands c b t = others_stand call t.more _ _ v w (called (IsOf z call) t.more (λ f o. o.0) t.calls) t.after
 
   pub claimed_stands : (h : ℕ) → ClaimsHeader z call h v w → Stands call v w
-  claimed_stands h t = others_stand z call t.more _ _ v w t.calls t.after
+  claimed_stands h t = others_stand call t.more _ _ v w (called (IsOf z call) t.more (λ f o. o.0) t.calls) t.after
 
   pub filled_stands : (h : ℕ) (c : Class) (b len stamp g : ℕ) → Fills z call h c b len stamp g v w → Stands call v w
-  filled_stands h c b len stamp g t = others_stand z call t.more _ _ v w t.calls t.after
+  filled_stands h c b len stamp g t = others_stand call t.more _ _ v w (called (IsOf z call) t.more (λ f o. o.0) t.calls) t.after
 
   pub withdrawn_stands : (h : ℕ) (c : Class) (b : ℕ) → Withdraws z call h c b v w → Stands call v w
-  withdrawn_stands h c b t = others_stand z call t.more _ _ v w t.calls t.after
+  withdrawn_stands h c b t = others_stand call t.more _ _ v w (called (IsOf z call) t.more (λ f o. o.0) t.calls) t.after
 
   -- a search that found nothing
   looked_back : (more : List Finding) → Each (IsLoadOf z call) more → w ≡ grown more v → GivesAllBack call v w
   looked_back more looks after = record {
-    stands = others_stand z call more v.blocks v.headers v w (each_map (IsLoadOf z call) (IsOf z call) more (λ f l. (l.0, l.1)) looks) after;
+    stands = others_stand call more v.blocks v.headers v w (called (IsLoadOf z call) more (λ f l. l.0) looks) after;
     blocks = ap (λ (y : PassState). y.blocks) after;
     headers = ap (λ (y : PassState). y.headers) after;
     rooms = ap (λ (y : PassState). y.rooms) after;
   }
+
+  -- by loads alone
+  pub untaken_quiet : (c : Class) → FindsNone z call c v w → Quiet v w
+  untaken_quiet c f = quiet_loads z call v w record { more = f.more; loads = f.looks; after = f.after }
 
   pub untaken_back : (c : Class) → FindsNone z call c v w → GivesAllBack call v w
   untaken_back c f = looked_back f.more f.looks f.after
@@ -96,6 +106,7 @@ module _ (z : Sizes) (call : ℕ) (c : Class) (b : ℕ) (v u : PassState) (none 
     rooms = s.rooms ∙ ap (λ (y : PassState). y.rooms) t.after;
     one = stored_one c b u.blocks w.blocks (taken_one z call v u c b none t) s.blocks often;
     has = s.has;
+    own = only_both (TakesOnly z c b) v u w (taken_only v u z call c b t) (front_only u w z at c b s.own);
   }
 
 -- ---- it is given back
@@ -112,3 +123,6 @@ module _ (z : Sizes) (call : ℕ) (c : Class) (b : ℕ) (u w : PassState) (at : 
 
   pub back_rooms : w.rooms ≡ u.rooms
   back_rooms = ap (λ (y : PassState). y.rooms) g.after
+
+  pub back_front : MetOnly (IsOf z call) u w
+  back_front = front_at z call at u w same record { more = g.more; met = ap (λ (y : PassState). y.findings.met) g.after; each = g.calls }

@@ -52,4 +52,4 @@ module _ (z : Sizes) (call r : ℕ) (P : Span → Type 0) (v u w x : PassState) 
   all_refuses l = refuses call v x (all_learns l) (all_holds (l.all.numbers, l.all.fulls, l.all.swept, l.all.rebalances))
 
   pub all_halts : (key : List ℕ) (ask : CellCall) (why : Halt) → Halts why z c2 key ask u w → Halts why z call key ask v x
-  all_halts key ask why h = halts_in z call key v u w x here (stands_learns call w x away) why ask (subst (λ (t : ℕ). Halts why z t key ask u w) e2 h)
+  all_halts key ask why h = halts_in z call key v u w x here (stands_learns call w x away) p.quiet n0.quiet why ask (subst (λ (t : ℕ). Halts why z t key ask u w) e2 h)

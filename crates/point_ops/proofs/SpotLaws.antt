@@ -6,6 +6,7 @@ use Rattle.oak_model.specs.declared.cells.CellCall.{CellCall}
 use Rattle.oak_model.specs.declared.cells.CellReply.{CellReply}
 use Rattle.oak_model.specs.declared.cells.CellReply.TheVariants as replies
 use Rattle.oak_model.specs.declared.classes.Class.{Class}
+use Rattle.oak_model.specs.declared.replies.Lack.TheVariants.{Block}
 use Rattle.oak_model.specs.declared.writes.Kind.{Kind}
 use Rattle.oak_model.specs.Cell.{reply_of, kind_of, state_after}
 use Rattle.oak_model.specs.KeyNumber.{key_number}
@@ -19,10 +20,14 @@ use Rattle.oak_core.specs.CallSteps.{Learns, MetMore}
 use Rattle.oak_core.specs.CallWrites.{Writes}
 use Rattle.oak_core.specs.CountReads.{SightedBare}
 use Rattle.oak_core.specs.KnownPlaces.{ReadAt}
+use Rattle.oak_core.specs.Lack.{TookBut}
 use Rattle.oak_core.specs.Memory.{in_headers}
+use Rattle.oak_core.specs.QuietSteps.{MetOnly, Quiet}
 use Rattle.oak_core.specs.Sights.{SightedSince}
 use Rattle.oak_core.proofs.CallSteps.{learns_both, learns_none, met_both, met_none, sights_same, stands_none}
+use Rattle.oak_core.proofs.QuietCalls.{only_both, only_none}
 use Rattle.chunk_ops.specs.declared.entries.EntryNo.{EntryNo}
+use Rattle.chunk_ops.specs.Adds.{LeavesCount}
 use Rattle.chunk_ops.specs.PinRecords.{OnlyLearns, OnlyMeets, PinKept, UnderPin}
 use Rattle.chunk_ops.proofs.PinsKept.{kept_both}
 use Rattle.value_ops.specs.declared.locking.NoLock.{NoLock}
@@ -38,6 +43,7 @@ use Rattle.point_ops.specs.Spots.{FoundAway, FoundNamed}
 use Rattle.point_ops.specs.declared.halts.Halt.{Halt}
 use Rattle.point_ops.specs.declared.halts.Halt.TheVariants.{Busy, Moved, Crowded, NoBlock, NoHeader}
 use Rattle.point_ops.proofs.Composed.{bare_in, changed_both, changed_in, crowded_in, free_in, latched_in, named_in, read_in, set_in, sighted_in, taken_in, word_in}
+use Rattle.point_ops.proofs.OwnSteps.{none_but, quiet_but, quiet_leaves}
 use Rattle.point_ops.proofs.WritesIn.{writes_behind, written_in}
 
 -- a key that was read absent is so by the call
@@ -84,7 +90,7 @@ module _ (z : Sizes) (call : ℕ) (key : List ℕ) (v u w : PassState) (c2 : ℕ
       };
     }
 
-    module _ (sets : SetsValue ask) (l0 : Learns c2 u w) where
+    module _ (sets : SetsValue ask) (looked : Quiet v u) (l0 : Learns c2 u w) where
       b : Learns call u w
       b = subst (λ (t : ℕ). Learns t u w) e2 l0
 
@@ -104,13 +110,16 @@ module _ (z : Sizes) (call : ℕ) (key : List ℕ) (v u w : PassState) (c2 : ℕ
       spares c None k = tt
       spares c (Some b) k = (ap value_class leaves ∙ k.0, k.1, (floor, bare k.2))
 
+      took : (c : Class) (spare : Option ℕ) → MetOnly (TookBut (Block c) spare) u w → MetOnly (TookBut (Block c) spare) v w
+      took c spare o = only_both (TookBut (Block c) spare) v u w (quiet_but v u c spare looked) o
+
       by : (why : Halt) → InsertHalts why z call key value entry floor u w → Halts why z call key ask v w
       by Busy (inl x) = latched sets (latched_in call v u w w a.met (met_none call w) z key x)
       by Busy (inr x) = changed sets record { r = x.0; i = x.1; floor = floor; found = set_in call v u w w a.met (met_none call w) z x.0 x.1 floor key x.2; sighted = found; read = absent }
       by Moved x = absurd x
-      by Crowded x = (crowded_in z call key v u w w a (learns_none call w) x.1, record { at = floor; before = None; read = absent; sighted = found; needs = (refl, inserts, bare x.0) })
-      by (NoBlock c) (s, x, k, inl y) = (s, taken_in call v u w w a.met (met_none call w) z c s x, record { at = floor; before = None; read = absent; sighted = found; needs = inl (ap value_class leaves ∙ y, λ n. absurd cc) }, spares c s k)
-      by (NoBlock c) (s, x, k, inr y) = (s, taken_in call v u w w a.met (met_none call w) z c s x, record { at = floor; before = None; read = absent; sighted = found; needs = inr (y.0, refl, inserts, bare y.1) }, spares c s k)
+      by Crowded x = (crowded_in z call key v u w w a (learns_none call w) (λ i. quiet_leaves z i v u looked) (λ i. only_none (LeavesCount z i) w w refl) x.1, record { at = floor; before = None; read = absent; sighted = found; needs = (refl, inserts, bare x.0) })
+      by (NoBlock c) (s, x, k, inl y, o) = (s, taken_in call v u w w a.met (met_none call w) z c s x, record { at = floor; before = None; read = absent; sighted = found; needs = inl (ap value_class leaves ∙ y, λ n. absurd cc) }, spares c s k, took c s o)
+      by (NoBlock c) (s, x, k, inr y, o) = (s, taken_in call v u w w a.met (met_none call w) z c s x, record { at = floor; before = None; read = absent; sighted = found; needs = inr (y.0, refl, inserts, bare y.1) }, spares c s k, took c s o)
       by NoHeader x = (free_in call v u w w a.met (met_none call w) z x, record { at = floor; before = None; read = absent; sighted = found; needs = (refl, inserts) })
 
       pub uninserted : (why : Halt) → InsertHalts why z c2 key value entry floor u w → Halts why z call key ask v w
@@ -152,12 +161,12 @@ module _ (z : Sizes) (call : ℕ) (key : List ℕ) (v u w : PassState) (c2 : ℕ
     unlocked ask wants sets m no_lock.Dead x = dead sets (header_found IsDeadAt m x)
 
     -- or another was not put in its place
-    pub unput : (value : List ℕ) (ask : CellCall) → WantsLock ask → SetsValue ask → ((s : State) → state_after s ask ≡ Some value) → Learns c2 u w → (why : Halt) → OverHalts why z c2 h g value u w → Halts why z call key ask v w
-    unput value ask wants sets leaves l Busy (inl x) = unlocked_busy ask wants l.met x
-    unput value ask wants sets leaves l Busy (inr x) = dead sets (header_found IsDeadAt l.met x)
-    unput value ask wants sets leaves l Moved x = absurd x
-    unput value ask wants sets leaves l Crowded x = absurd x
-    unput value ask wants sets leaves l (NoBlock c) x = let y = x.2 key f.life in (
+    pub unput : (value : List ℕ) (ask : CellCall) → WantsLock ask → SetsValue ask → ((s : State) → state_after s ask ≡ Some value) → Quiet v u → Learns c2 u w → (why : Halt) → OverHalts why z c2 h g value u w → Halts why z call key ask v w
+    unput value ask wants sets leaves looked l Busy (inl x) = unlocked_busy ask wants l.met x
+    unput value ask wants sets leaves looked l Busy (inr x) = dead sets (header_found IsDeadAt l.met x)
+    unput value ask wants sets leaves looked l Moved x = absurd x
+    unput value ask wants sets leaves looked l Crowded x = absurd x
+    unput value ask wants sets leaves looked l (NoBlock c) x = let y = x.2 key f.life in (
       None,
       taken_in call v u w w a.met (met_none call w) z c None (subst (λ (t : ℕ). AllTaken z t c None u w) e2 x.0),
       record {
@@ -168,8 +177,9 @@ module _ (z : Sizes) (call : ℕ) (key : List ℕ) (v u w : PassState) (c2 : ℕ
         needs = inl (ap value_class (leaves (Some y.bytes)) ∙ x.1, y.other);
       },
       tt,
+      only_both (TookBut (Block c) None) v u w (quiet_but v u c None looked) (none_but u w c None x.3),
     )
-    unput value ask wants sets leaves l NoHeader x = absurd x
+    unput value ask wants sets leaves looked l NoHeader x = absurd x
 
     -- the header was found dead, and later live
     pub found_risen : (x : PassState) (c3 : ℕ) → c3 ≡ call → MetMore c2 u w → MetMore c3 w x → FoundWord z c2 (in_headers (at_pin h)) (IsDeadAt g) u w → FoundWord z c3 (in_headers (at_pin h)) (λ n. state_of n ≡ LIVE) w x → KeyHeaderRose z call key v x

@@ -15,8 +15,11 @@ use Rattle.header_core.specs.declared.states.TheConstants.{LIVE}
 use Rattle.header_core.specs.HeaderHolds.{IsFreshAt, held_state, no_headers}
 use Rattle.oak_core.specs.declared.states.PassState.{PassState}
 use Rattle.oak_core.specs.CallSteps.{Stands}
+use Rattle.oak_core.specs.Finding.{IsOf}
 use Rattle.oak_core.specs.HeldRows.{HasFresh}
+use Rattle.oak_core.specs.QuietSteps.{MetOnly}
 use Rattle.oak_core.proofs.CallSteps.{stands_both, stands_in}
+use Rattle.oak_core.proofs.QuietCalls.{only_both}
 use Rattle.oak_core.proofs.SetsValue.{held_row}
 use Rattle.arena_ops.specs.Taking.{Gives}
 use Rattle.value_ops.specs.Claiming.{ClaimsHeader, FindsNoneFree}
@@ -24,8 +27,9 @@ use Rattle.value_ops.specs.Filling.{Fills, Withdraws}
 use Rattle.value_ops.specs.OneHeader.{IsOneBlock}
 use Rattle.value_ops.proofs.OneHeaderLaws.{claimed_one, claimed_blocks, filled_one, filled_none}
 use Rattle.point_ops.specs.Halting.{NoneFree}
-use Rattle.point_ops.specs.Inserts.{GivesAllBack, MakesBlock, MakesFresh}
+use Rattle.point_ops.specs.Inserts.{GivesAllBack, MakesBlock, MakesFresh, TakesOnly}
 use Rattle.point_ops.proofs.Composed.{free_in}
+use Rattle.point_ops.proofs.OwnSteps.{front_at, front_only, only_in}
 use Rattle.point_ops.proofs.InsertCauses.{none_free}
 use Rattle.point_ops.proofs.PartsMade.{claimed_stands, filled_stands, given_stands, withdrawn_stands, unclaimed_back, back_stands, back_blocks, back_headers, back_rooms}
 
@@ -50,6 +54,12 @@ module _ (z : Sizes) (call : ℕ) (c : Class) (b : ℕ) (bytes : List ℕ) (v u 
       one = filled_one z later w x h c b (length bytes) stamp g (claimed_one z at u w h (m.headers ∙ none) t) f;
       fresh = subst (λ (l : List ℕ). HasFresh z h g stamp l x) (ap (λ (a : HeldBlocks). take (length bytes) (bytes_of (words_held (class_number c) b a.held))) kept ∙ m.has.bytes_are) has;
     }
+
+    -- no block was taken but that one
+    pub only_made : (stamp g later : ℕ) (x : PassState) → Fills z later h c b (length bytes) stamp g w x → MetOnly (TakesOnly z c b) v x
+    only_made stamp g later x f = only_in (TakesOnly z c b) v u w x m.own
+        (front_only u w z at c b record { more = t.more; met = ap (λ (y : PassState). y.findings.met) t.after; each = t.calls })
+        (front_only w x z later c b record { more = f.more; met = ap (λ (y : PassState). y.findings.met) f.after; each = f.calls })
 
     -- the number of the header is told again by the value
     pub value_made : (stamp g later : ℕ) (x : PassState) → later ≡ call → (n : ℕ) → n ≡ h → HasFresh z n g stamp (take (length bytes) (bytes_of (words_held (class_number c) b w.blocks.held))) x → Fills z later h c b (length bytes) stamp g w x → MakesFresh z call n g stamp bytes v x
@@ -81,3 +91,8 @@ module _ (z : Sizes) (call : ℕ) (c : Class) (b : ℕ) (bytes : List ℕ) (v u 
 
 pub withdrawn_given : (z : Sizes) (call h : ℕ) (c : Class) (b : ℕ) (v u w : PassState) → Withdraws z call h c b v u → (at : ℕ) → at ≡ call → Gives z at c b u w → Stands call v w
 withdrawn_given z call h c b v u w t at same g = stands_both call v u w (withdrawn_stands z call v u h c b t) (stands_in call at u w same (given_stands z at u w c b g))
+
+-- by steps in front of the rooms that took no block
+pub withdrawn_front : (z : Sizes) (call h : ℕ) (c : Class) (b : ℕ) (v u w : PassState) → Withdraws z call h c b v u → (at : ℕ) → at ≡ call → Gives z at c b u w → MetOnly (IsOf z call) v w
+withdrawn_front z call h c b v u w t at same g = only_both (IsOf z call) v u w record { more = t.more; met = ap (λ (y : PassState). y.findings.met) t.after; each = t.calls }
+    (front_at z call at u w same record { more = g.more; met = ap (λ (y : PassState). y.findings.met) g.after; each = g.calls })

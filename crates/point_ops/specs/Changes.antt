@@ -8,6 +8,7 @@ use Rattle.header_core.specs.Headers.{at_pin}
 use Rattle.oak_core.specs.declared.states.PassState.{PassState}
 use Rattle.oak_core.specs.KnownPlaces.{ReadAt}
 use Rattle.oak_core.specs.Memory.{in_headers}
+use Rattle.oak_core.specs.QuietSteps.{MetOnly, TookNone}
 use Rattle.oak_core.specs.Sights.{SightedSince}
 use Rattle.value_ops.specs.Pinning.{KnowsLife}
 use Rattle.value_ops.specs.declared.locking.NoLock.{NoLock}
@@ -35,5 +36,5 @@ abbrev pub OverHalts : Halt → Sizes → (call h g : ℕ) → List ℕ → Pass
 OverHalts Busy z call h g value v w = NoLockBy no_lock.Busy z call h g v w ⊎ NoLockBy no_lock.Dead z call h g v w
 OverHalts Moved z call h g value v w = ⊥
 OverHalts Crowded z call h g value v w = ⊥
-OverHalts (NoBlock c) z call h g value v w = AllTaken z call c None v w × (class_of (length value) ≡ Some c) × ((key : List ℕ) → KnowsLife h g key v.knowledge → HasOtherClass c key v w)
+OverHalts (NoBlock c) z call h g value v w = AllTaken z call c None v w × (class_of (length value) ≡ Some c) × ((key : List ℕ) → KnowsLife h g key v.knowledge → HasOtherClass c key v w) × MetOnly TookNone v w
 OverHalts NoHeader z call h g value v w = ⊥

@@ -24,10 +24,13 @@ use Rattle.oak_core.specs.declared.states.PassState.{PassState}
 use Rattle.oak_core.specs.CallSteps.{StepOfCall}
 use Rattle.oak_core.specs.CountReads.{ReadAbsent, SightedBare}
 use Rattle.oak_core.specs.KnownPlaces.{ReadAt}
+use Rattle.oak_core.specs.Lack.{TookBut}
 use Rattle.oak_core.specs.Memory.{in_headers, in_rooms}
+use Rattle.oak_core.specs.QuietSteps.{MetOnly}
 use Rattle.oak_core.specs.Sights.{SightedSince}
 use Rattle.oak_core.specs.Step.{load, on_rooms}
 use Rattle.arena_ops.specs.Looking.{bit_spot}
+use Rattle.chunk_ops.specs.Adds.{LeavesCount}
 use Rattle.chunk_ops.specs.AskedRanges.{CoversKey}
 use Rattle.chunk_ops.specs.Contents.{EntryNamed}
 use Rattle.chunk_ops.specs.PinRecords.{room_pin}
@@ -112,7 +115,7 @@ pub data BusyBy (z : Sizes) (call : ℕ) (key : List ℕ) (ask : CellCall) (v w 
   latched : SetsValue ask → RoomLatched z call key v w → BusyBy z call key ask v w
   changed : SetsValue ask → EntryChanged z call key v w → BusyBy z call key ask v w
 
--- The count of a room was found at the room's size in the call, no entry below it had the key, and the key was read absent at the base then.
+-- The count of a room was found at the room's size in the call, no entry below it had the key, and the key was read absent at the base then. No step of the call stored to that count, so none had changed it.
 pub record RoomCrowded (z : Sizes) (call : ℕ) (key : List ℕ) (v w : PassState) : Type 0 where
   pub r : ℕ
   pub step : StepOfCall z call (load (in_rooms (at_count r))) v w
@@ -121,6 +124,7 @@ pub record RoomCrowded (z : Sizes) (call : ℕ) (key : List ℕ) (v w : PassStat
   pub none : (e : FoundEntry) → Has e (room_pin step.to).entries → found_key e ≢ key_number key
   pub base : ℕ
   pub absent : ReadAbsent call (key_number key) base v w
+  pub own : MetOnly (LeavesCount z r) v w
 
 -- the bit of each block of the class was found set, where the pass had there what it has in the state x
 abbrev pub SetWith : Sizes → ℕ → Class → PassState → PassState → PassState → Type 0
@@ -151,10 +155,10 @@ IsUnfree z call h v w = FoundWord z call (in_headers (at_pin h)) (λ n. is_free 
 abbrev pub NoneFree : Sizes → ℕ → PassState → PassState → Type 0
 NoneFree z call v w = (h : ℕ) → h < z.headers → IsUnfree z call h v w
 
--- why a call was given up, and that it needs what is lacking
+-- Why a call was given up, and that it needs what is lacking. Where a block is, no step of the call took one of that class but the spare one, also not for a header or an entry.
 abbrev pub Halts : Halt → Sizes → ℕ → List ℕ → CellCall → PassState → PassState → Type 0
 Halts Busy z call key ask v w = BusyBy z call key ask v w
 Halts Moved z call key ask v w = FoundMoved z call (CoversKey key) v w
 Halts Crowded z call key ask v w = RoomCrowded z call key v w × NeedsNow call key ask Room v w
-Halts (NoBlock c) z call key ask v w = (spare : Option ℕ) × AllTaken z call c spare v w × NeedsNow call key ask (Block c) v w × SpareNow spare c call key ask v w
+Halts (NoBlock c) z call key ask v w = (spare : Option ℕ) × AllTaken z call c spare v w × NeedsNow call key ask (Block c) v w × SpareNow spare c call key ask v w × MetOnly (TookBut (Block c) spare) v w
 Halts NoHeader z call key ask v w = NoneFree z call v w × NeedsNow call key ask Header v w

@@ -12,6 +12,7 @@ use Rattle.oak_core.specs.KeyReads.{home_of}
 use Rattle.oak_core.specs.LastReads.{NotPast, ReadsLast}
 use Rattle.oak_core.specs.LifeKeys.{loaded_in}
 use Rattle.oak_core.specs.Memory.{in_headers}
+use Rattle.oak_core.specs.QuietSteps.{Quiet}
 use Rattle.value_ops.specs.Pinning.{DropsPin, KnowsLife, KnowsMore}
 use Rattle.value_ops.specs.PinnedValues.{ReadsLife}
 use Rattle.point_ops.specs.FoundWords.{FoundWord}
@@ -19,9 +20,10 @@ use Rattle.point_ops.specs.Halting.{IsDeadAt}
 use Rattle.point_ops.specs.declared.lives.Life.{Life}
 use Rattle.point_ops.specs.declared.lives.Life.TheVariants.{Live, Dead}
 
--- The stamp was loaded under the good pin of the header, which was undone then. A key of which the pass knew the life was read there.
+-- The stamp was loaded under the good pin of the header, which was undone then, by loads, pins and their undoing alone. A key of which the pass knew the life was read there.
 pub record ReadsUnder (z : Sizes) (call h g at : ℕ) (v w : PassState) : Type 0 where
   pub learns : Learns call v w
+  pub quiet : Quiet v w
   pub knows : KnowsMore v.knowledge w.knowledge
   pub blocks : w.blocks ≡ v.blocks
   pub headers : w.headers ≡ record v.headers { pin = None }

@@ -13,6 +13,7 @@ ghost use Rattle.oak_core.specs.LifeKeys.{key_in_loaded, loaded_in};
 ghost use Rattle.oak_core.specs.Memory.{in_headers};
 ghost use Rattle.oak_core.specs.Passes.{IsPassOf, Stays, state, key as sizes, call_of};
 ghost use Rattle.oak_core.specs.PassState.{HoldsNothing, IsAlone};
+ghost use Rattle.oak_core.specs.QuietSteps.{Quiet};
 ghost use Rattle.chunk_ops.specs.AskedRanges.{CoversKey};
 ghost use Rattle.chunk_ops.specs.PinRecords.{HasRoomPin, OnlyLearns, UnderPin, room_pin};
 ghost use Rattle.value_ops.specs.Pinning.{KnowsLife};
@@ -79,6 +80,7 @@ fn get_pinned(table: &OakTable, pass: &mut Pass, pin: &RoomPin, key: &[u8]) -> R
     requires none { (state pass.old).headers ≡ no_headers }
     ensures own { Stays pass.old pass.new }
     ensures under { UnderPin (sizes table.now) (call_of pass.old) pin.now.room (state pass.old) (state pass.new) }
+    ensures quiet { Quiet (state pass.old) (state pass.new) }
     ensures got { IfOk result (λ x. Gets x (sizes table.now) key.now (state pass.old) (state pass.new)) }
     ensures halted { IfErr result (λ why. Halts why (sizes table.now) (call_of pass.old) key.now Get (state pass.old) (state pass.new)) }
     ensures busy { IfErr result (λ why. why ≡ halts.Busy) }
@@ -98,12 +100,14 @@ fn get_pinned(table: &OakTable, pass: &mut Pass, pin: &RoomPin, key: &[u8]) -> R
 /// of the number `at` in the key's history. It is refused only with `Busy`, where the key's header was
 /// found locked or of another generation than its entry said, or `Moved`, where each room was found in this
 /// call not open, or open with a range without the key. A pass that is alone is never refused, and leaves
-/// the words of the table as they were. The pass holds nothing.
+/// the words of the table as they were. In every case the call only loads words, pins, and undoes its pins,
+/// so it takes no lock. The pass holds nothing.
 pub fn try_get(table: &OakTable, pass: &mut Pass, hint: Hint, key: &[u8]) -> Result<Got, Halt>
     requires own { IsPassOf table.now pass.old }
     requires key { IsKey key.now }
     requires idle { HoldsNothing (state pass.old) }
     ensures own { Stays pass.old pass.new }
+    ensures quiet { Quiet (state pass.old) (state pass.new) }
     ensures got { IfOk result (λ x. GotFits x (sizes table.now) (call_of pass.old) key.now (state pass.old) (state pass.new)) }
     ensures alone_reply { IfOk result (λ x. IsAlone (state pass.old) → GotAlone x (sizes table.now) key.now (state pass.old) (state pass.new)) }
     ensures refused { IfErr result (λ _. Refuses (call_of pass.old) (state pass.old) (state pass.new)) }

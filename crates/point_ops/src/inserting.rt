@@ -13,16 +13,18 @@ ghost use Rattle.arena_ops.specs.Looking.{AllSet};
 ghost use Rattle.oak_core.specs.AloneWords.{Runs};
 ghost use Rattle.oak_core.specs.CallSteps.{Learns, Stands};
 ghost use Rattle.oak_core.specs.CallWrites.{MakesWrite, Writes};
+ghost use Rattle.oak_core.specs.Finding.{IsOf};
 ghost use Rattle.oak_core.specs.HeldRows.{HasFresh};
 ghost use Rattle.oak_core.specs.KeyReads.{home_of};
 ghost use Rattle.oak_core.specs.MayWrite.{IsNewCall};
 ghost use Rattle.oak_core.specs.Passes.{IsPassOf, Stays, state, key as sizes, call_of};
+ghost use Rattle.oak_core.specs.QuietSteps.{MetOnly, Quiet};
 ghost use Rattle.chunk_ops.specs.AskedRanges.{CoversKey};
 ghost use Rattle.chunk_ops.specs.PinRecords.{HasEntry, HasRoomPin, UnderPin, room_pin};
 ghost use Rattle.chunk_ops.specs.Setting.{FoundSet, SetsIn};
 ghost use Rattle.value_ops.specs.OneHeader.{IsOneHeader};
 ghost use Rattle.point_ops.specs.Halting.{AllTaken, SetWith};
-ghost use Rattle.point_ops.specs.Inserts.{AddingHalts, GivesAllBack, InsertHalts, MakesBlock, MakesFresh, MakingHalts, halt_of};
+ghost use Rattle.point_ops.specs.Inserts.{AddingHalts, GivesAllBack, InsertHalts, MakesBlock, MakesFresh, MakingHalts, TakesOnly, halt_of};
 ghost use Rattle.point_ops.specs.LoneInserts.{AddingHaltsIn, FindsOther, GivesBackIn, MakesBlockIn, MakesBlockUnder, MakesFreshUnder, MakingHaltsIn, NamesBlock};
 ghost use Rattle.point_ops.specs.LoneLives.{FloorIsBase};
 ghost use Rattle.point_ops.specs.LonePuts.{EntersFor, InsertsFor};
@@ -56,6 +58,7 @@ fn take_block(table: &OakTable, pass: &mut Pass, class: Class, bytes: &[u8]) -> 
     ensures own { Stays pass.old pass.new }
     ensures made { IfOk result (λ b. (b.class ≡ class) × MakesBlock (sizes table.now) (call_of pass.old) b.class b.number bytes.now (state pass.old) (state pass.new)) }
     ensures back { IfErr result (λ _. GivesAllBack (call_of pass.old) (state pass.old) (state pass.new)) }
+    ensures quiet { IfErr result (λ _. Quiet (state pass.old) (state pass.new)) }
     ensures refused { IfErr result (λ why. (why ≡ halts.NoBlock class) × SetWith (sizes table.now) (call_of pass.old) class (state pass.old) (state pass.old) (state pass.new)) }
     ensures alone { IfOk result (λ b. (r : ℕ) → HasRoomPin (sizes table.now) r (state pass.old) → Runs (MakesBlockIn (sizes table.now) r b.class b.number) (state pass.old) (state pass.new)) }
     ensures alone_under { IfOk result (λ b. (r : ℕ) → HasRoomPin (sizes table.now) r (state pass.old) → Runs (MakesBlockUnder (sizes table.now) r (span_of (room_pin (state pass.old))) b.class b.number) (state pass.old) (state pass.new)) }
@@ -84,6 +87,7 @@ pub(crate) fn make_block(
     ensures own { Stays pass.old pass.new }
     ensures made { IfOk result (λ b. (b.class ≡ class) × MakesBlock (sizes table.now) (call_of pass.old) b.class b.number bytes.now (state pass.old) (state pass.new)) }
     ensures back { IfErr result (λ _. GivesAllBack (call_of pass.old) (state pass.old) (state pass.new)) }
+    ensures quiet { IfErr result (λ _. Quiet (state pass.old) (state pass.new)) }
     ensures refused { IfErr result (λ why. (why ≡ halts.NoBlock class) × AllTaken (sizes table.now) (call_of pass.old) class None (state pass.old) (state pass.new)) }
     ensures alone { IfOk result (λ b. (r : ℕ) → HasRoomPin (sizes table.now) r (state pass.old) → Runs (MakesBlockIn (sizes table.now) r b.class b.number) (state pass.old) (state pass.new)) }
     ensures alone_under { IfOk result (λ b. (r : ℕ) → HasRoomPin (sizes table.now) r (state pass.old) → Runs (MakesBlockUnder (sizes table.now) r (span_of (room_pin (state pass.old))) b.class b.number) (state pass.old) (state pass.new)) }
@@ -103,6 +107,7 @@ fn give_back(table: &OakTable, pass: &mut Pass, fresh: Fresh)
     ensures blocks { (state pass.new).blocks ≡ no_blocks }
     ensures headers { (state pass.new).headers ≡ no_headers }
     ensures rooms { (state pass.new).rooms ≡ (state pass.old).rooms }
+    ensures front { MetOnly (IsOf (sizes table.now) (call_of pass.old)) (state pass.old) (state pass.new) }
     ensures alone { (c : Class) → (b : ℕ) → NamesBlock fresh.header c b (state pass.old) → Runs (GivesBackIn (sizes table.now) fresh.header c b) (state pass.old) (state pass.new) }
 {
     let block = withdraw(table, pass, fresh);
@@ -123,6 +128,7 @@ fn make_fresh(
     requires headers { (state pass.old).headers ≡ no_headers }
     ensures own { Stays pass.old pass.new }
     ensures made { IfOk result (λ f. (f.stamp ≡ stamp) × MakesFresh (sizes table.now) (call_of pass.old) f.header f.generation stamp value.now (state pass.old) (state pass.new)) }
+    ensures takes { IfOk result (λ f. (b : ℕ) × NamesBlock f.header class b (state pass.new) × MetOnly (TakesOnly (sizes table.now) class b) (state pass.old) (state pass.new)) }
     ensures back { IfErr result (λ _. GivesAllBack (call_of pass.old) (state pass.old) (state pass.new)) }
     ensures halted { IfErr result (λ why. MakingHalts why (sizes table.now) (call_of pass.old) class (state pass.old) (state pass.new)) }
     ensures alone { IfOk result (λ f. (b : ℕ) × NamesBlock f.header class b (state pass.new) × ((r : ℕ) → HasRoomPin (sizes table.now) r (state pass.old) → Runs (MakesFreshUnder (sizes table.now) r (span_of (room_pin (state pass.old))) f.header class b) (state pass.old) (state pass.new))) }

@@ -8,14 +8,8 @@ mod halts;
 mod inserting;
 mod lives;
 mod puts;
-#[cfg(test)]
-mod reader_tests;
 mod removes;
 mod spots;
-#[cfg(test)]
-mod test_rows;
-#[cfg(test)]
-mod tests;
 
 pub use computes::{try_compute, try_upsert};
 pub use gets::{Got, try_get};

@@ -2,6 +2,7 @@
 ghost use Rattle.oak_model.specs.Key.{IsKey};
 ghost use Rattle.chunk_core.specs.PinnedRooms.{span_of};
 ghost use Rattle.oak_core.specs.Passes.{IsPassOf, Stays, state, key as sizes, call_of};
+ghost use Rattle.oak_core.specs.QuietSteps.{Quiet};
 ghost use Rattle.chunk_ops.specs.AskedRanges.{CoversKey};
 ghost use Rattle.chunk_ops.specs.PinRecords.{HasRoomPin, UnderPin, room_pin};
 ghost use Rattle.oak_core.specs.AloneWords.{Runs};
@@ -34,6 +35,7 @@ pub(crate) fn look_up(table: &OakTable, pass: &mut Pass, pin: &RoomPin, key: &[u
     requires pinned { HasRoomPin (sizes table.now) pin.now.room (state pass.old) }
     ensures own { Stays pass.old pass.new }
     ensures under { UnderPin (sizes table.now) (call_of pass.old) pin.now.room (state pass.old) (state pass.new) }
+    ensures quiet { Quiet (state pass.old) (state pass.new) }
     ensures spot { SpotIs result (sizes table.now) (call_of pass.old) pin.now.room key.now (state pass.old) (state pass.new) }
     ensures base { SpotBase result (state pass.new) }
     ensures alone { Runs (SpotIn result (sizes table.now) pin.now.room key.now) (state pass.old) (state pass.new) }

@@ -23,7 +23,7 @@ use Rattle.point_ops.proofs.changing.exchange.Goals as goal
 
 pub returns-in_default-clause-stands : goal.returns-in_default-clause-stands
 returns-in_default-clause-stands c = let z : Sizes = sizes c.args.table.now in let call = call_of c.args.pass.now in let v : PassState = state c.args.pass.now in let u : PassState = state c.lock.new.pass in let w : PassState = state c.give.new.pass in
-    stands_both call v u w (refused_only z call c.args.header c.args.generation c.in_default.field-0 v u c.in_default.ensures.refused c.in_default.ensures.refused_alone).stands
+    stands_both call v u w (refused_only z call c.args.header c.args.generation c.in_default.field-0 v u c.requires.inside c.in_default.ensures.refused c.in_default.ensures.refused_alone).stands
     (stands_in call (call_of c.lock.new.pass) u w c.lock.ensures.own.call (gave_stands z (call_of c.lock.new.pass) c.args.block.class c.args.block.number u w c.give.ensures.given))
 
 pub returns-in_default-clause-refused : goal.returns-in_default-clause-refused

@@ -30,7 +30,7 @@ use Rattle.value_ops.proofs.ComesFurther.{lock_met}
 use Rattle.point_ops.proofs.LocksKept.{changed_writes, key_loaded, load_stands}
 use Rattle.point_ops.proofs.NoLockFacts.{refused_by, refused_some}
 use Rattle.point_ops.proofs.OtherClasses.{life_locked, other_class}
-use Rattle.point_ops.proofs.OverHalted.{looked_stands, no_block_halts, over_written, stands_learned, unlocked_halts}
+use Rattle.point_ops.proofs.OverHalted.{looked_stands, looked_took, no_block_halts, over_written, stands_learned, unlocked_halts}
 use Rattle.point_ops.proofs.changing.overwrite.Goals as goal
 
 pub returns-in_default-clause-halted : goal.returns-in_default-clause-halted
@@ -76,7 +76,8 @@ returns-in_err-block-clause-halted c = let z : Sizes = sizes c.args.table.now in
     rw (p.1, p.2) (no_block_halts z call (call_of c.give_up.new.pass) third c.args.header c.args.generation c.args.value.now v x w c.in_err-block.field-0.0 c.class_for-class.result
     (learns_both call v u x c.in-Ok.ensures.locked.2.learns (stands_learns call u x looked)).met c.in_err-block.ensures.refused c.class_for-class.ensures
     (λ k known. other_class z call (call_of c.lock.new.pass) (call_of c.class.new.pass) _ l.header l.generation k c.class_for-class.result c.class.result v u y x w (c.in-Ok.ensures.keys k known) met
-    (lock_met z (call_of c.lock.new.pass) u y met l.header l.generation c.in-Ok.ensures.has.0) c.class.ensures.class (same_false the_type c.class.result c.class_for-class.result (sym c.eq.ensures ∙ c.if-eq.false)) c.give_up.ensures.unlocked learned.all.seen rest))
+    (lock_met z (call_of c.lock.new.pass) u y met l.header l.generation c.in-Ok.ensures.has.0) c.class.ensures.class (same_false the_type c.class.result c.class_for-class.result (sym c.eq.ensures ∙ c.if-eq.false)) c.give_up.ensures.unlocked learned.all.seen rest)
+    (looked_took z call (call_of c.lock.new.pass) (call_of c.class.new.pass) c.args.header c.args.generation l.header l.generation _ v u y x w c.in-Ok.ensures.locked.2 met c.give_up.ensures.unlocked c.in_err-block.ensures.quiet))
 
 pub exchange-requires-clause-known : goal.exchange-requires-clause-known
 exchange-requires-clause-known c = let z : Sizes = sizes c.args.table.now in let call = call_of c.args.pass.now in let v : PassState = state c.args.pass.now in let u : PassState = state c.lock.new.pass in let y : PassState = state c.class.new.pass in let x : PassState = state c.give_up.new.pass in let w : PassState = state c.make_block.new.pass in

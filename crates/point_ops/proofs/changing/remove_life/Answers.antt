@@ -19,7 +19,7 @@ use Rattle.point_ops.proofs.changing.remove_life.Goals as goal
 
 pub returns-in_err-locked-clause-only : goal.returns-in_err-locked-clause-only
 returns-in_err-locked-clause-only c = let p = err_from_is_err_and c.from_residual.result c.from_residual.ensures.1 in
-    rw p.1 (refused_only (sizes c.args.table.now) (call_of c.args.pass.now) c.args.header c.args.generation c.in_err-locked.field-0.0 (state c.args.pass.now) (state c.lock.new.pass) c.in_err-locked.ensures.refused c.in_err-locked.ensures.refused_alone)
+    rw p.1 (refused_only (sizes c.args.table.now) (call_of c.args.pass.now) c.args.header c.args.generation c.in_err-locked.field-0.0 (state c.args.pass.now) (state c.lock.new.pass) c.requires.inside c.in_err-locked.ensures.refused c.in_err-locked.ensures.refused_alone)
 
 pub returns-in_err-locked-clause-refused : goal.returns-in_err-locked-clause-refused
 returns-in_err-locked-clause-refused c = let p = err_from_is_err_and c.from_residual.result c.from_residual.ensures.1 in

@@ -2,12 +2,17 @@ use Rattle.point_ops.proofs.LoneCalls.{life_got}
 use Rattle.point_ops.proofs.LoneSpots.{spot_stays}
 use Rattle.std.proofs.Common.{◌∙◌}
 use Rattle.oak_core.specs.Passes.{state, key as sizes, call_of}
+use Rattle.oak_core.specs.QuietSteps.{IsQuiet}
+use Rattle.oak_core.proofs.QuietCalls.{only_both}
 use Rattle.point_ops.proofs.GetLaws.{learned_under, looked_gets, looked_locked}
 use Rattle.point_ops.proofs.Outcomes.{ok_map, err_map}
 use Rattle.point_ops.proofs.gets.get_pinned.Goals as goal
 
 pub returns-in-Present-clause-under : goal.returns-in-Present-clause-under
 returns-in-Present-clause-under c = learned_under (sizes c.args.table.now) (call_of c.args.pass.now) c.args.pin.now.room (state c.args.pass.now) (state c.look_up.new.pass) (state c.get_life.new.pass) _ c.look_up.ensures.own.call c.look_up.ensures.under c.get_life.ensures.only
+
+pub returns-in-Present-clause-quiet : goal.returns-in-Present-clause-quiet
+returns-in-Present-clause-quiet c = only_both IsQuiet (state c.args.pass.now) (state c.look_up.new.pass) (state c.get_life.new.pass) c.look_up.ensures.quiet c.get_life.ensures.only.quiet
 
 pub returns-in-Present-clause-got : goal.returns-in-Present-clause-got
 returns-in-Present-clause-got c = ok_map _ _ c.get_life.result (λ x l. looked_gets x (sizes c.args.table.now) c.args.key.now (call_of c.args.pass.now) (state c.args.pass.now) (state c.look_up.new.pass) (state c.get_life.new.pass) c.look_up.ensures.under.learns l) c.get_life.ensures.got

@@ -2,12 +2,17 @@ use Rattle.point_ops.proofs.LoneCalls.{pinned_got, room_found, room_never}
 use Rattle.std.proofs.Common.{◌∙◌}
 use Rattle.oak_model.specs.declared.cells.CellCall.TheVariants.{Get}
 use Rattle.oak_core.specs.Passes.{state, key as sizes, call_of}
+use Rattle.oak_core.specs.QuietSteps.{IsQuiet}
 use Rattle.chunk_ops.specs.AskedRanges.{CoversKey}
 use Rattle.point_ops.proofs.GetLaws.{all_got}
 use Rattle.point_ops.proofs.LoneAnswers.{all_got_alone, all_same_alone}
 use Rattle.point_ops.proofs.Outcomes.{ok_map, err_map}
+use Rattle.point_ops.proofs.OwnSteps.{only_in}
 use Rattle.point_ops.proofs.PinnedCalls.{all_halts, all_refuses, under_keeps}
 use Rattle.point_ops.proofs.gets.try_get.Goals as goal
+
+pub returns-clause-quiet : goal.returns-clause-quiet
+returns-clause-quiet c = only_in IsQuiet (state c.args.pass.now) (state c.pin_for.new.pass) (state c.get_pinned-got.new.pass) (state c.unpin.new.pass) c.in-Ok.ensures.pinned.quiet c.get_pinned-got.ensures.quiet c.unpin.ensures.unpinned.quiet
 
 pub returns-clause-got : goal.returns-clause-got
 returns-clause-got c = ok_map _ _ c.get_pinned-got.result (λ y l. all_got (sizes c.args.table.now) (call_of c.args.pass.now) c.in-Ok.pin.room (CoversKey c.args.key.now) (state c.args.pass.now) (state c.pin_for.new.pass) (state c.get_pinned-got.new.pass) (state c.unpin.new.pass) c.requires.idle c.in-Ok.ensures.pinned

@@ -44,7 +44,7 @@ returns-in-Err-clause-learns c = let z = sizes c.args.table.now in let call = ca
 pub returns-in-Err-clause-halted : goal.returns-in-Err-clause-halted
 returns-in-Err-clause-halted c = let z = sizes c.args.table.now in let call = call_of c.args.pass.now in let f = c.in_ok-fresh.fresh in let w = state c.entry_for.new.pass in let x = state c.give_back.new.pass in let same = c.make_fresh.ensures.own.call in
     unentered_halts z call c.args.pin.now.room f.header f.generation (c.args.floor + 1) c.args.key.now c.args.value.now (state c.args.pass.now) (state c.make_fresh.new.pass) w c.in_ok-fresh.ensures.made.1
-    (call_of c.make_fresh.new.pass) same c.entry_for.ensures.under (call_of c.entry_for.new.pass) x (c.entry_for.ensures.own.call ∙ same) c.give_back.ensures.stands c.class_for.result c.in_ok-fresh.ensures.alone.0 c.in_ok-fresh.ensures.alone.1 c.args.value.now c.class_for.ensures c.args.entry c.args.floor c.in-Err.ensures.halted.0 c.in-Err.halt c.in-Err.ensures.halted.1
+    (call_of c.make_fresh.new.pass) same c.entry_for.ensures.under (call_of c.entry_for.new.pass) x (c.entry_for.ensures.own.call ∙ same) c.give_back.ensures.stands c.give_back.ensures.front c.class_for.result c.in_ok-fresh.ensures.takes.0 c.in_ok-fresh.ensures.takes.1 c.in_ok-fresh.ensures.takes.2 c.args.value.now c.class_for.ensures c.args.entry c.args.floor c.in-Err.ensures.halted.0 c.in-Err.halt c.in-Err.ensures.halted.1
 
 pub returns-in-Ok-clause-alone : goal.returns-in-Ok-clause-alone
 returns-in-Ok-clause-alone o = λ is. let z = sizes o.args.table.now in let r = o.args.pin.now.room in let f = o.in_ok-fresh.fresh in let i = o.in-Ok.entry in let key = o.args.key.now in

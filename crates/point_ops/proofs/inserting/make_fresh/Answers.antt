@@ -4,13 +4,15 @@ use Rattle.oak_model.specs.declared.classes.Class.{Class}
 use Rattle.chunk_core.specs.PinnedRooms.{span_of}
 use Rattle.oak_core.specs.AloneWords.{Runs}
 use Rattle.oak_core.specs.Passes.{state, key as sizes, call_of}
+use Rattle.oak_core.specs.QuietSteps.{MetOnly}
 use Rattle.chunk_ops.specs.PinRecords.{HasRoomPin, room_pin}
 use Rattle.value_ops.proofs.ClaimLaws.{claims_owned}
+use Rattle.point_ops.specs.Inserts.{TakesOnly}
 use Rattle.point_ops.specs.LoneInserts.{MakesFreshUnder, MakingHaltsIn, NamesBlock}
 use Rattle.point_ops.specs.declared.halts.Halt.TheVariants.{NoHeader}
 use Rattle.point_ops.proofs.LoneFresh.{fresh_alone, unclaimed_alone, untaken_alone}
 use Rattle.point_ops.proofs.LoneHeaders.{filled_names}
-use Rattle.point_ops.proofs.ValuesMade.{value_made, unmade_back, unmade_free}
+use Rattle.point_ops.proofs.ValuesMade.{only_made, value_made, unmade_back, unmade_free}
 use Rattle.point_ops.proofs.inserting.make_fresh.Goals as goal
 
 pub fill-requires-clause-owned : goal.fill-requires-clause-owned
@@ -23,6 +25,16 @@ returns-in-Ok-clause-made c = let b = c.in_ok-block.block in (
       (call_of c.make_block.new.pass) c.make_block.ensures.own.call c.in-Ok.owned.header c.in-Ok.ensures.claimed c.args.stamp c.fill.result.generation (call_of c.claim.new.pass) (state c.fill.new.pass) (c.claim.ensures.own.call ∙ c.make_block.ensures.own.call)
       c.fill.result.header c.fill.ensures.header c.fill.ensures.has c.fill.ensures.filled,
 )
+
+pub returns-in-Ok-clause-takes : goal.returns-in-Ok-clause-takes
+returns-in-Ok-clause-takes c = let z = sizes c.args.table.now in let b = c.in_ok-block.block in let v = state c.args.pass.now in let u = state c.make_block.new.pass in let w = state c.claim.new.pass in let x = state c.fill.new.pass in
+    let h = c.in-Ok.owned.header in let later = call_of c.claim.new.pass in let len = length c.args.value.now in let stamp = c.args.stamp in let g = c.fill.result.generation in
+    subst (λ (d : Class). (n : ℕ) × NamesBlock c.fill.result.header d n x × MetOnly (TakesOnly z d n) v x) c.in_ok-block.ensures.made.0
+    (subst (λ (k : ℕ). (n : ℕ) × NamesBlock k b.class n x × MetOnly (TakesOnly z b.class n) v x) (sym c.fill.ensures.header) (
+      b.number,
+      filled_names z later h b.class b.number len stamp g w x c.in-Ok.ensures.claimed.told.rule.sizes c.in_ok-block.ensures.made.1.has.block.inside (c.requires.fits ∙ ap Some (sym c.in_ok-block.ensures.made.0)) (claims_owned z (call_of c.make_block.new.pass) h u w c.in-Ok.ensures.claimed) c.fill.ensures.filled,
+      only_made z (call_of c.args.pass.now) b.class b.number c.args.value.now v u w c.requires.headers c.in_ok-block.ensures.made.1 (call_of c.make_block.new.pass) c.make_block.ensures.own.call h c.in-Ok.ensures.claimed stamp g later x c.fill.ensures.filled,
+    ))
 
 pub returns-in-Err-clause-back : goal.returns-in-Err-clause-back
 returns-in-Err-clause-back c = let b = c.in_ok-block.block in

@@ -33,7 +33,7 @@ pub returns-in-Err-clause-learns : goal.returns-in-Err-clause-learns
 returns-in-Err-clause-learns c = looked_learns (sizes c.args.table.now) (call_of c.args.pass.now) c.args.key.now (state c.args.pass.now) (state c.look_up.new.pass) (state c.insert.new.pass) _ c.look_up.ensures.own.call c.look_up.ensures.under.learns c.in-Err.ensures.learns
 
 pub returns-in-Err-clause-halted : goal.returns-in-Err-clause-halted
-returns-in-Err-clause-halted c = uninserted (sizes c.args.table.now) (call_of c.args.pass.now) c.args.key.now (state c.args.pass.now) (state c.look_up.new.pass) (state c.insert.new.pass) _ c.look_up.ensures.own.call c.look_up.ensures.under.learns c.args.pin.now.room c.in-Absent.entry c.in-Absent.floor c.in-Absent.ensures.spot c.args.value.now (PutNew c.args.value.now) refl tt c.in-Err.ensures.learns c.in-Err.halt c.in-Err.ensures.halted
+returns-in-Err-clause-halted c = uninserted (sizes c.args.table.now) (call_of c.args.pass.now) c.args.key.now (state c.args.pass.now) (state c.look_up.new.pass) (state c.insert.new.pass) _ c.look_up.ensures.own.call c.look_up.ensures.under.learns c.args.pin.now.room c.in-Absent.entry c.in-Absent.floor c.in-Absent.ensures.spot c.args.value.now (PutNew c.args.value.now) refl tt c.look_up.ensures.quiet c.in-Err.ensures.learns c.in-Err.halt c.in-Err.ensures.halted
 
 pub returns-in-Present-clause-held : goal.returns-in-Present-clause-held
 returns-in-Present-clause-held c = held_under (sizes c.args.table.now) (call_of c.args.pass.now) c.args.pin.now.room (state c.args.pass.now) (state c.look_up.new.pass) (state c.keep_life.new.pass) c.look_up.ensures.under (learned_held _ (state c.look_up.new.pass) (state c.keep_life.new.pass) c.keep_life.ensures.only)

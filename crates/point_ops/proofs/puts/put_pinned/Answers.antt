@@ -26,7 +26,7 @@ pub returns-in-Err-clause-learns : goal.returns-in-Err-clause-learns
 returns-in-Err-clause-learns c = looked_learns (sizes c.args.table.now) (call_of c.args.pass.now) c.args.key.now (state c.args.pass.now) (state c.look_up.new.pass) (state c.insert.new.pass) _ c.look_up.ensures.own.call c.look_up.ensures.under.learns c.in-Err.ensures.learns
 
 pub returns-in-Err-clause-halted : goal.returns-in-Err-clause-halted
-returns-in-Err-clause-halted c = uninserted (sizes c.args.table.now) (call_of c.args.pass.now) c.args.key.now (state c.args.pass.now) (state c.look_up.new.pass) (state c.insert.new.pass) _ c.look_up.ensures.own.call c.look_up.ensures.under.learns c.args.pin.now.room c.in-Absent.entry c.in-Absent.floor c.in-Absent.ensures.spot c.args.value.now (Put c.args.value.now) refl tt c.in-Err.ensures.learns c.in-Err.halt c.in-Err.ensures.halted
+returns-in-Err-clause-halted c = uninserted (sizes c.args.table.now) (call_of c.args.pass.now) c.args.key.now (state c.args.pass.now) (state c.look_up.new.pass) (state c.insert.new.pass) _ c.look_up.ensures.own.call c.look_up.ensures.under.learns c.args.pin.now.room c.in-Absent.entry c.in-Absent.floor c.in-Absent.ensures.spot c.args.value.now (Put c.args.value.now) refl tt c.look_up.ensures.quiet c.in-Err.ensures.learns c.in-Err.halt c.in-Err.ensures.halted
 
 pub returns-in-Ok-overwrite-clause-got : goal.returns-in-Ok-overwrite-clause-got
 returns-in-Ok-overwrite-clause-got c = let x = c.in-Ok-overwrite.ensures.wrote c.args.key.now c.in-Present.ensures.spot.life in rewrote (sizes c.args.table.now) (call_of c.args.pass.now) c.args.key.now (state c.args.pass.now) (state c.look_up.new.pass) (state c.overwrite.new.pass) _ c.look_up.ensures.own.call c.look_up.ensures.under.learns c.args.pin.now.room c.in-Present.entry.0 c.in-Present.header c.in-Present.generation c.in-Present.ensures.spot kinds.Put (Put c.args.value.now) replies.Over c.in-Ok-overwrite.at x.0 (Some c.args.value.now) refl refl refl x.1
@@ -35,7 +35,7 @@ pub returns-in-Err-overwrite-clause-learns : goal.returns-in-Err-overwrite-claus
 returns-in-Err-overwrite-clause-learns c = looked_learns (sizes c.args.table.now) (call_of c.args.pass.now) c.args.key.now (state c.args.pass.now) (state c.look_up.new.pass) (state c.overwrite.new.pass) _ c.look_up.ensures.own.call c.look_up.ensures.under.learns c.in-Err-overwrite.ensures.learns
 
 pub returns-in-Err-overwrite-clause-halted : goal.returns-in-Err-overwrite-clause-halted
-returns-in-Err-overwrite-clause-halted c = unput (sizes c.args.table.now) (call_of c.args.pass.now) c.args.key.now (state c.args.pass.now) (state c.look_up.new.pass) (state c.overwrite.new.pass) _ c.look_up.ensures.own.call c.look_up.ensures.under.learns c.args.pin.now.room c.in-Present.entry.0 c.in-Present.header c.in-Present.generation c.in-Present.ensures.spot c.args.value.now (Put c.args.value.now) tt tt puts c.in-Err-overwrite.ensures.learns c.in-Err-overwrite.halt c.in-Err-overwrite.ensures.halted
+returns-in-Err-overwrite-clause-halted c = unput (sizes c.args.table.now) (call_of c.args.pass.now) c.args.key.now (state c.args.pass.now) (state c.look_up.new.pass) (state c.overwrite.new.pass) _ c.look_up.ensures.own.call c.look_up.ensures.under.learns c.args.pin.now.room c.in-Present.entry.0 c.in-Present.header c.in-Present.generation c.in-Present.ensures.spot c.args.value.now (Put c.args.value.now) tt tt puts c.look_up.ensures.quiet c.in-Err-overwrite.ensures.learns c.in-Err-overwrite.halt c.in-Err-overwrite.ensures.halted
   where
     puts : (s : State) → state_after s (Put c.args.value.now) ≡ Some c.args.value.now
     puts None = refl

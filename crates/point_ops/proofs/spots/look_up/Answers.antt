@@ -1,6 +1,8 @@
 use Rattle.chunk_ops.specs.declared.entries.Content.TheVariants.{Floor, Value}
 use Rattle.point_ops.proofs.LoneSpots.{base_behind, missing_alone, says_alone}
 use Rattle.oak_core.specs.Passes.{state, key as sizes, call_of}
+use Rattle.oak_core.specs.QuietSteps.{IsQuiet}
+use Rattle.oak_core.proofs.QuietCalls.{only_both}
 use Rattle.point_ops.proofs.FoundSpots.{away_at_base, away_at_floor, named_life, under_learns, under_meets}
 use Rattle.point_ops.proofs.spots.look_up.Goals as goal
 
@@ -24,6 +26,15 @@ returns-in-Value-clause-under c = under_learns (sizes c.args.table.now) (call_of
 pub returns-in-Value-clause-spot : goal.returns-in-Value-clause-spot
 returns-in-Value-clause-spot c = named_life (sizes c.args.table.now) (call_of c.args.pass.now) c.args.pin.now.room (state c.args.pass.now) (state c.find.new.pass) (state c.content.new.pass) c.find.ensures.under (call_of c.find.new.pass) c.find.ensures.own.call
     c.args.key.now c.in-Entry.entry c.in-Entry.ensures.found c.content.ensures.only c.in-Value.header c.in-Value.generation c.in-Value.ensures.content (c.in-Value.ensures.tells c.args.key.now c.in-Entry.ensures.found.entry)
+
+pub returns-in-Missing-clause-quiet : goal.returns-in-Missing-clause-quiet
+returns-in-Missing-clause-quiet c = only_both IsQuiet (state c.args.pass.now) (state c.find.new.pass) (state c.base_of.new.pass) c.find.ensures.quiet c.base_of.ensures.only.quiet
+
+pub returns-in-Floor-clause-quiet : goal.returns-in-Floor-clause-quiet
+returns-in-Floor-clause-quiet c = only_both IsQuiet (state c.args.pass.now) (state c.find.new.pass) (state c.content.new.pass) c.find.ensures.quiet c.content.ensures.only.quiet
+
+pub returns-in-Value-clause-quiet : goal.returns-in-Value-clause-quiet
+returns-in-Value-clause-quiet c = only_both IsQuiet (state c.args.pass.now) (state c.find.new.pass) (state c.content.new.pass) c.find.ensures.quiet c.content.ensures.only.quiet
 
 pub returns-in-Missing-clause-base : goal.returns-in-Missing-clause-base
 returns-in-Missing-clause-base c = base_behind (sizes c.args.table.now) (call_of c.find.new.pass) c.args.pin.now.room c.base_of.result (state c.find.new.pass) (state c.base_of.new.pass) c.base_of.ensures.base c.base_of.ensures.only
