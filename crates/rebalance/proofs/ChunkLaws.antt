@@ -35,11 +35,11 @@ use Rattle.chunk_ops.proofs.PinSteps.{pin_found, undone}
 use Rattle.rebalance.specs.Copies.{copy_span}
 use Rattle.rebalance.specs.Chunks.{ComesBack, HoldsFor, HoldsFront, HoldsPinned, LosesPinned, OpensFront, WorksBeside, held_row}
 use Rattle.rebalance.specs.HeldTables.{AwayFromPins, HoldsOnlyRooms, WorksOnRooms}
-use Rattle.rebalance.specs.Holding.{FindsFrozen, Freezes, Holds, StandsBeside, SweepsBeside, with_moving}
+use Rattle.rebalance.specs.Holding.{FindsFrozen, Freezes, Holds, StandsBeside, SweepsBeside, TriesBeside, with_moving}
 use Rattle.rebalance.specs.LoneWords.{FreezesWords, LeavesBut, MovesWith, TakesRoom, held_by, leaves_same, no_room, runs_leave_both, stay_leaves}
 use Rattle.rebalance.proofs.ListedRows.{rows_total}
 use Rattle.rebalance.proofs.LoneTakes.{front_or, pin_takes, pinned_takes, takes_back, taken_works, works_takes}
-use Rattle.rebalance.specs.Resting.{rests_both, rests_of}
+use Rattle.rebalance.specs.Resting.{rests_both, rests_of, tries_of}
 
 -- ---- what a pass does beside its rooms
 
@@ -61,9 +61,9 @@ works_both call u v w a b = record {
 pub works_none : (call : ℕ) (v : PassState) → WorksBeside call v v
 works_none call v = record { met = met_none call v; numbers = refl; knowledge = refl; fulls = refl; swept = begins_same v.findings.swept v.findings.swept refl; sights = refl; gones = refl; blocks = refl; headers = refl }
 
--- one that swept nothing
-pub works_of_stands : (call : ℕ) (v w : PassState) → StandsBeside call v w → WorksBeside call v w
-works_of_stands call v w b = let s = b.stands in record {
+-- one that swept nothing, and may have claimed rooms
+pub works_of_tries : (call : ℕ) (v w : PassState) → TriesBeside call v w → WorksBeside call v w
+works_of_tries call v w b = let s = b.stands in record {
   met = s.met;
   numbers = s.numbers;
   knowledge = s.knowledge;
@@ -74,6 +74,10 @@ works_of_stands call v w b = let s = b.stands in record {
   blocks = b.blocks;
   headers = b.headers;
 }
+
+-- and one that claimed none
+pub works_of_stands : (call : ℕ) (v w : PassState) → StandsBeside call v w → WorksBeside call v w
+works_of_stands call v w b = works_of_tries call v w (record { stands = tries_of call v w b.stands; blocks = b.blocks; headers = b.headers })
 
 -- one that opened a room
 pub works_of_sweeps : (call r : ℕ) (v w : PassState) → SweepsBeside call r v w → WorksBeside call v w
@@ -175,6 +179,7 @@ loses_pinned z call r v a u f n = record {
 pub back_moved : (z : Sizes) (call : ℕ) (v u : PassState) → OnlyMeets call v u → ComesBack z call v u
 back_moved z call v u o = record {
   beside = works_of_stands call v u (record { stands = rests_of call v u o.stands; blocks = o.blocks; headers = o.headers });
+  claims = (rests_of call v u o.stands).claims;
   rooms = o.rooms;
   alone = stay_leaves z no_room (held_by v) v u o.still;
 }
@@ -183,6 +188,7 @@ back_moved z call v u o = record {
 pub back_both : (z : Sizes) (call : ℕ) (u v w : PassState) → ComesBack z call u v → ComesBack z call v w → ComesBack z call u w
 back_both z call u v w a b = record {
   beside = works_both call u v w a.beside b.beside;
+  claims = b.claims ∙ a.claims;
   rooms = b.rooms ∙ a.rooms;
   alone = runs_leave_both z no_room (held_by u) u v w a.alone (subst (λ (o : RoomHolds). Runs (LeavesBut z no_room (λ q. 0 < in_room_state q HELD o)) v w) a.rooms b.alone);
 }
@@ -199,6 +205,7 @@ module _ (z : Sizes) (call r : ℕ) (key : List ℕ) (v x : PassState) (only : H
   pub back_lost : (u : PassState) → LosesPinned z call r x u → ComesBack z call v u
   back_lost u l = record {
     beside = works_both call v x u (works_of_stands call v x pinned_beside) (works_of_stands call x u (record { stands = l.unpins.stands; blocks = l.unpins.blocks; headers = l.unpins.headers }));
+    claims = l.unpins.stands.claims ∙ pinned_beside.stands.claims;
     rooms = l.unpins.rooms ∙ (ap (with_room_pin None) p.rooms ∙ pin_gone v only);
     alone = runs_as (Then (AddsRoomPin z r) (DropsRoomPin z r)) (LeavesBut z no_room (held_by v)) v u
         (λ a b s. leaves_same z no_room (held_by v) a b (undone z r p.has.inside a s.0 b (λ n. state_of n ≡ OPEN) (λ n. 0 < count_of n) s.1 s.2)) (runs_then (AddsRoomPin z r) (DropsRoomPin z r) v x u p.still l.unpins.still);
@@ -279,6 +286,7 @@ module _ (z : Sizes) (call r : ℕ) (key : List ℕ) (v x : PassState) (only : H
         still = subst (λ (s : PassState). AwayFromPins z s q) (sym h.last) works.away;
         inside = inside;
         beside = looked_beside;
+        claims = works.stands.claims ∙ front_beside.stands.claims;
         front = looked_front;
         origin = h.origin;
         alone = looked_alone;
@@ -288,6 +296,7 @@ module _ (z : Sizes) (call r : ℕ) (key : List ℕ) (v x : PassState) (only : H
       pub back_opened : (u : PassState) → OpensFront z call r w v.rooms.held v.rooms.moving q u → ComesBack z call v u
       back_opened u o = record {
         beside = works_both call v q u looked_beside o.beside;
+        claims = o.claims ∙ (works.stands.claims ∙ front_beside.stands.claims);
         rooms = o.rooms ∙ (ap (λ (a : RoomHolds). record a { held = v.rooms.held; moving = v.rooms.moving }) (same ∙ front_rooms) ∙ pin_gone v only);
         alone = runs_as (Then (TakesRoom z v r w) (MovesWith z r HELD OPEN w)) (LeavesBut z no_room (held_by v)) v u (λ a b s. takes_back z v r w a s.0 b s.1 s.2) (runs_then (TakesRoom z v r w) (MovesWith z r HELD OPEN w) v q u looked_alone o.alone);
       }
@@ -308,6 +317,7 @@ for_since z call r key u v w b h = let p = h.2 in (
     still = p.still;
     inside = p.inside;
     beside = works_both call u v w b.beside p.beside;
+    claims = p.claims ∙ b.claims;
     front = subst (λ (a : RoomHolds). HoldsFront z r h.0 h.1 a.held a.moving w) b.rooms p.front;
     origin = p.origin;
     alone = runs_as (Then (LeavesBut z no_room (held_by u)) (TakesRoom z v r h.0)) (TakesRoom z u r h.0) u w

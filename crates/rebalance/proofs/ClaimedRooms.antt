@@ -43,8 +43,8 @@ use Rattle.rebalance.specs.LoneWords.{MovesWith}
 use Rattle.rebalance.proofs.HeldAlone.{copy_first}
 use Rattle.rebalance.proofs.LoneSteps.{room_moves_with}
 use Rattle.rebalance.proofs.MirroredRooms.{latch_free}
-use Rattle.rebalance.proofs.RoomExchanges.{beside_since, exchanged_state, claim_beside, claim_takes}
-use Rattle.rebalance.specs.Resting.{OnlyRests, resting_both}
+use Rattle.rebalance.proofs.RoomExchanges.{exchanged_state, claim_beside, claim_takes, trying_since}
+use Rattle.rebalance.specs.Resting.{OnlyRests, OnlyTries, only_tries, trying_both}
 
 -- ---- what is not free
 
@@ -151,9 +151,9 @@ claims z call r old n u v w only t e = let m : Memory = memory z t.table.words i
     step = step_since z call (on_rooms (claim_room r old)) u v w only.stands.met (step_alone z call (on_rooms (claim_room r old)) v n w t);
     was = e;
     unpinned = t.may.rooms;
-    before = only;
+    before = only_tries call u v only;
     last = refl;
-    beside = beside_since call u v w only (claim_beside z call r old n v w t);
+    beside = trying_since call u v w (only_tries call u v only) (claim_beside z call r old n v w t);
     rooms = takes ∙ ap (with_claimed r copy) only.rooms;
     has = subst (HasHeld z r copy) (sym takes) (record { held = claimed_once z call r old n v w t e copy; copy = copy_first r copy v.rooms.held; whole = whole_copy z m.rooms r });
     latch = latch_free z m.rooms (content m.arena.bytes) (map rooms_held t.table.states) t.rule.rooms r (ap count_of (pin_found z call r (claim_room r old) refl v n w t t.may.inside.0 ∙ e) ∙ t.may.rooms.count);
@@ -164,7 +164,7 @@ claims z call r old n u v w only t e = let m : Memory = memory z t.table.words i
 )
 
 -- the same of a call that began earlier
-pub claims_since : (z : Sizes) (call r : ℕ) (u v w : PassState) → OnlyRests call u v → (c : RoomCopy) × Claims z call r c v w → (c : RoomCopy) × Claims z call r c u w
+pub claims_since : (z : Sizes) (call r : ℕ) (u v w : PassState) → OnlyTries call u v → (c : RoomCopy) × Claims z call r c v w → (c : RoomCopy) × Claims z call r c u w
 claims_since z call r u v w only f = let p = f.1 in (
   f.0,
   record {
@@ -173,9 +173,9 @@ claims_since z call r u v w only f = let p = f.1 in (
     step = step_since z call (on_rooms (claim_room r p.word)) u v w only.stands.met p.step;
     was = p.was;
     unpinned = p.unpinned;
-    before = resting_both call u v p.step.from only p.before;
+    before = trying_both call u v p.step.from only p.before;
     last = p.last;
-    beside = beside_since call u v w only p.beside;
+    beside = trying_since call u v w only p.beside;
     rooms = p.rooms ∙ ap (with_claimed r f.0) only.rooms;
     has = p.has;
     latch = p.latch;

@@ -20,6 +20,7 @@ use Rattle.oak_core.specs.CallSteps.{MetMore}
 use Rattle.oak_core.specs.PassState.{HoldsNothing}
 use Rattle.oak_core.specs.Step.{on_rooms}
 use Rattle.oak_core.proofs.CallSteps.{step_since, step_until}
+use Rattle.oak_core.proofs.FullClaims.{claims_none}
 use Rattle.rebalance.specs.Calls.{ComesToHold, Compacts, Leaves, OpensWith, SweepsKey}
 use Rattle.rebalance.specs.Copies.{copy_span}
 use Rattle.rebalance.specs.Chunks.{AllValued, CompactsFront, HoldsFor, OpensFront, WorksBeside}
@@ -82,6 +83,10 @@ module _ (z : Sizes) (call : ℕ) (key : List ℕ) (is_key : IsKey key) (bytes :
   swept_key = sweeps_since call key v u2 u3 first.swept first.met
       (o.sweeps (mirrors_valued z c.words c.range c.front.mirrors c.has.valued) key is_key bytes (same_span w c.words c.rewritten.low c.rewritten.high (key_number key) ∙ f.inside))
 
+  -- it claimed no room
+  unclaimed : u3.findings.rebalances.claims ≡ v.findings.rebalances.claims
+  unclaimed = o.claims ∙ (c.works.stands.claims ∙ f.claims)
+
   pub compacts_key : Compacts z call key dropped v u3
   compacts_key = record {
     room = r;
@@ -100,6 +105,7 @@ module _ (z : Sizes) (call : ℕ) (key : List ℕ) (is_key : IsKey key) (bytes :
     };
     count_is = let a = c.count_is in let b = c.kept_is in omega arith;
     leaves = leaves_all call v u3 idle all rooms_back;
+    claims = claims_none z v u3 unclaimed;
     alone = lone_rewrites z v u2 u3 r w c.words f.front.inside (bare_of v idle) (bare_still v u3 (bare_of v idle) rooms_back) o.moment
         (step_apart z call (on_rooms (open_room r)) v u3 (opened_since z call r c.words v u2 u3 first.met o.opens).step) (taken_works z v u1 u2 r w (front_or v u1 r w f.front.held) f.alone c.works.words) o.alone;
   }

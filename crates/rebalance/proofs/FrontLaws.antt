@@ -152,6 +152,7 @@ front_opened z call r w g hs gs v u f o = let copy = front_copy z r w g hs gs v 
     (λ none. o.beside.swept ∙ ap (λ (l : List Swept). v.findings.swept ++ l) (ap (λ (c : Option RoomCopy). sweep c (length v.findings.met)) copy ∙ sweep_is w (length v.findings.met) none)) in record {
       opens = record { step = o.step; copy_is = subst (λ (y : PassState). copy_of r y.rooms.held ≡ Some w) (sym o.first) copy };
       beside = works_of_sweeps call r v u o.beside;
+      claims = o.beside.claims;
       rooms = o.rooms
           ∙ ((λ i. record v.rooms { held = without_room r (f.held i); moving = ranges_opened (copy i) (f.moving i) })
           ∙ (λ i. record v.rooms { held = without_first r (held_row r w) hs refl f.apart i; moving = first_opened z w g gs f.mirrors i }));

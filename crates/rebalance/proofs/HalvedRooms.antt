@@ -280,6 +280,7 @@ module _ (z : Sizes) (call r q : ℕ) (w c : RoomCopy) (g : MovingRange) (v : Pa
             (λ (k : InSwept higher_swept key). let y : SweepsKey key v u = record { more = higher_swept ∷ lower_swept ∷ []; swept = swept_now; place = 0; range = higher_swept; there = refl; from = stored_longer; to = (let c = upper_longer in let d = lower_longer in omega arith); inside = k } in y)
             (stores.halved.keys key 0 (length a.findings.met) (length s.findings.met) (in_swept w 0 key h.mirrors.bounds is bytes inside));
         beside = works_both call v s u (works_of_rooms z call v s stores.works) opened_beside;
+        claims = two.beside.claims ∙ (one.beside.claims ∙ stores.works.stands.claims);
         rooms = rooms_now;
         moment = two.ended;
         alone = halves_run z r q h.apart stores.low_copy stores.high_copy (held_by v) (pair_only z r q w c g v h) v s a u stores.works.words (one.alone stores.high_copy upper_copy) (two.alone stores.low_copy lower_copy);

@@ -184,6 +184,7 @@ module _ (z : Sizes) (low up : Taken) (slots : List SortSlot) (v : PassState) (p
       valued = (joined_slots (keys_in v.rooms.moving) p.own slots p.above p.below above_stands below_stands p.neighbours p.own_has p.has).valued;
       retires = step_since z call (on_rooms (retire_room up.room)) v n u works.stands.met retires.step;
       beside = works_both call v n u (works_of_rooms z call v n works) (works_of_stands call n u retires.beside);
+      claims = retires.beside.stands.claims ∙ works.stands.claims;
       sorted = record {
         count = filled_many z (held_memory n.rooms.held) low.room (p.own ++ slots) base joined_filled (omega arith) limit ∙ (omega arith);
         prefix = filled_prefix z (held_memory n.rooms.held) low.room (p.own ++ slots) base joined_filled (omega arith) limit ∙ (omega arith);

@@ -98,7 +98,7 @@ module _ (z : Sizes) (call r e place : ℕ) (v w : PassState) (h : HoldsAlone z 
     given_blocks = ap (λ (y : PassState). y.blocks) g.after ∙ (ap (λ (hs : List HeldBlock). record w.blocks { held = hs }) none_left ∙ sym h.only.blocks)
 
     given_stands : Rests call w u
-    given_stands = subst (Rests call w) (sym g.after) (record { met = record { more = g.more; met = refl; calls = each_map (IsOf z call) (λ (f : Finding). f.call ≡ call) g.more (λ f o. o.0) g.calls }; numbers = refl; knowledge = refl; fulls = refl; swept = refl; sights = refl; gones = refl })
+    given_stands = subst (Rests call w) (sym g.after) (record { met = record { more = g.more; met = refl; calls = each_map (IsOf z call) (λ (f : Finding). f.call ≡ call) g.more (λ f o. o.0) g.calls }; numbers = refl; knowledge = refl; fulls = refl; swept = refl; sights = refl; gones = refl; claims = refl })
 
     given_away : AwayFromPins z w u
     given_away = away_front z call w u g.more (ap (λ (y : PassState). y.findings.met) g.after) g.calls

@@ -29,6 +29,7 @@ mod MirroredRooms
 mod FrozenRooms
 mod HeldAlone
 mod ClaimedRooms
+pub mod OtherClaims
 mod TakenRooms
 mod OpenedRooms
 mod OpensWhole
@@ -62,7 +63,6 @@ pub mod ListedRows
 pub mod ChunkLaws
 pub mod FrontLaws
 pub mod CompactCalls
-pub mod TestLaws
 pub mod FrontReads
 pub mod ReopenedChunks
 pub mod WholeRooms

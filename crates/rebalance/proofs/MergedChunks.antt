@@ -21,6 +21,7 @@ use Rattle.oak_core.specs.AloneWords.{Runs}
 use Rattle.oak_core.specs.PassState.{HoldsNothing}
 use Rattle.oak_core.specs.Step.{on_rooms}
 use Rattle.oak_core.proofs.CallSteps.{step_in}
+use Rattle.oak_core.proofs.FullClaims.{claims_none}
 use Rattle.rebalance.specs.declared.merging.Merged.{Merged}
 use Rattle.rebalance.specs.declared.merging.Merged.TheVariants.{Joined, Apart}
 use Rattle.rebalance.specs.declared.merging.Taken.{Taken}
@@ -77,6 +78,8 @@ module _ (z : Sizes) (call : ℕ) (key : List ℕ) (low : Taken) (ys : List Sort
         opened = lower.words;
         rewrites = r;
         leaves = l;
+        unclaimed = o.claims ∙ (works.stands.claims ∙ lower.claims);
+        claims = claims_none z v u (o.claims ∙ (works.stands.claims ∙ lower.claims));
         ended = o.moment;
         why = inl (record {
           last = ap high_number (sym lower.rewritten.high) ∙ (high_number-is lower.words.high ∙ ap number_of end);
@@ -94,6 +97,10 @@ module _ (z : Sizes) (call : ℕ) (key : List ℕ) (low : Taken) (ys : List Sort
 
     to_both : WorksBeside call v b
     to_both = works_both call v a b lower.beside to_upper
+
+    -- no room was claimed
+    taken_unclaimed : b.findings.rebalances.claims ≡ v.findings.rebalances.claims
+    taken_unclaimed = upper.claims ∙ (works.stands.claims ∙ lower.claims)
 
     -- the two are not one room
     rooms_apart : up.room ≢ low.room
@@ -136,6 +143,8 @@ module _ (z : Sizes) (call : ℕ) (key : List ℕ) (low : Taken) (ys : List Sort
           opened = lower.words;
           rewrites = r;
           leaves = l;
+          unclaimed = o.claims ∙ (n.claims ∙ taken_unclaimed);
+          claims = claims_none z v u (o.claims ∙ (n.claims ∙ taken_unclaimed));
           ended = o.moment;
           why = inr (record {
             other = up.room;
@@ -202,6 +211,8 @@ module _ (z : Sizes) (call : ℕ) (key : List ℕ) (low : Taken) (ys : List Sort
         sorted = subst (λ (n : ℕ). IsSorted n joins.opened) (λ i. e i + f i) joins.sorted;
         swept = sweeps_since call key v d u (works_both call v b d to_both joins.beside).swept (works_both call v b d to_both joins.beside).met (o.sweeps (mirrors_valued z joins.opened (joined_by upper.range lower.range) joins.front.mirrors joins.valued) key is bytes joined_inside);
         leaves = leaves_of call v u all idle_again;
+        unclaimed = o.claims ∙ (joins.claims ∙ taken_unclaimed);
+        claims = claims_none z v u (o.claims ∙ (joins.claims ∙ taken_unclaimed));
         alone = divided_runs z (JoinsRooms z low.room up.room lower.held upper.held joins.opened) v u (step_apart z call (on_rooms (open_room low.room)) v u (opens_since z call low.room joins.opened v d u (works_both call v b d to_both joins.beside) o.opens).step) (bare_still v u bare idle_again) o.moment
             (joins_rooms z low.room up.room front.inside upper.front.inside rooms_apart lower.held upper.held lower.words v q b bare takes front.held upper.alone joins.opened d u joins.alone o.alone);
       }

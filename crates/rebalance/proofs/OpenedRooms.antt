@@ -35,7 +35,7 @@ opens z call r n v w t = record {
   step = step_alone z call (on_rooms (open_room r)) v n w t;
   first = refl;
   last = refl;
-  beside = subst (SweepsBeside call r v) (sym t.after) (record { met = record { more = _ ∷ []; met = refl; calls = (refl, tt) }; numbers = refl; knowledge = refl; fulls = refl; swept = refl; sights = refl; gones = refl; blocks = refl; headers = refl });
+  beside = subst (SweepsBeside call r v) (sym t.after) (record { met = record { more = _ ∷ []; met = refl; calls = (refl, tt) }; numbers = refl; knowledge = refl; fulls = refl; swept = refl; sights = refl; gones = refl; claims = refl; blocks = refl; headers = refl });
   rooms = ap (λ (y : PassState). y.rooms) t.after;
   ended = (_, moment_after z call (on_rooms (open_room r)) v n w t);
   alone = λ copy is. let found = pin_found z call r (open_room r) refl v n w t t.may.inside.0 in let held = held_state z t.table t.rule t.seat v t.here r t.may.rooms.0 in
@@ -50,7 +50,7 @@ retires z call r n v w t = record {
   first = refl;
   last = refl;
   beside = subst (StandsBeside call v) (sym t.after) (record {
-    stands = record { met = record { more = _ ∷ []; met = refl; calls = (refl, tt) }; numbers = refl; knowledge = refl; fulls = refl; swept = refl; sights = refl; gones = refl };
+    stands = record { met = record { more = _ ∷ []; met = refl; calls = (refl, tt) }; numbers = refl; knowledge = refl; fulls = refl; swept = refl; sights = refl; gones = refl; claims = refl };
     blocks = refl;
     headers = refl;
   });

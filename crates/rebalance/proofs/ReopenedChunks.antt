@@ -18,7 +18,8 @@ use Rattle.oak_core.specs.PassState.{HoldsNothing}
 use Rattle.oak_core.specs.Step.{on_rooms}
 use Rattle.oak_core.proofs.CallSteps.{step_since, step_until}
 use Rattle.oak_core.proofs.MetLists.{at_behind}
-use Rattle.oak_core.specs.RoomLacks.{RoomLackFound}
+use Rattle.oak_core.specs.RoomLacks.{ClaimsFull, RoomLackFound}
+use Rattle.oak_core.proofs.FullClaims.{claims_none}
 use Rattle.rebalance.specs.Calls.{ComesToHold, Compacts, FindsNoRoom, Leaves, Loosens, OpensWith, SweepsKey}
 use Rattle.rebalance.specs.Copies.{copy_span}
 use Rattle.rebalance.specs.Chunks.{CompactsFront, HoldsFor, OpensFront, WorksBeside}
@@ -96,8 +97,8 @@ module _ (z : Sizes) (call r : ℕ) (key : List ℕ) (w : RoomCopy) (g : MovingR
   worked_alone = taken_works z v0 t s r w (λ q h. front_or v0 s r c.words c.front.held q (let e = c.works.states q HELD in omega arith)) (taken_works z v0 v t r w (front_or v0 v r w p.front.held) p.alone still) c.works.words
 
   -- it is compacted
-  abbrev pub reopened : Compacts z call key dropped v0 e
-  reopened = record {
+  abbrev pub reopened : ClaimsFull z v0 e → Compacts z call key dropped v0 e
+  reopened full = record {
     room = r;
     held = w;
     opened = c.words;
@@ -114,14 +115,15 @@ module _ (z : Sizes) (call r : ℕ) (key : List ℕ) (w : RoomCopy) (g : MovingR
     };
     count_is = let a = c.count_is in let b = c.kept_is in omega arith;
     leaves = leaves_rooms call v0 e (works_both call v0 s e worked o.beside) rooms_back;
+    claims = full;
     alone = lone_rewrites z v0 s e r w c.words p.front.inside (bare_of v0 idle) (bare_still v0 e (bare_of v0 idle) rooms_back) o.moment (step_apart z call (on_rooms (open_room r)) v0 e (opens_since z call r c.words v0 s e worked o.opens).step) worked_alone o.alone;
   }
 
   -- with fewer values than a room has entries
-  pub loosened : length xs < z.entries → Loosens z call key v0 e
-  loosened few = record { dropped = dropped; compacts = reopened; fewer = let a = c.kept_is in omega arith }
+  pub loosened : length xs < z.entries → e.findings.rebalances.claims ≡ v0.findings.rebalances.claims → Loosens z call key v0 e
+  loosened few none = record { dropped = dropped; compacts = reopened (claims_none z v0 e none); fewer = let a = c.kept_is in omega arith; unclaimed = none }
 
 -- where none was dropped of as many values as a room has entries, and no other room was free
 pub lacks_room : (z : Sizes) (call r : ℕ) (key : List ℕ) (w : RoomCopy) (g : MovingRange) (v0 v : PassState) (idle : HoldsNothing v0) (is : IsKey key) (bytes : AreBytes key) (p : HoldsFor z call key r w g v0 v) (t s e : PassState) (between : WorksBeside call v t) (still : Runs (LeavesBut z no_room (held_by v)) v t)
-    (xs : List SortSlot) (c : CompactsFront z call r 0 xs w v0.rooms.held v0.rooms.moving t s) (o : OpensFront z call r c.words v0.rooms.held v0.rooms.moving s e) → length xs ≡ z.entries → RoomLackFound z (length v0.findings.met) (length e.findings.met) e.findings.met (key_number key) → Runs (AllOpen z) v0 e → FindsNoRoom z call key v0 e
-lacks_room z call r key w g v0 v idle is bytes p t s e between still xs c o all lacks all_open = record { compacts = reopened z call r key w g v0 v idle is bytes p t s e between still 0 xs c o; full = let k = c.kept_is in omega arith; base = c.rewritten.base ∙ base_still w (let n = c.count_is in let k = c.kept_is in omega arith); lacks = lacks; all_open = all_open }
+    (xs : List SortSlot) (c : CompactsFront z call r 0 xs w v0.rooms.held v0.rooms.moving t s) (o : OpensFront z call r c.words v0.rooms.held v0.rooms.moving s e) → length xs ≡ z.entries → RoomLackFound z (length v0.findings.met) (length e.findings.met) e.findings.met (key_number key) → ClaimsFull z v0 e → Runs (AllOpen z) v0 e → FindsNoRoom z call key v0 e
+lacks_room z call r key w g v0 v idle is bytes p t s e between still xs c o all lacks claims all_open = record { compacts = reopened z call r key w g v0 v idle is bytes p t s e between still 0 xs c o claims; full = let k = c.kept_is in omega arith; base = c.rewritten.base ∙ base_still w (let n = c.count_is in let k = c.kept_is in omega arith); lacks = lacks; all_open = all_open }

@@ -18,12 +18,16 @@ use Rattle.oak_core.specs.Step.{on_rooms, Told}
 use Rattle.oak_core.proofs.AloneRuns.{DoesStep, runs_as, step_runs}
 use Rattle.chunk_ops.specs.PinRecords.{WordsStay}
 use Rattle.chunk_ops.proofs.PinSteps.{pin_found}
-use Rattle.rebalance.specs.Holding.{StandsBeside, with_frozen, with_moving, with_claimed}
-use Rattle.rebalance.specs.Resting.{OnlyRests, rests_both}
+use Rattle.rebalance.specs.Holding.{StandsBeside, TriesBeside, with_frozen, with_moving, with_claimed}
+use Rattle.rebalance.specs.Resting.{OnlyRests, OnlyTries, rests_both, tries_both}
 
 -- behind loads the pass stands as behind the step alone
 pub beside_since : (call : ℕ) (u v w : PassState) → OnlyRests call u v → StandsBeside call v w → StandsBeside call u w
 beside_since call u v w o b = record { stands = rests_both call u v w o.stands b.stands; blocks = b.blocks ∙ o.blocks; headers = b.headers ∙ o.headers }
+
+-- so it does behind rooms that it tried to claim
+pub trying_since : (call : ℕ) (u v w : PassState) → OnlyTries call u v → TriesBeside call v w → TriesBeside call u w
+trying_since call u v w o b = record { stands = tries_both call u v w o.stands b.stands; blocks = b.blocks ∙ o.blocks; headers = b.headers ∙ o.headers }
 
 -- a step that leaves the word as it found it leaves them all
 words_stay : (z : Sizes) (call : ℕ) (x : RoomStep) (v : PassState) (n : ℕ) (w : PassState) → Told z call (on_rooms x) v n w → room_effect x n ≡ n → Runs WordsStay v w
@@ -55,7 +59,7 @@ module _ (z : Sizes) (call r old n : ℕ) (v w : PassState) (t : FreezesRoom z c
 
   pub freeze_beside : StandsBeside call v w
   freeze_beside = subst (StandsBeside call v) (sym t.after) (record {
-    stands = record { met = record { more = _ ∷ []; met = refl; calls = (refl, tt) }; numbers = refl; knowledge = refl; fulls = refl; swept = refl; sights = refl; gones = refl };
+    stands = record { met = record { more = _ ∷ []; met = refl; calls = (refl, tt) }; numbers = refl; knowledge = refl; fulls = refl; swept = refl; sights = refl; gones = refl; claims = refl };
     blocks = refl;
     headers = refl;
   })
@@ -87,7 +91,7 @@ module _ (z : Sizes) (call r old n : ℕ) (v w : PassState) (t : HoldsRoomWord z
 
   pub hold_beside : StandsBeside call v w
   hold_beside = subst (StandsBeside call v) (sym t.after) (record {
-    stands = record { met = record { more = _ ∷ []; met = refl; calls = (refl, tt) }; numbers = refl; knowledge = refl; fulls = refl; swept = refl; sights = refl; gones = refl };
+    stands = record { met = record { more = _ ∷ []; met = refl; calls = (refl, tt) }; numbers = refl; knowledge = refl; fulls = refl; swept = refl; sights = refl; gones = refl; claims = refl };
     blocks = refl;
     headers = refl;
   })
@@ -115,8 +119,8 @@ module _ (z : Sizes) (call r old n : ℕ) (v w : PassState) (t : ClaimsRoom z ca
   claim_after : (b : Bool) → (claim_memory.rooms.pin r == old) ≡ b → w.rooms ≡ record v.rooms { held = cond b (record { room = r; held_as = Held (copy_at z claim_memory.rooms r) } ∷ v.rooms.held) v.rooms.held }
   claim_after b e = ap (λ (y : PassState). y.rooms) t.after ∙ ap (λ (c : Bool). record v.rooms { held = cond c (record { room = r; held_as = Held (copy_at z claim_memory.rooms r) } ∷ v.rooms.held) v.rooms.held }) e
 
-  pub claim_beside : StandsBeside call v w
-  claim_beside = subst (StandsBeside call v) (sym t.after) (record {
+  pub claim_beside : TriesBeside call v w
+  claim_beside = subst (TriesBeside call v) (sym t.after) (record {
     stands = record { met = record { more = _ ∷ []; met = refl; calls = (refl, tt) }; numbers = refl; knowledge = refl; fulls = refl; swept = refl; sights = refl; gones = refl };
     blocks = refl;
     headers = refl;
@@ -125,7 +129,7 @@ module _ (z : Sizes) (call r old n : ℕ) (v w : PassState) (t : ClaimsRoom z ca
   pub claim_takes : n ≡ old → w.rooms ≡ with_claimed r (copy_at z (memory z t.table.words).rooms r) v.rooms
   claim_takes e = claim_after _ (eq-eqb (claim_memory.rooms.pin r) old (claim_was ∙ e))
 
-  pub claim_misses : n ≢ old → OnlyRests call v w
+  pub claim_misses : n ≢ old → OnlyTries call v w
   claim_misses ne = record {
     stands = claim_beside.stands;
     blocks = claim_beside.blocks;

@@ -123,7 +123,7 @@ module _ (z : Sizes) (call : ℕ) (p : RoomSpot) (x n : ℕ) (v w : PassState) (
   stored_rooms = ap (λ (y : PassState). y.rooms) t.after
 
   stored_stands : Rests call v w
-  stored_stands = subst (Rests call v) (sym t.after) (record { met = record { more = _ ∷ []; met = refl; calls = (refl, tt) }; numbers = refl; knowledge = refl; fulls = refl; swept = refl; sights = refl; gones = refl })
+  stored_stands = subst (Rests call v) (sym t.after) (record { met = record { more = _ ∷ []; met = refl; calls = (refl, tt) }; numbers = refl; knowledge = refl; fulls = refl; swept = refl; sights = refl; gones = refl; claims = refl })
 
   still_held : (a : RoomHolds) → a ≡ record v.rooms { held = rooms_with p x v.rooms.held; moving = ranges_with (word_dropped m p x) v.rooms.moving } → (r : ℕ) → HoldsRoom z r v.rooms → HoldsRoom z r a
   unfolding room_rows

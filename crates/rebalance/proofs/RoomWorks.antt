@@ -106,7 +106,7 @@ module _ (z : Sizes) (call word n : ℕ) (v w : PassState) (only : HoldsOnlyRoom
 
   pub load_works : IsNoPin z word → WorksOnRooms z call v w
   load_works away = works_still z call v w
-      (subst (Rests call v) (sym load_met) (record { met = record { more = _ ∷ []; met = refl; calls = (refl, tt) }; numbers = refl; knowledge = refl; fulls = refl; swept = refl; sights = refl; gones = refl }))
+      (subst (Rests call v) (sym load_met) (record { met = record { more = _ ∷ []; met = refl; calls = (refl, tt) }; numbers = refl; knowledge = refl; fulls = refl; swept = refl; sights = refl; gones = refl; claims = refl }))
       (ap (λ (y : PassState). y.blocks) load_met) (ap (λ (y : PassState). y.headers) load_met) load_rooms
       (away_one z v w (finding z call l.spot (Some n) n l.told.table.words v) (ap (λ (y : PassState). y.findings.met) load_met) (λ q lt e. away q lt (sym l.at ∙ e))) (_, moment_after z call (load l.spot) v n w l.told) (load_stays z call word v n w l)
 

@@ -63,6 +63,7 @@ taken z call r key w g x slots v t u p c many base = record {
   came = record { old = p.came.old; step = step_until z call (on_rooms (hold_room r p.came.old)) v t u c.works.stands.met p.came.step; found_is = p.came.found_is; copy_is = p.came.copy_is };
   inside = p.inside;
   beside = works_both call v t u p.beside (works_of_rooms z call t u c.works);
+  claims = c.works.stands.claims ∙ p.claims;
   front = c.front;
   origin = c.origin g p.front.moving ∙ p.origin;
   rewritten = c.rewritten;

@@ -1,14 +1,16 @@
 -- A call came to hold a chunk, found a value in each of its entries, and each other room not free.
 use Rattle.std.proofs.Common.{◌≡◌, ◌≢◌, ℕ, zero, suc, ◌+◌, ◌-◌, ◌<◌, ◌≤◌, Bool, List, [], ◌∷◌, ◌++◌, length, refl, sym, ap, ◌∙◌, subst, arith, Some, eq-eqb, length-append}
 use prog.Atomic.{either}
+use mathlib.Core.Logic.{dite}
 use mathlib.Core.Option.{some}
 use lib.ListN.{get_elem?}
+use native.Mathlib.Decide.{dec_lt}
 use Rattle.pin_word.specs.PinWord.{STATE, state_of, count_of}
 use Rattle.pin_word.proofs.StepLaws.{state_set}
-use Rattle.oak_model.specs.Counts.{total}
+use Rattle.oak_model.specs.Counts.{Begins, total}
 use Rattle.oak_model.specs.KeyNumber.{key_number}
 use Rattle.oak_model.specs.Limits.{Sizes}
-use Rattle.oak_model.proofs.Lists.{at_last, at_longer}
+use Rattle.oak_model.proofs.Lists.{at_last, at_longer, begins_trans, each_map}
 use Rattle.chunk_core.specs.declared.holds.MovingRange.{MovingRange}
 use Rattle.chunk_core.specs.declared.holds.RoomCopy.{RoomCopy}
 use Rattle.chunk_core.specs.declared.states.TheConstants.{HELD}
@@ -24,16 +26,18 @@ use Rattle.oak_core.specs.CallSteps.{MetMore}
 use Rattle.oak_core.specs.Finding.{finding}
 use Rattle.oak_core.specs.FoundBehind.{FoundBehind}
 use Rattle.oak_core.specs.Memory.{Memory, in_rooms, index, memory}
-use Rattle.oak_core.specs.RoomLacks.{FoundWhole, IsFullFor, RoomLackFound}
+use Rattle.oak_core.specs.QuietSteps.{MetOnly}
+use Rattle.oak_core.specs.RoomLacks.{ClaimedFull, ClaimsFull, FoundWhole, HeldFull, IsFullFor, RoomLackFound}
 use Rattle.oak_core.proofs.CallSteps.{met_both}
 use Rattle.oak_core.proofs.MetLists.{at_shorter, each_at, from_behind}
+use Rattle.oak_core.proofs.QuietCalls.{only_none}
 use Rattle.oak_core.proofs.Words.{memory_set}
 use Rattle.rebalance.specs.declared.reading.Read.{Read}
 use Rattle.rebalance.specs.declared.rooms.RoomWord.TheVariants.{Value}
 use Rattle.rebalance.specs.Copies.{copy_span}
 use Rattle.rebalance.specs.Chunks.{HoldsFor, ReadsFront}
 use Rattle.rebalance.specs.HeldTables.{AwayFromPins, SeesValue, away_both}
-use Rattle.rebalance.specs.Holding.{FindsNoneFree}
+use Rattle.rebalance.specs.Holding.{ClaimsOthers, FindsNoneFree, IsAtAnother}
 use Rattle.rebalance.specs.Mirrors.{copy_or, held_memory}
 use Rattle.rebalance.proofs.ClaimedRooms.{used_longer, used_since}
 use Rattle.rebalance.proofs.FrontCompacts.{count_is}
@@ -41,6 +45,7 @@ use Rattle.rebalance.proofs.FrontReads.{full_count, full_valued}
 use Rattle.rebalance.proofs.FrontRewrites.{entries_limited}
 use Rattle.rebalance.proofs.FrontRooms.{front_copy}
 use Rattle.rebalance.proofs.HeldMemory.{word_read}
+use Rattle.rebalance.proofs.OtherClaims.{another_away}
 
 -- what the call met is no less
 met_length : (call : ℕ) (v w : PassState) → MetMore call v w → length v.findings.met ≤ length w.findings.met
@@ -56,8 +61,7 @@ unfolding total first_numbers
 first_none f zero h = refl
 first_none f (suc n) h = let a = h n (omega arith) in let t = first_none f n (λ i l. h i (omega arith)) in omega arith
 
-module _ (z : Sizes) (call r : ℕ) (key : List ℕ) (w : RoomCopy) (g : MovingRange) (v0 v : PassState) (p : HoldsFor z call key r w g v0 v) (u : PassState) (slots : List SortSlot) (x : Read) (reads : ReadsFront z call r slots x v u) (full : x.kept ≡ z.entries)
-    (sees : (i : ℕ) → i < entries_in ((held_memory v.rooms.held).count r) → names_header ((held_memory v.rooms.held).value r i) ≡ 1 → SeesValue z r i v u) (e : PassState) (behind : MetMore call u e) where
+module _ (z : Sizes) (call r : ℕ) (key : List ℕ) (w : RoomCopy) (g : MovingRange) (v0 v : PassState) (p : HoldsFor z call key r w g v0 v) (u : PassState) (slots : List SortSlot) (x : Read) (reads : ReadsFront z call r slots x v u) (full : x.kept ≡ z.entries) where
   abbrev from : PassState
   from = p.came.step.from
 
@@ -76,24 +80,15 @@ module _ (z : Sizes) (call r : ℕ) (key : List ℕ) (w : RoomCopy) (g : MovingR
   hold_met : p.came.step.to.findings.met ≡ from.findings.met ++ hold ∷ []
   hold_met = let t = p.came.step.told in ap (λ (y : PassState). y.findings.met) t.after ∙ ap (λ (k : ℕ). from.findings.met ++ finding z call (in_rooms (at_room_pin r)) (Some k) (room_effect (hold_room r p.came.old) k) words from ∷ []) t.finds
 
-  rest : MetMore call p.came.step.to e
-  rest = met_both call p.came.step.to u e (met_both call p.came.step.to v u p.came.step.ended reads.works.stands.met) behind
-
-  hold_there : get_elem? e.findings.met (length from.findings.met) ≡ some hold
-  hold_there = let b = p.came.step.to in subst (λ (l : List Finding). get_elem? l (length from.findings.met) ≡ some hold) (sym rest.met)
-      (at_longer b.findings.met rest.more (length from.findings.met) hold (subst (λ (l : List Finding). get_elem? l (length from.findings.met) ≡ some hold) (sym hold_met) (at_last from.findings.met hold)))
-
   hold_length : length p.came.step.to.findings.met ≡ length from.findings.met + 1
   hold_length = let a = ap length hold_met in let l = length-append from.findings.met (hold ∷ []) in omega arith
 
   away : AwayFromPins z p.came.step.to u
   away = away_both z p.came.step.to v u p.still reads.works.away
 
-  -- nothing else was met at the pin word
-  hold_still : (i : ℕ) (f : Finding) → length from.findings.met < i → i < length u.findings.met → get_elem? e.findings.met i ≡ some f → f.word ≢ index z (in_rooms (at_room_pin r))
-  hold_still i f lt below at = let b = p.came.step.to in let n = hold_length in
-      let in_u : get_elem? u.findings.met i ≡ some f = at_shorter u.findings.met behind.more i f below (subst (λ (l : List Finding). get_elem? l i ≡ some f) behind.met at) in
-      each_at (λ (y : Finding). y.word ≢ index z (in_rooms (at_room_pin r))) away.more (away.away r p.front.inside) _ f (from_behind b.findings.met away.more i f (omega arith) (subst (λ (l : List Finding). get_elem? l i ≡ some f) away.met in_u))
+  -- since then the call met more
+  hold_longer : length from.findings.met < length u.findings.met
+  hold_longer = let n = hold_length in let a = met_length call p.came.step.to v p.came.step.ended in let b = met_length call v u reads.works.stands.met in omega arith
 
   hold_left : state_of left ≡ HELD
   hold_left = let free = p.came.step.told.may.rooms.0 in let s = state_set p.came.old (let q = free.state in omega arith) in
@@ -114,46 +109,80 @@ module _ (z : Sizes) (call r : ℕ) (key : List ℕ) (w : RoomCopy) (g : MovingR
     values = first_none (λ (i : ℕ). 1 - names_header (m.value r i)) (entries_in (m.count r)) (λ i l. let n = many in let a = valued i (omega arith) in omega arith);
   })
 
-  hold_values : (i : ℕ) → i < z.entries → FoundBehind (length from.findings.met) (length u.findings.met) e.findings.met (index z (in_rooms (at_value r i))) (λ n had. names_header n ≡ 1)
-  hold_values i l = let f = p.front in let c = full_count z call r w g v0.rooms.held v0.rooms.moving v f u slots x reads full in
-      let s = sees i (omega arith) (full_valued z call r w g v0.rooms.held v0.rooms.moving v f u slots x reads full i (omega arith)) in record {
-        place = s.place;
-        from = let n = hold_length in let k = met_length call p.came.step.to v p.came.step.ended in let q = s.from in omega arith;
-        to = s.to;
-        finding = s.finding;
-        there = subst (λ (y : List Finding). get_elem? y s.place ≡ some s.finding) (sym behind.met) (at_longer u.findings.met behind.more s.place s.finding s.there);
-        word_is = s.word_is;
-        number = s.number;
-        found_is = s.found_is;
-        shows = s.shows;
-      }
+  -- Then it met nothing but pin words of other rooms, up to t, and more behind it.
+  module _ (t : PassState) (others : MetOnly (IsAtAnother z r) u t) (e : PassState) (behind : Begins t.findings.met e.findings.met) where
+    hold_begins : Begins p.came.step.to.findings.met e.findings.met
+    hold_begins = let b = p.came.step.to in begins_trans b.findings.met t.findings.met e.findings.met (begins_trans b.findings.met u.findings.met t.findings.met (away.more, away.met) (others.more, others.met)) behind
 
-  -- the chunk was held with a value in each entry
-  pub found_whole : FoundWhole z (length v0.findings.met) (length e.findings.met) e.findings.met r (key_number key)
-  found_whole = record {
-    held = length from.findings.met;
-    to = length u.findings.met;
-    after = met_length call v0 from p.came.step.begun;
-    order = let n = hold_length in let a = met_length call p.came.step.to v p.came.step.ended in let b = met_length call v u reads.works.stands.met in omega arith;
-    within = met_length call u e behind;
-    hold = hold;
-    there = hold_there;
-    word_is = refl;
-    number = p.came.step.number;
-    found_is = refl;
-    frozen = ap state_of p.came.found_is ∙ p.came.step.told.may.rooms.0.state;
-    unpinned = ap count_of p.came.found_is ∙ p.came.step.told.may.rooms.0.count;
-    left_is = hold_left;
-    still = hold_still;
-    full = was_full;
-    values = hold_values;
+    hold_there : get_elem? e.findings.met (length from.findings.met) ≡ some hold
+    hold_there = let b = p.came.step.to in subst (λ (l : List Finding). get_elem? l (length from.findings.met) ≡ some hold) (sym hold_begins.1)
+        (at_longer b.findings.met hold_begins.0 (length from.findings.met) hold (subst (λ (l : List Finding). get_elem? l (length from.findings.met) ≡ some hold) (sym hold_met) (at_last from.findings.met hold)))
+
+    -- nothing else was met at the pin word
+    hold_still : (i : ℕ) (f : Finding) → length from.findings.met < i → i < length t.findings.met → get_elem? e.findings.met i ≡ some f → f.word ≢ index z (in_rooms (at_room_pin r))
+    hold_still i f lt below at = let b = p.came.step.to in let n = hold_length in
+        let in_t : get_elem? (u.findings.met ++ others.more) i ≡ some f = subst (λ (l : List Finding). get_elem? l i ≡ some f) others.met (at_shorter t.findings.met behind.0 i f below (subst (λ (l : List Finding). get_elem? l i ≡ some f) behind.1 at)) in
+        dite (dec_lt i (length u.findings.met))
+        (λ l. each_at (λ (y : Finding). y.word ≢ index z (in_rooms (at_room_pin r))) away.more (away.away r p.front.inside) _ f
+        (from_behind b.findings.met away.more i f (omega arith) (subst (λ (l : List Finding). get_elem? l i ≡ some f) away.met (at_shorter u.findings.met others.more i f l in_t))))
+        (λ no. another_away z r f p.front.inside (each_at (IsAtAnother z r) others.more others.each _ f (from_behind u.findings.met others.more i f (omega arith) in_t)))
+
+    -- so it held the chunk all the while, which was full when it came to hold it
+    abbrev held_full : (to : ℕ) → length u.findings.met ≤ to → to ≤ length t.findings.met → HeldFull z (length v0.findings.met) to e.findings.met r (key_number key)
+    held_full to after before = record {
+      held = length from.findings.met;
+      after = met_length call v0 from p.came.step.begun;
+      order = let n = hold_longer in omega arith;
+      hold = hold;
+      there = hold_there;
+      word_is = refl;
+      number = p.came.step.number;
+      found_is = refl;
+      frozen = ap state_of p.came.found_is ∙ p.came.step.told.may.rooms.0.state;
+      unpinned = ap count_of p.came.found_is ∙ p.came.step.told.may.rooms.0.count;
+      left_is = hold_left;
+      still = λ i f lt below at. hold_still i f lt (omega arith) at;
+      full = was_full;
+    }
+
+  -- the rooms that the call claimed then, or tried to claim, it claimed while it held it
+  pub claims_full : (t : PassState) → ClaimsOthers z r u t → (e : PassState) → MetMore call t e → e.findings.rebalances.claims ≡ t.findings.rebalances.claims → ClaimsFull z v0 e
+  claims_full t o e later same = record {
+    more = o.more;
+    claims = same ∙ (o.claims ∙ ap (λ (l : List ℕ). l ++ o.more) (reads.works.stands.claims ∙ p.claims));
+    full = each_map (λ (n : ℕ). (length u.findings.met ≤ n) × (n < length t.findings.met)) (ClaimedFull z (length v0.findings.met) e.findings.met) o.more
+        (λ n at. let after = at.0 in let before = at.1 in let l = met_length call t e later in (omega arith, r, key_number key, held_full t o.met e (later.more, later.met) n after (omega arith))) o.places;
   }
 
-  -- and no other room was free
-  pub found_lacking : (t : PassState) → FindsNoneFree z call r u t → MetMore call t e → RoomLackFound z (length v0.findings.met) (length e.findings.met) e.findings.met (key_number key)
-  found_lacking t none later = record {
-    room = r;
-    inside = p.front.inside;
-    whole = found_whole;
-    others = λ q l ne. used_longer z call q v0 t e later (used_since z call q v0 u t (met_both call v0 v u p.beside.met reads.works.stands.met) (none.used q l ne));
-  }
+  module _ (sees : (i : ℕ) → i < entries_in ((held_memory v.rooms.held).count r) → names_header ((held_memory v.rooms.held).value r i) ≡ 1 → SeesValue z r i v u) (e : PassState) (behind : MetMore call u e) where
+    hold_values : (i : ℕ) → i < z.entries → FoundBehind (length from.findings.met) (length u.findings.met) e.findings.met (index z (in_rooms (at_value r i))) (λ n had. names_header n ≡ 1)
+    hold_values i l = let f = p.front in let c = full_count z call r w g v0.rooms.held v0.rooms.moving v f u slots x reads full in
+        let s = sees i (omega arith) (full_valued z call r w g v0.rooms.held v0.rooms.moving v f u slots x reads full i (omega arith)) in record {
+          place = s.place;
+          from = let n = hold_length in let k = met_length call p.came.step.to v p.came.step.ended in let q = s.from in omega arith;
+          to = s.to;
+          finding = s.finding;
+          there = subst (λ (y : List Finding). get_elem? y s.place ≡ some s.finding) (sym behind.met) (at_longer u.findings.met behind.more s.place s.finding s.there);
+          word_is = s.word_is;
+          number = s.number;
+          found_is = s.found_is;
+          shows = s.shows;
+        }
+
+    -- the chunk was held with a value in each entry
+    pub found_whole : FoundWhole z (length v0.findings.met) (length e.findings.met) e.findings.met r (key_number key)
+    found_whole = record {
+      to = length u.findings.met;
+      within = met_length call u e behind;
+      holds = held_full u (only_none (IsAtAnother z r) u u refl) e (behind.more, behind.met) (length u.findings.met) (omega arith) (omega arith);
+      values = hold_values;
+    }
+
+    -- and no other room was free
+    pub found_lacking : (t : PassState) → FindsNoneFree z call r u t → MetMore call t e → RoomLackFound z (length v0.findings.met) (length e.findings.met) e.findings.met (key_number key)
+    found_lacking t none later = record {
+      room = r;
+      inside = p.front.inside;
+      whole = found_whole;
+      others = λ q l ne. used_longer z call q v0 t e later (used_since z call q v0 u t (met_both call v0 v u p.beside.met reads.works.stands.met) (none.used q l ne));
+    }

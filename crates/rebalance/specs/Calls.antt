@@ -20,7 +20,7 @@ use Rattle.oak_core.specs.declared.states.Swept.{Swept}
 use Rattle.oak_core.specs.AloneWords.{Runs}
 use Rattle.oak_core.specs.CallSteps.{MetMore, StepOfCall}
 use Rattle.oak_core.specs.Lack.{InSwept}
-use Rattle.oak_core.specs.RoomLacks.{RoomLackFound}
+use Rattle.oak_core.specs.RoomLacks.{ClaimsFull, RoomLackFound}
 use Rattle.oak_core.specs.Step.{on_rooms}
 use Rattle.chunk_ops.specs.RoomPins.{HadMoment}
 use Rattle.rebalance.specs.Copies.{base_without, copy_span, values_in}
@@ -87,6 +87,8 @@ pub record Compacts (z : Sizes) (call : ℕ) (key : List ℕ) (dropped : ℕ) (v
   pub rewrites : Rewrites z call key room held opened v w
   pub count_is : entries_in held.count ≡ values_in held + dropped
   pub leaves : Leaves call v w
+  -- it claimed rooms, and tried to, only while it held a full chunk
+  pub claims : ClaimsFull z v w
   -- to a pass that is alone
   pub alone : Runs (Divided z (RewritesRoom z room held opened)) v w
 
@@ -95,6 +97,8 @@ pub record Loosens (z : Sizes) (call : ℕ) (key : List ℕ) (v w : PassState) :
   pub dropped : ℕ
   pub compacts : Compacts z call key dropped v w
   pub fewer : values_in compacts.held < z.entries
+  -- it claimed no room, nor tried to
+  pub unclaimed : w.findings.rebalances.claims ≡ v.findings.rebalances.claims
 
 -- split, where each entry of the chunk had a value and another room was free: its range was opened as two, the upper one in that room, and before the lower one
 pub record Halves (z : Sizes) (call : ℕ) (key : List ℕ) (upper : ℕ) (v w : PassState) : Type 0 where
@@ -117,6 +121,8 @@ pub record Halves (z : Sizes) (call : ℕ) (key : List ℕ) (upper : ℕ) (v w :
   pub higher : IsSorted (z.entries - z.entries / 2) high_copy
   pub swept : SweepsKey key v w
   pub leaves : Leaves call v w
+  -- it claimed rooms, and tried to, only while it held a full chunk
+  pub claims : ClaimsFull z v w
   -- to a pass that is alone
   pub alone : Runs (Divided z (HalvesRoom z room upper held low_copy high_copy)) v w
 
@@ -150,6 +156,9 @@ pub record Merges (z : Sizes) (call : ℕ) (key : List ℕ) (v w : PassState) : 
   pub sorted : IsSorted (values_in held + values_in next) opened
   pub swept : SweepsKey key v w
   pub leaves : Leaves call v w
+  -- it claimed no room, nor tried to
+  pub unclaimed : w.findings.rebalances.claims ≡ v.findings.rebalances.claims
+  pub claims : ClaimsFull z v w
   -- to a pass that is alone
   pub alone : Runs (Divided z (JoinsRooms z room other held next opened)) v w
 
@@ -179,12 +188,18 @@ pub record StaysApart (z : Sizes) (call : ℕ) (key : List ℕ) (v w : PassState
   pub opened : RoomCopy
   pub rewrites : Rewrites z call key room held opened v w
   pub leaves : Leaves call v w
+  -- it claimed no room, nor tried to
+  pub unclaimed : w.findings.rebalances.claims ≡ v.findings.rebalances.claims
+  pub claims : ClaimsFull z v w
   pub ended : HadMoment z w
   pub why : IsLast z room held opened v w ⊎ HasMuchAbove z call room held opened v w
 
 -- settle: ranges swept in the call cover every key, and at its end the rule held with the pass as it is then
 pub record Settles (z : Sizes) (call : ℕ) (v w : PassState) : Type 0 where
   pub leaves : Leaves call v w
+  -- it claimed no room, nor tried to
+  pub unclaimed : w.findings.rebalances.claims ≡ v.findings.rebalances.claims
+  pub claims : ClaimsFull z v w
   pub ended : HadMoment z w
   pub covered : (key : List ℕ) → IsKey key → SweepsKey key v w
   -- to a pass that is alone

@@ -77,6 +77,7 @@ pub record HoldsFor (z : Sizes) (call : ℕ) (key : List ℕ) (r : ℕ) (w : Roo
   pub still : AwayFromPins z came.step.to u
   pub inside : within (copy_span w) (key_number key) ≡ 1
   pub beside : WorksBeside call v u
+  pub claims : u.findings.rebalances.claims ≡ v.findings.rebalances.claims
   pub front : HoldsFront z r w g v.rooms.held v.rooms.moving u
   pub origin : g.room ≡ r
   -- to a pass that is alone
@@ -106,6 +107,7 @@ pub record LosesPinned (z : Sizes) (call r : ℕ) (v u : PassState) : Type 0 whe
 -- The pass has of rooms what it had. It only met more else, and may have swept ranges.
 pub record ComesBack (z : Sizes) (call : ℕ) (v u : PassState) : Type 0 where
   pub beside : WorksBeside call v u
+  pub claims : u.findings.rebalances.claims ≡ v.findings.rebalances.claims
   pub rooms : u.rooms ≡ v.rooms
   -- to a pass that is alone
   pub alone : Runs (LeavesBut z no_room (held_by v)) v u
@@ -114,6 +116,7 @@ pub record ComesBack (z : Sizes) (call : ℕ) (v u : PassState) : Type 0 where
 pub record OpensFront (z : Sizes) (call r : ℕ) (w : RoomCopy) (hs : List HeldRoom) (gs : List MovingRange) (v u : PassState) : Type 0 where
   pub opens : OpensWith z call r w v u
   pub beside : WorksBeside call v u
+  pub claims : u.findings.rebalances.claims ≡ v.findings.rebalances.claims
   pub rooms : u.rooms ≡ record v.rooms { held = hs; moving = gs }
   pub swept : valueless w ≡ 0 → u.findings.swept ≡ v.findings.swept ++ record { low = low_bytes w.low; high = high_bytes w.high; met = length v.findings.met } ∷ []
   pub sweeps : valueless w ≡ 0 → (key : List ℕ) → IsKey key → AreBytes key → within (copy_span w) (key_number key) ≡ 1 → SweepsKey key v u

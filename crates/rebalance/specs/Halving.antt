@@ -90,6 +90,7 @@ pub record OpensHalves (z : Sizes) (call r q : ℕ) (w : RoomCopy) (v u : PassSt
   pub first : length opens_upper.step.from.findings.met < length opens_lower.step.from.findings.met
   pub sweeps : (key : List ℕ) → IsKey key → AreBytes key → within (copy_span w) (key_number key) ≡ 1 → SweepsKey key v u
   pub beside : WorksBeside call v u
+  pub claims : u.findings.rebalances.claims ≡ v.findings.rebalances.claims
   pub rooms : u.rooms ≡ record v.rooms { held = []; moving = [] }
   pub moment : HadMoment z u
   -- to a pass that is alone

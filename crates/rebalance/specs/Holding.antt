@@ -1,5 +1,5 @@
 -- What a pass has of the rooms that it freezes, holds, claims, opens and retires, and what it finds of those that it does not come to have.
-use Rattle.std.specs.Prelude.{◌≡◌, ◌≢◌, ℕ, ◌<◌, ◌∷◌, length, Some, None}
+use Rattle.std.specs.Prelude.{◌≡◌, ◌≢◌, ℕ, ◌<◌, ◌≤◌, List, ◌∷◌, ◌++◌, length, Some, None}
 use Rattle.pin_word.specs.PinWord.{state_of, HasNoPin}
 use Rattle.oak_model.specs.Limits.{Sizes}
 use Rattle.oak_model.specs.Counts.{Each}
@@ -16,21 +16,29 @@ use Rattle.chunk_core.specs.RoomReads.{copy_at, moving_at}
 use Rattle.chunk_core.specs.RoomRule.{in_room_state, IsWholeCopy}
 use Rattle.chunk_core.specs.RoomStep.{freeze_room, hold_room, claim_room, open_room, retire_room}
 use Rattle.chunk_core.specs.Rooms.{at_room_pin}
+use Rattle.oak_core.specs.declared.states.Finding.{Finding}
 use Rattle.oak_core.specs.declared.states.PassState.{PassState}
 use Rattle.oak_core.specs.AloneWords.{Runs}
 use Rattle.oak_core.specs.CallSteps.{MetMore, StepOfCall}
-use Rattle.oak_core.specs.Memory.{in_rooms, memory}
+use Rattle.oak_core.specs.Memory.{in_rooms, index, memory}
+use Rattle.oak_core.specs.QuietSteps.{MetOnly}
 use Rattle.oak_core.specs.RoomLacks.{FoundUsed}
 use Rattle.oak_core.specs.Step.{load, on_rooms}
 use Rattle.oak_core.specs.Sweeping.{swept_by}
 use Rattle.chunk_ops.specs.RoomPins.{HadMoment}
 use Rattle.rebalance.specs.LoneWords.{FreezesWords, MovesRoom, MovesWith, NoneFree}
 use Rattle.rebalance.specs.Mirrors.{Mirrors, RangeStands}
-use Rattle.rebalance.specs.Resting.{OnlyRests, Rests}
+use Rattle.rebalance.specs.Resting.{OnlyRests, OnlyTries, Rests, Tries}
 
--- The pass only met more, all in the call, but for what it has of rooms.
+-- The pass only met more, all in the call, but for what it has of rooms. It claimed none.
 pub record StandsBeside (call : ℕ) (v w : PassState) : Type 0 where
   pub stands : Rests call v w
+  pub blocks : w.blocks ≡ v.blocks
+  pub headers : w.headers ≡ v.headers
+
+-- so it is of a part of a call that may have claimed rooms
+pub record TriesBeside (call : ℕ) (v w : PassState) : Type 0 where
+  pub stands : Tries call v w
   pub blocks : w.blocks ≡ v.blocks
   pub headers : w.headers ≡ v.headers
 
@@ -103,6 +111,17 @@ pub record HasOnly (but : ℕ) (a : RoomHolds) : Type 0 where
 abbrev pub with_claimed : ℕ → RoomCopy → RoomHolds → RoomHolds
 with_claimed r w a = record a { held = record { room = r; held_as = Held w } ∷ a.held }
 
+-- the step was at the pin word of a room that is not this one
+abbrev pub IsAtAnother : Sizes → ℕ → Finding → Type 0
+IsAtAnother z but f = (r : ℕ) × (r < z.chunks) × (r ≢ but) × (f.word ≡ index z (in_rooms (at_room_pin r)))
+
+-- The pass met nothing but pin words of rooms that are not this one, and each step by which it claimed a room, or tried to, was one of these.
+pub record ClaimsOthers (z : Sizes) (but : ℕ) (v w : PassState) : Type 0 where
+  pub met : MetOnly (IsAtAnother z but) v w
+  pub more : List ℕ
+  pub claims : w.findings.rebalances.claims ≡ v.findings.rebalances.claims ++ more
+  pub places : Each (λ (n : ℕ). (length v.findings.met ≤ n) × (n < length w.findings.met)) more
+
 -- The last step of the call found the room free, and the pass holds it from there on. No range came with it.
 pub record Claims (z : Sizes) (call r : ℕ) (copy : RoomCopy) (v w : PassState) : Type 0 where
   pub inside : r < z.chunks
@@ -110,9 +129,9 @@ pub record Claims (z : Sizes) (call r : ℕ) (copy : RoomCopy) (v w : PassState)
   pub step : StepOfCall z call (on_rooms (claim_room r word)) v w
   pub was : step.number ≡ word
   pub unpinned : HasNoPin FREE word
-  pub before : OnlyRests call v step.from
+  pub before : OnlyTries call v step.from
   pub last : step.to ≡ w
-  pub beside : StandsBeside call v w
+  pub beside : TriesBeside call v w
   pub rooms : w.rooms ≡ with_claimed r copy v.rooms
   pub has : HasHeld z r copy w.rooms
   pub latch : copy.latch ≡ 0
@@ -127,7 +146,7 @@ FindsUsed z v w r = FoundUsed z (length v.findings.met) (length w.findings.met) 
 -- so was each room but one, and the pass only met more; where there was a moment of the rule before, there is one behind
 pub record FindsNoneFree (z : Sizes) (call but : ℕ) (v w : PassState) : Type 0 where
   pub used : (r : ℕ) → r < z.chunks → r ≢ but → FindsUsed z v w r
-  pub only : OnlyRests call v w
+  pub only : OnlyTries call v w
   pub moment : HadMoment z v → HadMoment z w
   -- to a pass that is alone
   pub alone : Runs (NoneFree z but) v w
@@ -138,7 +157,7 @@ pub record FindsNoneFree (z : Sizes) (call but : ℕ) (v w : PassState) : Type 0
 abbrev pub with_opened : ℕ → RoomHolds → RoomHolds
 with_opened r a = record a { held = without_room r a.held; moving = ranges_opened (copy_of r a.held) a.moving }
 
--- The pass only met more, all in the call, but for what it has of rooms, and what the opening swept.
+-- The pass only met more, all in the call, but for what it has of rooms, and what the opening swept. It claimed none.
 pub record SweepsBeside (call r : ℕ) (v w : PassState) : Type 0 where
   pub met : MetMore call v w
   pub numbers : w.numbers ≡ v.numbers
@@ -147,6 +166,7 @@ pub record SweepsBeside (call r : ℕ) (v w : PassState) : Type 0 where
   pub swept : w.findings.swept ≡ swept_by (open_room r) v
   pub sights : w.findings.sights ≡ v.findings.sights
   pub gones : w.findings.gones ≡ v.findings.gones
+  pub claims : w.findings.rebalances.claims ≡ v.findings.rebalances.claims
   pub blocks : w.blocks ≡ v.blocks
   pub headers : w.headers ≡ v.headers
 

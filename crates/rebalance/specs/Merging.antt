@@ -48,6 +48,7 @@ pub record TakesChunk (z : Sizes) (call : ℕ) (key : List ℕ) (t : Taken) (slo
   pub came : ComesToHold z call t.room held v u
   pub inside : within (copy_span held) (key_number key) ≡ 1
   pub beside : WorksBeside call v u
+  pub claims : u.findings.rebalances.claims ≡ v.findings.rebalances.claims
   pub front : HoldsFront z t.room words range v.rooms.held v.rooms.moving u
   pub origin : range.room ≡ t.room
   pub rewritten : IsRewritten held words
@@ -92,6 +93,7 @@ pub record JoinsPair (z : Sizes) (call : ℕ) (low up : Taken) (below above : Mo
   pub valued : (c : Carried) → Has c (joined_by above below).carried → names_header c.value ≡ 1
   pub retires : StepOfCall z call (on_rooms (retire_room up.room)) v u
   pub beside : WorksBeside call v u
+  pub claims : u.findings.rebalances.claims ≡ v.findings.rebalances.claims
   pub sorted : IsSorted (low.kept + up.kept) opened
   -- to a pass that is alone
   pub alone : Runs (FreesUpper z low.room up.room) v u

@@ -1,5 +1,5 @@
 //! Rooms are frozen, held alone, claimed, opened again and retired.
-ghost use Rattle.std.specs.Prelude.{◌≡◌, ◌≢◌, ◌<◌, None, IfSome, IfNone, true, false};
+ghost use Rattle.std.specs.Prelude.{◌≡◌, ◌≢◌, ℕ, ◌<◌, None, IfSome, IfNone, true, false};
 ghost use Rattle.chunk_core.specs.declared.holds.MovingRange.{MovingRange};
 ghost use Rattle.chunk_core.specs.declared.holds.RoomCopy.{RoomCopy};
 ghost use Rattle.chunk_core.specs.declared.states.TheConstants.{FROZEN, HELD};
@@ -12,8 +12,8 @@ ghost use Rattle.oak_core.specs.Passes.{IsPassOf, Stays, state, key, call_of};
 ghost use Rattle.chunk_ops.specs.PinRecords.{HasRoomPin};
 ghost use Rattle.chunk_ops.specs.RoomPins.{HadMoment};
 ghost use Rattle.rebalance.specs.LoneWords.{IsTaken};
-ghost use Rattle.rebalance.specs.Holding.{Freezes, FindsFrozen, Holds, HasOnly, Claims, FindsUsed, FindsNoneFree, Opens, Retires};
-ghost use Rattle.rebalance.specs.Resting.{OnlyRests};
+ghost use Rattle.rebalance.specs.Holding.{Freezes, FindsFrozen, Holds, HasOnly, Claims, ClaimsOthers, FindsUsed, FindsNoneFree, Opens, Retires};
+ghost use Rattle.rebalance.specs.Resting.{OnlyTries};
 
 use chunk_core::{FREE, FROZEN, HELD, OPEN};
 use chunk_ops::RoomPin;
@@ -79,7 +79,8 @@ fn try_claim(table: &OakTable, pass: &mut Pass, room: u32) -> bool
     ensures own { Stays pass.old pass.new }
     ensures claims { result ≡ true → (w : RoomCopy) × Claims (key table.now) (call_of pass.old) room w (state pass.old) (state pass.new) }
     ensures used { result ≡ false → had_room room (state pass.old).rooms ≡ 0 → FindsUsed (key table.now) (state pass.old) (state pass.new) room }
-    ensures only { result ≡ false → OnlyRests (call_of pass.old) (state pass.old) (state pass.new) }
+    ensures only { result ≡ false → OnlyTries (call_of pass.old) (state pass.old) (state pass.new) }
+    ensures others { (but : ℕ) → room ≢ but → ClaimsOthers (key table.now) but (state pass.old) (state pass.new) }
     ensures moment { result ≡ false → HadMoment (key table.now) (state pass.new) }
     ensures alone { result ≡ false → (state pass.old).rooms.pin ≡ None → Runs (IsTaken (key table.now) room) (state pass.old) (state pass.new) }
 {
@@ -99,6 +100,7 @@ pub(crate) fn claim_free(table: &OakTable, pass: &mut Pass, but: u32) -> Option<
     ensures own { Stays pass.old pass.new }
     ensures claims { IfSome result (λ r. (r ≢ but) × ((w : RoomCopy) × Claims (key table.now) (call_of pass.old) r w (state pass.old) (state pass.new))) }
     ensures none { IfNone result (FindsNoneFree (key table.now) (call_of pass.old) but (state pass.old) (state pass.new)) }
+    ensures others { ClaimsOthers (key table.now) but (state pass.old) (state pass.new) }
 {
     for room in 0..table.rooms() {
         if room != but && try_claim(table, pass, room) {

@@ -14,22 +14,12 @@ mod held;
 mod holding;
 mod merges;
 mod merging;
-#[cfg(test)]
-mod random_tests;
 mod ranges;
 mod reading;
 mod rooms;
 mod settles;
 mod splits;
 mod splitting;
-#[cfg(test)]
-mod test_calls;
-#[cfg(test)]
-mod test_maps;
-#[cfg(test)]
-mod tests;
-#[cfg(test)]
-mod thread_tests;
 
 pub use answers::{NoRoom, Split};
 pub use compacts::compact;

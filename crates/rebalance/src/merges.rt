@@ -13,7 +13,8 @@ use std::sync::Wait;
 /// Compacts the chunk that covers the key and its upper neighbour, and opens their ranges as one, in the
 /// chunk's room; the neighbour's room is free then. `false` comes exactly where the chunk, held alone, has
 /// no upper neighbour, or the two, held alone, have more than half as many entries with a value as a room
-/// has entries; both are opened again then. It waits until no pin stands on the two.
+/// has entries; both are opened again then. It claims no room, nor tries to. It waits until no pin stands
+/// on the two.
 pub fn merge<R: Wait>(rt: &R, table: &OakTable, pass: &mut Pass, key: &[u8]) -> bool
     requires own { IsPassOf table.now pass.old }
     requires key { IsKey key.now }

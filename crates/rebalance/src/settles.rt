@@ -10,8 +10,8 @@ use oak_core::{OakTable, Pass};
 use std::sync::Wait;
 
 /// Compacts each chunk, from the lowest on, and merges it with its upper neighbour as long as the two have
-/// few entries. The ranges that it opened with a value in each entry cover every key. It waits until no pin
-/// stands on each chunk.
+/// few entries. The ranges that it opened with a value in each entry cover every key. It claims no room, nor
+/// tries to. It waits until no pin stands on each chunk.
 pub fn settle<R: Wait>(rt: &R, table: &OakTable, pass: &mut Pass)
     requires own { IsPassOf table.now pass.old }
     requires idle { HoldsNothing (state pass.old) }

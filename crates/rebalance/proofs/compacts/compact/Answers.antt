@@ -24,3 +24,8 @@ returns-clause-compacted g c = let z = sizes c.args.table.now in let call = call
     let o : OpensFront z call r k.words v.rooms.held v.rooms.moving (state q) (state t) = subst (λ (n : ℕ). OpensFront z n r k.words v.rooms.held v.rooms.moving (state q) (state t)) (c.compact_front-read.ensures.own.call ∙ c.hold_for-room.ensures.own.call)
     (c.open_front.ensures.opens k.words k.range v.rooms.held v.rooms.moving k.front) in
     compacts_key z call c.args.key.now c.requires.key (slice_bytes c.args.key.now c.type_inv.key) r x.dropped slots h.0 h.1 v (state p) (state q) (state t) c.requires.idle h.2 k o
+
+pub returns-clause-unclaimed : goal.returns-clause-unclaimed
+returns-clause-unclaimed g c = let z = sizes c.args.table.now in let v = state c.args.pass.now in let h = c.hold_for-room.ensures.holds in
+    let k = c.compact_front-read.ensures.compacted h.0 h.1 v.rooms.held v.rooms.moving h.2.front (no_ranges v c.requires.idle) (no_rows z v c.requires.idle) (no_several v c.requires.idle) in
+    (c.open_front.ensures.opens k.words k.range v.rooms.held v.rooms.moving k.front).claims ∙ (k.works.stands.claims ∙ h.2.claims)

@@ -3,6 +3,7 @@ use Rattle.oak_model.specs.Key.{IsKey}
 use Rattle.oak_model.specs.KeyNumber.{key_number}
 use Rattle.oak_model.specs.Limits.{Sizes}
 use Rattle.oak_core.specs.AloneWords.{Runs}
+use Rattle.oak_core.proofs.FullClaims.{claims_none}
 use Rattle.oak_core.specs.Passes.{state, key as sizes, call_of}
 use Rattle.rebalance.specs.declared.merging.Merged.TheVariants.{Apart}
 use Rattle.rebalance.specs.Calls.{Merges}
@@ -18,6 +19,7 @@ loop-init g c = record {
   key = least_is_key c.least-from.result c.least-from.ensures;
   stays = record { table = refl; seat = refl; call = refl; scratch = refl; sorting = refl };
   leaves = leaves_none (call_of c.args.pass.now) (state c.args.pass.now);
+  unclaimed = refl;
   below = least_below c.least-from.result (state c.args.pass.now) c.least-from.ensures;
   alone = least_settles (sizes c.args.table.now) c.least-from.result (state c.args.pass.now) c.least-from.ensures;
 }
@@ -32,6 +34,7 @@ loop-preserved-in-Joined g c = let call = call_of c.args.pass.now in let u = sta
       key = i.key;
       stays = record { table = s.table ∙ i.stays.table; seat = s.seat ∙ i.stays.seat; call = s.call ∙ i.stays.call; scratch = s.scratch ∙ i.stays.scratch; sorting = refl };
       leaves = leaves_both call u v w i.leaves last;
+      unclaimed = m.unclaimed ∙ i.unclaimed;
       below = below_still call c.loop.from u v w i.below last;
       alone = joined_settles z call c.loop.from u v w i.alone m;
     }
@@ -45,6 +48,7 @@ loop-preserved g c = let call = call_of c.args.pass.now in let u = state c.args.
       key = subst IsKey (sym c.in-Apart-Some.high-is) (more.is_key high refl);
       stays = record { table = s.table ∙ i.stays.table; seat = s.seat ∙ i.stays.seat; call = s.call ∙ i.stays.call; scratch = s.scratch ∙ i.stays.scratch; sorting = refl };
       leaves = leaves_both call u v w i.leaves last;
+      unclaimed = apart.stays.unclaimed ∙ i.unclaimed;
       below = subst (λ (l : List ℕ). SweepsBelow l u w) (sym c.in-Apart-Some.high-is) (below_high call c.loop.from u v w i.below i.leaves last high more);
       alone = subst (λ (l : List ℕ). Runs (SettlesBelow z (key_number l)) u w) (sym c.in-Apart-Some.high-is) (next_settles z call c.loop.from u v w i.alone high apart);
     }
@@ -54,4 +58,5 @@ returns-in-Apart-None-clause-settled g c = let call = call_of c.args.pass.now in
     let z : Sizes = sizes c.args.table.now in
     let apart = subst (λ (p : ℕ × List ℕ). ApartUpTo z p.0 p.1 None v w) (λ j. (i.stays.call j, c.as_slice.ensures j)) (c.merge_chunk.ensures.apart None (c.in-Apart-None.is ∙ ap Apart c.in-Apart-None.field-0-is)) in
     let last = apart.stays.leaves in
-    record { leaves = leaves_both call u v w i.leaves last; ended = apart.stays.ended; covered = all_swept call c.loop.from u v w i.below i.leaves last apart.sweeps; alone = all_settles z call c.loop.from u v w i.alone apart }
+    let none = apart.stays.unclaimed ∙ i.unclaimed in
+    record { leaves = leaves_both call u v w i.leaves last; unclaimed = none; claims = claims_none z u w none; ended = apart.stays.ended; covered = all_swept call c.loop.from u v w i.below i.leaves last apart.sweeps; alone = all_settles z call c.loop.from u v w i.alone apart }

@@ -1,3 +1,4 @@
+use Rattle.std.proofs.Common.{◌≡◌}
 use Rattle.oak_model.specs.Key.{IsKey}
 use Rattle.oak_model.specs.KeyNumber.{key_number}
 use Rattle.oak_core.specs.AloneWords.{Runs}
@@ -14,6 +15,7 @@ invariant-loop g l = record {
   key : IsKey l.from;
   stays : StaysButSlots l.fn.pass l.pass;
   leaves : Leaves (call_of l.fn.pass) (state l.fn.pass) (state l.pass);
+  unclaimed : (state l.pass).findings.rebalances.claims ≡ (state l.fn.pass).findings.rebalances.claims;
   below : SweepsBelow l.from (state l.fn.pass) (state l.pass);
   alone : Runs (SettlesBelow (sizes l.fn.table) (key_number l.from)) (state l.fn.pass) (state l.pass);
 }

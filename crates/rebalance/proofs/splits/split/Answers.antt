@@ -80,7 +80,7 @@ returns-in_default-clause-none g c = let z = sizes c.args.table.now in let call 
     let filled = none_filled z call r c.args.key.now h.0 h.1 v0 v c.requires.idle c.requires.key bytes h.2 u slots x reads full t none s
     (subst (λ (n : ℕ). WorksOnRooms z n t s) (c.claim_free.ensures.own.call ∙ to_read) k.works) k.ranges (subst (λ (xs : List SortSlot). Fills r (take x.kept xs) x.base (held_memory t.rooms.held) (held_memory s.rooms.held)) c.claim_free.ensures.own.sorting k.filled) in
     let opens = subst (λ (n : ℕ). OpensFront z n r filled.words v0.rooms.held v0.rooms.moving s e) (k.own.call ∙ (c.claim_free.ensures.own.call ∙ to_read)) (c.open_front-in_default.ensures.opens filled.words filled.range v0.rooms.held v0.rooms.moving filled.front) in
-    none_lacks z call r c.args.key.now h.0 h.1 v0 v c.requires.idle c.requires.key bytes h.2 u slots x reads full t none c.read_front-read.ensures.sees s e filled opens
+    none_lacks z call r c.args.key.now h.0 h.1 v0 v c.requires.idle c.requires.key bytes h.2 u slots x reads full t none c.claim_free.ensures.others c.read_front-read.ensures.sees s e filled opens
 
 pub halve-requires-clause-pair : goal.halve-requires-clause-pair
 halve-requires-clause-pair g c = let z = sizes c.args.table.now in let call = call_of c.args.pass.now in let r = c.hold_for-room.result in let v = state c.hold_for-room.new.pass in let h = c.hold_for-room.ensures.holds in let v0 = state c.args.pass.now in let u = state c.read_front-read.new.pass in let t = state c.claim_free.new.pass in
@@ -109,4 +109,4 @@ returns-clause-halved g c room same = let z = sizes c.args.table.now in let call
     let claim = subst (λ (n : ℕ). (w : RoomCopy) × Claims z n q w u t) to_read c.in-Some.ensures.claims.1 in
     let pair = split_pair z call r c.args.key.now h.0 h.1 v0 v c.requires.idle c.requires.key bytes h.2 u slots x reads full q c.in-Some.ensures.claims.0 claim.0 t claim.1 in
     let halves = subst (λ (n : ℕ). OpensHalves z n r q h.0 t e) (c.claim_free.ensures.own.call ∙ to_read) (c.halve.ensures.halves h.0 claim.0 h.1 pair) in
-    subst (λ (j : ℕ). Halves z call c.args.key.now j v0 e) (ap room_of same) (split_halves z call r c.args.key.now h.0 h.1 v0 v c.requires.idle c.requires.key bytes h.2 u slots x reads full q c.in-Some.ensures.claims.0 claim.0 t claim.1 e halves)
+    subst (λ (j : ℕ). Halves z call c.args.key.now j v0 e) (ap room_of same) (split_halves z call r c.args.key.now h.0 h.1 v0 v c.requires.idle c.requires.key bytes h.2 u slots x reads full q c.in-Some.ensures.claims.0 claim.0 t claim.1 c.claim_free.ensures.others e halves)
