@@ -15,6 +15,7 @@ use Rattle.oak_core.specs.Finding.{IsLoadOf, IsOf, LoadsMore, grown}
 use Rattle.oak_core.specs.PassState.{HoldsNothing}
 use Rattle.oak_core.specs.Passes.{Stays, call_of, key as sizes, slots_of, state}
 use Rattle.oak_core.proofs.CallSteps.{stands_learns}
+use Rattle.oak_core.proofs.QuietCalls.{quiet_loads}
 use Rattle.chunk_ops.proofs.MeetingCalls.{stays_then, then_stays}
 use Rattle.value_ops.specs.declared.pinned_value.PinnedValue.{PinnedValue}
 use Rattle.value_ops.specs.Pinning.{EndsPin}
@@ -80,7 +81,7 @@ module _ (c : Cursor) (x : PinnedValue) (i : IsCursor c) (is : c.value ≡ Some 
   pair_reads q r =
       let z = sizes c.table.now in
       let loads = r.only.loads in
-      let later : Later (view_at z c.pass.now) (view_at z q.now) = later_at z c.pass.now q.now r.stays.call record { sizes = refl; call = refl; learns = stands_learns (call_of c.pass.now) (under c) (state q.now) (loads_stand z (call_of c.pass.now) (under c) (state q.now) loads) } in
+      let later : Later (view_at z c.pass.now) (view_at z q.now) = later_at z c.pass.now q.now r.stays.call record { sizes = refl; call = refl; learns = stands_learns (call_of c.pass.now) (under c) (state q.now) (loads_stand z (call_of c.pass.now) (under c) (state q.now) loads); quiet = quiet_loads z (call_of c.pass.now) (under c) (state q.now) loads } in
       let value : HasValue z x (state q.now) = subst (HasValue z x) (sym loads.after) (value_grown z x loads.more (under c) pair.0) in
       record {
         cursor = record {
@@ -98,6 +99,7 @@ module _ (c : Cursor) (x : PinnedValue) (i : IsCursor c) (is : c.value ≡ Some 
         value = refl;
         stays = r.stays;
         only = r.only;
+        quiet = later.quiet;
         bytes = ap value_under loads.after;
         stamp = ap stamp_under loads.after;
         goes = λ a ps h. record {
@@ -177,4 +179,5 @@ later_undone z p q h s e = let call = call_of p in let v = state p in let w = st
     gones = refl;
     rebalances = refl;
   });
+  quiet = e.quiet;
 }

@@ -8,6 +8,7 @@ use Rattle.oak_model.specs.Limits.{Sizes}
 use Rattle.oak_core.specs.declared.states.PassState.{PassState}
 use Rattle.oak_core.specs.AloneWords.{Runs}
 use Rattle.oak_core.specs.Passes.{key as sizes}
+use Rattle.oak_core.specs.QuietSteps.{Quiet}
 use Rattle.chunk_ops.specs.PinRecords.{WordsStay}
 use Rattle.chunk_ops.specs.AskedRanges.{bytes_in_option}
 use Rattle.value_ops.specs.declared.pinned_value.PinnedValue.{PinnedValue}
@@ -55,6 +56,10 @@ value_inside None z m v p = tt
 -- Where the pin of the present value is undone, the words are as they were when the scan began, to a pass that is alone, however far it has come.
 pub scan_leaves : (c : Cursor) (a : View) (ps : List Pair) (w : PassState) → IsCursor c → HasGiven c a ps → Runs (LeavesValue (sizes c.table.now) c.value None) (under c) w → Runs WordsStay a.state w
 scan_leaves c a ps w i g s = let z = sizes c.table.now in given_leaves z c.value None a.state (under c) w (value_inside c.value z c.walk.mark (under c) i.pair) g.still s
+
+-- Since the scan began there were loads, pins and their undoing alone, also in each later state of the call.
+pub scan_quiet : (c : Cursor) (a u : View) (ps : List Pair) → HasGiven c a ps → Later (view_under c) u → Quiet a.state u.state
+scan_quiet c a u ps g l = (later_both a (view_under c) u g.walked.come.later l).quiet
 
 -- A cursor that has come to its end has read its range, and behind its last call, which undoes its pin if it has one, the words are as they were when it began.
 pub cursor_ends : (low high : Option (List ℕ)) (c : Cursor) (a u : View) (ps : List Pair) → key_number c.low ≡ least_of low → key_number c.high ≡ greatest_of high → IsCursor c → c.walk.mark.ended ≡ true → Later (view_under c) u → Runs (LeavesValue (sizes c.table.now) c.value None) (under c) u.state → HasGiven c a ps → HasScanned c.way low high a u ps

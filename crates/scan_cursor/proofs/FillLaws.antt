@@ -10,6 +10,7 @@ use Rattle.oak_core.specs.declared.table.Pass.{Pass}
 use Rattle.oak_core.specs.CallSteps.{Stands}
 use Rattle.oak_core.specs.PassState.{HoldsNothing}
 use Rattle.oak_core.specs.Passes.{Stays, call_of, slots_of, state}
+use Rattle.oak_core.specs.QuietSteps.{Quiet}
 use Rattle.oak_core.specs.Scratch.{StaysButSlots}
 use Rattle.oak_core.proofs.CallSteps.{stands_learns}
 use Rattle.chunk_ops.specs.PinRecords.{OnlyMeets, with_room_pin}
@@ -27,8 +28,8 @@ use Rattle.scan_cursor.proofs.StepLaws.{later_at, told_at}
 use Rattle.scan_cursor.proofs.WalkLaws.{walk_fills}
 
 -- the pass only met more
-pub later_met : (z : Sizes) (p q : Pass) → call_of q ≡ call_of p → Stands (call_of p) (state p) (state q) → Later (view_at z p) (view_at z q)
-later_met z p q e s = later_at z p q e record { sizes = refl; call = refl; learns = stands_learns (call_of p) (state p) (state q) s }
+pub later_met : (z : Sizes) (p q : Pass) → call_of q ≡ call_of p → Stands (call_of p) (state p) (state q) → Quiet (state p) (state q) → Later (view_at z p) (view_at z q)
+later_met z p q e s quiet = later_at z p q e record { sizes = refl; call = refl; learns = stands_learns (call_of p) (state p) (state q) s; quiet = quiet }
 
 -- the pin of the room was all that it held
 pub idle_again : (z : Sizes) (call now r : ℕ) (u v w : PassState) → HasRoom z r u → OnlyMeets call u v → Unpins z now r v w → HoldsNothing w
@@ -53,7 +54,7 @@ module _ (way : Way) (lo hi : ℕ) (z : Sizes) (w : Walk) (p q s t u : Pass) (r 
       let k : Gathers way (view_at z q) (view_at z s) w.mark.key ends (slots_ahead way 0 to (slots_of u)) = subst (λ (l : List SortSlot). Gathers way (view_at z q) (view_at z s) w.mark.key ends (slots_ahead way 0 to l)) (sym same)
       (subst (λ (v : View). Gathers way (view_at z q) v w.mark.key ends (slots_ahead way 0 to (slots_of s))) (told_at z q s second.call) h) in
       let covers : Covers way true w.mark.key rooms = subst (λ (x : Bool). Covers way x w.mark.key rooms) past ahead.covers in
-      let behind = later_both (view_at z s) (view_at z t) (view_at z u) (later_met z s t third.call meets.stands) (later_met z t u fourth.call undone.stands) in
+      let behind = later_both (view_at z s) (view_at z t) (view_at z u) (later_met z s t third.call meets.stands meets.quiet) (later_met z t u fourth.call undone.stands undone.quiet) in
       let bound_is : b ≡ ends = bound ∙ ap (bound_in way) room in (
         idle_again z (call_of s) (call_of t) r (state s) (state t) (state u) has meets undone,
         subst (λ (o : Option (List ℕ)). WalkPasses way lo hi (course_of way z w p) (course_of way z (record { mark = w.mark; gathered = true; from = 0; to = to; bound = o }) u)) (sym bound_is)

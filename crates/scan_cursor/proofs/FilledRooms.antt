@@ -17,10 +17,8 @@ use Rattle.chunk_core.specs.RoomHolds.{no_rooms}
 use Rattle.oak_core.specs.declared.sorting.SortSlot.{SortSlot}
 use Rattle.oak_core.specs.declared.states.PassState.{PassState}
 use Rattle.oak_core.specs.AloneWords.{Runs}
-use Rattle.oak_core.specs.CallSteps.{Learns}
 use Rattle.oak_core.specs.KnownPlaces.{ReadAt}
 use Rattle.oak_core.specs.Sights.{SightedSince}
-use Rattle.oak_core.proofs.CallSteps.{learns_both}
 use Rattle.oak_core.proofs.MetLists.{at_inside}
 use Rattle.chunk_ops.specs.Listing.{ListsRoom}
 use Rattle.chunk_ops.specs.PinRecords.{HasEntry, OnlyLearns, PinStays, RoomPinned, WordsStay, pin_or, room_pin, with_room_pin}
@@ -30,10 +28,11 @@ use Rattle.scan_cursor.specs.declared.ways.Way.{Way}
 use Rattle.scan_cursor.specs.Gathered.{has_slot, in_slot}
 use Rattle.scan_cursor.specs.Holding.{HasRoom, IsAhead, Room, ahead_from, ahead_past, bound_in, low_end, high_end, room_at, room_of}
 use Rattle.scan_cursor.specs.Loading.{HasLoaded, IsBehind, LoadsSlot}
-use Rattle.scan_cursor.specs.Views.{ReadsKey, view_of}
+use Rattle.scan_cursor.specs.Views.{Later, ReadsKey, view_of}
 use Rattle.scan_cursor.proofs.EntriesOnce.{AreApart, entries_apart}
 use Rattle.scan_cursor.proofs.FilledSlots.{Fills, fills_more, fills_none, fills_past, slots_lack}
-use Rattle.scan_cursor.proofs.GatherViews.{absent_read, entry_kept, read_until}
+use Rattle.scan_cursor.proofs.GatherViews.{absent_read, entry_kept, later_of, later_only, read_until}
+use Rattle.scan_cursor.proofs.ReadingViews.{later_both}
 use Rattle.scan_cursor.proofs.RoomRanges.{ahead_behind, ahead_within, behind_ahead, in_range, range_has}
 
 -- an entry of the key is among those found, or none of them has it
@@ -80,25 +79,29 @@ module _ (z : Sizes) (call r n : ℕ) (way : Way) (k : List ℕ) (v u : PassStat
   ahead_of : (q : List ℕ) → from ≤ key_number q → key_number q < past → IsBehind way k q
   ahead_of q a b = ahead_behind way k (bound_in way (room_at v)) q a b
 
+  -- and entries were loaded behind
+  listed_then : (w : PassState) → OnlyLearns call u w → Later (view_of z call v) (view_of z call w)
+  listed_then w o = later_both (view_of z call v) (view_of z call u) (view_of z call w) (later_of z call v u l.under.learns l.quiet) (later_only z call u w o)
+
   -- ---- one entry more
 
   pub filled_none : Fills z call r v u (ahead_from way k (bound_in way (room_at v))) (ahead_past way k (bound_in way (room_at v))) 0 u []
   filled_none = fills_none z call r v u way k from past apart.once ahead_of inside u
 
-  module _ (i : ℕ) (w x : PassState) (xs : List SortSlot) (o : OnlyLearns call u w) (m : Learns call w x) (f : Fills z call r v u (ahead_from way k (bound_in way (room_at v))) (ahead_past way k (bound_in way (room_at v))) i w xs) where
+  module _ (i : ℕ) (w x : PassState) (xs : List SortSlot) (o : OnlyLearns call u w) (m : Later (view_of z call w) (view_of z call x)) (f : Fills z call r v u (ahead_from way k (bound_in way (room_at v))) (ahead_past way k (bound_in way (room_at v))) i w xs) where
     pub filled_past : ((q : List ℕ) → HasEntry r i q w → LoadsSlot None way k q (view_of z call w) (view_of z call x)) → Fills z call r v u (ahead_from way k (bound_in way (room_at v))) (ahead_past way k (bound_in way (room_at v))) (i + 1) x xs
-    filled_past loads = fills_past z call r v u way k from past apart.once ahead_of inside i w x xs f (learns_both call v u w l.under.learns o.learns) m (λ q h. loads q (entry_kept r i q u w o.rooms h))
+    filled_past loads = fills_past z call r v u way k from past apart.once ahead_of inside i w x xs f (listed_then w o) m (λ q h. loads q (entry_kept r i q u w o.rooms h))
 
     pub filled_more : (s : SortSlot) → i < n → ((q : List ℕ) → HasEntry r i q w → LoadsSlot (Some s) way k q (view_of z call w) (view_of z call x))
         → Fills z call r v u (ahead_from way k (bound_in way (room_at v))) (ahead_past way k (bound_in way (room_at v))) (i + 1) x (xs ++ s ∷ [])
     filled_more s lt loads = let e = l.entries i lt in
-        fills_more z call r v u way k from past apart.once ahead_of inside i w x xs f (learns_both call v u w l.under.learns o.learns) m s (λ q h. loads q (entry_kept r i q u w o.rooms h)) e.0 e.1
+        fills_more z call r v u way k from past apart.once ahead_of inside i w x xs f (listed_then w o) m s (λ q h. loads q (entry_kept r i q u w o.rooms h)) e.0 e.1
 
   -- ---- all entries
 
   module _ (w : PassState) (o : OnlyLearns call u w) where
-    pub filled_learns : Learns call v w
-    filled_learns = learns_both call v u w l.under.learns o.learns
+    pub filled_later : Later (view_of z call v) (view_of z call w)
+    filled_later = listed_then w o
 
     pub filled_still : Runs WordsStay v w
     filled_still = both_stay v u w l.alone o.still
@@ -134,4 +137,4 @@ module _ (z : Sizes) (call r n : ℕ) (way : Way) (k : List ℕ) (v u : PassStat
             found y = (y.0, record { read = subst (λ (m : ℕ). ReadAt m y.0 None v w) number y.1.read; sighted = subst (λ (m : ℕ). SightedSince m y.0 v.findings w.findings) number y.1.sighted })
         by q is a b none (inr no_entry) = let c = ahead_within way k (room_at v) (key_number q) p.covers a b in
             let d = in_range (room_pin v) (key_number q) c.0 c.1 in
-            ((room_pin v).base, read_until z call v u w q (room_pin v).base None o.learns (absent_read z call v u q (room_pin v).base (l.absent (key_number q) d no_entry)))
+            ((room_pin v).base, read_until z call v u w q (room_pin v).base None (later_only z call u w o) (absent_read z call v u q (room_pin v).base (l.absent (key_number q) d no_entry)))

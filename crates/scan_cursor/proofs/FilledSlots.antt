@@ -16,8 +16,6 @@ use Rattle.oak_model.proofs.KeyLaws.{is_key-is, is_key-of, same_is, same_itself}
 use Rattle.oak_model.proofs.NumberLaws.{key_number_is}
 use Rattle.oak_core.specs.declared.sorting.SortSlot.{SortSlot}
 use Rattle.oak_core.specs.declared.states.PassState.{PassState}
-use Rattle.oak_core.specs.CallSteps.{Learns}
-use Rattle.oak_core.proofs.CallSteps.{learns_both, learns_none}
 use Rattle.oak_core.proofs.MetLists.{at_inside}
 use Rattle.chunk_ops.specs.PinRecords.{HasEntry}
 use Rattle.chunk_ops.specs.Stored.{IsStored}
@@ -26,8 +24,9 @@ use Rattle.chunk_ops.proofs.KeyCopies.{words_back}
 use Rattle.scan_cursor.specs.declared.ways.Way.{Way}
 use Rattle.scan_cursor.specs.Gathered.{has_slot, in_slot}
 use Rattle.scan_cursor.specs.Loading.{AreDistinct, IsBehind, IsLoaded, IsSlotOf, LoadsSlot, has_key, stored_in}
-use Rattle.scan_cursor.specs.Views.{KnowsLast, ReadsKey, view_of}
-use Rattle.scan_cursor.proofs.GatherViews.{knew_until, later_of, read_from, read_until}
+use Rattle.scan_cursor.specs.Views.{KnowsLast, Later, ReadsKey, view_of}
+use Rattle.scan_cursor.proofs.GatherViews.{knew_until, read_from, read_until}
+use Rattle.scan_cursor.proofs.ReadingViews.{later_both, later_self}
 
 -- the slots of a room's entries below i, whose keys are between the two numbers; the others were read absent
 pub record Fills (z : Sizes) (call r : ℕ) (v u : PassState) (from past i : ℕ) (w : PassState) (xs : List SortSlot) : Type 0 where
@@ -90,7 +89,7 @@ module _ (z : Sizes) (call r : ℕ) (v u : PassState) (way : Way) (k : List ℕ)
   unfolding total
   fills_none w = record { slots = λ i d l. absurd (omega arith); entries = λ i d l. absurd (omega arith); once = λ q. omega arith; absent = λ e q l. absurd (omega arith) }
 
-  module _ (i : ℕ) (w x : PassState) (xs : List SortSlot) (f : Fills z call r v u from past i w xs) (before : Learns call v w) (l : Learns call w x) where
+  module _ (i : ℕ) (w x : PassState) (xs : List SortSlot) (f : Fills z call r v u from past i w xs) (before : Later (view_of z call v) (view_of z call w)) (l : Later (view_of z call w) (view_of z call x)) where
     still_loaded : All (IsLoaded (view_of z call v) (view_of z call x) from past) xs
     still_loaded j d lt = let s = f.slots j d lt in record { stored = s.stored; key = s.key; from_on = s.from_on; below = s.below; knew = knew_until z call v w x (in_slot (get_or xs j d)) l s.knew }
 
@@ -125,7 +124,7 @@ module _ (z : Sizes) (call r : ℕ) (v u : PassState) (way : Way) (k : List ℕ)
         key = ap is_key same ∙ is_key-of q slot.key slot.stored.bytes;
         from_on = let c = b.0 in omega arith;
         below = let c = b.1 in omega arith;
-        knew = (view_of z call x, later_of z call v x (learns_both call v w x before l), later_of z call x x (learns_none call x), subst (λ (p : List ℕ). KnowsLast p s.key s.value (view_of z call x)) (sym same) slot.knows);
+        knew = (view_of z call x, later_both (view_of z call v) (view_of z call w) (view_of z call x) before l, later_self (view_of z call x), subst (λ (p : List ℕ). KnowsLast p s.key s.value (view_of z call x)) (sym same) slot.knows);
       }
 
       fresh : All (λ (y : SortSlot). (in_slot y).key ≢ (in_slot s).key) xs

@@ -11,7 +11,7 @@ use Rattle.oak_model.specs.Key.{is_key, key_cmp}
 use Rattle.oak_model.specs.KeyNumber.{key_number}
 use Rattle.oak_model.specs.Scan.{ScanFits, in_range, not_above, not_below, value_in}
 use Rattle.oak_model.specs.State.{State}
-use Rattle.oak_model.proofs.HistoryLaws.{length-extends, state_at-extends}
+use Rattle.oak_model.proofs.HistoryLaws.{state_at-extends}
 use Rattle.oak_core.specs.declared.closing.Closed.{Closed}
 use Rattle.oak_core.specs.declared.states.KeyedWrite.{KeyedWrite}
 use Rattle.oak_core.specs.declared.states.PassState.{PassState}

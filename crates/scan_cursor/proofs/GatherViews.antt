@@ -9,8 +9,10 @@ use Rattle.oak_core.specs.declared.states.PassState.{PassState}
 use Rattle.oak_core.specs.CallSteps.{Learns}
 use Rattle.oak_core.specs.KeyReads.{home_of}
 use Rattle.oak_core.specs.LastReads.{ReadsLast}
+use Rattle.oak_core.specs.QuietSteps.{IsQuiet, Quiet}
 use Rattle.oak_core.proofs.LoadedIn.{loaded_in_has}
 use Rattle.oak_core.proofs.CallSteps.{learns_both, stands_learns}
+use Rattle.oak_core.proofs.QuietCalls.{only_both as quiet_both}
 use Rattle.chunk_ops.specs.declared.entries.Content.TheVariants.{Value}
 use Rattle.chunk_ops.specs.Contents.{FindsContent, FindsLife}
 use Rattle.chunk_ops.specs.Finds.{FoundAbsent}
@@ -19,19 +21,22 @@ use Rattle.chunk_ops.proofs.MeetingCalls.{both_stay, only_none}
 use Rattle.value_ops.proofs.LoadedViews.{known_loaded, names_home}
 use Rattle.scan_cursor.specs.Gathered.{KnewLast, Loaded}
 use Rattle.scan_cursor.specs.Views.{KnowsLast, Later, ReadsKey, view_of}
-use Rattle.scan_cursor.proofs.ReadingViews.{read_before, read_behind}
+use Rattle.scan_cursor.proofs.ReadingViews.{later_both, later_by, read_before, read_behind}
 
 -- ---- views of one call
 
 module _ (z : Sizes) (call : ℕ) where
-  pub later_of : (v w : PassState) → Learns call v w → Later (view_of z call v) (view_of z call w)
-  later_of v w l = record { sizes = refl; call = refl; learns = l }
+  pub later_of : (v w : PassState) → Learns call v w → Quiet v w → Later (view_of z call v) (view_of z call w)
+  later_of v w l q = later_by z call call v w refl l q
 
-  pub read_until : (u v w : PassState) (q : List ℕ) (at : ℕ) (s : State) → Learns call v w → ReadsKey (view_of z call u) (view_of z call v) q at s → ReadsKey (view_of z call u) (view_of z call w) q at s
-  read_until u v w q at s l r = read_behind q at s (view_of z call u) (view_of z call v) (view_of z call w) (later_of v w l) r
+  pub later_only : (v w : PassState) → OnlyLearns call v w → Later (view_of z call v) (view_of z call w)
+  later_only v w o = later_of v w o.learns o.quiet
 
-  pub read_from : (u v w : PassState) (q : List ℕ) (at : ℕ) (s : State) → Learns call u v → ReadsKey (view_of z call v) (view_of z call w) q at s → ReadsKey (view_of z call u) (view_of z call w) q at s
-  read_from u v w q at s l r = read_before q at s (view_of z call u) (view_of z call v) (view_of z call w) (later_of u v l) r
+  pub read_until : (u v w : PassState) (q : List ℕ) (at : ℕ) (s : State) → Later (view_of z call v) (view_of z call w) → ReadsKey (view_of z call u) (view_of z call v) q at s → ReadsKey (view_of z call u) (view_of z call w) q at s
+  read_until u v w q at s l r = read_behind q at s (view_of z call u) (view_of z call v) (view_of z call w) l r
+
+  pub read_from : (u v w : PassState) (q : List ℕ) (at : ℕ) (s : State) → Later (view_of z call u) (view_of z call v) → ReadsKey (view_of z call v) (view_of z call w) q at s → ReadsKey (view_of z call u) (view_of z call w) q at s
+  read_from u v w q at s l r = read_before q at s (view_of z call u) (view_of z call v) (view_of z call w) l r
 
   -- a key that was found absent, by a room's base or by its own floor
 
@@ -51,17 +56,18 @@ module _ (z : Sizes) (call : ℕ) where
   }
 
   -- what was known once was known before each later moment
-  pub knew_until : (u v w : PassState) (x : Loaded) → Learns call v w → KnewLast (view_of z call u) (view_of z call v) x → KnewLast (view_of z call u) (view_of z call w) x
-  knew_until u v w x l (m, a, b, k) = (m, a, record { sizes = b.sizes; call = b.call; learns = subst (λ (n : ℕ). Learns n m.state w) b.call (learns_both call m.state v w (subst (λ (n : ℕ). Learns n m.state v) (sym b.call) b.learns) l) }, k)
+  pub knew_until : (u v w : PassState) (x : Loaded) → Later (view_of z call v) (view_of z call w) → KnewLast (view_of z call u) (view_of z call v) x → KnewLast (view_of z call u) (view_of z call w) x
+  knew_until u v w x l (m, a, b, k) = (m, a, later_both m (view_of z call v) (view_of z call w) b l, k)
 
 -- ---- calls that learn
 
 pub learns_only : (call : ℕ) (v : PassState) (w : PassState) → OnlyMeets call v w → OnlyLearns call v w
-learns_only call v w o = record { learns = stands_learns call v w o.stands; blocks = o.blocks; headers = o.headers; rooms = o.rooms; still = o.still }
+learns_only call v w o = record { learns = stands_learns call v w o.stands; quiet = o.quiet; blocks = o.blocks; headers = o.headers; rooms = o.rooms; still = o.still }
 
 pub learned_both : (call : ℕ) (u v w : PassState) → OnlyLearns call u v → OnlyLearns call v w → OnlyLearns call u w
 learned_both call u v w a b = record {
   learns = learns_both call u v w a.learns b.learns;
+  quiet = quiet_both IsQuiet u v w a.quiet b.quiet;
   blocks = b.blocks ∙ a.blocks;
   headers = b.headers ∙ a.headers;
   rooms = b.rooms ∙ a.rooms;

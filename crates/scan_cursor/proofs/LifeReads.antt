@@ -15,12 +15,14 @@ use Rattle.oak_core.specs.KeyReads.{home_of}
 use Rattle.oak_core.specs.LifeKeys.{first_of, key_in_loaded, key_in_logs, loaded_in}
 use Rattle.oak_core.specs.Memory.{memory}
 use Rattle.oak_core.specs.PassState.{HoldsNothing}
+use Rattle.oak_core.specs.QuietSteps.{IsQuiet}
 use Rattle.oak_core.specs.Step.{on_headers}
 use Rattle.oak_core.proofs.AloneRuns.{moment_after, runs_as}
 use Rattle.oak_core.proofs.CallSteps.{learns_both}
 use Rattle.oak_core.proofs.KnownHeaders.{known_life}
 use Rattle.oak_core.proofs.KnownLives.{named_at}
 use Rattle.oak_core.proofs.LoadedIn.{loaded_in_later}
+use Rattle.oak_core.proofs.QuietCalls.{only_both}
 use Rattle.chunk_ops.specs.PinRecords.{WordsStay}
 use Rattle.chunk_ops.proofs.MeetingCalls.{then_stays}
 use Rattle.value_ops.specs.declared.pinned_value.PinnedValue.{PinnedValue}
@@ -56,7 +58,7 @@ module _ (z : Sizes) (call h g : ℕ) (v u w : PassState) (pins : PinsLive z cal
   learns = learns_both call v u w first (subst (λ (i : ℕ). Learns i u w) same loads.only.learns)
 
   pub live_later : Later (view_of z call v) (view_of z call w)
-  live_later = later_by z call call v w refl learns
+  live_later = later_by z call call v w refl learns (only_both IsQuiet v u w pins.quiet loads.quiet)
 
   -- the pass has the pin of the value, and nothing else
   live_holds : HoldsNothing v → (x : PinnedValue) → IsPinnedValue z x w → HasValue z x w
@@ -74,7 +76,7 @@ module _ (z : Sizes) (call h g : ℕ) (v u w : PassState) (pins : PinsLive z cal
   -- the value is what the key held, at the place of its stamp
   module _ (i j : ℕ) (header : i ≡ h) (generation : j ≡ g) (stamp : ℕ) (bytes : List ℕ) (reads : (of : List ℕ) → KnowsLife i j of u.knowledge → ReadsLife i j of stamp bytes u w) (k : List ℕ) (m : View) (last : KnowsLast k h g m) (since : Later m (view_of z call v)) where
     pinned_later : Later m (view_of z call u)
-    pinned_later = later_both m (view_of z call v) (view_of z call u) since (later_by z call call v u refl first)
+    pinned_later = later_both m (view_of z call v) (view_of z call u) since (later_by z call call v u refl first pins.quiet)
 
     knows : KnowsLife i j k u.knowledge
     knows = subst (λ (n : ℕ × ℕ). KnowsLife n.0 n.1 k u.knowledge) (λ t. (sym header t, sym generation t)) (known_later h g k m (view_of z call u) last pinned_later)
@@ -94,7 +96,7 @@ module _ (z : Sizes) (call h g : ℕ) (v u w : PassState) (pins : PinsLive z cal
 
 module _ (z : Sizes) (call h g : ℕ) (why : BadPin) (v w : PassState) (d : PinsDud z call h g why v w) where
   pub dud_later : Later (view_of z call v) (view_of z call w)
-  dud_later = later_by z call call v w refl d.only.learns
+  dud_later = later_by z call call v w refl d.only.learns d.quiet
 
   pub dud_nothing : HoldsNothing v → HoldsNothing w
   dud_nothing idle = record {

@@ -8,10 +8,12 @@ use Rattle.oak_core.specs.declared.states.Findings.{Findings}
 use Rattle.oak_core.specs.declared.states.PassState.{PassState}
 use Rattle.oak_core.specs.declared.states.Sight.{Sight}
 use Rattle.oak_core.specs.CallSteps.{Learns}
+use Rattle.oak_core.specs.QuietSteps.{IsQuiet, Quiet}
 use Rattle.oak_core.specs.Sights.{SightedSince}
 use Rattle.oak_core.proofs.CallSteps.{learns_both, learns_none}
 use Rattle.oak_core.proofs.KnownReads.{read_since, read_stays}
 use Rattle.oak_core.proofs.PinsKnown.{has_later}
+use Rattle.oak_core.proofs.QuietCalls.{only_both, only_none}
 use Rattle.oak_core.proofs.TaughtSteps.{sighted_later}
 use Rattle.scan_cursor.specs.declared.reading.Here.{Here}
 use Rattle.scan_cursor.specs.declared.reading.Here.TheVariants.{Present, Absent, Again}
@@ -19,17 +21,18 @@ use Rattle.scan_cursor.specs.Reading.{ReadsHere}
 use Rattle.scan_cursor.specs.Views.{Later, ReadsKey, View, view_of}
 
 -- a part of the call that may have learned
-pub later_by : (z : Sizes) (call now : ℕ) (v w : PassState) → now ≡ call → Learns now v w → Later (view_of z call v) (view_of z call w)
-later_by z call now v w e l = record { sizes = refl; call = refl; learns = subst (λ (i : ℕ). Learns i v w) e l }
+pub later_by : (z : Sizes) (call now : ℕ) (v w : PassState) → now ≡ call → Learns now v w → Quiet v w → Later (view_of z call v) (view_of z call w)
+later_by z call now v w e l q = record { sizes = refl; call = refl; learns = subst (λ (i : ℕ). Learns i v w) e l; quiet = q }
 
 pub later_self : (a : View) → Later a a
-later_self a = record { sizes = refl; call = refl; learns = learns_none a.call a.state }
+later_self a = record { sizes = refl; call = refl; learns = learns_none a.call a.state; quiet = only_none IsQuiet a.state a.state refl }
 
 pub later_both : (a b d : View) → Later a b → Later b d → Later a d
 later_both a b d x y = record {
   sizes = y.sizes ∙ x.sizes;
   call = y.call ∙ x.call;
   learns = learns_both a.call a.state b.state d.state x.learns (subst (λ (i : ℕ). Learns i b.state d.state) x.call y.learns);
+  quiet = only_both IsQuiet a.state b.state d.state x.quiet y.quiet;
 }
 
 -- what was found for a key was found since every earlier moment

@@ -17,6 +17,7 @@ use Rattle.oak_core.specs.AloneWords.{Runs}
 use Rattle.oak_core.specs.CallSteps.{Learns}
 use Rattle.oak_core.specs.CountReads.{ReadAbsent, SightedBare}
 use Rattle.oak_core.specs.PassState.{HoldsNothing}
+use Rattle.oak_core.specs.QuietSteps.{Quiet}
 use Rattle.oak_core.proofs.AloneRuns.{Then, runs_as, runs_then}
 use Rattle.oak_core.proofs.CallSteps.{learns_both, stands_learns}
 use Rattle.chunk_ops.specs.AskedRanges.{CoversKey}
@@ -68,8 +69,8 @@ module _ (z : Sizes) (call r : ℕ) (key : List ℕ) (v u : PassState) (first : 
     }
 
     -- the entry has a floor
-    pub floor_up : (i stamp : ℕ) → TellsOf (Floor stamp) z now r i key u w → LooksUp None key (view_of z call v) (view_of z call w)
-    floor_up i stamp t = (stamp, read_before key stamp None (view_of z call v) (view_of z call u) (view_of z call w) (later_by z call call v u refl first.learns) record { read = t.read; sighted = t.sighted })
+    pub floor_up : (i stamp : ℕ) → Quiet v u → TellsOf (Floor stamp) z now r i key u w → LooksUp None key (view_of z call v) (view_of z call w)
+    floor_up i stamp quiet t = (stamp, read_before key stamp None (view_of z call v) (view_of z call u) (view_of z call w) (later_by z call call v u refl first.learns quiet) record { read = t.read; sighted = t.sighted })
 
     -- or it names a life
     pub life_up : (i h g : ℕ) → FindsContent z now r i (Value h g) u w → TellsOf (Value h g) z now r i key u w → LooksUp (Some (h, g)) key (view_of z call v) (view_of z call w)
@@ -88,12 +89,15 @@ leaves_then Again z v x y s t = both_stay v x y s t
 
 -- ---- the whole: the room was pinned from v to u, the key looked up from u to w, and the room unpinned from w to x
 
-module _ (z : Sizes) (call r : ℕ) (P : Span → Type 0) (v u w x : PassState) (idle : HoldsNothing v) (p : PinsOpen z call r P v u) (c2 c3 : ℕ) (e2 : c2 ≡ call) (e3 : c3 ≡ call) (under : UnderPin z c2 r u w) (n : Unpins z c3 r w x) where
+module _ (z : Sizes) (call r : ℕ) (P : Span → Type 0) (v u w x : PassState) (idle : HoldsNothing v) (p : PinsOpen z call r P v u) (c2 c3 : ℕ) (e2 : c2 ≡ call) (e3 : c3 ≡ call) (under : UnderPin z c2 r u w) (quiet : Quiet u w) (n : Unpins z c3 r w x) where
+  pinned : Later (view_of z call v) (view_of z call u)
+  pinned = later_by z call call v u refl (stands_learns call v u p.stands) p.quiet
+
   looked : Later (view_of z call v) (view_of z call w)
-  looked = later_both (view_of z call v) (view_of z call u) (view_of z call w) (later_by z call call v u refl (stands_learns call v u p.stands)) (later_by z call c2 u w e2 under.learns)
+  looked = later_both (view_of z call v) (view_of z call u) (view_of z call w) pinned (later_by z call c2 u w e2 under.learns quiet)
 
   unpinned : Later (view_of z call w) (view_of z call x)
-  unpinned = later_by z call c3 w x e3 (stands_learns c3 w x n.stands)
+  unpinned = later_by z call c3 w x e3 (stands_learns c3 w x n.stands) n.quiet
 
   pub room_later : Later (view_of z call v) (view_of z call x)
   room_later = later_both (view_of z call v) (view_of z call w) (view_of z call x) looked unpinned
@@ -115,7 +119,7 @@ module _ (z : Sizes) (call r : ℕ) (P : Span → Type 0) (v u w x : PassState) 
   room_absent key l = (room_nothing, (l.0, read_behind key l.0 None (view_of z call v) (view_of z call w) (view_of z call x) unpinned read))
     where
       read : ReadsKey (view_of z call v) (view_of z call w) key l.0 None
-      read = read_before key l.0 None (view_of z call v) (view_of z call u) (view_of z call w) (later_by z call call v u refl (stands_learns call v u p.stands)) record { read = l.1.read; sighted = l.1.sighted }
+      read = read_before key l.0 None (view_of z call v) (view_of z call u) (view_of z call w) pinned record { read = l.1.read; sighted = l.1.sighted }
 
   -- it has a life
   module _ (key : List ℕ) (h g : ℕ) (l : LooksUp (Some (h, g)) key (view_of z c2 u) (view_of z c2 w)) (c4 : ℕ) (e4 : c4 ≡ call) where
@@ -123,7 +127,7 @@ module _ (z : Sizes) (call r : ℕ) (P : Span → Type 0) (v u w x : PassState) 
     last = record { inside = l.inside; loaded = l.loaded; named = subst (λ (c : ℕ). loaded_in c h g w.knowledge.loaded ≡ true) (e2 ∙ sym e4) l.named; last = l.last }
 
     since : Later (view_of z c4 w) (view_of z c4 x)
-    since = later_by z c4 c3 w x (e3 ∙ sym e4) (stands_learns c3 w x n.stands)
+    since = later_by z c4 c3 w x (e3 ∙ sym e4) (stands_learns c3 w x n.stands) n.quiet
 
     pub room_known : IsKnown h g (view_of z c4 x)
     room_known = record { key = key; moment = view_of z c4 w; knows = last; since = since }

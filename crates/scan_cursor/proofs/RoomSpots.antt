@@ -1,5 +1,5 @@
 -- The bounds of a pinned room are keys, and the room has the keys at which a scan goes on.
-use Rattle.std.proofs.Common.{◌≡◌, ◌≢◌, ℕ, zero, suc, ◌+◌, ◌-◌, ◌^◌, ◌<◌, ◌≤◌, ◌==◌, drop, ⊎_elim, true, false, Bool, cond, Some, None, List, [], ◌∷◌, length, get_or, sym, refl, ap, ◌∙◌, subst, arith, mul-le-mul_right, eq-eqb, ne_eqb}
+use Rattle.std.proofs.Common.{◌≡◌, ◌≢◌, ℕ, zero, suc, ◌+◌, ◌-◌, ◌^◌, ◌<◌, ◌≤◌, ◌==◌, drop, ⊎_elim, true, false, Bool, cond, Some, None, List, [], ◌∷◌, length, get_or, Result, Ok, Err, IfOk, IfErr, sym, refl, ap, ◌∙◌, subst, arith, mul-le-mul_right, eq-eqb, ne_eqb}
 use Rattle.std.proofs.lemmas.List.{length-drop}
 use mathlib.Core.Logic.{dite}
 use native.Mathlib.Decide.{ℕ_discrete}
@@ -16,9 +16,11 @@ use Rattle.chunk_core.specs.Spans.{Span}
 use Rattle.oak_core.specs.declared.states.Numbers.{Numbers}
 use Rattle.oak_core.specs.declared.states.PassState.{PassState}
 use Rattle.oak_core.specs.PassState.{HoldsNothing}
+use Rattle.oak_core.proofs.CallSteps.{stands_learns}
+use Rattle.chunk_ops.specs.declared.pins.RoomPin.{RoomPin}
 use Rattle.chunk_ops.specs.AskedRanges.{CoversKey, EndsUnder}
 use Rattle.chunk_ops.specs.PinnedBounds.{low_length, low_bound, high_bound}
-use Rattle.chunk_ops.specs.PinRecords.{HasBounds, room_pin, with_room_pin}
+use Rattle.chunk_ops.specs.PinRecords.{HasBounds, OnlyMeets, room_pin, with_room_pin}
 use Rattle.chunk_ops.specs.RoomPins.{PinsOpen}
 use Rattle.chunk_ops.proofs.BoundWords.{high_some}
 use Rattle.chunk_ops.proofs.WordParts.{part_small, part_long}
@@ -26,6 +28,8 @@ use Rattle.scan_cursor.specs.declared.ways.Way.{Way}
 use Rattle.scan_cursor.specs.declared.ways.Way.TheVariants.{Up, Down}
 use Rattle.scan_cursor.proofs.RoomRanges.{low_is, none_end, number_most, range_has, some_end}
 use Rattle.scan_cursor.specs.Holding.{Covers, HasRoom, IsAhead, IsBound, IsRoom, high_end, low_end, room_at, room_of}
+use Rattle.scan_cursor.specs.Views.{Later, view_of}
+use Rattle.scan_cursor.proofs.ReadingViews.{later_by}
 
 -- the numbers of keys
 
@@ -87,6 +91,11 @@ module _ (p : PinnedRoom) (h : HasBounds p) where
           (λ z. let e = none_end p z in let g = number_most k (is_key-is k is).1 in omega arith)
           (λ ne. let e = some_end p ne in let a = high_some p ne in ⊎_elim (λ (z : high_number p.high ≡ 0). absurd (omega arith)) (λ (m : key_number k < high_number p.high). let r : key_number k ≤ high_end (room_of p).high = omega arith in r) u.high),
     )
+
+-- whether a room was pinned or none was found, the pass only met more
+pub spot_later : {E : Type 0} (z : Sizes) (call : ℕ) (P : Span → Type 0) (v w : PassState) (r : Result RoomPin E) → IfOk r (λ p. PinsOpen z call p.room P v w) → IfErr r (λ _. OnlyMeets call v w) → Later (view_of z call v) (view_of z call w)
+spot_later z call P v w (Ok p) pins only = later_by z call call v w refl (stands_learns call v w pins.stands) pins.quiet
+spot_later z call P v w (Err e) pins only = later_by z call call v w refl (stands_learns call v w only.stands) only.quiet
 
 -- the room was pinned by a pass that held nothing
 module _ (z : Sizes) (call r : ℕ) (v w : PassState) (idle : HoldsNothing v) where

@@ -8,6 +8,7 @@ use Rattle.oak_core.specs.declared.states.PassState.{PassState}
 use Rattle.oak_core.specs.AloneWords.{Runs}
 use Rattle.oak_core.specs.PassState.{HoldsNothing}
 use Rattle.oak_core.specs.Passes.{IsPassOf, Stays, call_of, key as sizes, state}
+use Rattle.oak_core.specs.QuietSteps.{Quiet}
 use Rattle.value_ops.specs.declared.pinned_value.PinnedValue.{PinnedValue}
 use Rattle.value_ops.specs.PinnedValues.{OnlyLoads, stamp_under, value_under}
 use Rattle.scan_cursor.specs.declared.cursor.Cursor.{Cursor}
@@ -51,7 +52,7 @@ pub record IsCursor (c : Cursor) : Type 0 where
   pub walk : IsWalk c.way (key_number c.low) (key_number c.high) (course c)
   pub pair : HasPair c.value (sizes c.table.now) c.walk.mark (under c)
 
--- Since the first view the cursor read each key of its range up to its present one once, and the pairs are those of the keys that were present, in order. To a pass that is alone the words stay, but for one pin more on the header of the present value.
+-- Since the first view the cursor read each key of its range up to its present one once, by loads, pins and their undoing alone, and the pairs are those of the keys that were present, in order. To a pass that is alone the words stay, but for one pin more on the header of the present value.
 pub record HasGiven (c : Cursor) (before : View) (pairs : List Pair) : Type 0 where
   pub walked : HasWalked c.way (key_number c.low) (key_number c.high) (course c) before pairs
   pub still : Runs (LeavesValue (sizes c.table.now) None c.value) before.state (under c)
@@ -82,6 +83,7 @@ pub record ReadsPair (c d : Cursor) : Type 0 where
   pub value : d.value ≡ c.value
   pub stays : Stays c.pass.now d.pass.now
   pub only : OnlyLoads (sizes c.table.now) (call_of c.pass.now) (under c) (under d)
+  pub quiet : Quiet (under c) (under d)
   -- the pair and those before it are as they were
   pub bytes : value_of d ≡ value_of c
   pub stamp : stamp_of d ≡ stamp_of c

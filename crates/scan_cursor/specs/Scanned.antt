@@ -41,7 +41,7 @@ abbrev pub greatest_of : Option (List ℕ) → ℕ
 greatest_of None = key_number greatest_key
 greatest_of (Some high) = key_number high
 
--- each key between the bounds was read once, and the pairs are those of the present ones, in order; to a pass that is alone the words stay
+-- each key between the bounds was read once, by loads, pins and their undoing alone, and the pairs are those of the present ones, in order; to a pass that is alone the words stay
 pub record HasScanned (way : Way) (low high : Option (List ℕ)) (before now : View) (pairs : List Pair) : Type 0 where
   pub later : Later before now
   pub scanned : Scanned before now (least_of low) (suc (greatest_of high)) pairs

@@ -10,6 +10,7 @@ use Rattle.oak_core.specs.KeyReads.{home_of}
 use Rattle.oak_core.specs.KnownPlaces.{ReadAt}
 use Rattle.oak_core.specs.LastReads.{NotPast}
 use Rattle.oak_core.specs.LifeKeys.{key_in_loaded, loaded_in}
+use Rattle.oak_core.specs.QuietSteps.{Quiet}
 use Rattle.oak_core.specs.Sights.{SightedSince}
 
 -- the table's sizes, the call, and the state of the pass
@@ -21,11 +22,12 @@ pub record View : Type 0 where
 abbrev pub view_of : Sizes → ℕ → PassState → View
 view_of z call v = record { sizes = z; call = call; state = v }
 
--- the later one is of the same call, in which the pass met more, may have learned, and wrote nothing
+-- The later one is of the same call, in which the pass met more, by loads, pins and their undoing alone, may have learned, and wrote nothing.
 pub record Later (a b : View) : Type 0 where
   pub sizes : b.sizes ≡ a.sizes
   pub call : b.call ≡ a.call
   pub learns : Learns a.call a.state b.state
+  pub quiet : Quiet a.state b.state
 
 -- Between the two the key was read: at the place of a number that was found for it between them it has this state. The place is not before what was seen at the first, and no later write will come at or below the number.
 pub record ReadsKey (a b : View) (k : List ℕ) (at : ℕ) (s : State) : Type 0 where

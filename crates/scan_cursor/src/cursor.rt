@@ -1,16 +1,18 @@
 //! The cursor of a scan.
-ghost use Rattle.std.specs.Prelude.{◌≡◌, ◌↔◌, ◌+◌, ◌*◌, ◌<◌, ◌≤◌, IfSome, IsSome, IsTrue, MatchOption, [], None, length, slice_index, slice_range, true};
+ghost use Rattle.std.specs.Prelude.{◌≡◌, ◌↔◌, ◌+◌, ◌*◌, ◌<◌, ◌≤◌, IfSome, IsSome, IsTrue, List, MatchOption, [], None, length, slice_index, slice_range, true};
 ghost use Rattle.std.specs.Int.{w64, from_be_bytes};
+ghost use Rattle.oak_model.specs.declared.replies.Pair.{Pair};
 ghost use Rattle.oak_model.specs.Key.{IsKey, is_key};
 ghost use Rattle.oak_core.specs.AloneWords.{Runs};
 ghost use Rattle.oak_core.specs.PassState.{HoldsNothing};
 ghost use Rattle.oak_core.specs.Passes.{IsPassOf, Stays, state, key as sizes};
+ghost use Rattle.oak_core.specs.QuietSteps.{Quiet};
 ghost use Rattle.oak_core.specs.Scratch.{StaysButSlots};
 ghost use Rattle.scan_cursor.specs.Cursors.{Advances, HasGiven, IsCursor, ReadsPair, key_of, stamp_of, under, value_of, view_under};
 ghost use Rattle.scan_cursor.specs.Holding.{greatest_key};
 ghost use Rattle.scan_cursor.specs.Leaving.{LeavesValue};
 ghost use Rattle.scan_cursor.specs.Scanned.{least_key};
-ghost use Rattle.scan_cursor.specs.Views.{Later};
+ghost use Rattle.scan_cursor.specs.Views.{Later, View};
 ghost use Rattle.scan_cursor.specs.Walks.{view_at};
 
 use crate::walking::{Walk, walk_on};
@@ -44,7 +46,7 @@ fn bound_or(bound: Option<&[u8]>, or: KeyBytes) -> KeyBytes
 
 /// A scan of a range of keys, up or down, from one present key to the next. It borrows its pass until
 /// [`Cursor::finish`], which it must be spent by: it can't be dropped. It has at most the value of the present pair
-/// pinned.
+/// pinned. From its begin to its end it makes loads, pins and their undoing alone, and takes no block.
 pub struct Cursor<'p> {
     table: &'p OakTable,
     pass: &'p mut Pass,
@@ -56,7 +58,7 @@ pub struct Cursor<'p> {
 }
 
 impl<'p> Cursor<'p> {
-    /// Begins a scan of the keys between the bounds, which belong to the range; none is no bound.
+    /// Begins a scan of the keys between the bounds, which belong to the range; none is no bound. No step is made yet.
     pub fn begin(
         table: &'p OakTable,
         pass: &'p mut Pass,
@@ -95,7 +97,7 @@ impl<'p> Cursor<'p> {
 
 impl Cursor<'_> {
     /// Goes to the next pair of the scan: false where there is none left. It waits where a room was moved or a value
-    /// is being written.
+    /// is being written. It makes loads, pins and their undoing alone, as the whole scan does so far, and takes no block.
     pub fn advance<R: Wait>(&mut self, rt: &R) -> bool
         requires { IsCursor self.old }
         ensures same_reference { self.new.pass.ghost_name ≡ self.old.pass.ghost_name }
@@ -190,7 +192,7 @@ impl Cursor<'_> {
         self.pinned().at()
     }
 
-    /// The byte of the present value at `i`.
+    /// The byte of the present value at `i`. It makes loads alone.
     pub fn byte(&mut self, i: usize) -> u8
         requires cursor { IsCursor self.old }
         requires given { IsSome self.old.value }
@@ -202,7 +204,8 @@ impl Cursor<'_> {
         self.pinned().byte(self.table, self.pass, i)
     }
 
-    /// The bytes of the present value from `8 * i` to `8 * i + 7`, the first of which is the highest of the number.
+    /// The bytes of the present value from `8 * i` to `8 * i + 7`, the first of which is the highest of the number. It
+    /// makes loads alone.
     pub fn eight(&mut self, i: usize) -> u64
         requires cursor { IsCursor self.old }
         requires given { IsSome self.old.value }
@@ -214,7 +217,7 @@ impl Cursor<'_> {
         self.pinned().eight(self.table, self.pass, i)
     }
 
-    /// Whether the present value has exactly these bytes.
+    /// Whether the present value has exactly these bytes. It makes loads alone.
     pub fn same(&mut self, other: &[u8]) -> bool
         requires cursor { IsCursor self.old }
         requires given { IsSome self.old.value }
@@ -225,7 +228,7 @@ impl Cursor<'_> {
         self.pinned().same(self.table, self.pass, other)
     }
 
-    /// Copies the present value to `out`, which is as long.
+    /// Copies the present value to `out`, which is as long. It makes loads alone.
     pub fn copy_into(&mut self, out: &mut [u8])
         requires cursor { IsCursor self.old }
         requires given { IsSome self.old.value }
@@ -237,12 +240,14 @@ impl Cursor<'_> {
         self.pinned().copy_into(self.table, self.pass, out);
     }
 
-    /// Ends the scan, and undoes the pin of the present value.
+    /// Ends the scan, and undoes the pin of the present value. With that the whole scan has made loads, pins and their
+    /// undoing alone, and has taken no block.
     pub fn finish(self)
         requires { IsCursor self }
         ensures own { Stays self.entry.pass.now self.exit.1.0.now }
         ensures idle { HoldsNothing (state self.exit.1.0.now) }
         ensures later { Later (view_under self.entry) (view_at (sizes self.entry.table.now) self.exit.1.0.now) }
+        ensures quiet { (before : View) (pairs : List Pair) → HasGiven self.entry before pairs → Quiet before.state (state self.exit.1.0.now) }
         ensures still { Runs (LeavesValue (sizes self.entry.table.now) self.entry.value None) (under self.entry) (state self.exit.1.0.now) }
     {
         let Cursor {

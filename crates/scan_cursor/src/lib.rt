@@ -6,10 +6,6 @@ mod gathering;
 mod marks;
 mod reading;
 mod spots;
-#[cfg(test)]
-mod test_calls;
-#[cfg(test)]
-mod tests;
 mod walking;
 mod ways;
 

@@ -5,6 +5,7 @@ ghost use Rattle.chunk_core.specs.PinnedRooms.{span_of};
 ghost use Rattle.oak_core.specs.AloneWords.{Runs};
 ghost use Rattle.oak_core.specs.PassState.{HoldsNothing};
 ghost use Rattle.oak_core.specs.Passes.{IsPassOf, Stays, state, key as sizes, call_of};
+ghost use Rattle.oak_core.specs.QuietSteps.{Quiet};
 ghost use Rattle.chunk_ops.specs.AskedRanges.{CoversKey};
 ghost use Rattle.chunk_ops.specs.PinRecords.{HasRoomPin, UnderPin, WordsStay, room_pin};
 ghost use Rattle.scan_cursor.specs.Reading.{LeavesHere, LooksUp, ReadsHere};
@@ -50,6 +51,7 @@ fn look_up(table: &OakTable, pass: &mut Pass, pin: &RoomPin, key: &[u8]) -> Opti
     ensures own { Stays pass.old pass.new }
     ensures under { UnderPin (sizes table.now) (call_of pass.old) pin.now.room (state pass.old) (state pass.new) }
     ensures found { let z = sizes table.now in let call = call_of pass.old in LooksUp result key.now (view_of z call (state pass.old)) (view_of z call (state pass.new)) }
+    ensures quiet { Quiet (state pass.old) (state pass.new) }
     ensures still { Runs WordsStay (state pass.old) (state pass.new) }
 {
     match find(table, pass, pin, key) {

@@ -8,7 +8,7 @@ use Rattle.chunk_ops.specs.declared.stored.StoredKey.{StoredKey}
 use Rattle.chunk_ops.specs.Stored.{IsStored}
 use Rattle.oak_core.proofs.CallSteps.{stands_learns}
 use Rattle.scan_cursor.specs.Views.{KnowsLast, view_of}
-use Rattle.scan_cursor.proofs.GatherViews.{entry_kept, knows_last, last_read, learned_both, learned_in, learns_only, read_from}
+use Rattle.scan_cursor.proofs.GatherViews.{entry_kept, knows_last, last_read, later_of, learned_both, learned_in, learns_only, read_from}
 use Rattle.scan_cursor.proofs.gathering.load_slot.Goals as goal
 
 pub returns-in-Floor-clause-only : goal.returns-in-Floor-clause-only
@@ -20,7 +20,7 @@ returns-in-Floor-clause-loads c k q s is h behind = let z : Sizes = sizes c.args
     let v = state c.args.pass.now in let w = state c.entry_key-key.new.pass in let x = state c.content.new.pass in let o = c.entry_key-key.ensures.only in
     let tells = c.content.ensures.tells q (entry_kept r i q v w o.rooms h) in
     let reads = subst (λ (a : Content). TellsOf a z now r i q w x) c.in-Floor.is tells in
-    (c.in-Floor.stamp, read_from z call v w x q c.in-Floor.stamp _ (stands_learns call v w o.stands) (last_read z call w x q c.in-Floor.stamp _ reads))
+    (c.in-Floor.stamp, read_from z call v w x q c.in-Floor.stamp _ (later_of z call v w (stands_learns call v w o.stands) o.quiet) (last_read z call w x q c.in-Floor.stamp _ reads))
 
 pub returns-in-Value-clause-only : goal.returns-in-Value-clause-only
 returns-in-Value-clause-only c = let call = call_of c.args.pass.now in let now = call_of c.entry_key-key.new.pass in let v = state c.args.pass.now in let w = state c.entry_key-key.new.pass in let x = state c.content.new.pass in

@@ -1,4 +1,6 @@
 use Rattle.oak_core.specs.Passes.{state, key as sizes, call_of}
+use Rattle.oak_core.specs.QuietSteps.{IsQuiet}
+use Rattle.oak_core.proofs.QuietCalls.{only_both}
 use Rattle.scan_cursor.proofs.RoomReads.{floor_up, found_stays, life_up, missing_up, said_stays, under_learned}
 use Rattle.scan_cursor.proofs.reading.look_up.Goals as goal
 
@@ -15,6 +17,9 @@ pub returns-in-Value-clause-found : goal.returns-in-Value-clause-found
 returns-in-Value-clause-found c = life_up (sizes c.args.table.now) (call_of c.args.pass.now) c.args.pin.now.room c.args.key.now (state c.args.pass.now) (state c.find.new.pass) c.find.ensures.under (state c.content.new.pass) _ c.find.ensures.own.call
     c.in-Entry.entry.0 c.in-Value.header c.in-Value.generation c.in-Value.ensures.content (c.in-Value.ensures.tells c.args.key.now c.in-Entry.ensures.found.entry)
 
+pub returns-in-Value-clause-quiet : goal.returns-in-Value-clause-quiet
+returns-in-Value-clause-quiet c = only_both IsQuiet (state c.args.pass.now) (state c.find.new.pass) (state c.content.new.pass) c.find.ensures.quiet c.content.ensures.only.quiet
+
 pub returns-in-Value-clause-still : goal.returns-in-Value-clause-still
 returns-in-Value-clause-still c = said_stays (sizes c.args.table.now) c.args.pin.now.room c.in-Entry.entry.0 c.args.key.now _ _ (state c.args.pass.now) (state c.find.new.pass) (state c.content.new.pass) c.find.ensures.alone c.content.ensures.alone
 
@@ -23,7 +28,10 @@ returns-in-Floor-clause-under c = under_learned (sizes c.args.table.now) (call_o
 
 pub returns-in-Floor-clause-found : goal.returns-in-Floor-clause-found
 returns-in-Floor-clause-found c = floor_up (sizes c.args.table.now) (call_of c.args.pass.now) c.args.pin.now.room c.args.key.now (state c.args.pass.now) (state c.find.new.pass) c.find.ensures.under (state c.content.new.pass) _ c.find.ensures.own.call
-    c.in-Entry.entry.0 c.in-Floor.stamp (c.in-Floor.ensures.tells c.args.key.now c.in-Entry.ensures.found.entry)
+    c.in-Entry.entry.0 c.in-Floor.stamp c.find.ensures.quiet (c.in-Floor.ensures.tells c.args.key.now c.in-Entry.ensures.found.entry)
+
+pub returns-in-Floor-clause-quiet : goal.returns-in-Floor-clause-quiet
+returns-in-Floor-clause-quiet c = only_both IsQuiet (state c.args.pass.now) (state c.find.new.pass) (state c.content.new.pass) c.find.ensures.quiet c.content.ensures.only.quiet
 
 pub returns-in-Floor-clause-still : goal.returns-in-Floor-clause-still
 returns-in-Floor-clause-still c = said_stays (sizes c.args.table.now) c.args.pin.now.room c.in-Entry.entry.0 c.args.key.now _ _ (state c.args.pass.now) (state c.find.new.pass) (state c.content.new.pass) c.find.ensures.alone c.content.ensures.alone

@@ -7,7 +7,7 @@ use Rattle.chunk_ops.specs.RoomPins.{PinsOpen}
 use Rattle.scan_cursor.specs.declared.ways.Way.{Way}
 use Rattle.scan_cursor.specs.declared.ways.Way.TheVariants.{Down}
 use Rattle.scan_cursor.specs.Holding.{IsAhead}
-use Rattle.scan_cursor.proofs.RoomSpots.{below_ahead, up_ahead, down_ahead}
+use Rattle.scan_cursor.proofs.RoomSpots.{below_ahead, up_ahead, down_ahead, spot_later}
 use Rattle.scan_cursor.proofs.spots.pin_ahead.Goals.{in_default-via-in-Down+else-mark, in_default-via-in_default}
 use Rattle.scan_cursor.proofs.spots.pin_ahead.Goals as goal
 
@@ -25,3 +25,9 @@ returns-in_default-clause-ahead c = let z : Sizes = key c.args.table.now in let 
       | in_default-via-in_default b ↦ subst (λ (way : Way). IsAhead z p.room way c.args.mark.now.past k w) (sym b.in_default.is) (up_ahead z call p.room v w c.requires.idle k c.requires.key c.args.mark.now.past o)
     ])
     (subst (λ (q : List ℕ). IfOk c.pin_for.result (λ p. PinsOpen z call p.room (CoversKey q) v w)) c.as_slice-in_default.ensures c.pin_for.ensures.pinned)
+
+pub returns-in-Down-clause-later : goal.returns-in-Down-clause-later
+returns-in-Down-clause-later c = spot_later (key c.args.table.now) (call_of c.args.pass.now) _ (state c.args.pass.now) (state c.pin_last.new.pass) c.pin_last.result c.pin_last.ensures.pinned c.pin_last.ensures.only
+
+pub returns-in_default-clause-later : goal.returns-in_default-clause-later
+returns-in_default-clause-later c = spot_later (key c.args.table.now) (call_of c.args.pass.now) _ (state c.args.pass.now) (state c.pin_for.new.pass) c.pin_for.result c.pin_for.ensures.pinned c.pin_for.ensures.only

@@ -8,9 +8,9 @@ ghost use Rattle.point_ops.specs.TestStates.{IsReady, IsReadyAgain};
 ghost use Rattle.scan_cursor.specs.Cursors.{IsCursor, ReadsPair, under};
 
 use crate::test_calls::{put, remove, turn};
-use crate::{Cursor, Way};
 use oak_core::{OakTable, Pass};
 use oak_model::Shape;
+use scan_cursor::{Cursor, Way};
 use std::process::Abort;
 use std::sync::Wait;
 use std::test::Fail;

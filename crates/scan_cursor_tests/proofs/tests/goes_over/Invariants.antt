@@ -1,7 +1,7 @@
 use Rattle.std.proofs.Common.{◌≡◌}
 use Rattle.oak_core.specs.Scratch.{StaysButSlots}
 use Rattle.scan_cursor.specs.Cursors.{IsCursor, under}
-use Rattle.scan_cursor.proofs.tests.goes_over.Given as goal
+use Rattle.scan_cursor_tests.proofs.tests.goes_over.Given as goal
 
 abbrev pub invariant-loop-letter : goal.invariant-loop-letter
 invariant-loop-letter g l = record {

@@ -1,6 +1,6 @@
 use Rattle.oak_core.specs.Passes.{state, key as sizes, call_of}
-use Rattle.rebalance.proofs.TestLaws.{leaves_ready, split_leaves}
-use Rattle.scan_cursor.proofs.test_calls.halve.Goals as goal
+use Rattle.rebalance_tests.proofs.TestLaws.{leaves_ready, split_leaves}
+use Rattle.scan_cursor_tests.proofs.test_calls.halve.Goals as goal
 
 pub returns-clause-ready : goal.returns-clause-ready
 returns-clause-ready g c = let call = call_of c.args.pass.now in let v = state c.args.pass.now in let w = state c.split-halved.new.pass in

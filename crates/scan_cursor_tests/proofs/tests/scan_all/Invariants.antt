@@ -1,7 +1,7 @@
 use Rattle.std.proofs.Common.{◌≡◌}
 use Rattle.oak_core.specs.PassState.{HoldsNothing}
 use Rattle.oak_core.specs.Passes.{IsPassOf, state}
-use Rattle.scan_cursor.proofs.tests.scan_all.Given as goal
+use Rattle.scan_cursor_tests.proofs.tests.scan_all.Given as goal
 
 abbrev pub invariant-loop-scan : goal.invariant-loop-scan
 invariant-loop-scan g l = record {

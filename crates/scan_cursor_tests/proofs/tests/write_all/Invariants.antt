@@ -1,7 +1,7 @@
 use Rattle.std.proofs.Common.{◌≡◌}
 use Rattle.oak_core.specs.Passes.{IsPassOf, state, call_of}
 use Rattle.point_ops.specs.TestStates.{IsReadyAgain}
-use Rattle.scan_cursor.proofs.tests.write_all.Given as goal
+use Rattle.scan_cursor_tests.proofs.tests.write_all.Given as goal
 
 abbrev pub invariant-loop-i : goal.invariant-loop-i
 invariant-loop-i g l = record {
