@@ -1,6 +1,5 @@
 -- A search for the life of a view that waits: what its tries come to adds up.
 use Rattle.std.proofs.Common.{◌≡◌, ℕ, List, [], ◌++◌, refl, sym, ap, ◌∙◌, subst, inl, inr, ⊎_elim, append-nil, append_assoc}
-use Rattle.oak_model.specs.KeyNumber.{key_number}
 use Rattle.oak_model.specs.Limits.{Sizes}
 use Rattle.oak_model.proofs.Lists.{each_append}
 use Rattle.header_core.specs.HeaderStep.{unpin_header}
@@ -8,9 +7,11 @@ use Rattle.oak_core.specs.declared.states.Finding.{Finding}
 use Rattle.oak_core.specs.declared.states.PassState.{PassState}
 use Rattle.oak_core.specs.Finding.{IsOf, grown}
 use Rattle.oak_core.specs.KeyReads.{home_of}
-use Rattle.oak_core.specs.Sights.{FoundOverSince, SightedSince}
+use Rattle.oak_core.specs.QuietSteps.{IsQuiet}
+use Rattle.oak_core.specs.Sights.{FoundOverSince}
 use Rattle.oak_core.specs.Step.{Step, Told, on_headers}
 use Rattle.oak_core.proofs.AloneRuns.{moment_after, runs_as}
+use Rattle.oak_core.proofs.QuietCalls.{only_both, only_none}
 use Rattle.chunk_ops.specs.RoomPins.{HadMoment}
 use Rattle.chunk_ops.proofs.MeetingCalls.{both_stay, stays_then}
 use Rattle.value_ops.specs.declared.views.NoRead.TheVariants.{Busy, Gone}
@@ -52,7 +53,7 @@ told_begun : (z : Sizes) (call : ℕ) (x : Step) (v : PassState) (n : ℕ) (w : 
 told_begun z call x v n w t = (t.table.words, record { states = t.table.states; rule = t.rule; seat = t.seat; here = t.here })
 
 pub life_first : (z : Sizes) (call : ℕ) (v : PassState) → SearchesLife z call v v
-life_first z call v = record { tries = meets_none z call v; begun = inl refl; alone = none_stays v }
+life_first z call v = record { tries = meets_none z call v; quiet = only_none IsQuiet v v refl; begun = inl refl; alone = none_stays v }
 
 -- ---- one try behind others
 
@@ -64,6 +65,7 @@ module _ (z : Sizes) (call : ℕ) (x : Viewed) (u v w : PassState) (s : Searches
   pub life_on : NotRead z call x Busy v w → SearchesLife z call u w
   life_on n = record {
     tries = meets_both z call u v w s.tries n.learned;
+    quiet = only_both IsQuiet u v w s.quiet n.dud.quiet;
     begun = inr (begun_first (told_begun z call _ v n.dud.number n.dud.pinned n.dud.told));
     alone = both_stay u v w s.alone (runs_as (FindsReason z x Busy) StayAll v w (λ a b f. f.0) n.still);
   }
@@ -74,6 +76,7 @@ module _ (z : Sizes) (call : ℕ) (x : Viewed) (u v w : PassState) (s : Searches
     tried = v;
     tries = s.tries;
     pins = p;
+    quiet = only_both IsQuiet u v w s.quiet p.quiet;
     begun = begun_first (told_begun z call _ v p.number w p.told);
     alone = stays_then (AddsPin z x.header x.generation) u v w s.alone p.still;
   }
@@ -98,4 +101,4 @@ module _ (z : Sizes) (call : ℕ) (x : Viewed) (u v w : PassState) (s : Searches
         record { begun = a; ended = b; same = seen_same z u w alone a numbers refused.learns.all.seen b refused.learns.all.mine }
 
     pub life_over : FindsOver z call x u w
-    life_over = record { tried = v; tries = s.tries; not_read = n; gone = gone; holds = refused.holds; same = same; alone = stays_then (FindsReason z x Gone) u v w s.alone n.still }
+    life_over = record { tried = v; tries = s.tries; not_read = n; gone = gone; holds = refused.holds; quiet = only_both IsQuiet u v w s.quiet n.dud.quiet; same = same; alone = stays_then (FindsReason z x Gone) u v w s.alone n.still }

@@ -11,8 +11,10 @@ use Rattle.oak_core.specs.AloneWords.{Runs}
 use Rattle.oak_core.specs.CallSteps.{Learns}
 use Rattle.oak_core.specs.KeyHistories.{state_behind}
 use Rattle.oak_core.specs.PassState.{HoldsNothing, IsAlone, seen_of}
+use Rattle.oak_core.specs.QuietSteps.{IsQuiet, Quiet}
 use Rattle.oak_core.proofs.AloneRuns.{runs_as}
 use Rattle.oak_core.proofs.CallSteps.{learns_none}
+use Rattle.oak_core.proofs.QuietCalls.{only_both, only_none}
 use Rattle.chunk_ops.specs.Latching.{Never}
 use Rattle.chunk_ops.proofs.MeetingCalls.{both_stay, stays_then}
 use Rattle.value_ops.specs.declared.views.NoRead.{NoRead}
@@ -54,14 +56,15 @@ pub idle_still : (v w : PassState) → HoldsAsBefore v w → HoldsNothing v → 
 idle_still v w h idle = record { hand = ap (λ n. n.hand) h.numbers ∙ idle.hand; blocks = h.blocks ∙ idle.blocks; headers = h.headers ∙ idle.headers; rooms = h.rooms ∙ idle.rooms }
 
 -- the key was not found
-pub never_again : (z : Sizes) (call : ℕ) (v w : PassState) → Refuses call v w → (IsAlone v → SeesWhole z v) → Runs Never v w → TriesAgain z call v w
-never_again z call v w r begun n = record { refused = r; begun = begun; alone = runs_as Never StayAll v w (λ a b f. absurd f) n }
+pub never_again : (z : Sizes) (call : ℕ) (v w : PassState) → Refuses call v w → Quiet v w → (IsAlone v → SeesWhole z v) → Runs Never v w → TriesAgain z call v w
+never_again z call v w r quiet begun n = record { refused = r; quiet = quiet; begun = begun; alone = runs_as Never StayAll v w (λ a b f. absurd f) n }
 
 -- a view of its life was got until w, and the pin of the view was undone until x
-module _ (z : Sizes) (call : ℕ) (key : List ℕ) (x : Viewed) (v w t : PassState) (got : ViewFits z call key x v w) (lone : IsAlone v → (bytes : List ℕ) × AnswersAlone z key Get (replies.Holds bytes) v w) (stay : Runs StayAll v w) where
+module _ (z : Sizes) (call : ℕ) (key : List ℕ) (x : Viewed) (v w t : PassState) (got : ViewFits z call key x v w) (quiet : Quiet v w) (lone : IsAlone v → (bytes : List ℕ) × AnswersAlone z key Get (replies.Holds bytes) v w) (stay : Runs StayAll v w) where
   pub view_again : (why : NoRead) → NotRead z call x why w t → TriesAgain z call v t
   view_again why n = record {
     refused = refuses_both call v w t (read_refuses call key got.bytes x.at v w got.replies) (unread_refuses z call x why w t n);
+    quiet = only_both IsQuiet v w t quiet n.dud.quiet;
     begun = λ alone. (lone alone).1.begun;
     alone = both_stay v w t stay (runs_as (FindsReason z x why) StayAll w t (λ a b f. f.0) n.still);
   }
@@ -73,6 +76,7 @@ module _ (z : Sizes) (call : ℕ) (key : List ℕ) (x : Viewed) (v w t : PassSta
     tries = read_refuses call key got.bytes x.at v w got.replies;
     life = subst (λ (k : List ℕ). KnowsLife x.header x.generation k w.knowledge) got.key_is got.knows.life;
     pins = p;
+    quiet = only_both IsQuiet v w t quiet p.quiet;
     begun = λ alone. (lone alone).1.begun;
     alone = stays_then (AddsPin z x.header x.generation) v w t stay p.still;
   }
@@ -80,14 +84,14 @@ module _ (z : Sizes) (call : ℕ) (key : List ℕ) (x : Viewed) (v w t : PassSta
 -- ---- one try behind others
 
 pub search_first : (z : Sizes) (call : ℕ) (v : PassState) → Searches z call v v
-search_first z call v = record { refused = learned_refuses call v v (learns_none call v) refl refl refl; begun = inl refl; alone = none_stays v }
+search_first z call v = record { refused = learned_refuses call v v (learns_none call v) refl refl refl; quiet = only_none IsQuiet v v refl; begun = inl refl; alone = none_stays v }
 
 module _ (z : Sizes) (call : ℕ) (u v w : PassState) (s : Searches z call u v) where
   begun_first : (IsAlone v → SeesWhole z v) → IsAlone u → SeesWhole z u
   begun_first f alone = ⊎_elim (λ (e : v ≡ u). subst (SeesWhole z) e (f (subst IsAlone (sym e) alone))) (λ (g : IsAlone u → SeesWhole z u). g alone) s.begun
 
   pub search_on : TriesAgain z call v w → Searches z call u w
-  search_on t = record { refused = refuses_both call u v w s.refused t.refused; begun = inr (begun_first t.begun); alone = both_stay u v w s.alone t.alone }
+  search_on t = record { refused = refuses_both call u v w s.refused t.refused; quiet = only_both IsQuiet u v w s.quiet t.quiet; begun = inr (begun_first t.begun); alone = both_stay u v w s.alone t.alone }
 
   pub pinned_since : (key : List ℕ) (h g : ℕ) → PinsKey z call key h g v w → PinsKey z call key h g u w
   pinned_since key h g p = record {
@@ -95,6 +99,7 @@ module _ (z : Sizes) (call : ℕ) (u v w : PassState) (s : Searches z call u v) 
     tries = refuses_both call u v p.tried s.refused p.tries;
     life = p.life;
     pins = p.pins;
+    quiet = only_both IsQuiet u v w s.quiet p.quiet;
     begun = begun_first p.begun;
     alone = stays_then (AddsPin z h g) u v w s.alone p.alone;
   }
@@ -118,6 +123,7 @@ module _ (z : Sizes) (call : ℕ) (u v w : PassState) (s : Searches z call u v) 
   pub absent_since : (key : List ℕ) (at : ℕ) → FindsAbsent z call key at v w → FindsAbsent z call key at u w
   absent_since key at f = record {
     replies = replies_since call u v w s.refused key Get replies.Absent at f.replies;
+    quiet = only_both IsQuiet u v w s.quiet f.quiet;
     alone_reply = λ alone. answers_since key alone (f.alone_reply (alone_later u v s.refused.holds.numbers alone));
     alone = both_stay u v w s.alone f.alone;
   }

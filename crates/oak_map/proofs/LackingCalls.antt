@@ -8,7 +8,7 @@ use Rattle.oak_model.specs.declared.replies.Lack.{Lack}
 use Rattle.oak_model.specs.declared.replies.Lack.TheVariants.{Block, Header}
 use Rattle.oak_model.specs.Counts.{Begins}
 use Rattle.oak_model.specs.Limits.{Sizes}
-use Rattle.oak_model.proofs.Lists.{at_longer, begins_length}
+use Rattle.oak_model.proofs.Lists.{at_longer, begins_length, each_map}
 use Rattle.header_core.specs.Headers.{at_pin}
 use Rattle.oak_core.specs.declared.states.Finding.{Finding}
 use Rattle.oak_core.specs.declared.states.PassState.{PassState}
@@ -16,13 +16,13 @@ use Rattle.oak_core.specs.declared.states.Swept.{Swept}
 use Rattle.oak_core.specs.CallSteps.{MetMore}
 use Rattle.oak_core.specs.Finding.{FoundThere, had}
 use Rattle.oak_core.specs.FoundBehind.{FoundBehind}
-use Rattle.oak_core.specs.Lack.{FoundHeld, FoundRenewed, FoundSet, FoundTaken, KeySwept, LackFound, Lacks}
+use Rattle.oak_core.specs.Lack.{FoundHeld, FoundRenewed, FoundSet, FoundTaken, KeySwept, LackFound, Lacks, TookBut}
 use Rattle.oak_core.specs.Memory.{Spot, in_headers, index}
 use Rattle.oak_core.specs.PassState.{bare_state}
+use Rattle.oak_core.specs.QuietSteps.{MetOnly}
 use Rattle.oak_core.specs.Usage.{is_free}
 use Rattle.oak_core.proofs.CallSteps.{met_both}
 use Rattle.oak_core.proofs.MetLists.{at_behind, at_inside, each_at, from_behind}
-use Rattle.arena_ops.specs.Looking.{bit_spot}
 use Rattle.point_ops.specs.FoundWords.{FoundApart, FoundHad, FoundWord}
 use Rattle.point_ops.specs.Halting.{AllTaken, IsTaken, NoneFree}
 use Rattle.rebalance.specs.Calls.{SweepsKey}
@@ -84,6 +84,10 @@ module _ (z : Sizes) (call : ℕ) (v w : PassState) where
   pub headers_found : NoneFree z call v w → LackFound z (length v.findings.met) (length w.findings.met) w.findings.met Header None
   headers_found none h lt = ⊎_elim (λ (f : FoundWord z call (in_headers (at_pin h)) (λ n. is_free n ≡ false) v w). inl (taken_found h f)) (λ (f : FoundApart z call (in_headers (at_pin h)) generation_of v w). inr (renewed_found h f)) (none h lt)
 
+-- what holds of each finding holds of those of a call
+pub met_any : (P : Finding → Type 0) (call : ℕ) (v w : PassState) → ((f : Finding) → P f) → MetMore call v w → MetOnly P v w
+met_any P call v w all m = record { more = m.more; met = m.met; each = each_map (λ (f : Finding). f.call ≡ call) P m.more (λ f _. all f) m.calls }
+
 -- ---- behind ranges with every key
 
 module _ (u v w : PassState) where
@@ -99,10 +103,10 @@ module _ (u v w : PassState) where
     inside = s.inside;
   }
 
-  -- a call that began at u, and swept every key until v, lacks what it found with nothing free until w
-  pub lacks_since : (z : Sizes) (call : ℕ) (lack : Lack) (spare : Option ℕ) → MetMore call u v → SweepsAll u v → MetMore call v w → Begins v.findings.swept w.findings.swept → LackFound z (length v.findings.met) (length w.findings.met) w.findings.met lack spare
+  -- a call that began at u, and swept every key until v, lacks what it found with nothing free until w, and of which it took none but the spare block
+  pub lacks_since : (z : Sizes) (call : ℕ) (lack : Lack) (spare : Option ℕ) → MetMore call u v → SweepsAll u v → MetMore call v w → Begins v.findings.swept w.findings.swept → LackFound z (length v.findings.met) (length w.findings.met) w.findings.met lack spare → MetOnly (TookBut lack spare) v w
       → Lacks z call lack spare (length u.findings.met) (length w.findings.met) w.findings
-  lacks_since z call lack spare first all last swept found = let both = met_both call u v w first last in record {
+  lacks_since z call lack spare first all last swept found only = let both = met_both call u v w first last in record {
     behind = length v.findings.met;
     from = begins_length u.findings.met v.findings.met (first.more, first.met);
     to = begins_length v.findings.met w.findings.met (last.more, last.met);
@@ -110,4 +114,5 @@ module _ (u v w : PassState) where
     of_call = λ i f le lt at. each_at (λ (x : Finding). x.call ≡ call) both.more both.calls (i - length u.findings.met) f (from_behind u.findings.met both.more i f le (subst (λ (l : List Finding). get_elem? l i ≡ some f) both.met at));
     covered = λ k is. key_swept k (all k is) swept;
     found = found;
+    own = λ i f le lt at. each_at (TookBut lack spare) only.more only.each (i - length v.findings.met) f (from_behind v.findings.met only.more i f le (subst (λ (l : List Finding). get_elem? l i ≡ some f) only.met at));
   }

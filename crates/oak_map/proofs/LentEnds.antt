@@ -21,10 +21,12 @@ use Rattle.oak_core.specs.KeyHistories.{state_behind, writes_of}
 use Rattle.oak_core.specs.KnownPlaces.{KnowsPlace}
 use Rattle.oak_core.specs.Passes.{call_of, key as sizes}
 use Rattle.oak_core.specs.PassState.{HoldsNothing, IsAlone, seen_of}
+use Rattle.oak_core.specs.QuietSteps.{IsQuiet, Quiet}
 use Rattle.oak_core.specs.RebalanceSteps.{KeepsRooms}
 use Rattle.oak_core.specs.Step.{on_headers}
 use Rattle.oak_core.proofs.AloneRuns.{Then, moment_after, runs_as, runs_then}
 use Rattle.oak_core.proofs.CallSteps.{stands_both, stands_learns}
+use Rattle.oak_core.proofs.QuietCalls.{only_both, quiet_loads}
 use Rattle.chunk_ops.specs.RoomPins.{HadMoment}
 use Rattle.chunk_ops.proofs.MeetingCalls.{then_stays}
 use Rattle.value_ops.specs.declared.pinned_value.PinnedValue.{PinnedValue}
@@ -88,6 +90,10 @@ module _ (z : Sizes) (call loaded_at undone_at h : ℕ) (x : PinnedValue) (v u t
 
 -- The reading r was lent at u, the pass only made loads until the reading q, and the pin was undone, until w.
 
+-- so the whole call only loaded words, and pinned or undid pins
+end_quiet : (v w : PassState) (r q : Reading) → Quiet v (under r) → ReadsOn r q → EndsPin (sizes q.table.now) (call_of q.pass.now) (header q) (under q) w → Quiet v w
+end_quiet v w r q lent on undone = only_both IsQuiet v (under q) w (only_both IsQuiet v (under r) (under q) lent (quiet_loads (sizes r.table.now) (call_of r.pass.now) (under r) (under q) on.only.loads)) undone.quiet
+
 -- it is a reading of the same header
 header_on : (z : Sizes) (r q : Reading) → HasValue z r.value (under r) → ReadsOn r q → header q ≡ header r
 header_on z r q has on = sym on.reading.pinned.has.header_is ∙ (ap header_in (sym on.reading.pinned.has.is ∙ (ap (λ (y : PassState). y.headers.pin) on.only.loads.after ∙ has.value.has.is)) ∙ has.value.has.header_is)
@@ -102,6 +108,9 @@ module _ (z : Sizes) (call : ℕ) (key : List ℕ) (v w : PassState) (r q : Read
 
   pub value_refuses : Refuses call v w
   value_refuses = end_refuses z call (call_of r.pass.now) (call_of q.pass.now) (header q) r.value v (under r) (under q) w idle l.goes l.numbers l.mine l.fulls l.swept l.rebalances l.has (sizes r.table.now) (sizes q.table.now) sized again same (on.stays.call ∙ same) on.only undone
+
+  pub value_quiet : Quiet v w
+  value_quiet = end_quiet v w r q l.quiet on undone
 
   -- the call replied with the value
   pub value_replies : RepliesAt call key Get (replies.Holds (value r)) (stamp r) v w
@@ -138,3 +147,6 @@ module _ (z : Sizes) (call : ℕ) (key : List ℕ) (v w : PassState) (r q : Read
 module _ (z : Sizes) (call : ℕ) (x : Viewed) (v w : PassState) (r q : Reading) (idle : HoldsNothing v) (l : LendsLife z call x v r) (sized : sizes r.table.now ≡ z) (same : call_of r.pass.now ≡ call) (on : ReadsOn r q) (undone : EndsPin (sizes q.table.now) (call_of q.pass.now) (header q) (under q) w) where
   pub life_refuses : Refuses call v w
   life_refuses = end_refuses z call (call_of r.pass.now) (call_of q.pass.now) (header q) r.value v (under r) (under q) w idle l.goes l.numbers l.mine l.fulls l.swept l.rebalances l.has (sizes r.table.now) (sizes q.table.now) sized (ap (λ (b : Bor OakTable). sizes b.now) on.table ∙ sized) same (on.stays.call ∙ same) on.only undone
+
+  pub life_quiet : Quiet v w
+  life_quiet = end_quiet v w r q l.quiet on undone

@@ -6,6 +6,8 @@ use Rattle.oak_core.specs.declared.states.PassState.{PassState}
 use Rattle.oak_core.specs.CallSteps.{Learns}
 use Rattle.oak_core.specs.Passes.{key as table_sizes}
 use Rattle.oak_core.specs.PassState.{HoldsNothing}
+use Rattle.oak_core.specs.QuietSteps.{IsQuiet}
+use Rattle.oak_core.proofs.QuietCalls.{only_both}
 use Rattle.chunk_ops.proofs.MeetingCalls.{then_stays}
 use Rattle.value_ops.specs.declared.reading.Reading.{Reading}
 use Rattle.value_ops.specs.Pinning.{AddsPin, KnowsLife}
@@ -48,6 +50,7 @@ module _ (z : Sizes) (call : ℕ) (x : Viewed) (v w : PassState) (r : Reading) (
     fulls = learns.all.fulls;
     swept = learns.all.swept;
     rebalances = learns.all.rebalances;
+    quiet = only_both IsQuiet v w (under r) p.quiet loads.quiet;
     blocks = lent_blocks z call x.header x.generation v p.tried w r idle refused.learns refused.holds p.pins is sized loads found;
     rooms = lent_rooms z call x.header x.generation v p.tried w r idle refused.learns refused.holds p.pins is sized loads found;
     has = lent_has z call x.header x.generation v p.tried w r idle refused.learns refused.holds p.pins is sized loads found;

@@ -18,10 +18,12 @@ use Rattle.oak_core.specs.LastReads.{ReadsLast}
 use Rattle.oak_core.specs.Memory.{memory}
 use Rattle.oak_core.specs.Passes.{key as table_sizes}
 use Rattle.oak_core.specs.PassState.{HoldsNothing, IsAlone, seen_of}
+use Rattle.oak_core.specs.QuietSteps.{IsQuiet}
 use Rattle.oak_core.specs.Step.{load}
 use Rattle.oak_core.proofs.AloneRuns.{moment_after}
 use Rattle.oak_core.proofs.CallSteps.{learns_both, sights_same}
 use Rattle.oak_core.proofs.KnownReads.{read_since}
+use Rattle.oak_core.proofs.QuietCalls.{only_both}
 use Rattle.chunk_ops.proofs.MeetingCalls.{then_stays}
 use Rattle.value_ops.specs.declared.reading.Reading.{Reading}
 use Rattle.value_ops.specs.Pinning.{AddsPin, KnowsLife, PinsLive, pin_of}
@@ -113,6 +115,7 @@ lends_value z call key h g v w r idle p is sized loads found reads = record {
   fulls = learns.all.fulls;
   swept = learns.all.swept;
   rebalances = learns.all.rebalances;
+  quiet = only_both IsQuiet v w here p.quiet loads.quiet;
   blocks = lent_blocks z call h g v p.tried w r idle p.tries.learns p.tries.holds p.pins is sized loads found;
   rooms = lent_rooms z call h g v p.tried w r idle p.tries.learns p.tries.holds p.pins is sized loads found;
   has = lent_has z call h g v p.tried w r idle p.tries.learns p.tries.holds p.pins is sized loads found;

@@ -70,7 +70,7 @@ module _ (z : Sizes) (call : ℕ) (key value : List ℕ) (ask : CellCall) (settl
         let r = retries_still z key ask settled u a b c (halts_stay Crowded z key value b c q) p in let s = r.settled_stays n.had in
         let there = noted_alone z call Room t x n.notes d.after d.leaves in let alone = was_alone z key ask settled u v w numbers later idle going same (alone_later t w (sym h.leaves.numbers) there) in
         let ends = lone_end z key ask settled u v w numbers later idle going same alone c l s in let none = lacks ends in
-        let table : LoneTable z d.after t = record { moment = noted_moment z call Room t x n.notes d.after d.leaves; alone = there; idle = idle_on w t (tries_leaves call w t h.leaves).holds idle } in
+        let table : LoneTable z d.after t = record { moment = noted_moment z call Room t x n.notes d.after d.leaves; alone = there; idle = idle_on w t (tries_leaves z call w t h.leaves h.claims).holds idle } in
         let e = noted_on Room a d.after t d.leaves n.is n.notes (full_of_rooms z key ask u value makes call w t f a c d.after r.retired d.does (f.all_open.goes c l).does s (many_there z key ask u c alone s (crowded_room z key value b c q)) (crowded_room z key value b c q) none
         (missing d.after t table (λ k. ap (seen_of k) h.leaves.knowledge ∙ ends.same k) none.absent)) in
         record { after = e.after; leaves = e.leaves; does = e.does }

@@ -105,5 +105,5 @@ pub lone_first : (z : Sizes) (key : List ℕ) (ask : CellCall) (u : PassState) �
 lone_first z key ask u = record { begun = inl refl; seen = λ _ q. refl; runs = runs_none (Retries z key ask false u) u (λ a. record { retired = refl; settled_stays = λ e. absurd cc }) }
 
 -- the pass holds nothing behind a refused try
-pub idle_behind : (call first : ℕ) (settled : Bool) (u v w : PassState) → HoldsNothing u → Going first settled u v → Refuses call v w → HoldsNothing w
-idle_behind call first settled u v w idle g r = idle_on v w (holds_on v w r.holds) (idle_on u v g.tries.holds idle)
+pub idle_behind : (z : Sizes) (call first : ℕ) (settled : Bool) (u v w : PassState) → HoldsNothing u → Going z first settled u v → Refuses call v w → HoldsNothing w
+idle_behind z call first settled u v w idle g r = idle_on v w (holds_on v w r.holds) (idle_on u v g.tries.holds idle)

@@ -1,5 +1,5 @@
 -- A view to a pass that is alone.
-use Rattle.std.proofs.Common.{◌≡◌, ℕ, ap, ◌∙◌}
+use Rattle.std.proofs.Common.{ℕ, ap, ◌∙◌}
 use Rattle.pin_word.specs.PinWord.{state_of}
 use Rattle.oak_model.specs.Limits.{Sizes}
 use Rattle.header_core.specs.Headers.{at_pin}

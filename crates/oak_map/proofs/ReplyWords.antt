@@ -91,7 +91,7 @@ module _ (P Q S : List ℕ → List ℕ → Type 0) (u v w : PassState) (apart :
   }
 
 -- The call began at u and went on until v, and its last try, from v to w, had a reply. There was a moment at w.
-module _ (z : Sizes) (call first : ℕ) (key value : List ℕ) (ask : CellCall) (settled : Bool) (u v w : PassState) (y : Wrote) (is : is_key key ≡ true) (idle : HoldsNothing u) (tried : Going first settled u v)
+module _ (z : Sizes) (call first : ℕ) (key value : List ℕ) (ask : CellCall) (settled : Bool) (u v w : PassState) (y : Wrote) (is : is_key key ≡ true) (idle : HoldsNothing u) (tried : Going z first settled u v)
     (going : LoneGoing z key ask settled u v) (fits : WroteFits y call key ask v w) (answer : IsAlone v → WroteAlone y z key ask v w) (had : HadMoment z w) where
   replies : RepliesAt call key ask (some_reply y call key ask v w fits).0 (some_reply y call key ask v w fits).1.0 v w
   replies = (some_reply y call key ask v w fits).1.1

@@ -4,6 +4,7 @@ use Rattle.oak_model.specs.Limits.{Sizes}
 use Rattle.oak_core.specs.declared.states.PassState.{PassState}
 use Rattle.oak_core.specs.AloneWords.{Runs}
 use Rattle.oak_core.specs.PassState.{IsAlone}
+use Rattle.oak_core.specs.QuietSteps.{Quiet}
 use Rattle.chunk_ops.specs.RoomPins.{HadMoment}
 use Rattle.value_ops.specs.Pinning.{AddsPin, KnowsLife, MeetsMore, PinsLive}
 use Rattle.value_ops.specs.Views.{Viewed}
@@ -14,18 +15,20 @@ use Rattle.oak_map.specs.Maps.{StayAll}
 use Rattle.oak_map.specs.declared.finding.Tried.{Tried}
 use Rattle.oak_map.specs.declared.finding.Tried.TheVariants.{Absent, Pinned, Again}
 
--- the pass was refused only, and to one that is alone the words stay
+-- the pass was refused only, by loads, pins and their undoing alone, and to one that is alone the words stay
 pub record TriesAgain (z : Sizes) (call : ℕ) (v w : PassState) : Type 0 where
   pub refused : Refuses call v w
+  pub quiet : Quiet v w
   pub begun : IsAlone v → SeesWhole z v
   pub alone : Runs StayAll v w
 
--- The header was pinned, live at its generation, in a life of the key that the pass knows, after tries that only taught it.
+-- The header was pinned, live at its generation, in a life of the key that the pass knows, after tries that only taught it. All steps were loads, pins and their undoing.
 pub record PinsKey (z : Sizes) (call : ℕ) (key : List ℕ) (h g : ℕ) (v w : PassState) : Type 0 where
   pub tried : PassState
   pub tries : Refuses call v tried
   pub life : KnowsLife h g key tried.knowledge
   pub pins : PinsLive z call h g tried w
+  pub quiet : Quiet v w
   pub begun : IsAlone v → SeesWhole z v
   pub alone : Runs (AddsPin z h g) v w
 
@@ -38,19 +41,22 @@ TriesKey Again z call key v w = TriesAgain z call v w
 -- the search goes on, which began at u
 pub record Searches (z : Sizes) (call : ℕ) (u v : PassState) : Type 0 where
   pub refused : Refuses call u v
+  pub quiet : Quiet u v
   pub begun : (v ≡ u) ⊎ (IsAlone u → SeesWhole z u)
   pub alone : Runs StayAll u v
 
--- the header of the view was pinned, after tries that only met more
+-- the header of the view was pinned, after tries that only met more, and all steps were loads, pins and their undoing
 pub record PinsView (z : Sizes) (call : ℕ) (x : Viewed) (v w : PassState) : Type 0 where
   pub tried : PassState
   pub tries : MeetsMore z call v tried
   pub pins : PinsLive z call x.header x.generation tried w
+  pub quiet : Quiet v w
   pub begun : HadMoment z v
   pub alone : Runs (AddsPin z x.header x.generation) v w
 
 -- the search for the view's life goes on, which began at u
 pub record SearchesLife (z : Sizes) (call : ℕ) (u v : PassState) : Type 0 where
   pub tries : MeetsMore z call u v
+  pub quiet : Quiet u v
   pub begun : (v ≡ u) ⊎ HadMoment z u
   pub alone : Runs StayAll u v

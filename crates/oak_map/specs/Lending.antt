@@ -11,6 +11,7 @@ use Rattle.oak_core.specs.KeyHistories.{state_behind, writes_of}
 use Rattle.oak_core.specs.KnownPlaces.{KnowsPlace}
 use Rattle.oak_core.specs.Passes.{state}
 use Rattle.oak_core.specs.PassState.{IsAlone, seen_of}
+use Rattle.oak_core.specs.QuietSteps.{Quiet}
 use Rattle.oak_core.specs.RebalanceSteps.{KeepsRooms}
 use Rattle.oak_core.specs.Sights.{SightedSince}
 use Rattle.value_ops.specs.declared.reading.Reading.{Reading}
@@ -28,13 +29,14 @@ use Rattle.oak_map.specs.Maps.{StayAll}
 abbrev pub under : Reading → PassState
 under r = state r.pass.now
 
--- The key was absent at the place of the number. To a pass that is alone it was so in the last state of the key, and the words stay.
+-- The key was absent at the place of the number. The call only loaded words, and pinned or undid pins: it took no lock and stored nothing. To a pass that is alone it was so in the last state of the key, and the words stay.
 pub record FindsAbsent (z : Sizes) (call : ℕ) (key : List ℕ) (at : ℕ) (v w : PassState) : Type 0 where
   pub replies : RepliesAt call key Get reply.Absent at v w
+  pub quiet : Quiet v w
   pub alone_reply : IsAlone v → AnswersAlone z key Get reply.Absent v w
   pub alone : Runs StayAll v w
 
--- The reading is of the value that the key held at the place of its stamp, at which all ends that the pass has seen of the key. The pass has the pin of that value and nothing else. To a pass that is alone the key held it in its last state, no history changed, and the words stay but for one pin more on the value's header.
+-- The reading is of the value that the key held at the place of its stamp, at which all ends that the pass has seen of the key. The pass has the pin of that value and nothing else, and only loaded words, and pinned or undid pins: it took no lock and stored nothing. To a pass that is alone the key held it in its last state, no history changed, and the words stay but for one pin more on the value's header.
 pub record LendsValue (z : Sizes) (call : ℕ) (key : List ℕ) (v : PassState) (r : Reading) : Type 0 where
   pub goes : GoesOn call v (under r)
   pub known : KnowsPlace (key_number key) (stamp r) (length (seen_of (key_number key) (under r).knowledge)) (under r).knowledge
@@ -45,6 +47,7 @@ pub record LendsValue (z : Sizes) (call : ℕ) (key : List ℕ) (v : PassState) 
   pub fulls : (under r).findings.fulls ≡ v.findings.fulls
   pub swept : (under r).findings.swept ≡ v.findings.swept
   pub rebalances : KeepsRooms v (under r)
+  pub quiet : Quiet v (under r)
   pub blocks : (under r).blocks ≡ v.blocks
   pub rooms : (under r).rooms ≡ v.rooms
   pub has : HasValue z r.value (under r)
@@ -53,17 +56,18 @@ pub record LendsValue (z : Sizes) (call : ℕ) (key : List ℕ) (v : PassState) 
   pub generation : ℕ
   pub alone : Runs (AddsPin z (header r) generation) v (under r)
 
--- The life of the view was found to be over, after tries that only met more: its removal stands in what the pass has heard. To a pass that is alone no history changed, and the words stay.
+-- The life of the view was found to be over, after tries that only met more: its removal stands in what the pass has heard. The call only loaded words, and pinned or undid pins. To a pass that is alone no history changed, and the words stay.
 pub record FindsOver (z : Sizes) (call : ℕ) (x : Viewed) (v w : PassState) : Type 0 where
   pub tried : PassState
   pub tries : MeetsMore z call v tried
   pub not_read : NotRead z call x Gone tried w
   pub gone : LearnsReason z call x Gone v w
   pub holds : HoldsAsBefore v w
+  pub quiet : Quiet v w
   pub same : SameAlone z v w
   pub alone : Runs (FindsReason z x Gone) v w
 
--- The reading is of the value that the life of the view had, after tries that only met more. The pass has the pin of that value and nothing else. To a pass that is alone no history changed, and the words stay but for one pin more on the value's header.
+-- The reading is of the value that the life of the view had, after tries that only met more. The pass has the pin of that value and nothing else, and only loaded words, and pinned or undid pins. To a pass that is alone no history changed, and the words stay but for one pin more on the value's header.
 pub record LendsLife (z : Sizes) (call : ℕ) (x : Viewed) (v : PassState) (r : Reading) : Type 0 where
   pub tried : PassState
   pub tries : MeetsMore z call v tried
@@ -75,6 +79,7 @@ pub record LendsLife (z : Sizes) (call : ℕ) (x : Viewed) (v : PassState) (r : 
   pub fulls : (under r).findings.fulls ≡ v.findings.fulls
   pub swept : (under r).findings.swept ≡ v.findings.swept
   pub rebalances : KeepsRooms v (under r)
+  pub quiet : Quiet v (under r)
   pub blocks : (under r).blocks ≡ v.blocks
   pub rooms : (under r).rooms ≡ v.rooms
   pub has : HasValue z r.value (under r)

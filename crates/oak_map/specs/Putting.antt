@@ -21,12 +21,12 @@ abbrev pub SweepsAll : PassState → PassState → Type 0
 SweepsAll v w = (k : List ℕ) → IsKey k → SweepsKey k v w
 
 -- the call, which began at v, goes on; once it has settled it swept ranges with every key
-pub record Going (call : ℕ) (settled : Bool) (v w : PassState) : Type 0 where
-  pub tries : Tries call v w
+pub record Going (z : Sizes) (call : ℕ) (settled : Bool) (v w : PassState) : Type 0 where
+  pub tries : Tries z call v w
   pub swept : settled ≡ true → SweepsAll v w
 
 -- the call began at u, and its last try, from v to w, was refused
 pub record LastTry (z : Sizes) (call : ℕ) (key : List ℕ) (halt : Halt) (settled : Bool) (ask : CellCall) (u v w : PassState) : Type 0 where
-  pub going : Going call settled u v
+  pub going : Going z call settled u v
   pub refused : Refuses call v w
   pub halts : Halts halt z call key ask v w

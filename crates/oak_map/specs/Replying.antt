@@ -5,7 +5,7 @@ use Rattle.oak_model.specs.declared.cells.CellReply.{CellReply}
 use Rattle.oak_model.specs.declared.cells.CellReply.TheVariants as replies
 use Rattle.oak_model.specs.declared.replies.Lack.{Lack}
 use Rattle.oak_model.specs.declared.replies.Lack.TheVariants.{Block, Header, Room}
-use Rattle.oak_core.specs.RoomLacks.{RoomLackFound}
+use Rattle.oak_core.specs.RoomLacks.{ClaimsFull, RoomLackFound}
 use Rattle.oak_model.specs.declared.replies.Wrote.{Wrote}
 use Rattle.oak_model.specs.declared.replies.Wrote.TheVariants.{New, Over, Kept, Done, Removed, Absent, Full}
 use Rattle.oak_model.specs.Cell.{is_write}
@@ -32,11 +32,12 @@ pub record HoldsOn (v w : PassState) : Type 0 where
   pub fulls : w.findings.fulls ≡ v.findings.fulls
   pub swept : Begins v.findings.swept w.findings.swept
 
--- the call tried and made room: it met more, forgot nothing and wrote nothing
-pub record Tries (call : ℕ) (v w : PassState) : Type 0 where
+-- The call tried and made room: it met more, forgot nothing and wrote nothing. Each room that it claimed, it claimed while it held a chunk that was full when it came to hold it.
+pub record Tries (z : Sizes) (call : ℕ) (v w : PassState) : Type 0 where
   pub goes : GoesOn call v w
   pub mine : w.knowledge.mine ≡ v.knowledge.mine
   pub holds : HoldsOn v w
+  pub claims : ClaimsFull z v w
 
 -- The reply fits at the place of its number, at which all ends that the pass has seen of the key; that is not before what it had seen, and for a write it is behind it.
 pub record MapReplies (call : ℕ) (key : List ℕ) (ask : CellCall) (reply : CellReply) (at : ℕ) (v w : PassState) : Type 0 where
@@ -60,10 +61,10 @@ SpareOf (Block c) spare call key ask v w = SpareNow spare c call key ask v w
 SpareOf Header spare call key ask v w = spare ≡ None
 SpareOf Room spare call key ask v w = spare ≡ None
 
--- The call lacks something. It made no write; it needs what it lacks, on a state of the key that it read; all that it met since its begin is its own, ranges that it swept cover every key, and behind these it found nothing free of what it lacks. With that it was noted, in one step more.
+-- The call lacks something. It made no write; it needs what it lacks, on a state of the key that it read; all that it met since its begin is its own, ranges that it swept cover every key, and behind these it found nothing free of what it lacks. Each room that it claimed, it claimed while it held a full chunk. With that it was noted, in one step more.
 pub record GivesUp (z : Sizes) (call : ℕ) (key : List ℕ) (ask : CellCall) (lack : Lack) (v w : PassState) : Type 0 where
   pub last : PassState
-  pub tries : Tries call v last
+  pub tries : Tries z call v last
   pub needs : NeedsNow call key ask lack v last
   pub spare : Option ℕ
   pub spared : SpareOf lack spare call key ask v last

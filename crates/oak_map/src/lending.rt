@@ -120,8 +120,8 @@ fn scan_within<'p>(
 impl OakMap {
     /// Looks for a key, and reads its value where it has one: the answer is the cell's at the place of the
     /// number `at`, or of the reading's stamp, in the key's history. It is tried again while other passes
-    /// are at work on the key or move its room. Where the pass is alone, the answer is the cell's on the
-    /// last state of the key.
+    /// are at work on the key or move its room. It only loads words, and pins and undoes pins, so it takes no
+    /// lock. Where the pass is alone, the answer is the cell's on the last state of the key.
     pub fn get<'p, R: Wait>(&'p self, rt: &R, pass: &'p mut MapPass, key: &[u8]) -> Lent<'p>
         requires ready { IsReady self.now pass.old }
         requires key { IsKey key.now }
@@ -132,7 +132,7 @@ impl OakMap {
     }
 
     /// Reads the value that the life of a view has. It waits while a pass writes it. `Gone` comes only where
-    /// the life was found to be over.
+    /// the life was found to be over. It only loads words, and pins and undoes pins, so it takes no lock.
     pub fn look<'p, R: Wait>(
         &'p self,
         rt: &R,
@@ -147,7 +147,8 @@ impl OakMap {
         look_of(pass.pass_mut(), rt, self, view)
     }
 
-    /// Begins a scan of the keys between the bounds, which belong to the range; none is no bound.
+    /// Begins a scan of the keys between the bounds, which belong to the range; none is no bound. What the scan
+    /// has given since says that it only loaded words, and pinned and undid pins, so it takes no lock.
     pub fn scan<'p>(
         &'p self,
         pass: &'p mut MapPass,

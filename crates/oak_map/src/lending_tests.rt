@@ -4,6 +4,7 @@ ghost use Rattle.std.specs.Prelude.{◌≡◌, ◌<◌, IfSome, length};
 ghost use Rattle.oak_model.specs.Key.{IsKey};
 ghost use Rattle.oak_core.specs.PassState.{HoldsNothing};
 ghost use Rattle.oak_core.specs.Passes.{IsPassOf, Stays, call_of as table_call, state as table_state};
+ghost use Rattle.oak_core.specs.QuietSteps.{Quiet};
 ghost use Rattle.oak_core.specs.Scratch.{StaysButSlots};
 ghost use Rattle.value_ops.specs.Reading.{IsReading, ReadsOn};
 ghost use Rattle.value_ops.specs.Views.{KnowsView};
@@ -49,6 +50,7 @@ fn copies_of<R: Wait>(
     requires key { IsKey key.now }
     ensures own { Stays pass.old pass.new }
     ensures ready { IsReadyAgain (table_call pass.old) (table_state pass.old) (table_state pass.new) }
+    ensures quiet { Quiet (table_state pass.old) (table_state pass.new) }
     ensures long { length out.new ≡ length out.old }
 {
     match get_of(pass, rt, map, key) {
@@ -75,6 +77,7 @@ fn looks_of<R: Wait>(
     requires known { KnowsView (sizes map.now) view.now (table_state pass.old) }
     ensures own { Stays pass.old pass.new }
     ensures ready { IsReadyAgain (table_call pass.old) (table_state pass.old) (table_state pass.new) }
+    ensures quiet { Quiet (table_state pass.old) (table_state pass.new) }
     ensures long { length out.new ≡ length out.old }
 {
     match look_of(pass, rt, map, view) {
@@ -96,6 +99,7 @@ fn next_of<R: Wait>(rt: &R, cursor: &mut Cursor<'_>) -> u8
     ensures own { StaysButSlots cursor.old.pass.now cursor.new.pass.now }
     ensures cursor { IsCursor cursor.new }
     ensures numbers { (under cursor.new).numbers ≡ (under cursor.old).numbers }
+    ensures quiet { Quiet (under cursor.old) (under cursor.new) }
 {
     let more = cursor.advance(rt);
     if more && cursor.key_len() > 0 {
@@ -113,6 +117,7 @@ fn next_all<R: Wait>(rt: &R, cursor: &mut Cursor<'_>, out: &mut [u8])
     ensures own { StaysButSlots cursor.old.pass.now cursor.new.pass.now }
     ensures cursor { IsCursor cursor.new }
     ensures numbers { (under cursor.new).numbers ≡ (under cursor.old).numbers }
+    ensures quiet { Quiet (under cursor.old) (under cursor.new) }
     ensures long { length out.new ≡ length out.old }
 {
     for i in 0..out.len() {
@@ -137,6 +142,7 @@ fn collects<R: Wait>(
     ensures own { StaysButSlots pass.old pass.new }
     ensures idle { HoldsNothing (table_state pass.new) }
     ensures numbers { (table_state pass.new).numbers ≡ (table_state pass.old).numbers }
+    ensures quiet { Quiet (table_state pass.old) (table_state pass.new) }
     ensures long { length out.new ≡ length out.old }
 {
     let mut cursor = scan_of(map, pass, low, high, way);

@@ -60,7 +60,7 @@ pub(crate) fn make_way<R: Wait>(
     requires tried { (ask : CellCall) × (u : PassState) × (v : PassState) × LastTry (sizes table.now) (call_of pass.old) key.now halt settled.old ask u v (state pass.old) }
     ensures own { StaysButSlots pass.old pass.new }
     ensures full { (ask : CellCall) (u v : PassState) → LastTry (sizes table.now) (call_of pass.old) key.now halt settled.old ask u v (state pass.old) → IfSome result (λ lack. GivesUp (sizes table.now) (call_of pass.old) key.now ask lack u (state pass.new)) }
-    ensures going { (ask : CellCall) (u v : PassState) → LastTry (sizes table.now) (call_of pass.old) key.now halt settled.old ask u v (state pass.old) → IfNone result (Going (call_of pass.old) settled.new u (state pass.new)) }
+    ensures going { (ask : CellCall) (u v : PassState) → LastTry (sizes table.now) (call_of pass.old) key.now halt settled.old ask u v (state pass.old) → IfNone result (Going (sizes table.now) (call_of pass.old) settled.new u (state pass.new)) }
     ensures way { MakesWay halt (sizes table.now) (call_of pass.old) key.now settled.old settled.new result (state pass.old) (state pass.new) }
 {
     match halt {

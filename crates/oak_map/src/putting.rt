@@ -6,6 +6,7 @@ ghost use Rattle.oak_model.specs.Value.{IsValue};
 ghost use Rattle.oak_core.specs.AloneWords.{Runs};
 ghost use Rattle.oak_core.specs.MayWrite.{IsNewCall};
 ghost use Rattle.oak_core.specs.PassState.{IsAlone};
+ghost use Rattle.oak_core.specs.RoomLacks.{ClaimsFull};
 ghost use Rattle.oak_core.specs.Scratch.{StaysButSlots};
 ghost use Rattle.point_ops.specs.Counted.{Feeds, FeedsAlone, times_done};
 ghost use Rattle.oak_map.specs.LonePuts.{PutAlone, PutsAlone, RoomsAlone};
@@ -26,7 +27,8 @@ impl OakMap {
     /// chunk is split while it has no entry left for the key. `Full` comes only where the call settled the
     /// map, and behind that found nothing free of what it needs; it made no write then, and is noted with
     /// what it lacks. To a pass that is alone `Full` comes exactly where the map lacks that, or where there is
-    /// no room for the key; and where its first try is answered the rooms stay, and no range is swept. The
+    /// no room for the key; and where its first try is answered the rooms stay, and no range is swept. Each
+    /// room that the call claims, it claims while it holds a chunk that was full when it came to hold it. The
     /// pass made no write in this turn.
     pub fn put<R: Wait>(&self, rt: &R, pass: &mut MapPass, key: &[u8], value: &[u8]) -> Wrote
         requires ready { IsReady self.now pass.old }
@@ -36,6 +38,7 @@ impl OakMap {
         ensures own { StaysButSlots (pass_of pass.old) (pass_of pass.new) }
         ensures ready { IsReady self.now pass.new }
         ensures wrote { PutFits result (sizes self.now) (call_of pass.old) key.now (Put value.now) (state pass.old) (state pass.new) }
+        ensures claims { ClaimsFull (sizes self.now) (state pass.old) (state pass.new) }
         ensures alone_reply { IsAlone (state pass.old) → PutAlone result (sizes self.now) key.now (Put value.now) (state pass.old) (state pass.new) }
         ensures alone { Runs (PutsAlone (sizes self.now) key.now (Put value.now) (state pass.old) result) (state pass.old) (state pass.new) }
         ensures alone_rooms { IsAlone (state pass.old) → Runs (RoomsAlone (sizes self.now) key.now (Put value.now) (state pass.old) (state pass.new)) (state pass.old) (state pass.new) }
@@ -77,6 +80,7 @@ impl OakMap {
         ensures own { StaysButSlots (pass_of pass.old) (pass_of pass.new) }
         ensures ready { IsReady self.now pass.new }
         ensures wrote { PutFits result (sizes self.now) (call_of pass.old) key.now (PutNew value.now) (state pass.old) (state pass.new) }
+        ensures claims { ClaimsFull (sizes self.now) (state pass.old) (state pass.new) }
         ensures alone_reply { IsAlone (state pass.old) → PutAlone result (sizes self.now) key.now (PutNew value.now) (state pass.old) (state pass.new) }
         ensures alone { Runs (PutsAlone (sizes self.now) key.now (PutNew value.now) (state pass.old) result) (state pass.old) (state pass.new) }
         ensures alone_rooms { IsAlone (state pass.old) → Runs (RoomsAlone (sizes self.now) key.now (PutNew value.now) (state pass.old) (state pass.new)) (state pass.old) (state pass.new) }
@@ -121,6 +125,7 @@ impl OakMap {
         ensures own { StaysButRoom (pass_of pass.old) (pass_of pass.new) }
         ensures ready { IsReady self.now pass.new }
         ensures wrote { PutFits result (sizes self.now) (call_of pass.old) key.now (Upsert value.now (told_kind recipe.old) (told_argument recipe.old)) (state pass.old) (state pass.new) }
+        ensures claims { ClaimsFull (sizes self.now) (state pass.old) (state pass.new) }
         ensures alone_reply { IsAlone (state pass.old) → PutAlone result (sizes self.now) key.now (Upsert value.now (told_kind recipe.old) (told_argument recipe.old)) (state pass.old) (state pass.new) }
         ensures alone { Runs (PutsAlone (sizes self.now) key.now (Upsert value.now (told_kind recipe.old) (told_argument recipe.old)) (state pass.old) result) (state pass.old) (state pass.new) }
         ensures alone_rooms { IsAlone (state pass.old) → Runs (RoomsAlone (sizes self.now) key.now (Upsert value.now (told_kind recipe.old) (told_argument recipe.old)) (state pass.old) (state pass.new)) (state pass.old) (state pass.new) }

@@ -1,4 +1,5 @@
 use Rattle.std.proofs.Common.{◌≡◌, length}
+use Rattle.oak_core.specs.QuietSteps.{Quiet}
 use Rattle.oak_core.specs.Scratch.{StaysButSlots}
 use Rattle.scan_cursor.specs.Cursors.{IsCursor, under}
 use Rattle.oak_map.proofs.lending_tests.next_all.Given as goal
@@ -10,5 +11,6 @@ invariant-loop-i g l = record {
   own : StaysButSlots l.fn.cursor.pass.now l.cursor.pass.now;
   cursor : IsCursor l.cursor;
   numbers : (under l.cursor).numbers ≡ (under l.fn.cursor).numbers;
+  quiet : Quiet (under l.fn.cursor) (under l.cursor);
   long : length l.out ≡ length l.fn.out;
 }

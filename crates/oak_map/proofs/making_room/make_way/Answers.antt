@@ -8,7 +8,7 @@ use Rattle.point_ops.specs.declared.halts.Halt.TheVariants.{Crowded, NoBlock, No
 use Rattle.rebalance.specs.Calls.{Settles}
 use Rattle.oak_map.specs.MakingRoom.{MakesWay}
 use Rattle.oak_map.specs.Putting.{Going, LastTry}
-use Rattle.oak_map.proofs.GoingCalls.{block_lacks, going_more, going_tried, header_lacks, met_longer, refused_full, refused_going, room_lacks, split_leaves, split_ways, waits_way}
+use Rattle.oak_map.proofs.GoingCalls.{block_lacks, going_more, going_tried, header_lacks, met_longer, refused_full, refused_going, room_lacks, split_tries, split_ways, waits_way}
 use Rattle.oak_map.proofs.Trying.{tries_leaves, tries_none}
 use Rattle.oak_map.proofs.making_room.make_way.Goals as goal
 
@@ -21,7 +21,7 @@ refuse-requires-clause-lacks g c q = let z = sizes c.args.table.now in let call 
 pub refuse-requires-in-NoBlock-clause-lacks : goal.refuse-requires-in-NoBlock-clause-lacks
 refuse-requires-in-NoBlock-clause-lacks g c q = let z = sizes c.args.table.now in let call = call_of c.args.pass.now in let key = c.args.key.now in let t = c.requires.tried in let w = state c.args.pass.now in
     let h = subst (λ (h : Halt). LastTry z call key h true t.0 t.1 t.2 w) c.in-NoBlock.is (subst (λ (b : Bool). LastTry z call key c.args.halt b t.0 t.1 t.2 w) q t.3) in
-    (h.halts.0, length t.1.findings.met, block_lacks z call c.in-NoBlock.class h.halts.0 t.1 t.2 w h.going h.refused h.halts.1)
+    (h.halts.0, length t.1.findings.met, block_lacks z call c.in-NoBlock.class h.halts.0 t.1 t.2 w h.going h.refused h.halts.1 h.halts.4)
 
 pub refuse-requires-in-NoHeader-clause-lacks : goal.refuse-requires-in-NoHeader-clause-lacks
 refuse-requires-in-NoHeader-clause-lacks g c q = let z = sizes c.args.table.now in let call = call_of c.args.pass.now in let key = c.args.key.now in let t = c.requires.tried in let w = state c.args.pass.now in
@@ -34,27 +34,27 @@ returns-in-Busy-clause-going g c ask u v t = going_tried (sizes c.args.table.now
 
 pub returns-in-Ok-clause-going : goal.returns-in-Ok-clause-going
 returns-in-Ok-clause-going g c ask u v t = let z = sizes c.args.table.now in let call = call_of c.args.pass.now in let key = c.args.key.now in let w = state c.args.pass.now in let x = state c.split.new.pass in
-    going_more call c.args.settled.now u w x (going_tried z call key c.args.halt c.args.settled.now ask u v w t) (tries_leaves call w x (split_leaves z call key w x c.in-Ok.field-0 c.in-Ok.ensures.loosened c.in-Ok.ensures.halved))
+    going_more z call c.args.settled.now u w x (going_tried z call key c.args.halt c.args.settled.now ask u v w t) (split_tries z call key w x c.in-Ok.field-0 c.in-Ok.ensures.loosened c.in-Ok.ensures.halved)
 
 pub returns-in-Err-clause-going : goal.returns-in-Err-clause-going
 returns-in-Err-clause-going g c ask u v t = let z = sizes c.args.table.now in let call = call_of c.args.pass.now in let key = c.args.key.now in let w = state c.args.pass.now in let x = state c.split.new.pass in let y = state c.refuse.new.pass in let e = c.split.ensures.own.call in
-    refused_going z call key c.args.halt c.args.settled.now c.refuse.new.settled ask Room u v w x y c.refuse.result t (tries_leaves call w x c.in-Err.ensures.none.compacts.leaves)
+    refused_going z call key c.args.halt c.args.settled.now c.refuse.new.settled ask Room u v w x y c.refuse.result t (tries_leaves z call w x c.in-Err.ensures.none.compacts.leaves c.in-Err.ensures.none.compacts.claims)
     (λ q. let f = c.refuse.ensures.full q in (f.0, subst (λ (k : ℕ). Notes z k Room x y) e f.1)) (λ q. let a = c.refuse.ensures.again q in (a.0, a.1, subst (λ (k : ℕ). Settles z k x y) e a.2))
 
 pub returns-in-NoBlock-clause-going : goal.returns-in-NoBlock-clause-going
 returns-in-NoBlock-clause-going g c ask u v t = let call = call_of c.args.pass.now in let w = state c.args.pass.now in
-    refused_going (sizes c.args.table.now) call c.args.key.now c.args.halt c.args.settled.now c.refuse-in-NoBlock.new.settled ask (Block c.in-NoBlock.class) u v w w (state c.refuse-in-NoBlock.new.pass) c.refuse-in-NoBlock.result t (tries_none call w) c.refuse-in-NoBlock.ensures.full c.refuse-in-NoBlock.ensures.again
+    refused_going (sizes c.args.table.now) call c.args.key.now c.args.halt c.args.settled.now c.refuse-in-NoBlock.new.settled ask (Block c.in-NoBlock.class) u v w w (state c.refuse-in-NoBlock.new.pass) c.refuse-in-NoBlock.result t (tries_none (sizes c.args.table.now) call w) c.refuse-in-NoBlock.ensures.full c.refuse-in-NoBlock.ensures.again
 
 pub returns-in-NoHeader-clause-going : goal.returns-in-NoHeader-clause-going
 returns-in-NoHeader-clause-going g c ask u v t = let call = call_of c.args.pass.now in let w = state c.args.pass.now in
-    refused_going (sizes c.args.table.now) call c.args.key.now c.args.halt c.args.settled.now c.refuse-in-NoHeader.new.settled ask Header u v w w (state c.refuse-in-NoHeader.new.pass) c.refuse-in-NoHeader.result t (tries_none call w) c.refuse-in-NoHeader.ensures.full c.refuse-in-NoHeader.ensures.again
+    refused_going (sizes c.args.table.now) call c.args.key.now c.args.halt c.args.settled.now c.refuse-in-NoHeader.new.settled ask Header u v w w (state c.refuse-in-NoHeader.new.pass) c.refuse-in-NoHeader.result t (tries_none (sizes c.args.table.now) call w) c.refuse-in-NoHeader.ensures.full c.refuse-in-NoHeader.ensures.again
 
 -- or gives up
 
 pub returns-in-Err-clause-full : goal.returns-in-Err-clause-full
 returns-in-Err-clause-full g c ask u v t = let z = sizes c.args.table.now in let call = call_of c.args.pass.now in let key = c.args.key.now in let w = state c.args.pass.now in let x = state c.split.new.pass in let y = state c.refuse.new.pass in let e = c.split.ensures.own.call in
     let h = subst (λ (i : Halt). LastTry z call key i c.args.settled.now ask u v w) c.in-Crowded.is t in
-    refused_full z call key Crowded c.args.settled.now c.refuse.new.settled ask Room u v w x y c.refuse.result h (tries_leaves call w x c.in-Err.ensures.none.compacts.leaves)
+    refused_full z call key Crowded c.args.settled.now c.refuse.new.settled ask Room u v w x y c.refuse.result h (tries_leaves z call w x c.in-Err.ensures.none.compacts.leaves c.in-Err.ensures.none.compacts.claims)
     (λ q. let f = c.refuse.ensures.full q in (f.0, subst (λ (k : ℕ). Notes z k Room x y) e f.1)) (λ q. let a = c.refuse.ensures.again q in (a.0, a.1, subst (λ (k : ℕ). Settles z k x y) e a.2))
     None refl h.halts.1 (λ q. room_lacks z call key Crowded ask u v w x (subst (λ (b : Bool). LastTry z call key Crowded b ask u v w) q h) c.in-Err.ensures.none)
     (length w.findings.met, met_longer call u w (going_tried z call key Crowded c.args.settled.now ask u v w h).tries.goes.met, c.in-Err.ensures.none.lacks)
@@ -62,13 +62,13 @@ returns-in-Err-clause-full g c ask u v t = let z = sizes c.args.table.now in let
 pub returns-in-NoBlock-clause-full : goal.returns-in-NoBlock-clause-full
 returns-in-NoBlock-clause-full g c ask u v t = let z = sizes c.args.table.now in let call = call_of c.args.pass.now in let key = c.args.key.now in let w = state c.args.pass.now in let b = c.in-NoBlock.class in
     let h = subst (λ (i : Halt). LastTry z call key i c.args.settled.now ask u v w) c.in-NoBlock.is t in
-    refused_full z call key (NoBlock b) c.args.settled.now c.refuse-in-NoBlock.new.settled ask (Block b) u v w w (state c.refuse-in-NoBlock.new.pass) c.refuse-in-NoBlock.result h (tries_none call w) c.refuse-in-NoBlock.ensures.full c.refuse-in-NoBlock.ensures.again
-    h.halts.0 h.halts.3 h.halts.2 (λ q. block_lacks z call b h.halts.0 u v w (subst (λ (s : Bool). Going call s u v) q h.going) h.refused h.halts.1) tt
+    refused_full z call key (NoBlock b) c.args.settled.now c.refuse-in-NoBlock.new.settled ask (Block b) u v w w (state c.refuse-in-NoBlock.new.pass) c.refuse-in-NoBlock.result h (tries_none z call w) c.refuse-in-NoBlock.ensures.full c.refuse-in-NoBlock.ensures.again
+    h.halts.0 h.halts.3 h.halts.2 (λ q. block_lacks z call b h.halts.0 u v w (subst (λ (s : Bool). Going z call s u v) q h.going) h.refused h.halts.1 h.halts.4) tt
 
 pub returns-in-NoHeader-clause-full : goal.returns-in-NoHeader-clause-full
 returns-in-NoHeader-clause-full g c ask u v t = let z = sizes c.args.table.now in let call = call_of c.args.pass.now in let key = c.args.key.now in let w = state c.args.pass.now in
     let h = subst (λ (i : Halt). LastTry z call key i c.args.settled.now ask u v w) c.in-NoHeader.is t in
-    refused_full z call key NoHeader c.args.settled.now c.refuse-in-NoHeader.new.settled ask Header u v w w (state c.refuse-in-NoHeader.new.pass) c.refuse-in-NoHeader.result h (tries_none call w) c.refuse-in-NoHeader.ensures.full c.refuse-in-NoHeader.ensures.again
+    refused_full z call key NoHeader c.args.settled.now c.refuse-in-NoHeader.new.settled ask Header u v w w (state c.refuse-in-NoHeader.new.pass) c.refuse-in-NoHeader.result h (tries_none z call w) c.refuse-in-NoHeader.ensures.full c.refuse-in-NoHeader.ensures.again
     None refl h.halts.1 (λ q. header_lacks z call key ask u v w (subst (λ (s : Bool). LastTry z call key NoHeader s ask u v w) q h)) tt
 
 -- which way it went

@@ -10,7 +10,7 @@ abbrev pub invariant-loop : goal.invariant-loop
 invariant-loop g l = record {
   next : (goal.iterator-loop g).can_next l.iterator';
   stays : StaysButSlots (pass_of l.fn.pass) (pass_of l.pass);
-  going : Going (call_of l.fn.pass) l.settled (state l.fn.pass) (state l.pass);
+  going : Going (sizes l.fn.self) (call_of l.fn.pass) l.settled (state l.fn.pass) (state l.pass);
   lone : LoneGoing (sizes l.fn.self) l.fn.key (PutNew l.fn.value) l.settled (state l.fn.pass) (state l.pass);
   first : IsAlone (state l.fn.pass) → FirstTry (sizes l.fn.self) l.fn.key (PutNew l.fn.value) (state l.fn.pass) (state l.pass);
 }

@@ -11,7 +11,7 @@ abbrev pub invariant-loop : goal.invariant-loop
 invariant-loop g l = record {
   next : (goal.iterator-loop g).can_next l.iterator';
   stays : StaysButRoom (pass_of l.fn.pass) (pass_of l.pass);
-  going : Going (call_of l.fn.pass) l.settled (state l.fn.pass) (state l.pass);
+  going : Going (sizes l.fn.self) (call_of l.fn.pass) l.settled (state l.fn.pass) (state l.pass);
   lone : LoneGoing (sizes l.fn.self) l.fn.key (Upsert l.fn.value ((goal.Recipe-dyn g (l.fn.recipe.vtable, l.fn.recipe.value)).told_kind l.fn.recipe.value) ((goal.Recipe-dyn g (l.fn.recipe.vtable, l.fn.recipe.value)).told_argument l.fn.recipe.value)) l.settled (state l.fn.pass) (state l.pass);
   first : IsAlone (state l.fn.pass) → FirstTry (sizes l.fn.self) l.fn.key (Upsert l.fn.value ((goal.Recipe-dyn g (l.fn.recipe.vtable, l.fn.recipe.value)).told_kind l.fn.recipe.value) ((goal.Recipe-dyn g (l.fn.recipe.vtable, l.fn.recipe.value)).told_argument l.fn.recipe.value)) (state l.fn.pass) (state l.pass);
   counted : (goal.Recipe-dyn g (l.recipe.vtable, l.recipe.value)).calls l.recipe.value ≡ (goal.Recipe-dyn g (l.fn.recipe.vtable, l.fn.recipe.value)).calls l.fn.recipe.value;

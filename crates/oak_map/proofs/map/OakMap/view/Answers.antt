@@ -1,4 +1,6 @@
 use Rattle.std.proofs.Common.{ℕ, subst}
+use Rattle.oak_core.specs.QuietSteps.{IsQuiet}
+use Rattle.oak_core.proofs.QuietCalls.{only_both}
 use Rattle.oak_core.proofs.SamePass.{stays_both}
 use Rattle.point_ops.specs.Gets.{GotFits}
 use Rattle.point_ops.specs.LoneReplies.{GotAlone}
@@ -18,6 +20,9 @@ pub returns-in-Ok-clause-holds : goal.returns-in-Ok-clause-holds
 returns-in-Ok-clause-holds g c = let v = state c.loop.pass in let w = table_state c.try_get.new.pass in
     holds_both (state c.args.pass.now) v w c.loop.invariant.refused.holds (got_holds c.in-Ok.got (sizes c.args.self.now) (call_of c.loop.pass) c.args.key.now v w c.in-Ok.ensures.got)
 
+pub returns-in-Ok-clause-quiet : goal.returns-in-Ok-clause-quiet
+returns-in-Ok-clause-quiet g c = only_both IsQuiet (state c.args.pass.now) (state c.loop.pass) (table_state c.try_get.new.pass) c.loop.invariant.quiet c.try_get.ensures.quiet
+
 -- to a pass that is alone
 
 pub returns-in-Ok-clause-alone_reply : goal.returns-in-Ok-clause-alone_reply
@@ -32,5 +37,6 @@ loop-preserved g c = let call = call_of c.args.pass.now in let u = state c.args.
   next = tt;
   stays = stays_both i.stays c.try_get.ensures.own;
   refused = refuses_both call u v w i.refused (subst (λ (k : ℕ). Refuses k v w) i.stays.call c.in_default.ensures.refused);
+  quiet = only_both IsQuiet u v w i.quiet c.try_get.ensures.quiet;
   waits = waits_again u v w i.waits c.in_default.ensures.alone;
 }
