@@ -88,7 +88,7 @@ module _ (z : Sizes) (n : ℕ) (names : Names) (c : Call) (key : List ℕ) (cell
   noting_finds = notes_find z n lack g.last w g.notes
 
   finds : FindsMore v.findings w.findings
-  finds = finds_before v.findings g.last.findings w.findings (tries_find n v g.last g.tries) noting_finds
+  finds = finds_before v.findings g.last.findings w.findings (tries_find z n v g.last g.tries) noting_finds
 
   own : MarkedSo n key 0 false v w
   own = marks_none n key 0 v w (ap (λ (q : Knowledge). q.mine) knows ∙ g.tries.mine)

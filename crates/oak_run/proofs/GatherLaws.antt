@@ -8,6 +8,8 @@ use Rattle.oak_model.specs.KeyNumber.{key_number}
 use Rattle.oak_model.specs.Limits.{Sizes}
 use Rattle.oak_model.specs.Value.{IsValue}
 use Rattle.oak_model.proofs.KeyLaws.{is_key-is}
+use Rattle.oak_core.specs.QuietSteps.{IsQuiet}
+use Rattle.oak_core.proofs.QuietCalls.{only_both, only_none}
 use Rattle.oak_core.specs.declared.states.PassState.{PassState}
 use Rattle.oak_core.specs.declared.table.Pass.{Pass}
 use Rattle.oak_core.specs.Passes.{Stays, call_of, key as sizes, state}
@@ -73,6 +75,7 @@ later_both a b d x y = record {
   sizes = y.sizes ∙ x.sizes;
   call = y.call ∙ x.call;
   learns = learns_both a.call a.state b.state d.state x.learns (subst (λ (i : ℕ). Learns i b.state d.state) x.call y.learns);
+  quiet = only_both IsQuiet a.state b.state d.state x.quiet y.quiet;
 }
 
 pub goes_both : (c d e : Cursor) → GoesOn c d → GoesOn d e → GoesOn c e
@@ -94,7 +97,7 @@ goes_self c i = record {
   way = refl;
   own = but_slots c.pass.now c.pass.now record { table = refl; seat = refl; call = refl; scratch = refl; sorting = refl };
   cursor = i;
-  later = record { sizes = refl; call = refl; learns = learns_none (call_of c.pass.now) (under c) };
+  later = record { sizes = refl; call = refl; learns = learns_none (call_of c.pass.now) (under c); quiet = only_none IsQuiet (under c) (under c) refl };
 }
 
 -- nothing was read of the present pair, or some of its bytes
@@ -115,6 +118,7 @@ reads_keeps c d r = record {
       sizes = ap (λ t. sizes t.now) r.table;
       call = r.stays.call;
       learns = let z = sizes c.table.now in let n = call_of c.pass.now in stands_learns n (under c) (under d) (load_stands z n (under c) (under d) r.only.loads);
+      quiet = r.quiet;
     };
   };
   gives = λ pairs before g. r.goes before pairs g;

@@ -18,8 +18,7 @@ use Rattle.oak_core.specs.Memory.{at_given}
 use Rattle.oak_core.specs.Noting.{Notes}
 use Rattle.oak_core.specs.RoomLacks.{RoomLackFound}
 use Rattle.oak_core.proofs.CallSteps.{begins_same}
-use Rattle.oak_core.proofs.Lacked.{lacks_longer}
-use Rattle.oak_core.proofs.MetLists.{at_shorter}
+use Rattle.oak_core.proofs.Lacked.{holds_longer, lacks_longer}
 use Rattle.oak_map.specs.Replying.{GivesUp, ItsRoom, SpareOf, Tries}
 use Rattle.oak_run.specs.Closing.{Closing}
 use Rattle.oak_run.specs.Refusals.{SpareFits}
@@ -29,8 +28,8 @@ use Rattle.oak_run.proofs.LackNeeds.{is_class, takes}
 
 -- ---- the findings go on while a call tries, and when it is noted
 
-pub tries_find : (n : ℕ) (v w : PassState) → Tries n v w → FindsMore v.findings w.findings
-tries_find n v w t = record {
+pub tries_find : (z : Sizes) (n : ℕ) (v w : PassState) → Tries z n v w → FindsMore v.findings w.findings
+tries_find z n v w t = record {
   met = (t.goes.met.more, t.goes.met.met);
   sights = (t.goes.sights.more, t.goes.sights.sights);
   gones = t.goes.gones;
@@ -58,21 +57,9 @@ module _ (met more : List Finding) where
     room = f.room;
     inside = f.inside;
     whole = record {
-      held = f.whole.held;
       to = f.whole.to;
-      after = f.whole.after;
-      order = f.whole.order;
       within = f.whole.within;
-      hold = f.whole.hold;
-      there = at_longer met more f.whole.held f.whole.hold f.whole.there;
-      word_is = f.whole.word_is;
-      number = f.whole.number;
-      found_is = f.whole.found_is;
-      frozen = f.whole.frozen;
-      unpinned = f.whole.unpinned;
-      left_is = f.whole.left_is;
-      still = λ i g after before at. f.whole.still i g after before (at_shorter met more i g (let l = f.whole.within in omega arith) at);
-      full = f.whole.full;
+      holds = holds_longer z from f.whole.to met more (let l = f.whole.within in omega arith) f.room k f.whole.holds;
       values = λ i lt. found_longer (f.whole.values i lt);
     };
     others = λ r lt ne. found_longer (f.others r lt ne);
