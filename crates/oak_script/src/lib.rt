@@ -16,8 +16,6 @@ mod scripts;
 mod shape_lines;
 mod stages;
 mod stops;
-#[cfg(test)]
-mod tests;
 mod text;
 mod verbs;
 mod words;

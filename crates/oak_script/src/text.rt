@@ -303,6 +303,3 @@ pub fn print_run(
     put_arena(alloc, &mut out, usage, &script.shape)?;
     Ok(out)
 }
-
-#[cfg(test)]
-mod tests;

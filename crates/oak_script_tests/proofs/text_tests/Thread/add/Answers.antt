@@ -1,5 +1,5 @@
 use Rattle.oak_script.proofs.Answered.{CallsAnswered-push}
-use Rattle.oak_script.proofs.text.tests.Thread.add.Goals as goal
+use Rattle.oak_script_tests.proofs.text_tests.Thread.add.Goals as goal
 
 pub returns : goal.returns
 returns c =

@@ -1,6 +1,5 @@
-use crate::faults::{NoScript, ScriptFault, What};
-use crate::reader::read_script;
 use oak_model::Shape;
+use oak_script::{NoScript, ScriptFault, What, read_script};
 use std::alloc::{AllocError, Global};
 use std::test::Fail;
 

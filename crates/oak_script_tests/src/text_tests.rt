@@ -3,9 +3,11 @@ ghost use Rattle.oak_model.specs.Key.{IsKey};
 ghost use Rattle.oak_model.specs.Value.{IsValue};
 ghost use Rattle.oak_script.specs.Text.{CanReply, CallsAnswered};
 
-use super::*;
-use crate::scripts::Threads;
-use oak_model::{Name, Pairs, RecipeKind, Shape};
+use oak_model::{
+    Class, Key, Lack, Name, OutOfMemory, Pair, Pairs, RecipeKind, Reply, Shape, Usage, Value, Wrote,
+};
+use oak_script::{Call, Script, Threads, print_run};
+use std::alloc::Global;
 use std::process::Abort;
 use std::test::Fail;
 
@@ -403,7 +405,7 @@ fn prints_the_replies_of_two_threads(rt: HostRuntime) -> Result<(), Fail> {
 }
 
 #[test]
-fn prints_every_reply(rt: HostRuntime) -> Result<(), Fail> {
+fn prints_a_put_and_a_get(rt: HostRuntime) -> Result<(), Fail> {
     let alloc = rt.alloc();
     let Thread { calls, replies } = short_thread(alloc)?;
     let script = Script {
@@ -425,7 +427,12 @@ fn prints_every_reply(rt: HostRuntime) -> Result<(), Fail> {
         &usage,
     )?;
     assert_eq!(rt; text.as_slice(), SHORT_TEXT.as_bytes());
+    Ok(())
+}
 
+#[test]
+fn prints_a_refused_put(rt: HostRuntime) -> Result<(), Fail> {
+    let alloc = rt.alloc();
     let Thread { calls, replies } = small_thread(alloc)?;
     let script = Script {
         shape: Shape::make(2, 4, 4, 16, [2, 0, 0, 0])?,
@@ -433,6 +440,11 @@ fn prints_every_reply(rt: HostRuntime) -> Result<(), Fail> {
     };
     let replies = vec![in alloc; replies]?;
     let finals = vec![in alloc; pair(alloc, &[0x62], &[2], 3)?]?;
+    let usage = Usage {
+        blocks: [2, 0, 0, 0],
+        headers: 1,
+        chunks: 1,
+    };
     let text = print_run(
         alloc,
         &script,
@@ -441,7 +453,12 @@ fn prints_every_reply(rt: HostRuntime) -> Result<(), Fail> {
         &usage,
     )?;
     assert_eq!(rt; text.as_slice(), SMALL_TEXT.as_bytes());
+    Ok(())
+}
 
+#[test]
+fn prints_every_reply(rt: HostRuntime) -> Result<(), Fail> {
+    let alloc = rt.alloc();
     let first = first_thread(alloc)?;
     let second = second_thread(alloc)?;
     let full = full_thread(alloc)?;
