@@ -1,0 +1,8 @@
+use Rattle.std.specs.Option.{option_copied}
+use Rattle.chunk_index.specs.Lows.{comes_under}
+use Rattle.chunk_index.proofs.LowLaws.{last_is_greatest}
+use Rattle.chunk_index.proofs.lows.Lows.hint_under.Goals as goal
+
+pub returns : goal.returns
+returns c =
+    last_is_greatest (comes_under (option_copied c.args.bound)) c.args.self.now c.count_under.result c.room_before.result c.room_before.ensures.rising c.count_under.ensures.few c.count_under.ensures.point c.room_before.ensures.room

@@ -1,0 +1,77 @@
+//! The minimum of a chunk, with the chunk's room.
+ghost use Rattle.std.specs.Prelude.{◌≡◌};
+ghost use Rattle.oak_model.specs.Key.{IsKey};
+ghost use Rattle.chunk_index.specs.Lows.{is_apart};
+
+use oak_model::{GREATEST_KEY, cmp_keys};
+use std::cmp::Ordering;
+use std::marker::Model;
+
+/// The minimum of a chunk, 1 to [`GREATEST_KEY`] bytes, and its room. The bytes stand in line, so a second one takes
+/// no memory.
+#[derive(Drop)]
+pub struct Low {
+    bytes: [u8; GREATEST_KEY],
+    length: usize,
+    room: u32,
+}
+
+impl Model for Low {
+    ghost use Rattle.std.specs.Prelude.{◌≤◌, take};
+    ghost use Rattle.oak_model.specs.declared.limits.TheConstants.{GREATEST_KEY};
+    ghost use Rattle.chunk_index.specs.Lows.{Low as Pair};
+
+    ghost Value = { Pair };
+
+    ghost view = { λ l. (take l.length l.bytes, l.room) };
+
+    ghost invariant = { λ l. l.length ≤ GREATEST_KEY };
+}
+
+impl Low {
+    /// The pair of a minimum and a room.
+    pub fn new(minimum: &[u8], room: u32) -> Low
+        requires { IsKey minimum.now }
+        ensures { result ≡ (minimum.now, room) }
+    {
+        let mut bytes = [0; GREATEST_KEY];
+        bytes[..minimum.len()].copy_from_slice(minimum);
+        Low {
+            bytes,
+            length: minimum.len(),
+            room,
+        }
+    }
+
+    /// The same pair a second time.
+    pub fn copy(&self) -> Low
+        ensures { result ≡ self.now }
+    {
+        Low {
+            bytes: self.bytes,
+            length: self.length,
+            room: self.room,
+        }
+    }
+
+    /// The bytes of the minimum.
+    pub fn minimum(&self) -> &[u8]
+        ensures { result.now ≡ self.now.0 }
+    {
+        &self.bytes[..self.length]
+    }
+
+    /// The room of the chunk.
+    pub fn room(&self) -> u32
+        ensures { result ≡ self.now.1 }
+    {
+        self.room
+    }
+
+    /// Whether the other has neither this room nor this minimum.
+    pub fn is_apart(&self, other: &Low) -> bool
+        ensures { result ≡ is_apart self.now other.now }
+    {
+        other.room != self.room && cmp_keys(other.minimum(), self.minimum()) != Ordering::Equal
+    }
+}

@@ -1,0 +1,128 @@
+//! The minima of the chunks, in their order.
+ghost use Rattle.std.specs.Prelude.{◌≡◌, ◌≤◌, ◌<◌, ◌-◌, IfOk, MatchOption, MatchResult, true, false, filter, length, []};
+ghost use Rattle.std.specs.List.{HoldsAt};
+ghost use Rattle.std.specs.Option.{option_copied};
+ghost use Rattle.std.specs.List.Sorted.{IsPartitionPoint};
+ghost use Rattle.std.specs.Vec.{vec_len, vec_capacity};
+ghost use Rattle.chunk_index.specs.Lows.{IsRising, NamesGreatest, comes_before, comes_under, comes_upto, is_apart, set_low};
+
+use crate::low::Low;
+use left_right::Absorb;
+use oak_model::{Hint, cmp_keys};
+use std::alloc::{AllocError, Global};
+use std::marker::Model;
+
+/// The minima of all chunks but the lowest, in the order of keys, each once and with its room. No two have one room.
+#[derive(Drop)]
+pub struct Lows {
+    lows: Vec<Low>,
+}
+
+impl Model for Lows {
+    ghost use Rattle.std.specs.Prelude.{List};
+    ghost use Rattle.chunk_index.specs.Lows.{Low as Pair, IsOnePerRoom, IsRising};
+
+    ghost Value = { List Pair };
+
+    ghost view = { λ s. s.lows.items };
+
+    ghost invariant = { λ s. IsRising s.lows.items × IsOnePerRoom s.lows.items };
+}
+
+/// Takes out the pair of this room, and that of this minimum. No memory is given back.
+fn keep_apart(lows: &mut Vec<Low>, low: &Low)
+    ensures kept { lows.new.items ≡ filter (is_apart low.now) lows.old.items }
+    ensures fewer { vec_len lows.new ≤ vec_len lows.old }
+    ensures capacity { vec_capacity lows.new ≡ vec_capacity lows.old }
+{
+    lows.retain(|other| low.is_apart(other));
+}
+
+impl Lows {
+    /// None yet, with memory for so many.
+    pub fn new(alloc: Global, chunks: u32) -> Result<Lows, AllocError>
+        ensures { IfOk result (λ s. s ≡ []) }
+    {
+        let lows = Vec::with_capacity(alloc, chunks as usize)?;
+        Ok(Lows { lows })
+    }
+
+    /// How many minima come before the key.
+    fn count_before(&self, key: &[u8]) -> usize
+        ensures few { result ≤ length self.now }
+        ensures point { IsPartitionPoint (λ p. comes_before key.now p ≡ true) (λ p. comes_before key.now p ≡ false) self.now result }
+    {
+        self.lows
+            .partition_point(|low| cmp_keys(low.minimum(), key).is_lt())
+    }
+
+    /// How many minima are not above the key.
+    fn count_upto(&self, key: &[u8]) -> usize
+        ensures few { result ≤ length self.now }
+        ensures point { IsPartitionPoint (λ p. comes_upto key.now p ≡ true) (λ p. comes_upto key.now p ≡ false) self.now result }
+    {
+        self.lows
+            .partition_point(|low| cmp_keys(low.minimum(), key).is_le())
+    }
+
+    /// How many minima come before the bound; without one all do.
+    fn count_under(&self, bound: Option<&[u8]>) -> usize
+        ensures few { result ≤ length self.now }
+        ensures point { IsPartitionPoint (λ p. comes_under (option_copied bound.entry) p ≡ true) (λ p. comes_under (option_copied bound.entry) p ≡ false) self.now result }
+    {
+        match bound {
+            Some(key) => self.count_before(key),
+            None => self.lows.len(),
+        }
+    }
+
+    /// The room of the last of the first so many minima.
+    fn room_before(&self, count: usize) -> Option<u32>
+        requires { count ≤ length self.now }
+        ensures room { MatchOption result (count ≡ 0) (λ r. (0 < count) × HoldsAt (λ p. p.1 ≡ r) self.now (count - 1)) }
+        ensures rising { IsRising self.now }
+    {
+        self.lows[..count].last().map(|low| low.room())
+    }
+
+    /// The room of the greatest minimum that is not above the key.
+    pub fn hint(&self, key: &[u8]) -> Hint
+        ensures { NamesGreatest (comes_upto key.now) self.now result.room }
+    {
+        Hint {
+            room: self.room_before(self.count_upto(key)),
+        }
+    }
+
+    /// The room of the greatest minimum that comes before the bound, and without a bound that of the greatest one.
+    pub fn hint_under(&self, bound: Option<&[u8]>) -> Hint
+        ensures { NamesGreatest (comes_under (option_copied bound.entry)) self.now result.room }
+    {
+        Hint {
+            room: self.room_before(self.count_under(bound)),
+        }
+    }
+
+    /// Sets a pair: those of its room and of its minimum are taken out, and it stands at its place. Where there is no
+    /// memory all stays.
+    fn set(&mut self, low: Low) -> Result<(), AllocError>
+        ensures { MatchResult result (λ _. self.new ≡ set_low self.old low) (λ _. self.new ≡ self.old) }
+    {
+        self.lows.reserve(1)?;
+        keep_apart(&mut self.lows, &low);
+        let place = self.count_before(low.minimum());
+        self.lows.insert(place, low).map_err(|_| AllocError)
+    }
+}
+
+impl Absorb<Low> for Lows {
+    type State = Lows;
+
+    ghost state = { λ s. s };
+
+    ghost applied = { set_low };
+
+    fn absorb_first(&mut self, operation: &Low, _other: &Lows) -> Result<(), AllocError> {
+        self.set(operation.copy())
+    }
+}

@@ -1,0 +1,54 @@
+//! Readers of the index.
+use crate::lows::Lows;
+use left_right::{ReadGuard, ReadHandle};
+use oak_model::{Hint, NO_HINT};
+use std::marker::Model;
+
+/// Gives hints, of which nothing is promised: the copy that it finds may be an old one. It never waits and takes no
+/// memory. Contracts see no part of it, so what holds one looks the same behind a hint.
+#[derive(Drop)]
+pub struct IndexReader {
+    handle: Option<ReadHandle<Lows>>,
+}
+
+impl Model for IndexReader {
+    ghost Value = { Unit {0} };
+
+    ghost view = { λ _. tt };
+
+    ghost invariant = { λ _. Unit {0} };
+}
+
+impl IndexReader {
+    pub(crate) fn new(handle: Option<ReadHandle<Lows>>) -> IndexReader {
+        IndexReader { handle }
+    }
+
+    /// A reader of no index: its hints have no room.
+    pub fn none() -> IndexReader {
+        IndexReader { handle: None }
+    }
+
+    /// The copy of the index that is shown, if there is one.
+    fn enter(&mut self) -> Option<ReadGuard<'_, Lows>> {
+        self.handle.as_mut()?.enter()
+    }
+
+    /// Where to look for the key first: the room of the greatest minimum that is not above it, in some copy of the
+    /// index.
+    pub fn hint(&mut self, key: &[u8]) -> Hint {
+        match self.enter() {
+            Some(lows) => lows.hint(key),
+            None => NO_HINT,
+        }
+    }
+
+    /// Where to look first for the keys next below the bound, and without one for the last keys: the room of the
+    /// greatest minimum that comes before it.
+    pub fn hint_under(&mut self, bound: Option<&[u8]>) -> Hint {
+        match self.enter() {
+            Some(lows) => lows.hint_under(bound),
+            None => NO_HINT,
+        }
+    }
+}
