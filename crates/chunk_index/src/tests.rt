@@ -65,8 +65,7 @@ fn set_at_last<R: Wait + Drop + Send>(
         || (reader.hint(low).room == seen && writer.set(low, room).is_ok())
 }
 
-/// There are more rooms than the index was made for, so its lists grow. With each allocation of `set` refused in turn
-/// (`rt try --test --fail-alloc`) this passes too.
+/// There are more rooms than the index was made for, so its lists grow, by calls of `set` that may find no memory.
 #[test]
 fn want_of_memory_leaves_what_readers_see(rt: HostRuntime) -> Result<(), Fail> {
     let mut writer = IndexWriter::create(&rt, 1, 2)?;
