@@ -79,6 +79,12 @@ fn tells_the_first_fault(rt: HostRuntime) -> Result<(), Fail> {
             "{text:?}"
         );
     }
+    Ok(())
+}
+
+#[test]
+fn finds_no_fault_in_a_script(rt: HostRuntime) -> Result<(), Fail> {
+    let alloc = rt.alloc();
     let lawful = [
         "oak 1\nthread\nend",
         "oak 1\nthread\nput 6b31 7631\nget 6b31\nend\n",
@@ -90,6 +96,12 @@ fn tells_the_first_fault(rt: HostRuntime) -> Result<(), Fail> {
     for text in lawful {
         assert_eq!(rt; told(alloc, text.as_bytes())?, None, "{text:?}");
     }
+    Ok(())
+}
+
+#[test]
+fn tells_words_that_are_too_long(rt: HostRuntime) -> Result<(), Fail> {
+    let alloc = rt.alloc();
     let long = [
         ("get ", "61", 64, None),
         ("get ", "61", 65, Some(What::Key)),
@@ -105,6 +117,12 @@ fn tells_the_first_fault(rt: HostRuntime) -> Result<(), Fail> {
         let want = what.map(|what| ScriptFault { line: 3, what });
         assert_eq!(rt; told(alloc, &text)?, want, "{front} with {times}");
     }
+    Ok(())
+}
+
+#[test]
+fn tells_the_first_call_and_the_first_scan_too_many(rt: HostRuntime) -> Result<(), Fail> {
+    let alloc = rt.alloc();
     let many = [
         ("back - -\n", 32, None),
         ("scan - -\n", 33, Some((35, What::Scans))),

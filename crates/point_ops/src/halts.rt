@@ -12,10 +12,12 @@ pub enum Halt {
     /// No room was found open with the key in its range.
     #[error("the room was moved")]
     Moved,
-    /// The room of the key has as many entries as it may, and the key, which is to be inserted, has none.
+    /// The room of the key has as many entries as it may, none by a step of this call, and the key, which is
+    /// to be inserted, has none.
     #[error("the room has no entry left")]
     Crowded,
-    /// No block of the class was found free, and one is needed for the key or for the value.
+    /// No block of the class was found free, and one is needed for the key or for the value. The call took
+    /// none of that class itself, but the block for its value where it is the key's block that is lacking.
     #[error("no block of class {0:?} is free")]
     NoBlock(Class),
     /// No header was found free, and the key is to be inserted.

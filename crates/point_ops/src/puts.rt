@@ -85,9 +85,10 @@ fn put_pinned(
 ///
 /// It is refused with `Busy` only where this key's header, its room's latch or its entry was found at work
 /// by another pass; with `Moved`, where no room was found open with the key in its range; with `Crowded`,
-/// where the room was found full and the key without an entry; with `NoBlock` and `NoHeader`, where none
-/// was found free and the call needs one. After a refusal the map, and what the pass holds and wrote, is as
-/// before. The pass holds nothing, and made no write in this turn.
+/// where the room was found full, by no step of this call, and the key without an entry; with `NoBlock` and
+/// `NoHeader`, where none was found free and the call needs one. Of the class that is lacking the call took
+/// no block itself but the one for its value. After a refusal the map, and what the pass holds and wrote, is
+/// as before. The pass holds nothing, and made no write in this turn.
 pub fn try_put(
     table: &OakTable,
     pass: &mut Pass,
