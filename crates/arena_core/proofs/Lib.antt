@@ -10,3 +10,4 @@ pub mod HeldWords
 pub mod ByteFacts
 pub mod WordLaws
 pub mod ClassRooms
+pub mod Shifts

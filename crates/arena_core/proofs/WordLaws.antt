@@ -111,10 +111,13 @@ module _ (bs : List ℕ) (small : (k : ℕ) → get_or bs k 0 < 256) (i : ℕ) w
       let long : length xs ≡ k = ap length (sym (part_of len i k s bs refl)) ∙ part_long len i k s bs refl in
       ap (take (len - 8 * i)) word_at-bytes ∙ (sym (as_many len i k s (filled_up xs) full) ∙ take_at xs (replicate (8 - length xs) 0) k long)
 
-  pub words_small : get_or (words_of bs) i 0 < 2 ^ 64
+  pub word_small : word_at bs i < 2 ^ 64
   unfolding word_of
+  word_small = be_small (filled_up (bytes_in i bs)) filled_small
+
+  pub words_small : get_or (words_of bs) i 0 < 2 ^ 64
   words_small = dite (dec_lt (8 * i) (length bs))
-      (λ l. subst (λ (n : ℕ). n < 2 ^ 64) (sym (words_at bs i l)) (be_small (filled_up (bytes_in i bs)) filled_small))
+      (λ l. subst (λ (n : ℕ). n < 2 ^ 64) (sym (words_at bs i l)) word_small)
       (λ n. subst (λ (n : ℕ). n < 2 ^ 64) (sym (get_or_past (words_of bs) i 0 (let e = words_long bs in omega arith))) (omega arith))
 
 -- a whole word
@@ -160,6 +163,28 @@ pub whole_is : (word n : ℕ) → word < 2 ^ 64 → 8 ≤ n → word ≡ word_of
 unfolding word_of
 whole_is word n lt le = sym (ap (from_be_bytes w64) (ap filled_up (take_all n (word_bytes word) le) ∙ filled_whole (word_bytes word) refl) ∙ from_be_bytes-to_be_bytes_8 word lt)
 
--- the first bytes of a word, fewer than eight
-pub first_part : (word n : ℕ) (bytes : List ℕ) → bytes ≡ word_bytes word → n < 8 → word_at (take n bytes) 0 ≡ word_of (take n (word_bytes word))
-first_part word n bytes is few = ap (λ (xs : List ℕ). word_at (take n xs) 0) is ∙ ap word_of (let l = length-take-le n (word_bytes word) (omega arith) in take_all 8 (take n (word_bytes word)) (omega arith))
+-- the bytes of a word are below 256
+pub digits_small : (w k : ℕ) → get_or (word_bytes w) k 0 < 256
+digits_small w zero = omega arith
+digits_small w (suc zero) = omega arith
+digits_small w (suc (suc zero)) = omega arith
+digits_small w (suc (suc (suc zero))) = omega arith
+digits_small w (suc (suc (suc (suc zero)))) = omega arith
+digits_small w (suc (suc (suc (suc (suc zero))))) = omega arith
+digits_small w (suc (suc (suc (suc (suc (suc zero)))))) = omega arith
+digits_small w (suc (suc (suc (suc (suc (suc (suc zero))))))) = omega arith
+digits_small w (suc (suc (suc (suc (suc (suc (suc (suc k)))))))) = omega arith
+
+-- a number that stands for the first bytes of a word, fewer than eight, is that of the last bytes where these are the same
+pub last_same : (bs : List ℕ) → ((k : ℕ) → get_or bs k 0 < 256) → (i n m w : ℕ) → 8 * i < length bs → length bs < 8 * i + 8 → n ≡ word_at bs i → m ≡ word_of (take (length bs - 8 * i) (word_bytes w))
+    → MatchBool (n == m) (bytes_in i bs ≡ take (length bs - 8 * i) (word_bytes w)) (bytes_in i bs ≢ take (length bs - 8 * i) (word_bytes w))
+last_same bs small i n m w lt tail is are = let k : ℕ = length bs - 8 * i in let ys : List ℕ = take k (word_bytes w) in
+    let long : length ys ≡ k = length-take-le k (word_bytes w) (let h : k ≤ 8 = omega arith in h) in
+    let own : bytes_in 0 ys ≡ ys = take_all 8 ys (omega arith) in
+    let tiny : (j : ℕ) → get_or ys j 0 < 256 = λ j. dite (dec_lt j k)
+    (λ l. subst (λ (x : ℕ). x < 256) (sym (get_or-take k (word_bytes w) j 0 l)) (digits_small w j))
+    (λ o. subst (λ (x : ℕ). x < 256) (sym (get_or_past ys j 0 (omega arith))) (omega arith)) in
+    let back : take k (word_bytes (word_of ys)) ≡ ys = ap (λ (x : ℕ). take x (word_bytes (word_of ys))) (let e : k ≡ length ys - 8 * 0 = omega arith in e) ∙ (ap (λ (zs : List ℕ). take (length ys - 8 * 0) (word_bytes (word_of zs))) (sym own) ∙ (word_at-part ys tiny 0 (omega arith) ∙ own)) in
+    test-cases (n == m) (λ t. MatchBool t (bytes_in i bs ≡ ys) (bytes_in i bs ≢ ys))
+    (λ t. sym (word_at-part bs small i lt) ∙ (ap (λ (x : ℕ). take k (word_bytes x)) (sym is ∙ eqb-true n m t ∙ are) ∙ back))
+    (λ f e. eqb-false n m f (is ∙ (ap word_of e ∙ sym are)))

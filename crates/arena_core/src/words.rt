@@ -1,5 +1,5 @@
 //! Bytes as they stand in words: eight in each, the first of them highest.
-ghost use Rattle.std.specs.Prelude.{◌≡◌, ◌≢◌, ◌≤◌, MatchBool, ◌+◌, ◌-◌, ◌*◌, ◌<◌, ◌++◌, length, take, drop};
+ghost use Rattle.std.specs.Prelude.{◌≡◌, ◌≢◌, ◌≤◌, MatchBool, ◌+◌, ◌-◌, ◌*◌, ◌^◌, ◌<◌, ◌++◌, length, take, drop};
 ghost use Rattle.std.specs.Int.{w64, from_be_bytes};
 ghost use Rattle.oak_model.specs.WordBytes.{word_bytes};
 ghost use Rattle.arena_core.specs.Words.{bytes_in, word_at, word_of};
@@ -7,31 +7,51 @@ ghost use Rattle.arena_core.specs.Words.{bytes_in, word_at, word_of};
 /// The bytes of a word.
 pub const WORD: usize = 8;
 
-/// The word that eight bytes make, those from `8 * i` on.
-fn whole_word(bytes: &[u8], i: usize) -> u64
-    requires { WORD * i + WORD ≤ length bytes.now }
-    ensures { result ≡ from_be_bytes w64 (bytes_in i bytes.now) }
+/// The bits of a byte.
+const BITS: u32 = 8;
+
+/// How many bytes there are.
+const BYTE: u64 = 256;
+
+/// The word that eight bytes make, those from `from` on.
+fn eight_bytes(bytes: &[u8], from: usize) -> u64
+    requires { from + WORD ≤ length bytes.now }
+    ensures { result ≡ from_be_bytes w64 (take 8 (drop from bytes.now)) }
 {
-    let from = WORD * i;
     let mut word = [0; WORD];
     word.copy_from_slice(&bytes[from..from + WORD]);
     u64::from_be_bytes(word)
 }
 
+/// The number that fewer than eight bytes make, the first of them highest.
+fn few_bytes(bytes: &[u8]) -> u64
+    requires some { 0 < length bytes.now }
+    requires few { length bytes.now < WORD }
+    ensures { result * 2 ^ (8 * (WORD - length bytes.now)) ≡ word_of bytes.now }
+{
+    let mut number = 0;
+    for i in 0..bytes.len() {
+        number = number * BYTE + u64::from(bytes[i]);
+    }
+    number
+}
+
 /// The word in which the bytes from `8 * i` on stand, with zeros behind the last byte. Where there are
-/// eight of them they are loaded at once.
+/// eight bytes that end with them they are loaded at once.
 pub fn word_from(bytes: &[u8], i: usize) -> u64
     requires { WORD * i < length bytes.now }
     ensures { result ≡ word_at bytes.now i }
 {
     let from = WORD * i;
-    if from + WORD <= bytes.len() {
-        return whole_word(bytes, i);
-    }
     let to = bytes.len();
-    let mut word = [0; WORD];
-    word[..to - from].copy_from_slice(&bytes[from..to]);
-    u64::from_be_bytes(word)
+    if from + WORD <= to {
+        return eight_bytes(bytes, from);
+    }
+    let behind = BITS * (from + WORD - to) as u32;
+    if to < WORD {
+        return few_bytes(bytes) << behind;
+    }
+    eight_bytes(bytes, to - WORD) << behind
 }
 
 /// Of a word the first `n` bytes, with zeros behind them; the word itself where these are all eight.
@@ -42,22 +62,21 @@ pub fn first_bytes(word: u64, n: usize) -> u64
     if n >= WORD {
         return word;
     }
-    let bytes = word.to_be_bytes();
-    word_from(&bytes[..n], 0)
+    let behind = BITS * (WORD - n) as u32;
+    word >> behind << behind
 }
 
-/// Whether the bytes from `8 * i` on, at most eight, are those with which the word begins. Where there
-/// are eight of them, two numbers are compared.
+/// Whether the bytes from `8 * i` on, at most eight, are those with which the word begins: two numbers
+/// are compared.
 pub fn is_word(bytes: &[u8], i: usize, word: u64) -> bool
     requires { WORD * i < length bytes.now }
     ensures { MatchBool result (bytes_in i bytes.now ≡ take (length bytes.now - WORD * i) (word_bytes word)) (bytes_in i bytes.now ≢ take (length bytes.now - WORD * i) (word_bytes word)) }
 {
     let from = WORD * i;
     if from + WORD <= bytes.len() {
-        return whole_word(bytes, i) == word;
+        return eight_bytes(bytes, from) == word;
     }
-    let to = bytes.len();
-    bytes[from..to] == word.to_be_bytes()[..to - from]
+    word_from(bytes, i) == first_bytes(word, bytes.len() - from)
 }
 
 /// Copies the bytes of a word to their place, from `8 * i` on, as many as there are places. Where there
@@ -72,8 +91,9 @@ pub fn put_word(out: &mut [u8], i: usize, word: u64)
         out[from..from + WORD].copy_from_slice(&word.to_be_bytes());
         return;
     }
-    let to = out.len();
-    out[from..to].copy_from_slice(&word.to_be_bytes()[..to - from]);
+    for j in from..out.len() {
+        out[j] = ((word >> (BITS * (from + WORD - 1 - j) as u32)) % BYTE) as u8;
+    }
 }
 
 #[cfg(test)]
@@ -90,6 +110,21 @@ mod tests {
         put_word(&mut out, 0, 0x0102_0304_0506_0708);
         put_word(&mut out, 1, 0x0900_0000_0000_0000);
         assert_eq!(rt; out, bytes);
+        Ok(())
+    }
+
+    #[test]
+    fn a_few_bytes_stand_highest(rt: HostRuntime) -> Result<(), Fail> {
+        assert_eq!(rt; word_from(&[1, 2, 3], 0), 0x0102_0300_0000_0000);
+        assert_eq!(rt;
+            first_bytes(0x0102_0304_0506_0708, 3),
+            0x0102_0300_0000_0000
+        );
+        assert_eq!(rt; is_word(&[1, 2, 3], 0, 0x0102_0304_0506_0708), true);
+        assert_eq!(rt; is_word(&[1, 2, 4], 0, 0x0102_0304_0506_0708), false);
+        let mut out = [9; 3];
+        put_word(&mut out, 0, 0x0102_0304_0506_0708);
+        assert_eq!(rt; out, [1, 2, 3]);
         Ok(())
     }
 }
