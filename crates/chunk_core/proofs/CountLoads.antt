@@ -16,7 +16,7 @@ use Rattle.chunk_core.specs.CoverRule.{CoversPartition}
 use Rattle.chunk_core.specs.CoverSums.{all_of, weight}
 use Rattle.chunk_core.specs.Covers.{Cover, span_in}
 use Rattle.chunk_core.specs.KeyWords.{low_number, high_number}
-use Rattle.chunk_core.specs.LinkedEntries.{entries_in}
+use Rattle.chunk_core.specs.LinkedEntries.{entries_in, linked}
 use Rattle.chunk_core.specs.PinnedRooms.{OnRoomPin, IsGoodRoom, EntryStands, RoomPinHolds, span_of}
 use Rattle.chunk_core.specs.RoomHolds.{pins_of}
 use Rattle.chunk_core.specs.RoomReads.{found_at}
@@ -24,6 +24,7 @@ use Rattle.chunk_core.specs.RoomRule.{LatchIsPinned, RoomsStand}
 use Rattle.chunk_core.specs.Rooms.{RoomMemory}
 use Rattle.chunk_core.specs.RoomsAfter.{pin_with}
 use Rattle.chunk_core.proofs.CoverFrames.{partition_same}
+use Rattle.chunk_core.proofs.RoomLinks.{used_linked}
 use Rattle.chunk_core.proofs.CoverLaws.{all_still}
 use Rattle.chunk_core.proofs.RoomFrames.{rooms_stepped}
 
@@ -59,7 +60,7 @@ found_holds z m content p inside cover words = record {
   low = words.low;
   high = words.high;
   counted = (rows_length 0 (entries_in (m.count p.room)) (found_at m content p.room), (λ j e at. let t = rows_is (found_at m content p.room) 0 (entries_in (m.count p.room)) j e at in sym (ap (λ (x : FoundEntry). x.number) t.1) ∙ (let q : 0 + j ≡ j = omega arith in q)));
-  entries = each_rows (EntryStands (m.count p.room) (m.key p.room) content) 0 (entries_in (m.count p.room)) (found_at m content p.room) (λ j le lt. record { below = omega arith; word = refl; words = refl });
+  entries = each_rows (EntryStands (linked m p.room) (m.key p.room) content) 0 (entries_in (m.count p.room)) (found_at m content p.room) (λ j le lt. record { linked = used_linked m p.room j (omega arith); word = refl; words = refl });
 }
 
 found_open : (p q : PinnedRoom) → q.found ≡ p.found → IsGoodRoom p → IsGoodRoom q

@@ -1,9 +1,9 @@
 -- Counts of entries, the numbers below them, and the rows of a room's entries.
-use Rattle.std.proofs.Common.{◌≡◌, ℕ, zero, suc, ◌+◌, ◌^◌, ◌<◌, ◌≤◌, List, ◌∷◌, map, refl, ap, ◌∙◌, arith}
+use Rattle.std.proofs.Common.{◌≡◌, ℕ, zero, suc, ◌+◌, ◌^◌, ◌<◌, ◌≤◌, List, [], ◌∷◌, map, refl, ap, ◌∙◌, subst, arith}
 use Rattle.std.specs.Prelude.{take}
 use mathlib.Core.Logic.{dite}
 use native.Mathlib.Decide.{ℕ_discrete}
-use Rattle.oak_model.specs.Counts.{one_at, total, rows}
+use Rattle.oak_model.specs.Counts.{one_at, total, rows, Each}
 use Rattle.oak_model.proofs.Counting.{one_at-same, one_at-other, total_map}
 use Rattle.chunk_core.specs.LinkedEntries.{entries_in, prefix_in, first_numbers}
 
@@ -29,10 +29,21 @@ unfolding total first_numbers
 number_below zero i h = absurd (omega arith)
 number_below (suc n) i h = dite (ℕ_discrete n i) (λ e. omega arith) (λ ne. let o = one_at-other n i ne in let t = number_below n i (omega arith) in omega arith)
 
-pub map_numbers : {A : Type 0} (f g : ℕ → A) (n : ℕ) → ((i : ℕ) → i < n → f i ≡ g i) → map f (first_numbers n) ≡ map g (first_numbers n)
-unfolding first_numbers
-map_numbers f g zero h = refl
-map_numbers f g (suc n) h = λ i. h n (let q : n < suc n = omega arith in q) i ∷ map_numbers f g n (λ j l. h j (omega arith)) i
+-- what holds of each of some numbers holds of one that stands there
+pub each_at : (P : ℕ → Type 0) (xs : List ℕ) (x : ℕ) → Each P xs → 0 < total (λ j. one_at j x) xs → P x
+unfolding total
+each_at P [] x h l = absurd (omega arith)
+each_at P (y ∷ ys) x h l = dite (ℕ_discrete y x) (λ e. subst P e h.0) (λ ne. let o = one_at-other y x ne in each_at P ys x h.1 (omega arith))
+
+-- and what holds of one after the other holds of each
+pub each_of : (P : ℕ → Type 0) (xs : List ℕ) → ((x : ℕ) → 0 < total (λ j. one_at j x) xs → P x) → Each P xs
+unfolding total
+each_of P [] h = tt
+each_of P (y ∷ ys) h = (h y (let o = one_at-same y y refl in omega arith), each_of P ys (λ x l. h x (omega arith)))
+
+pub map_each : {A : Type 0} (f g : ℕ → A) (xs : List ℕ) → Each (λ i. f i ≡ g i) xs → map f xs ≡ map g xs
+map_each f g [] h = refl
+map_each f g (x ∷ xs) h = λ i. h.0 i ∷ map_each f g xs h.1 i
 
 -- the first of rows
 pub take_rows : {A : Type 0} (i n e : ℕ) (f : ℕ → A) → n ≤ e → take n (rows i e f) ≡ rows i n f

@@ -7,6 +7,8 @@ pub mod CoverFacts
 pub mod RangeLaws
 pub mod CoverFrames
 pub mod RoomFrames
+pub mod RoomLinks
+pub mod UnlinkedWords
 pub mod RoomStores
 pub mod RoomPins
 pub mod Copies

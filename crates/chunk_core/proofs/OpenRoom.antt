@@ -37,6 +37,7 @@ use Rattle.chunk_core.specs.Spans.{within}
 use Rattle.chunk_core.specs.ValueWord.{names_header}
 use Rattle.chunk_core.proofs.CoverLaws.{all_in, range_le}
 use Rattle.chunk_core.proofs.EntryNumbers.{numbers_once, take_rows, rows_total}
+use Rattle.chunk_core.proofs.RoomLinks.{total_linked}
 use Rattle.chunk_core.proofs.Ranges.{whole_parted, Parted, upper_parted, ranges_left-is, parted_covers}
 use Rattle.chunk_core.proofs.RoomStates.{given_up}
 use Rattle.chunk_core.proofs.Weights.{weight_open, weight_held, open_none, is_so}
@@ -102,12 +103,17 @@ module _ (z : Sizes) (m : RoomMemory) (content : ℕ → List ℕ) (is_key_word 
   true_words : Each (λ (y : Carried). content y.word ≡ y.words) g.carried
   true_words = each_at (λ (t : MovingRange). Each (λ (y : Carried). content y.word ≡ y.words) t.carried) a.moving (rule.carried seat a here) may.place g may.there
 
+  -- what is added up over the linked entries is so over those in use
+  over_linked : (f : ℕ → ℕ) → total f (linked m r) ≡ total f (first_numbers (entries_in (m.count r)))
+  over_linked f = total_linked f m r
+
   -- the room's entries are those of the range's part
   entries : (f : Entry → ℕ) → total f C.entries ≡ total f (map entry_from (upper_of w g))
   entries f = total_map (entry_at m content r) f (linked m r)
+      ∙ (over_linked (λ j. f (entry_at m content r j))
       ∙ (sym (rows_total (λ (e : EntryWords). f (record { word = e.word; value = e.value; key = key_at content e.word })) (words_at m r) (entries_in (m.count r)))
       ∙ (sym (ap (total (λ (e : EntryWords). f (record { word = e.word; value = e.value; key = key_at content e.word }))) (take_rows 0 (entries_in (m.count r)) z.entries (words_at m r) may.few))
-      ∙ (may.entries (λ word value. f (record { word = word; value = value; key = key_at content word })) ∙ (total_true content f (is_upper w) g.carried true_words ∙ sym (total_map entry_from f (upper_of w g))))))
+      ∙ (may.entries (λ word value. f (record { word = word; value = value; key = key_at content word })) ∙ (total_true content f (is_upper w) g.carried true_words ∙ sym (total_map entry_from f (upper_of w g)))))))
 
   -- what is nothing over all covers is nothing of the range
   pub of_range : (F : Cover → ℕ) → all_of z m content hs F ≡ 0 → F (cover_from g) ≡ 0

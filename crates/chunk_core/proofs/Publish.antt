@@ -33,6 +33,7 @@ use Rattle.chunk_core.proofs.EntryNumbers.{count_more}
 use Rattle.chunk_core.proofs.Lookups.{no_word, all_at}
 use Rattle.chunk_core.proofs.RangeLaws.{count_of_room, none_there}
 use Rattle.chunk_core.proofs.RoomFrames.{rooms_stepped}
+use Rattle.chunk_core.proofs.RoomLinks.{linked_below, used_linked}
 
 module _ (z : Sizes) (m : RoomMemory) (content : ℕ → List ℕ) (is_key_word : ℕ → ℕ) (hs hs' gone fresh : List RoomHolds) (was : CoversPartition z m content is_key_word hs) (c : Change hs hs' gone fresh) (moving : (F : Cover → ℕ) → total (moves F) fresh ≡ total (moves F) gone)
     (r : ℕ) (lr : r < z.chunks) (cover : weight (m.pin r) ≡ 1) (room : entries_in (m.count r) + 1 < 2 ^ 16)
@@ -115,7 +116,7 @@ module _ (z : Sizes) (m : RoomMemory) (content : ℕ → List ℕ) (hs : List Ro
   holds : RoomPinHolds z m content p
   holds = subst (OnRoomPin (λ q. IsGoodRoom q → RoomPinHolds z m content q)) is (rule.good seat a here) good
 
-  -- the entries below a count are below the next
+  -- the entries that are linked stay so
   still_holds : (q : PinnedRoom) → RoomPinHolds z m content q → RoomPinHolds z m' content q
   still_holds q h = record {
     inside = h.inside;
@@ -124,13 +125,16 @@ module _ (z : Sizes) (m : RoomMemory) (content : ℕ → List ℕ) (hs : List Ro
     low = h.low;
     high = h.high;
     counted = h.counted;
-    entries = each_map (EntryStands (m.count q.room) (m.key q.room) content) (EntryStands (m'.count q.room) (m'.key q.room) content) q.entries (λ e t. record { below = below e.number t.below; word = t.word; words = t.words }) h.entries;
+    entries = each_map (EntryStands (linked m q.room) (m.key q.room) content) (EntryStands (linked m' q.room) (m'.key q.room) content) q.entries (λ e t. record { linked = stays e.number t.linked; word = t.word; words = t.words }) h.entries;
   }
     where
       below : (n : ℕ) → n < entries_in (m.count q.room) → n < entries_in (m'.count q.room)
       below n l = dite (ℕ_discrete q.room p.room)
           (λ e. let h = ap entries_in (put-here m.count p.room (m.count p.room + 1) q.room e) in let c = (count_more (m.count p.room) room).0 in let w = ap (λ (t : ℕ). entries_in (m.count t)) e in omega arith)
           (λ ne. let h = ap entries_in (put-else m.count p.room (m.count p.room + 1) q.room ne) in omega arith)
+
+      stays : (n : ℕ) → total (λ j. one_at j n) (linked m q.room) ≡ 1 → total (λ j. one_at j n) (linked m' q.room) ≡ 1
+      stays n l = used_linked m' q.room n (below n (linked_below z m content q.room (rule.ordered q.room h.cover) n (omega arith)))
 
   pub publish_rooms : RoomsStand z (put_room m (at_count p.room) (m.count p.room + 1)) content (set hs seat (record a { latch = Some (latched_at m p.room (m.count p.room + 1)); pin = Some (pin_with m content (m.count p.room + 1) p) }))
   publish_rooms = rooms_stepped z m m' content hs seat a b here (record {

@@ -16,6 +16,7 @@ use Rattle.oak_model.proofs.PutLaws.{put-cases}
 use Rattle.oak_model.proofs.MemberLaws.{each_filter}
 use Rattle.chunk_core.specs.declared.layout.TheConstants.{BOUND_WORDS}
 use Rattle.chunk_core.specs.declared.holds.Carried.{Carried}
+use Rattle.chunk_core.specs.declared.holds.FoundEntry.{FoundEntry}
 use Rattle.chunk_core.specs.declared.holds.HeldRoom.{HeldRoom}
 use Rattle.chunk_core.specs.declared.holds.Latch.{Latch}
 use Rattle.chunk_core.specs.declared.holds.MovingRange.{MovingRange}
@@ -25,7 +26,7 @@ use Rattle.chunk_core.specs.declared.holds.RoomHeldAs.{RoomHeldAs}
 use Rattle.chunk_core.specs.declared.holds.RoomHeldAs.TheVariants.{Frozen, Held}
 use Rattle.chunk_core.specs.declared.holds.RoomHolds.{RoomHolds}
 use Rattle.chunk_core.specs.CoverSums.{weight}
-use Rattle.chunk_core.specs.LinkedEntries.{entries_in}
+use Rattle.chunk_core.specs.LinkedEntries.{linked}
 use Rattle.chunk_core.specs.MayOnRooms.{IsRoomWord}
 use Rattle.chunk_core.specs.MovingRanges.{is_dropped, range_without, ranges_with}
 use Rattle.chunk_core.specs.PinnedRooms.{OnRoomPin, IsGoodRoom, EntryStands, RoomPinHolds}
@@ -36,7 +37,7 @@ use Rattle.chunk_core.specs.RoomStep.{of_key, of_value, of_next, put_room}
 use Rattle.chunk_core.specs.Rooms.{RoomMemory, RoomSpot, at_room_pin, at_base, at_count, at_latch, at_first, at_low, at_high, at_key, at_value, at_next, room_at}
 use Rattle.chunk_core.proofs.HeldRooms.{room_rows}
 use Rattle.chunk_core.proofs.RoomFrames.{good_still, rooms_stepped}
-use Rattle.chunk_core.proofs.RoomStores.{read_else}
+use Rattle.chunk_core.proofs.RoomStores.{linked_else, read_else}
 
 -- what a pass keeps of the rooms that it has
 
@@ -136,6 +137,9 @@ module _ (z : Sizes) (m : RoomMemory) (content : ℕ → List ℕ) (hs : List Ro
   other : (j : ℕ) → weight (m.pin j) ≡ 1 → j ≢ room_at p
   other j w e = absurd (let q = ap (λ (t : ℕ). weight (m.pin t)) e in let n = none in omega arith)
 
+  entry_else : (j : ℕ) → j ≢ room_at p → (e : FoundEntry) → EntryStands (linked m j) (m.key j) content e → EntryStands (linked m' j) (m'.key j) content e
+  entry_else j ne e t = record { linked = ap (total (λ k. one_at k e.number)) (linked_else m p x j ne) ∙ t.linked; word = read_else m p x (at_key j e.number) ne ∙ t.word; words = t.words }
+
   pin_else : (q : PinnedRoom) → RoomPinHolds z m content q → RoomPinHolds z m' content q
   pin_else q h = let ne = other q.room h.cover in record {
     inside = h.inside;
@@ -144,7 +148,7 @@ module _ (z : Sizes) (m : RoomMemory) (content : ℕ → List ℕ) (hs : List Ro
     low = ap (rows 0 BOUND_WORDS) (fun_ext (λ n. read_else m p x (at_low q.room n) ne)) ∙ h.low;
     high = ap (rows 0 BOUND_WORDS) (fun_ext (λ n. read_else m p x (at_high q.room n) ne)) ∙ h.high;
     counted = h.counted;
-    entries = each_map (EntryStands (m.count q.room) (m.key q.room) content) (EntryStands (m'.count q.room) (m'.key q.room) content) q.entries (λ e t. record { below = subst (λ (n : ℕ). e.number < entries_in n) (sym (read_else m p x (at_count q.room) ne)) t.below; word = read_else m p x (at_key q.room e.number) ne ∙ t.word; words = t.words }) h.entries;
+    entries = each_map (EntryStands (linked m q.room) (m.key q.room) content) (EntryStands (linked m' q.room) (m'.key q.room) content) q.entries (entry_else q.room ne) h.entries;
   }
 
   ordered : (j : ℕ) → j ≢ room_at p → IsInOrder z content (m.count j) (m.key j) (m.low j 0) (m.high j 0) → IsInOrder z content (m'.count j) (m'.key j) (m'.low j 0) (m'.high j 0)

@@ -4,7 +4,7 @@ use mathlib.Core.Option.{some}
 use lib.ListN.{get_elem?}
 use Rattle.pin_word.specs.PinWord.{state_of}
 use Rattle.oak_model.specs.Limits.{Sizes}
-use Rattle.oak_model.specs.Counts.{rows, Each}
+use Rattle.oak_model.specs.Counts.{one_at, total, rows, Each}
 use Rattle.chunk_core.specs.declared.layout.TheConstants.{BOUND_WORDS}
 use Rattle.chunk_core.specs.declared.states.TheConstants.{OPEN}
 use Rattle.chunk_core.specs.declared.holds.FoundEntry.{FoundEntry}
@@ -12,7 +12,7 @@ use Rattle.chunk_core.specs.declared.holds.PinnedRoom.{PinnedRoom}
 use Rattle.chunk_core.specs.Rooms.{RoomMemory}
 use Rattle.chunk_core.specs.KeyWords.{key_in, low_number, high_number}
 use Rattle.chunk_core.specs.Spans.{Span, within}
-use Rattle.chunk_core.specs.LinkedEntries.{entries_in}
+use Rattle.chunk_core.specs.LinkedEntries.{entries_in, linked}
 use Rattle.chunk_core.specs.CoverSums.{weight}
 
 -- P holds of the pin, where there is one
@@ -32,9 +32,13 @@ span_of p = record { low = low_number p.low; high = high_number p.high; base = p
 abbrev pub found_key : FoundEntry → ℕ
 found_key e = key_in e.word e.words
 
--- an entry that was found is below the count, and has the key word and the bytes that it had then
-pub record EntryStands (count : ℕ) (key : ℕ → ℕ) (content : ℕ → List ℕ) (e : FoundEntry) : Type 0 where
-  pub below : e.number < entries_in count
+-- all entries that it found
+abbrev pub found_in : PinnedRoom → List FoundEntry
+found_in p = p.entries
+
+-- an entry that was found is linked, and has the key word and the bytes that it had then
+pub record EntryStands (links : List ℕ) (key : ℕ → ℕ) (content : ℕ → List ℕ) (e : FoundEntry) : Type 0 where
+  pub linked : total (λ j. one_at j e.number) links ≡ 1
   pub word : key e.number ≡ e.word
   pub words : content e.word ≡ e.words
 
@@ -51,7 +55,7 @@ pub record RoomPinHolds (z : Sizes) (m : RoomMemory) (content : ℕ → List ℕ
   pub low : rows 0 BOUND_WORDS (m.low p.room) ≡ p.low
   pub high : rows 0 BOUND_WORDS (m.high p.room) ≡ p.high
   pub counted : AreCounted p.count p.entries
-  pub entries : Each (EntryStands (m.count p.room) (m.key p.room) content) p.entries
+  pub entries : Each (EntryStands (linked m p.room) (m.key p.room) content) p.entries
 
 -- a key of the range that a good pin found, of which no entry was found below the count
 pub record Misses (p : PinnedRoom) (k : ℕ) : Type 0 where

@@ -18,7 +18,7 @@ use Rattle.chunk_core.specs.declared.holds.FoundEntry.{FoundEntry}
 use Rattle.chunk_core.specs.declared.holds.PinnedRoom.{PinnedRoom}
 use Rattle.chunk_core.specs.declared.holds.RoomHolds.{RoomHolds}
 use Rattle.chunk_core.specs.KeyWords.{key_length, key_in, key_bytes}
-use Rattle.chunk_core.specs.LinkedEntries.{entries_in, prefix_in}
+use Rattle.chunk_core.specs.LinkedEntries.{entries_in, linked, prefix_in}
 use Rattle.chunk_core.specs.PinnedRooms.{EntryStands, RoomPinHolds, span_of, found_key, Misses}
 use Rattle.chunk_core.specs.RoomReads.{found_at, found_below}
 use Rattle.chunk_core.specs.RoomRule.{IsInOrder}
@@ -26,6 +26,7 @@ use Rattle.chunk_core.specs.Rooms.{at_count}
 use Rattle.chunk_core.specs.RoomsAfter.{pin_with}
 use Rattle.chunk_core.specs.Spans.{within}
 use Rattle.chunk_core.proofs.CountLoads.{rows_has}
+use Rattle.chunk_core.proofs.RoomLinks.{linked_below}
 use Rattle.oak_core.specs.declared.states.PassState.{PassState}
 use Rattle.oak_core.specs.Memory.{Memory, in_rooms, memory}
 use Rattle.oak_core.specs.PassState.{rooms_held}
@@ -157,8 +158,8 @@ module _ (z : Sizes) (call : ℕ) (v : PassState) (n : ℕ) (w : PassState) (p :
 
   -- what was found before stands
   still_found : (i : ℕ) (e : FoundEntry) → get_elem? q.entries i ≡ some e → get_elem? q'.entries i ≡ some e
-  still_found i e at = let s = each_at (EntryStands (m.rooms.count q.room) (m.rooms.key q.room) bytes) q.entries held.entries i e at in let number = counted_numbers q.count q.entries i e held.counted at in
-      let lt : i < entries_in n = subst (λ (c : ℕ). i < entries_in c) count_is (subst (λ (j : ℕ). j < entries_in (m.rooms.count q.room)) number s.below) in
+  still_found i e at = let s = each_at (EntryStands (linked m.rooms q.room) (m.rooms.key q.room) bytes) q.entries held.entries i e at in let number = counted_numbers q.count q.entries i e held.counted at in
+      let lt : i < entries_in n = subst (λ (c : ℕ). i < entries_in c) count_is (subst (λ (j : ℕ). j < entries_in (m.rooms.count q.room)) number (linked_below z m.rooms bytes q.room (t.rule.rooms.ordered q.room held.cover) e.number (let l = s.linked in omega arith))) in
       let w_is : word i ≡ e.word = ap word (sym number) ∙ s.word in
       let same : found_at m.rooms bytes q.room i ≡ e = λ h. record { number = sym number h; word = w_is h; words = (ap bytes w_is ∙ s.words) h } in
       rows_has (found_at m.rooms bytes q.room) 0 (entries_in n) i lt ∙ (ap (λ (j : ℕ). some (found_at m.rooms bytes q.room j)) (let z0 : 0 + i ≡ i = omega arith in z0) ∙ ap some same)

@@ -16,7 +16,7 @@ use Rattle.arena_core.specs.Place.{class_in, length_in}
 use Rattle.chunk_core.specs.declared.holds.FoundEntry.{FoundEntry}
 use Rattle.chunk_core.specs.declared.holds.PinnedRoom.{PinnedRoom}
 use Rattle.chunk_core.specs.KeyWords.{key_length, key_bytes, key_in}
-use Rattle.chunk_core.specs.LinkedEntries.{entries_in}
+use Rattle.chunk_core.specs.LinkedEntries.{entries_in, linked}
 use Rattle.chunk_core.specs.PinnedRooms.{EntryStands, RoomPinHolds, AreCounted}
 use Rattle.chunk_core.specs.RoomReads.{found_at}
 use Rattle.chunk_core.specs.Rooms.{RoomMemory}
@@ -73,7 +73,7 @@ pin_grows z m bytes p x h le = record {
   low = refl;
   high = refl;
   entries = λ i e there.
-      let s = each_at (EntryStands (m.count p.room) (m.key p.room) bytes) p.entries h.entries i e there in let lt = at_inside p.entries i e there in
+      let s = each_at (EntryStands (linked m p.room) (m.key p.room) bytes) p.entries h.entries i e there in let lt = at_inside p.entries i e there in
       rows_has (found_at m bytes p.room) 0 (entries_in x) i (omega arith)
       ∙ ap some (found_same bytes (m.key p.room) (0 + i) i e (let f : 0 + i ≡ i = omega arith in f) (numbered p.count p.entries h.counted i e there) s.word s.words);
 }

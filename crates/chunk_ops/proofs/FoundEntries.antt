@@ -16,10 +16,11 @@ use Rattle.chunk_core.specs.declared.holds.FoundEntry.{FoundEntry}
 use Rattle.chunk_core.specs.declared.holds.RoomHolds.{RoomHolds}
 use Rattle.chunk_core.specs.CoverSums.{weight}
 use Rattle.chunk_core.specs.KeyWords.{key_length}
-use Rattle.chunk_core.specs.LinkedEntries.{entries_in}
+use Rattle.chunk_core.specs.LinkedEntries.{entries_in, linked}
 use Rattle.chunk_core.specs.MayOnRooms.{FindsEntry}
 use Rattle.chunk_core.specs.PinnedRooms.{AreCounted, EntryStands, RoomPinHolds}
 use Rattle.chunk_core.specs.Rooms.{at_key}
+use Rattle.chunk_core.proofs.RoomLinks.{linked_below}
 use Rattle.oak_core.specs.declared.states.PassState.{PassState}
 use Rattle.oak_core.specs.EntryOwners.{is_key_word}
 use Rattle.oak_core.specs.Memory.{Memory, Spot, in_arena, in_rooms, index, IsInside, memory}
@@ -51,21 +52,21 @@ module _ (z : Sizes) (call r : ℕ) (x : Step) (v : PassState) (n : ℕ) (w : Pa
   held : RoomPinHolds z m.rooms (content m.arena.bytes) (room_pin v)
   held = pin_holds z call r x v n w p t
 
-  at_room : EntryStands (m.rooms.count r) (m.rooms.key r) (content m.arena.bytes) h.entry
-  at_room = subst (λ (j : ℕ). EntryStands (m.rooms.count j) (m.rooms.key j) (content m.arena.bytes) h.entry) p.pin.room
-      (each_at (EntryStands (m.rooms.count (room_pin v).room) (m.rooms.key (room_pin v).room) (content m.arena.bytes)) (room_pin v).entries held.entries i h.entry h.finds.there)
+  at_room : EntryStands (linked m.rooms r) (m.rooms.key r) (content m.arena.bytes) h.entry
+  at_room = subst (λ (j : ℕ). EntryStands (linked m.rooms j) (m.rooms.key j) (content m.arena.bytes) h.entry) p.pin.room
+      (each_at (EntryStands (linked m.rooms (room_pin v).room) (m.rooms.key (room_pin v).room) (content m.arena.bytes)) (room_pin v).entries held.entries i h.entry h.finds.there)
 
   number_is : h.entry.number ≡ i
   number_is = counted_numbers (room_pin v).count (room_pin v).entries i h.entry held.counted h.finds.there
-
-  pub entry_below : i < entries_in (m.rooms.count r)
-  entry_below = let b = at_room.below in let e = number_is in omega arith
 
   pub word_there : m.rooms.key r i ≡ word
   word_there = ap (m.rooms.key r) (sym number_is) ∙ at_room.word
 
   weighs : weight (m.rooms.pin r) ≡ 1
   weighs = subst (λ (j : ℕ). weight (m.rooms.pin j) ≡ 1) p.pin.room held.cover
+
+  pub entry_below : i < entries_in (m.rooms.count r)
+  entry_below = subst (λ (j : ℕ). j < entries_in (m.rooms.count r)) number_is (linked_below z m.rooms (content m.arena.bytes) r (t.rule.rooms.ordered r weighs) h.entry.number (let l = at_room.linked in omega arith))
 
   pub is_key_there : is_key_word word ≡ 1
   is_key_there = subst (λ (y : ℕ). is_key_word y ≡ 1) word_there (is_key_below z t.table t.rule r i p.inside weighs entry_below)

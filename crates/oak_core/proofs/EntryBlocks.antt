@@ -72,13 +72,13 @@ module _ (z : Sizes) (s : TableState) (r : Rule z s) (c b k x : ℕ) (none : ent
   pub bytes_stored : RoomBundles z m.rooms m'.arena.bytes hs
   bytes_stored = record {
     rooms = bytes_rooms z m.rooms (content m.arena.bytes) (content m'.arena.bytes) hs (names_block c b) is_key_word apart key_some (cover_inside z s.words) none r.covers r.rooms;
-    covers = bytes_partition z m.rooms (content m.arena.bytes) (content m'.arena.bytes) hs (names_block c b) is_key_word apart key_some (cover_inside z s.words) none r.covers;
+    covers = bytes_partition z m.rooms (content m.arena.bytes) (content m'.arena.bytes) hs (names_block c b) is_key_word apart key_some (cover_inside z s.words) none r.covers r.rooms;
     kept = r.kept_in_rooms;
   }
 
   -- and whatever is added up over covers
   pub sums_stored : (F : Cover → ℕ) → all_of z m.rooms (content m'.arena.bytes) hs F ≡ all_of z m.rooms (content m.arena.bytes) hs F
-  sums_stored = bytes_covers z m.rooms (content m.arena.bytes) (content m'.arena.bytes) hs (names_block c b) is_key_word apart key_some (cover_inside z s.words) none r.covers
+  sums_stored = bytes_covers z m.rooms (content m.arena.bytes) (content m'.arena.bytes) hs (names_block c b) is_key_word apart key_some (cover_inside z s.words) none r.covers r.rooms
 
 -- a step on the arena leaves the owners that are headers and entries
 pub owned_whatever : (z : Sizes) (m : Memory) (p : ArenaSpot) (y : ℕ) (hs : List RoomHolds) (bits : ℕ → ℕ → ℕ) (bs : List HeldBlocks) → BlocksAreOwned z bits (all_others z m hs) bs → BlocksAreOwned z bits (all_others z (write m (in_arena p) y) hs) bs

@@ -1,8 +1,8 @@
 -- An entry that a pass found under a good pin: what stands of it, and the key that its pass knows of it.
-use Rattle.std.proofs.Common.{◌≡◌, ℕ, ◌+◌, ◌<◌, List, map, sym, subst, ap, ◌∙◌, arith, Some}
+use Rattle.std.proofs.Common.{◌≡◌, ℕ, ◌+◌, ◌<◌, List, map, sym, subst, ap, ◌∙◌, Some}
 use mathlib.Core.Option.{some}
 use lib.ListN.{get_elem?}
-use Rattle.oak_model.specs.Counts.{one_at, total}
+use Rattle.oak_model.specs.Counts.{one_at, total, Has}
 use Rattle.oak_model.specs.KeyNumber.{key_number}
 use Rattle.oak_model.specs.Limits.{Sizes}
 use Rattle.arena_core.specs.Place.{content}
@@ -12,11 +12,11 @@ use Rattle.chunk_core.specs.CoverRule.{CoversPartition}
 use Rattle.chunk_core.specs.Covers.{key_at}
 use Rattle.chunk_core.specs.CoverSums.{weight}
 use Rattle.chunk_core.specs.KeyWords.{key_bytes}
-use Rattle.chunk_core.specs.LinkedEntries.{entries_in, linked}
+use Rattle.chunk_core.specs.LinkedEntries.{linked}
 use Rattle.chunk_core.specs.MayOnRooms.{FindsEntry}
-use Rattle.chunk_core.specs.PinnedRooms.{RoomPinHolds}
+use Rattle.chunk_core.specs.PinnedRooms.{RoomPinHolds, found_in}
 use Rattle.chunk_core.specs.RoomRule.{RoomsStand}
-use Rattle.chunk_core.proofs.EntryNumbers.{number_below}
+use Rattle.chunk_core.proofs.RoomLinks.{found_place}
 use Rattle.oak_core.specs.declared.states.PassState.{PassState}
 use Rattle.oak_core.specs.EntryOwners.{is_key_word}
 use Rattle.oak_core.specs.FoundKeys.{entry_key, pinned_key}
@@ -34,8 +34,12 @@ module _ (z : Sizes) (m : Memory) (vs : List PassState) (rooms : RoomsStand z m.
   holds : RoomPinHolds z m.rooms (content m.arena.bytes) p
   holds = pin_holds z m vs rooms parts seat v here p finds.pin.is finds.pin.good
 
-  entry : entry_key i p.entries ≡ Some key
-  entry = entry_key_is p.count i p.entries e holds.counted finds.there
+  -- it is one of those found, by its number
+  there : Has e (found_in p) × (e.number ≡ i)
+  there = found_place p.count p.entries i e holds.counted finds.there
+
+  entry : entry_key i (found_in p) ≡ Some key
+  entry = entry_key_is z m.rooms (content m.arena.bytes) p holds i e there.0 there.1
 
   -- its room
   pub room_inside : r < z.chunks
@@ -44,12 +48,9 @@ module _ (z : Sizes) (m : Memory) (vs : List PassState) (rooms : RoomsStand z m.
   pub room_covers : weight (m.rooms.pin r) ≡ 1
   room_covers = subst (λ (j : ℕ). weight (m.rooms.pin j) ≡ 1) finds.pin.room holds.cover
 
-  -- it is in use, and linked
+  -- it is linked
   pub entry_once : total (λ j. one_at j i) (linked m.rooms r) ≡ 1
   entry_once = subst (λ (j : ℕ). total (λ l. one_at l i) (linked m.rooms j) ≡ 1) finds.pin.room (linked_once z m vs rooms parts seat v here p finds.pin.is finds.pin.good i key entry)
-
-  pub entry_low : i < entries_in (m.rooms.count r)
-  entry_low = number_below (entries_in (m.rooms.count r)) i (let o = entry_once in omega arith)
 
   -- its key, as it stands there, and as the pass knows it
   pub key_stands : key_number (key_bytes e.word e.words) ≡ key_at (content m.arena.bytes) (m.rooms.key r i)

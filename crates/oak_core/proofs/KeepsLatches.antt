@@ -25,7 +25,9 @@ use Rattle.chunk_core.specs.RoomRule.{latches_on, LatchIsPinned}
 use Rattle.chunk_core.specs.RoomStep.{EntryField, of_key, of_value, of_next, entry_spot, latch_room, store_entry, unlatch_room, put_room}
 use Rattle.chunk_core.specs.Rooms.{RoomSpot, at_latch, read_room, same_room_spot}
 use Rattle.chunk_core.proofs.KeptLatches.{latch_put, kept_taken, kept_given, kept_stored}
-use Rattle.chunk_core.proofs.PastCounts.{StaysBelow, below_covers, below_rooms, below_partition, stays_latch, latch_taken, latch_given, latches_put, stays_entry, latch_same, latch_pinned}
+use Rattle.chunk_core.proofs.PastCounts.{latched_rooms, latched_partition, stays_latch, latch_taken, latch_given, latches_put, latch_same, latch_pinned}
+use Rattle.chunk_core.proofs.RoomLinks.{past_unlinked}
+use Rattle.chunk_core.proofs.UnlinkedWords.{StaysLinked, stays_covers, stays_unlinked}
 use Rattle.oak_core.specs.declared.states.PassState.{PassState}
 use Rattle.oak_core.specs.EntryOwners.{all_others, entry_owners, is_key_word}
 use Rattle.oak_core.specs.Memory.{Memory, in_rooms, write, memory, index}
@@ -56,19 +58,19 @@ module _ (z : Sizes) (s : TableState) (seat : ℕ) (v : PassState) (r : Rule z s
     covers : (F : Cover → ℕ) → all_of z (write m (in_rooms p) x).rooms (content m.arena.bytes) (set hs seat (record v.rooms { latch = l })) F ≡ all_of z m.rooms (content m.arena.bytes) hs F
 
   -- no cover has the word
-  module _ (p : RoomSpot) (x : ℕ) (l : Option Latch) (stays : StaysBelow m.rooms (put_room m.rooms p x)) (level : (j : ℕ) → latches_of j l + m.rooms.latch j ≡ latches_of j v.rooms.latch + (put_room m.rooms p x).latch j)
+  module _ (p : RoomSpot) (x : ℕ) (l : Option Latch) (stays : StaysLinked m.rooms (put_room m.rooms p x)) (level : (j : ℕ) → latches_of j l + m.rooms.latch j ≡ latches_of j v.rooms.latch + (put_room m.rooms p x).latch j)
       (few : (j : ℕ) → (put_room m.rooms p x).latch j ≤ 1) (pinned : LatchIsPinned v.rooms.pin l) (kept : KeptNumbersStand same_room_spot (read_room (put_room m.rooms p x)) (map kept_of_rooms (set hs seat (record v.rooms { latch = l })))) where
     abbrev m' : Memory
     m' = write m (in_rooms p) x
 
     owners : (c b : ℕ) → all_others z m' (set hs seat (record v.rooms { latch = l })) c b ≡ all_others z m hs c b
-    owners c b = let e : entry_owners z (put_room m.rooms p x) (content m.arena.bytes) (set hs seat (record v.rooms { latch = l })) c b ≡ entry_owners z m.rooms (content m.arena.bytes) hs c b = below_covers z m.rooms (put_room m.rooms p x) (content m.arena.bytes) stays hs seat v.rooms (record v.rooms { latch = l }) own refl (each (owning (names_block c b))) in omega arith
+    owners c b = let e : entry_owners z (put_room m.rooms p x) (content m.arena.bytes) (set hs seat (record v.rooms { latch = l })) c b ≡ entry_owners z m.rooms (content m.arena.bytes) hs c b = stays_covers z m.rooms (put_room m.rooms p x) (content m.arena.bytes) stays hs seat v.rooms (record v.rooms { latch = l }) own refl (each (owning (names_block c b))) in omega arith
 
     stands_below : Stands p x l
     stands_below = record {
       bundles = record {
-        rooms = below_rooms z m.rooms (put_room m.rooms p x) (content m.arena.bytes) is_key_word hs r.rooms r.covers seat v.rooms own stays l level few pinned;
-        covers = below_partition z m.rooms (put_room m.rooms p x) (content m.arena.bytes) is_key_word hs r.rooms r.covers seat v.rooms own stays l level few pinned;
+        rooms = latched_rooms z m.rooms (put_room m.rooms p x) (content m.arena.bytes) is_key_word hs r.rooms r.covers seat v.rooms own stays l level few pinned;
+        covers = latched_partition z m.rooms (put_room m.rooms p x) (content m.arena.bytes) is_key_word hs r.rooms r.covers seat v.rooms own stays l level few pinned;
         kept = kept;
       };
       blocks = record {
@@ -76,7 +78,7 @@ module _ (z : Sizes) (s : TableState) (seat : ℕ) (v : PassState) (r : Rule z s
         inside = λ c b le. let e = owners c b in let w = r.blocks.inside c b le in omega arith;
         whole = r.blocks.whole;
       };
-      covers = below_covers z m.rooms (put_room m.rooms p x) (content m.arena.bytes) stays hs seat v.rooms (record v.rooms { latch = l }) own refl;
+      covers = stays_covers z m.rooms (put_room m.rooms p x) (content m.arena.bytes) stays hs seat v.rooms (record v.rooms { latch = l }) own refl;
     }
 
   -- what the pass keeps, in its place among what all keep
@@ -125,7 +127,7 @@ module _ (z : Sizes) (s : TableState) (seat : ℕ) (v : PassState) (r : Rule z s
     where
       own_entry : Stands (entry_spot f l.room (entries_in l.count)) x (latch_with f x v.rooms.latch)
       own_entry = let q = entry_spot f l.room (entries_in l.count) in let still = entry_latch f l.room (entries_in l.count) x in
-          stands_below q x (latch_with f x v.rooms.latch) (stays_entry m.rooms f l.room (entries_in l.count) x (ap entries_in (sym (count_is l has.is)))) (λ j. let e = still j in let t = latch_same f x v.rooms.latch j in omega arith)
+          stands_below q x (latch_with f x v.rooms.latch) (stays_unlinked m.rooms f l.room (entries_in l.count) x (past_unlinked z m.rooms (content m.arena.bytes) l.room (r.rooms.ordered l.room (subst (λ (t : ℕ). weight (m.rooms.pin t) ≡ 1) (sym has.room) (pinned_weight k p has.pin))) (entries_in l.count) (let e = ap entries_in (count_is l has.is) in omega arith))) (λ j. let e = still j in let t = latch_same f x v.rooms.latch j in omega arith)
           (λ j. let e = still j in let t = r.rooms.latches j in omega arith) (latch_pinned f x v.rooms.pin v.rooms.latch (r.rooms.passes seat v.rooms own).latch)
           (kept_there q x (latch_with f x v.rooms.latch) (kept_stored z m.rooms (content m.arena.bytes) hs r.rooms r.kept_in_rooms seat v.rooms own f x l has.is))
 

@@ -10,7 +10,7 @@ use Rattle.oak_model.proofs.Counting.{both_true, test-cases, total_snoc}
 use Rattle.oak_model.proofs.Lists.{at_map, map_set}
 use Rattle.chunk_core.specs.declared.holds.PinnedRoom.{PinnedRoom}
 use Rattle.chunk_core.specs.declared.states.TheConstants.{OPEN}
-use Rattle.chunk_core.specs.PinnedRooms.{IsGoodRoom}
+use Rattle.chunk_core.specs.PinnedRooms.{IsGoodRoom, found_in}
 use Rattle.chunk_core.specs.Rooms.{at_value}
 use Rattle.chunk_core.specs.ValueWord.{names_header}
 use Rattle.oak_core.specs.declared.states.Knowledge.{Knowledge}
@@ -43,12 +43,12 @@ pub record FindsKey (r i : ℕ) (o : Option PinnedRoom) (key : List ℕ) : Type 
   pub is : o ≡ Some pin
   pub room : pin.room ≡ r
   pub good : IsGoodRoom pin
-  pub found : entry_key i pin.entries ≡ Some key
+  pub found : entry_key i (found_in pin) ≡ Some key
 
 -- there is one where an entry has a key
 pub finds_key : (r i : ℕ) (o : Option PinnedRoom) (key : List ℕ) → pinned_key r i o ≡ Some key → FindsKey r i o key
 finds_key r i None key e = absurd (none-some key e)
-finds_key r i (Some p) key e = test-cases (is_pinned r p) (λ t. cond t (entry_key i p.entries) None ≡ Some key → is_pinned r p ≡ t → FindsKey r i (Some p) key)
+finds_key r i (Some p) key e = test-cases (is_pinned r p) (λ t. cond t (entry_key i (found_in p)) None ≡ Some key → is_pinned r p ≡ t → FindsKey r i (Some p) key)
     (λ same q _. let b = both_true (p.room == r) (state_of p.found == OPEN) same in record { pin = p; is = refl; room = eqb-true p.room r b.0; good = eqb-true (state_of p.found) OPEN b.1; found = q })
     (λ _ q _. absurd (none-some key q)) e refl
 
@@ -60,7 +60,7 @@ module _ (z : Sizes) (s : TableState) (call seat : ℕ) (v : PassState) (r : Rul
   qs = map knowledge_of s.states
 
   -- an entry that was found
-  module _ (p : PinnedRoom) (is : v.rooms.pin ≡ Some p) (good : IsGoodRoom p) (i : ℕ) (inside : IsInside z (in_rooms (at_value p.room i))) (key : List ℕ) (found : entry_key i p.entries ≡ Some key) where
+  module _ (p : PinnedRoom) (is : v.rooms.pin ≡ Some p) (good : IsGoodRoom p) (i : ℕ) (inside : IsInside z (in_rooms (at_value p.room i))) (key : List ℕ) (found : entry_key i (found_in p) ≡ Some key) where
     abbrev n : ℕ
     n = m.rooms.value p.room i
 

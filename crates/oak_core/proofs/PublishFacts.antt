@@ -108,7 +108,7 @@ module _ (z : Sizes) (s : TableState) (seat : ℕ) (v : PassState) (r : Rule z s
   -- the entries below the count are those that the pass found
   found_there : (i : ℕ) → i < n → (e : FoundEntry) × (get_elem? pinned.entries i ≡ some e) × (key_at bytes (m.rooms.key pinned.room i) ≡ found_key e)
   found_there i lt = let c = subst (λ (o : Option ℕ). AreCounted o pinned.entries) may.rooms.counted pin_stands.counted in let e = at_some pinned.entries i (let l = c.0 in let q = ap entries_in count_is in omega arith) in
-      let stands = each_at (EntryStands (m.rooms.count pinned.room) (m.rooms.key pinned.room) bytes) pinned.entries pin_stands.entries i e.0 e.1 in
+      let stands = each_at (EntryStands (linked m.rooms pinned.room) (m.rooms.key pinned.room) bytes) pinned.entries pin_stands.entries i e.0 e.1 in
       (e.0, e.1, (λ t. key_at bytes (m.rooms.key pinned.room (sym (c.1 i e.0 e.1) t))) ∙ (ap (key_at bytes) stands.word ∙ ap (key_in e.0.word) stands.words))
 
   pub new_there : (i : ℕ) → 0 < total (λ j. one_at j i) (linked m.rooms may.rooms.pinned.room) → key_at (content m.arena.bytes) (m.rooms.key may.rooms.pinned.room i) ≢ key_at (content m.arena.bytes) (m.rooms.key may.rooms.pinned.room (entries_in (m.rooms.count may.rooms.pinned.room)))

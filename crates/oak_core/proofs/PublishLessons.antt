@@ -27,7 +27,7 @@ use Rattle.chunk_core.specs.Spans.{within}
 use Rattle.chunk_core.specs.ValueWord.{names_header}
 use Rattle.chunk_core.proofs.CountLoads.{rows_has}
 use Rattle.chunk_core.proofs.CoverLaws.{moves}
-use Rattle.chunk_core.proofs.EntryNumbers.{count_more}
+use Rattle.chunk_core.proofs.EntryNumbers.{count_more, number_below}
 use Rattle.chunk_core.proofs.Publish as adds
 use Rattle.chunk_core.proofs.RangeLaws.{base_of_room}
 use Rattle.oak_core.specs.declared.states.Knowledge.{Knowledge}
@@ -52,7 +52,7 @@ misses_fewer z m content count p holds some_count more k x = record {
   good = x.good;
   counted = some_count;
   inside = x.inside;
-  none = λ j e at same. let stands = each_at (EntryStands (m.count p.room) (m.key p.room) content) p.entries holds.entries j e at in let n = found_number p.count p.entries some_count holds.counted j e at in let below = stands.below in
+  none = λ j e at same. let stands = each_at (EntryStands (linked m p.room) (m.key p.room) content) p.entries holds.entries j e at in let n = found_number p.count p.entries some_count holds.counted j e at in let below = number_below (entries_in (m.count p.room)) e.number (let l = stands.linked in omega arith) in
       x.none j (found_at m content p.room j) (rows_has (found_at m content p.room) 0 (entries_in count) j (omega arith) ∙ ap (λ (t : ℕ). some (found_at m content p.room t)) (let q : 0 + j ≡ j = omega arith in q))
       (ap (λ (t : ℕ). key_at content (m.key p.room t)) (sym n) ∙ (ap (key_at content) stands.word ∙ (ap (key_in e.word) stands.words ∙ same)));
 }

@@ -9,7 +9,7 @@ use Rattle.oak_model.proofs.Counting.{true_both}
 use Rattle.oak_model.proofs.Lists.{each_append, at_map}
 use Rattle.arena_core.specs.Place.{content}
 use Rattle.chunk_core.specs.CoverRule.{CoversPartition}
-use Rattle.chunk_core.specs.PinnedRooms.{IsGoodRoom}
+use Rattle.chunk_core.specs.PinnedRooms.{IsGoodRoom, found_in}
 use Rattle.chunk_core.specs.RoomRule.{RoomsStand}
 use Rattle.chunk_core.specs.ValueWord.{names_header}
 use Rattle.chunk_core.specs.declared.holds.PinnedRoom.{PinnedRoom}
@@ -37,7 +37,7 @@ use Rattle.oak_core.proofs.KeyLoads.{floor_heard}
 use Rattle.oak_core.proofs.PinsKnown.{pins_stay}
 
 module _ (z : Sizes) (m : Memory) (vs : List PassState) (rooms : RoomsStand z m.rooms (content m.arena.bytes) (map rooms_held vs)) (parts : CoversPartition z m.rooms (content m.arena.bytes) is_key_word (map rooms_held vs)) (keys : KeysStand z m vs)
-    (seat : ℕ) (v : PassState) (here : get_elem? vs seat ≡ some v) (p : PinnedRoom) (is : v.rooms.pin ≡ Some p) (good : IsGoodRoom p) (i : ℕ) (key : List ℕ) (found : entry_key i p.entries ≡ Some key) (n : ℕ) (finds : m.rooms.value p.room i ≡ n) where
+    (seat : ℕ) (v : PassState) (here : get_elem? vs seat ≡ some v) (p : PinnedRoom) (is : v.rooms.pin ≡ Some p) (good : IsGoodRoom p) (i : ℕ) (key : List ℕ) (found : entry_key i (found_in p) ≡ Some key) (n : ℕ) (finds : m.rooms.value p.room i ≡ n) where
   pinned : pinned_key p.room i v.rooms.pin ≡ Some key
   pinned = pinned_there z m vs rooms parts seat v here p is good i key found
 

@@ -1,26 +1,23 @@
 -- A step on the value word of an entry that was found under a good pin: what it owes, so that the rule stands behind it.
-use Rattle.std.proofs.Common.{◌≡◌, ℕ, ◌^◌, ◌<◌, List, [], ◌∷◌, map, set, get_or, sym, refl, subst, arith, false}
+use Rattle.std.proofs.Common.{◌≡◌, ℕ, ◌^◌, ◌<◌, List, map, set, get_or, sym, refl, subst, arith, false}
 use mathlib.Core.Option.{some}
 use lib.ListN.{get_elem?}
 use Rattle.oak_model.specs.Kept.{KeptNumbersStand}
 use Rattle.oak_model.specs.Limits.{Sizes}
-use Rattle.oak_model.proofs.Changes.{Change, stepped}
 use Rattle.oak_model.proofs.KeptLaws.{kept_unkept}
-use Rattle.oak_model.proofs.Lists.{at_map, map_set_same, set_again}
+use Rattle.oak_model.proofs.Lists.{at_map, map_set_same}
 use Rattle.arena_core.specs.Blocks.{BlocksAreOwned}
 use Rattle.arena_core.specs.Place.{names_block, content}
 use Rattle.chunk_core.specs.declared.holds.FoundEntry.{FoundEntry}
 use Rattle.chunk_core.specs.declared.holds.PinnedRoom.{PinnedRoom}
 use Rattle.chunk_core.specs.declared.holds.RoomHolds.{RoomHolds}
 use Rattle.chunk_core.specs.CoverRule.{CoversPartition}
-use Rattle.chunk_core.specs.CoverSums.{owning}
 use Rattle.chunk_core.specs.MayOnRooms.{FindsEntry}
 use Rattle.chunk_core.specs.KeptRooms.{kept_of_rooms}
 use Rattle.chunk_core.specs.RoomRule.{RoomsStand}
 use Rattle.chunk_core.specs.RoomStep.{RoomStep, put_room, room_effect, room_found, room_spot}
 use Rattle.chunk_core.specs.Rooms.{IsInRooms, RoomSpot, at_value, read_room, same_room_spot}
-use Rattle.chunk_core.proofs.KeptValues.{value_kept, value_rooms}
-use Rattle.chunk_core.proofs.ValueLaws.{value_all}
+use Rattle.chunk_core.proofs.KeptValues.{value_kept, value_owners, value_rooms}
 use Rattle.oak_core.specs.declared.states.PassState.{PassState}
 use Rattle.oak_core.specs.EntryOwners.{all_others, is_key_word}
 use Rattle.oak_core.specs.Finding.{finding}
@@ -31,7 +28,7 @@ use Rattle.oak_core.specs.PassState.{blocks_of, headers_held, kept_of, knowledge
 use Rattle.oak_core.specs.Rule.{HistoriesStand, PassStands, Rule}
 use Rattle.oak_core.specs.Step.{on_rooms, state_after, table_after}
 use Rattle.oak_core.specs.TableState.{TableState}
-use Rattle.oak_core.proofs.FoundEntries.{entry_low, entry_once, room_covers, room_inside}
+use Rattle.oak_core.proofs.FoundEntries.{entry_once, room_covers}
 use Rattle.oak_core.proofs.Growing.{swept_grows}
 use Rattle.oak_core.proofs.Keeps.{learning_rule, of_rooms}
 use Rattle.oak_core.proofs.KeptWords.{times_in_rooms, unkept_by_all}
@@ -52,14 +49,9 @@ module _ (z : Sizes) (s : TableState) (seat : ℕ) (v : PassState) (r : Rule z s
   own : get_elem? hs seat ≡ some v.rooms
   own = at_map rooms_held s.states seat v here
 
-  -- the entry that the pass found
-  module _ (k i : ℕ) (p : PinnedRoom) (e : FoundEntry) (finds : FindsEntry k i v.rooms p e) where
-    change : Change hs hs (v.rooms ∷ []) (v.rooms ∷ [])
-    change = subst (λ (l : List RoomHolds). Change hs l (v.rooms ∷ []) (v.rooms ∷ [])) (set_again hs seat v.rooms own) (stepped hs seat v.rooms v.rooms own)
-
-    -- entries have the blocks that they had
-    value_owners : (x c b : ℕ) → all_others z (write m (in_rooms (at_value k i)) x) hs c b ≡ all_others z m hs c b
-    value_owners x c b = let t = value_all z m.rooms bytes is_key_word hs hs (v.rooms ∷ []) (v.rooms ∷ []) r.covers change (λ _. refl) k i x (room_inside z m s.states r.rooms r.covers seat v here k i p e finds) (room_covers z m s.states r.rooms r.covers seat v here k i p e finds) (entry_once z m s.states r.rooms r.covers seat v here k i p e finds) (owning (names_block c b)) in omega arith
+  -- entries have the blocks that they had
+  owners_same : (k i x c b : ℕ) → all_others z (write m (in_rooms (at_value k i)) x) hs c b ≡ all_others z m hs c b
+  owners_same k i x c b = let t = value_owners z m.rooms bytes hs (names_block c b) k i x in omega arith
 
   -- what stands behind a step by which a word of a room becomes x, and the pass w
   pub record Behind (p : RoomSpot) (x : ℕ) (w : PassState) : Type 0 where
@@ -91,15 +83,15 @@ module _ (z : Sizes) (s : TableState) (seat : ℕ) (v : PassState) (r : Rule z s
       histories = o.histories;
       blocks = of_rooms z s call seat v r here going w o.rooms_same (λ (rs : List RoomHolds). BlocksAreOwned z m.arena.bits (all_others z m' rs) (map blocks_of (set s.states seat w)))
           (subst (BlocksAreOwned z m.arena.bits (all_others z m' hs)) (sym (map_set_same blocks_of s.states seat v w here o.blocks_same)) (record {
-            owned = λ c b. let t = value_owners k i p e finds x c b in let q = r.blocks.owned c b in omega arith;
-            inside = λ c b le. let t = value_owners k i p e finds x c b in let q = r.blocks.inside c b le in omega arith;
+            owned = λ c b. let t = owners_same k i x c b in let q = r.blocks.owned c b in omega arith;
+            inside = λ c b le. let t = owners_same k i x c b in let q = r.blocks.inside c b le in omega arith;
             whole = r.blocks.whole;
           }));
       headers = o.headers;
       rooms = record {
         rooms = of_rooms z s call seat v r here going w o.rooms_same (RoomsStand z (put_room m.rooms (at_value k i) x) bytes) (value_rooms z m.rooms bytes hs k i x r.rooms);
         covers = o.covers;
-        kept = of_rooms z s call seat v r here going w o.rooms_same (λ (rs : List RoomHolds). KeptNumbersStand same_room_spot (read_room (put_room m.rooms (at_value k i) x)) (map kept_of_rooms rs)) (value_kept z m.rooms bytes hs r.rooms r.kept_in_rooms k i (room_covers z m s.states r.rooms r.covers seat v here k i p e finds) (entry_low z m s.states r.rooms r.covers seat v here k i p e finds) x);
+        kept = of_rooms z s call seat v r here going w o.rooms_same (λ (rs : List RoomHolds). KeptNumbersStand same_room_spot (read_room (put_room m.rooms (at_value k i) x)) (map kept_of_rooms rs)) (value_kept z m.rooms bytes hs r.rooms r.kept_in_rooms k i (room_covers z m s.states r.rooms r.covers seat v here k i p e finds) (entry_once z m s.states r.rooms r.covers seat v here k i p e finds) x);
       };
       keys = o.keys;
       kept = kept_unkept same_spot (read m) (read m') (in_rooms (at_value k i)) x (λ q. read-write m (in_rooms (at_value k i)) q x) (map kept_of (set s.states seat w)) (unkept_by_all (in_rooms (at_value k i)) (times_in_rooms (at_value k i)) (set s.states seat w)) o.kept;

@@ -6,7 +6,7 @@ use Rattle.oak_model.specs.Limits.{Sizes}
 use Rattle.oak_model.proofs.Counting.{one_at-same, total_snoc}
 use Rattle.oak_model.proofs.Lists.{at_map, begins_self}
 use Rattle.chunk_core.specs.declared.holds.PinnedRoom.{PinnedRoom}
-use Rattle.chunk_core.specs.PinnedRooms.{IsGoodRoom}
+use Rattle.chunk_core.specs.PinnedRooms.{IsGoodRoom, found_in}
 use Rattle.chunk_core.specs.Rooms.{at_value}
 use Rattle.chunk_core.specs.ValueWord.{names_header, header_in, generation_in}
 use Rattle.oak_core.specs.declared.states.KnownLife.{KnownLife}
@@ -36,7 +36,7 @@ use Rattle.oak_core.proofs.TaughtSteps.{load_learns}
 use Rattle.oak_core.proofs.ValueLoads.{floor_knowledge, floor_sights, life_knowledge, life_sights}
 use Rattle.oak_core.proofs.Words.{memory_read}
 
-module _ (z : Sizes) (call : ℕ) (v : PassState) (i n : ℕ) (w : PassState) (p : PinnedRoom) (is : v.rooms.pin ≡ Some p) (good : IsGoodRoom p) (key : List ℕ) (found : entry_key i p.entries ≡ Some key) (t : Told z call (load (in_rooms (at_value p.room i))) v n w) where
+module _ (z : Sizes) (call : ℕ) (v : PassState) (i n : ℕ) (w : PassState) (p : PinnedRoom) (is : v.rooms.pin ≡ Some p) (good : IsGoodRoom p) (key : List ℕ) (found : entry_key i (found_in p) ≡ Some key) (t : Told z call (load (in_rooms (at_value p.room i))) v n w) where
   abbrev m : Memory
   m = memory z t.table.words
 

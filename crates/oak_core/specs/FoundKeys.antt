@@ -3,6 +3,7 @@ use Rattle.std.specs.Prelude.{ℕ, ◌==◌, cond, List, [], ◌∷◌, Option, 
 use Rattle.chunk_core.specs.declared.holds.FoundEntry.{FoundEntry}
 use Rattle.chunk_core.specs.declared.holds.PinnedRoom.{PinnedRoom}
 use Rattle.chunk_core.specs.KeyWords.{key_bytes}
+use Rattle.chunk_core.specs.PinnedRooms.{found_in}
 use Rattle.oak_core.specs.CountTeaching.{is_pinned}
 
 -- the key of the entry with the number
@@ -13,4 +14,4 @@ entry_key i (e ∷ es) = cond (e.number == i) (Some (key_bytes e.word e.words)) 
 -- of an entry of the room, where the pin is a good one of it
 abbrev pub pinned_key : ℕ → ℕ → Option PinnedRoom → Option (List ℕ)
 pinned_key r i None = None
-pinned_key r i (Some p) = cond (is_pinned r p) (entry_key i p.entries) None
+pinned_key r i (Some p) = cond (is_pinned r p) (entry_key i (found_in p)) None

@@ -35,14 +35,13 @@ use Rattle.value_ops.specs.Pinning.{IsLiveAt}
 use Rattle.std.specs.Prelude.{◌&&◌, ◌==◌}
 use Rattle.oak_model.specs.Counts.{Has}
 use Rattle.oak_model.proofs.Counting.{one_at-true}
-use Rattle.oak_model.proofs.MemberLaws.{each_has}
 use Rattle.chunk_core.specs.declared.holds.FoundEntry.{FoundEntry}
 use Rattle.chunk_core.specs.CoverSums.{naming, names}
 use Rattle.chunk_core.specs.KeyWords.{key_bytes}
-use Rattle.chunk_core.specs.LinkedEntries.{entries_in, linked}
-use Rattle.chunk_core.specs.PinnedRooms.{EntryStands}
+use Rattle.chunk_core.specs.LinkedEntries.{linked}
+use Rattle.chunk_core.specs.PinnedRooms.{found_in}
 use Rattle.chunk_core.proofs.CoverFacts.{entry_adds}
-use Rattle.chunk_core.proofs.EntryNumbers.{numbers_once}
+use Rattle.chunk_core.proofs.RoomLinks.{found_place, found_stands}
 use Rattle.oak_core.specs.PassState.{rooms_held}
 use Rattle.oak_core.proofs.FoundValues.{numbered}
 
@@ -86,8 +85,8 @@ module _ (z : Sizes) (words : List ℕ) (v : PassState) (m : Moment z words v) (
     holds : RoomPinHolds z mem.rooms (content mem.arena.bytes) (room_pin v)
     holds = pin_holds z mem m.states m.rule.rooms m.rule.covers m.seat v m.here (room_pin v) has.finds.pin.is has.finds.pin.good
 
-    found : entry_key i (room_pin v).entries ≡ Some k
-    found = entry_key_is (room_pin v).count i (room_pin v).entries has.entry holds.counted has.finds.there ∙ ap Some has.key_is
+    found : entry_key i (found_in (room_pin v)) ≡ Some k
+    found = let place = found_place (room_pin v).count (room_pin v).entries i has.entry holds.counted has.finds.there in entry_key_is z mem.rooms (content mem.arena.bytes) (room_pin v) holds i has.entry place.0 place.1 ∙ ap Some has.key_is
 
     word : word_now z mem m.states (key_number k) ≡ mem.rooms.value (room_pin v).room i + 1
     word = value_there z mem m.states m.rule.rooms m.rule.covers m.seat v m.here (room_pin v) has.finds.pin.is has.finds.pin.good i k found
@@ -102,12 +101,11 @@ module _ (z : Sizes) (words : List ℕ) (v : PassState) (m : Moment z words v) (
     generation_is : generation_of (pin_in z h words) ≡ g
     generation_is = ap (λ (q : ℕ). generation_of (mem.headers.pin q)) (sym says_here.1) ∙ (home.generation ∙ says_here.2)
 
-    entry : (e : FoundEntry) × Has e (room_pin v).entries × (e.number ≡ i) × (key_bytes e.word e.words ≡ k)
-    entry = numbered i (room_pin v).entries k found
+    entry : (e : FoundEntry) × Has e (found_in (room_pin v)) × (e.number ≡ i) × (key_bytes e.word e.words ≡ k)
+    entry = numbered i (found_in (room_pin v)) k found
 
     once : total (λ j. one_at j i) (linked mem.rooms (room_pin v).room) ≡ 1
-    once = let s = each_has (EntryStands (mem.rooms.count (room_pin v).room) (mem.rooms.key (room_pin v).room) (content mem.arena.bytes)) (room_pin v).entries entry.0 holds.entries entry.1 in
-        numbers_once (entries_in (mem.rooms.count (room_pin v).room)) i (let b = s.below in let e = entry.2 in omega arith)
+    once = ap (λ (n : ℕ). total (λ j. one_at j n) (linked mem.rooms (room_pin v).room)) (sym entry.2) ∙ (found_stands z mem.rooms (content mem.arena.bytes) (room_pin v) holds entry.0 entry.1).linked
 
     one_name : names h (mem.rooms.value (room_pin v).room i) ≡ 1
     one_name = λ j. says_here.0 j * one_at-same (header_in (mem.rooms.value (room_pin v).room i)) h says_here.1 j
