@@ -8,6 +8,9 @@ pub mod RangeLaws
 pub mod CoverFrames
 pub mod RoomFrames
 pub mod RoomLinks
+pub mod Chains
+pub mod ChainLinks
+pub mod WholeChains
 pub mod UnlinkedWords
 pub mod RoomStores
 pub mod RoomPins
