@@ -58,7 +58,7 @@ dropped_by f word g = total (λ (c : Carried). f (entry_from c)) (filter (is_dro
 pub range_split : (f : Entry → ℕ) (word : ℕ) (g : MovingRange) → total f (map entry_from (range_without word g).carried) + dropped_by f word g ≡ total f (map entry_from g.carried)
 range_split f word g = let a = total_map entry_from f (filter (λ c. not (is_dropped word c)) g.carried) in let b = total_map entry_from f g.carried in let s = total_split (is_dropped word) (λ (c : Carried). f (entry_from c)) g.carried in omega arith
 
-ranges_split : (f : Entry → ℕ) (word : ℕ) (gs : List MovingRange) → total (each (λ _ x. f x)) (map cover_from (map (range_without word) gs)) + total (dropped_by f word) gs ≡ total (each (λ _ x. f x)) (map cover_from gs)
+pub ranges_split : (f : Entry → ℕ) (word : ℕ) (gs : List MovingRange) → total (each (λ _ x. f x)) (map cover_from (map (range_without word) gs)) + total (dropped_by f word) gs ≡ total (each (λ _ x. f x)) (map cover_from gs)
 unfolding total
 ranges_split f word [] = refl
 ranges_split f word (g ∷ gs) = let a = range_split f word g in let t = ranges_split f word gs in omega arith

@@ -12,13 +12,13 @@ use Rattle.chunk_core.specs.declared.holds.Carried.{Carried}
 use Rattle.chunk_core.specs.declared.holds.MovingRange.{MovingRange}
 use Rattle.chunk_core.specs.declared.holds.RoomHolds.{RoomHolds}
 use Rattle.chunk_core.specs.CoverRule.{CoversPartition}
-use Rattle.chunk_core.specs.CoverSums.{all_of, each, owning}
-use Rattle.chunk_core.specs.Covers.{Cover, Entry, entry_from, key_at, moving_of}
+use Rattle.chunk_core.specs.CoverSums.{all_of, each, owning, owners_in_rooms}
+use Rattle.chunk_core.specs.Covers.{Cover, Entry, entry_from, key_at, moving_of, cover_from}
 use Rattle.chunk_core.specs.KeyWords.{key_in}
 use Rattle.chunk_core.specs.MovingRanges.{base_with, drops, greater, is_dropped, range_without}
 use Rattle.chunk_core.specs.RoomRule.{AreTrueRanges}
 use Rattle.chunk_core.specs.Rooms.{RoomMemory}
-use Rattle.chunk_core.proofs.DroppedEntries.{dropped_by, dropped_is, with_dropped}
+use Rattle.chunk_core.proofs.DroppedEntries.{dropped_by, dropped_is, with_dropped, ranges_split}
 
 passed : (word : ℕ) (cs : List Carried) → total (λ (c : Carried). 1) (filter (is_dropped word) cs) ≡ total (λ (c : Carried). one_if (is_dropped word c)) cs
 unfolding total
@@ -79,8 +79,8 @@ module _ (z : Sizes) (m m' : RoomMemory) (content : ℕ → List ℕ) (is_key_wo
       let o = parts.once k in let e = drops_are word a.moving in omega arith
 
   -- the block that its word names has one entry less
-  pub owners_fewer : 0 < word → (names_it : ℕ → ℕ) → all_of z m' content hs' (each (owning names_it)) + names_it word ≡ all_of z m content hs (each (owning names_it))
-  owners_fewer pos names_it = let d = with_dropped z m m' content is_key_word hs hs' parts seat a b here true_to word moving step (λ x. one_if (nat_lt 0 x.word) * names_it x.word) in
+  pub owners_fewer : 0 < word → (names_it : ℕ → ℕ) → owners_in_rooms z m' content hs' names_it + total (each (owning names_it)) (moving_of a) ≡ owners_in_rooms z m content hs names_it + total (each (owning names_it)) (moving_of b) → owners_in_rooms z m' content hs' names_it + names_it word ≡ owners_in_rooms z m content hs names_it
+  owners_fewer pos names_it owned = let d = ranges_split (λ x. one_if (nat_lt 0 x.word) * names_it x.word) word a.moving in let e = ap (λ (gs : List MovingRange). total (each (owning names_it)) (map cover_from gs)) moving in
       let q = dropped_alike content word (names_it word) (λ x. one_if (nat_lt 0 x.word) * names_it x.word) (λ c y t. ap (λ (w : ℕ). one_if (nat_lt 0 w) * names_it w) (dropped_is word c y).0 ∙ times-one (one_if (nat_lt 0 word)) (names_it word) (ap one_if (lt-ltb 0 word pos))) a.moving true_to in
       let o = times-one (total (dropped_by (λ _. 1) word) a.moving) (names_it word) one_dropped in omega arith
 

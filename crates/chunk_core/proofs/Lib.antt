@@ -18,6 +18,7 @@ pub mod Copies
 pub mod ValueLaws
 pub mod Ranges
 pub mod RangeMoves
+pub mod RoomOwners
 pub mod ByteStores
 pub mod HeldRooms
 pub mod RoomStates

@@ -1,7 +1,7 @@
 -- A held room is opened, over a moving range or its upper part.
-use Rattle.std.proofs.Common.{◌≡◌, ◌≢◌, ℕ, ◌+◌, ◌-◌, ◌<◌, ◌==◌, cond, Bool, eqb-true, List, [], ◌∷◌, ◌++◌, map, set, sym, refl, ap, ◌∙◌, subst, inl, inr, ⊎_elim, arith}
+use Rattle.std.proofs.Common.{◌≡◌, ◌≢◌, ℕ, ◌+◌, ◌-◌, ◌<◌, ◌==◌, cond, Bool, eqb-true, List, [], ◌∷◌, ◌++◌, map, set, sym, refl, ap, ◌∙◌, subst, inl, inr, ⊎_elim, arith, ◌*◌}
 use Rattle.std.proofs.lemmas.Bool.{leb-true, eqb-false}
-use Rattle.std.specs.Prelude.{nat_le, filter, not, slice_index}
+use Rattle.std.specs.Prelude.{nat_le, filter, not, slice_index, nat_lt}
 use mathlib.Core.Option.{some}
 use lib.ListN.{get_elem?}
 use Rattle.chunk_core.specs.declared.layout.TheConstants.{BOUND_WORDS}
@@ -11,7 +11,7 @@ use Rattle.chunk_core.specs.declared.holds.EntryWords.{EntryWords}
 use Rattle.chunk_core.specs.declared.holds.MovingRange.{MovingRange}
 use Rattle.chunk_core.specs.declared.holds.RoomCopy.{RoomCopy}
 use Rattle.chunk_core.specs.declared.holds.RoomHolds.{RoomHolds}
-use Rattle.oak_model.specs.Counts.{one_at, total, rows, Each, Has}
+use Rattle.oak_model.specs.Counts.{one_at, total, rows, Each, Has, one_if}
 use Rattle.oak_model.specs.Limits.{Sizes}
 use Rattle.oak_model.proofs.Changes.{stepped}
 use Rattle.oak_model.proofs.Counting.{one_at-same, one_at-true, test-cases, both_true, total_map}
@@ -22,7 +22,7 @@ use Rattle.oak_model.proofs.RowLaws.{rows_map}
 use Rattle.oak_model.proofs.SumLaws.{total_in}
 use Rattle.pin_word.specs.PinWord.{state_of, generation_of, count_of}
 use Rattle.chunk_core.specs.CoverRule.{CoversPartition}
-use Rattle.chunk_core.specs.CoverSums.{weight, each, stray, all_of, keyless}
+use Rattle.chunk_core.specs.CoverSums.{weight, each, stray, all_of, keyless, owners_in_rooms, owning}
 use Rattle.chunk_core.specs.Covers.{Entry, Cover, cover_at, entry_at, key_at, entry_from, cover_from}
 use Rattle.chunk_core.specs.KeyWords.{key_in, low_number, high_from, high_number}
 use Rattle.chunk_core.specs.LinkedEntries.{linked, entries_in, prefix_in, first_numbers}
@@ -41,6 +41,7 @@ use Rattle.chunk_core.proofs.RoomLinks.{total_linked}
 use Rattle.chunk_core.proofs.Ranges.{whole_parted, Parted, upper_parted, ranges_left-is, parted_covers}
 use Rattle.chunk_core.proofs.RoomStates.{given_up}
 use Rattle.chunk_core.proofs.Weights.{weight_open, weight_held, open_none, is_so}
+use Rattle.chunk_core.proofs.RoomOwners.{owners_in, used_owners}
 
 -- carried entries by what their key words name
 total_true : (content : ℕ → List ℕ) (f : Entry → ℕ) (p : Carried → Bool) (xs : List Carried) → Each (λ (c : Carried). content c.word ≡ c.words) xs
@@ -134,6 +135,12 @@ module _ (z : Sizes) (m : RoomMemory) (content : ℕ → List ℕ) (is_key_word 
   open_partition = parted_covers z m m' content is_key_word hs hs' (cover_from g ∷ []) (C ∷ map cover_from (left_of w g)) open_parted open_step
       (just_one (λ (y : Cover). 1 - within y.span y.span.low) (cover_from g) (of_range (λ (y : Cover). 1 - within y.span y.span.low) parts.begun)) (just_one (λ (y : Cover). keyless y.span) (cover_from g) (of_range (λ (y : Cover). keyless y.span) parts.keyed)) (just_one (each stray) (cover_from g) no_stray)
       (just_one (λ (y : Cover). names_header y.span.base) (cover_from g) (of_range (λ (y : Cover). names_header y.span.base) parts.bases)) parts
+
+  -- each block has the owners that it had
+  pub open_owners : (names_it : ℕ → ℕ) → owners_in_rooms z m' content hs' names_it ≡ owners_in_rooms z m content hs names_it
+  unfolding total
+  open_owners names_it = let s = owners_in z m m' content hs hs' (a ∷ []) (b ∷ []) (stepped hs seat a b here) r lr (λ j ne. put-else m.pin r x j ne) (λ j _. refl) names_it (weight_held (m.pin r) is_held) weight_now in
+      let t = ranges_left-is w (each (owning names_it)) a.moving may.place g may.there may.takes_it (λ j h at l. may.first j h at l) in let e = open_parted.entries (λ y. one_if (nat_lt 0 y.word) * names_it y.word) in let u = used_owners m content r names_it in omega arith
 
   -- an entry of the prefix is a carried one
   among : (i : ℕ) → i < entries_in (m.count r) → (y : Carried) × Has y g.carried × (y.word ≡ m.key r i)

@@ -1,5 +1,5 @@
 -- A held room is retired, and the range that came with it joins the one just below.
-use Rattle.std.proofs.Common.{◌≡◌, ℕ, ◌+◌, ◌-◌, ◌<◌, ◌≤◌, ◌==◌, cond, Bool, List, [], ◌∷◌, map, set, sym, refl, ap, ◌∙◌, subst, inr, arith, Option, Some, None, eq-eqb, ne_eqb, eqb-true}
+use Rattle.std.proofs.Common.{◌≡◌, ℕ, ◌+◌, ◌-◌, ◌<◌, ◌≤◌, ◌==◌, cond, Bool, List, [], ◌∷◌, map, set, sym, refl, ap, ◌∙◌, subst, inr, arith, Option, Some, None, eq-eqb, ne_eqb, eqb-true, ◌*◌}
 use Rattle.std.proofs.lemmas.Option.{none-some, same_Some}
 use mathlib.Core.Logic.{dite}
 use mathlib.Core.Option.{some}
@@ -9,7 +9,7 @@ use Rattle.chunk_core.specs.declared.states.TheConstants.{FREE, HELD}
 use Rattle.chunk_core.specs.declared.holds.Carried.{Carried}
 use Rattle.chunk_core.specs.declared.holds.MovingRange.{MovingRange}
 use Rattle.chunk_core.specs.declared.holds.RoomHolds.{RoomHolds}
-use Rattle.oak_model.specs.Counts.{total, Each}
+use Rattle.oak_model.specs.Counts.{total, Each, one_if}
 use Rattle.oak_model.specs.Limits.{Sizes}
 use Rattle.oak_model.proofs.Changes.{stepped}
 use Rattle.oak_model.proofs.Counting.{test-cases, total_map}
@@ -17,7 +17,7 @@ use Rattle.oak_model.proofs.Lists.{each_append}
 use Rattle.oak_model.proofs.PutLaws.{put-here, put-else}
 use Rattle.pin_word.specs.PinWord.{state_of, generation_of, count_of}
 use Rattle.chunk_core.specs.CoverRule.{CoversPartition}
-use Rattle.chunk_core.specs.CoverSums.{weight, each, stray, all_of, keyless}
+use Rattle.chunk_core.specs.CoverSums.{weight, each, stray, all_of, keyless, owners_in_rooms, owning}
 use Rattle.chunk_core.specs.Covers.{Cover, cover_at, cover_from, moving_of}
 use Rattle.chunk_core.specs.KeyWords.{low_number, high_number}
 use Rattle.chunk_core.specs.MayOnRooms.{MayRetire}
@@ -34,6 +34,8 @@ use Rattle.chunk_core.proofs.Ranges.{Parted, parted_same, parted_covers}
 use Rattle.chunk_core.proofs.RoomStates.{given_up}
 use Rattle.chunk_core.proofs.SpanLaws.{past-le, ends_behind}
 use Rattle.chunk_core.proofs.Weights.{weight_free, weight_held, free_none, is_so}
+use Rattle.chunk_core.proofs.RoomOwners.{owners_aside}
+use Rattle.std.specs.Prelude.{nat_lt}
 
 -- without a range of the room all ranges stay
 none_without : (r : ℕ) (gs : List MovingRange) → range_of r gs ≡ None → ranges_without r gs ≡ gs
@@ -123,6 +125,12 @@ module _ (z : Sizes) (m : RoomMemory) (content : ℕ → List ℕ) (is_key_word 
   unfolding total
   retire_step F = let s = all_aside z m m' content hs hs' (a ∷ []) (record a { held = without_room r a.held; moving = ranges_joined r a.moving } ∷ []) (stepped hs seat a (record a { held = without_room r a.held; moving = ranges_joined r a.moving }) here) r lr (λ j ne. put-else m.pin r x j ne) (λ j _. refl) (weight_held (m.pin r) was) (ap weight (put-here m.pin r x r refl) ∙ weight_free x now) F in
       let t = left.sums F in omega arith
+
+  -- each block has the owners that it had
+  pub retire_owners : (names_it : ℕ → ℕ) → owners_in_rooms z m' content hs' names_it ≡ owners_in_rooms z m content hs names_it
+  unfolding total
+  retire_owners names_it = let s = owners_aside z m m' content hs hs' (a ∷ []) (record a { held = without_room r a.held; moving = ranges_joined r a.moving } ∷ []) (stepped hs seat a (record a { held = without_room r a.held; moving = ranges_joined r a.moving }) here) r lr (λ j ne. put-else m.pin r x j ne) (λ j _. refl) names_it
+      (weight_held (m.pin r) was) (ap weight (put-here m.pin r x r refl) ∙ weight_free x now) in let t = left.sums (each (owning names_it)) in let e = left.parted.entries (λ y. one_if (nat_lt 0 y.word) * names_it y.word) in omega arith
 
   -- what is nothing over all covers is nothing over the ranges that go
   pub gone_none : (F : Cover → ℕ) → all_of z m content hs F ≡ 0 → total F left.gone ≡ 0

@@ -29,6 +29,7 @@ use Rattle.chunk_core.proofs.HeldRooms.{row_here, row_else, without_here, withou
 use Rattle.chunk_core.proofs.RangeMoves.{hold_still}
 use Rattle.chunk_core.proofs.RoomStates.{restated}
 use Rattle.chunk_core.proofs.Weights.{weight_open, weight_frozen, weight_held, weight_free, open_none, free_none, is_so, rows_are}
+use Rattle.chunk_core.proofs.RoomOwners.{owners_held}
 
 -- the copy of a room is whole
 pub whole_copy : (z : Sizes) (m : RoomMemory) (r : ℕ) → IsWholeCopy z (copy_at z m r)
@@ -59,6 +60,9 @@ module _ (z : Sizes) (m : RoomMemory) (content : ℕ → List ℕ) (is_key_word 
     pub freeze_covers : (F : Cover → ℕ) → all_of z (put_room m (at_room_pin r) x) content (set hs seat (record a { held = record { room = r; held_as = Frozen } ∷ a.held })) F ≡ all_of z m content hs F
     freeze_covers = weight_covers z m content hs seat a (record a { held = record { room = r; held_as = Frozen } ∷ a.held }) here refl r x (weight_frozen x now ∙ sym (weight_open (m.pin r) was))
 
+    pub freeze_owners : (names_it : ℕ → ℕ) → owners_in_rooms z (put_room m (at_room_pin r) x) content (set hs seat (record a { held = record { room = r; held_as = Frozen } ∷ a.held })) names_it ≡ owners_in_rooms z m content hs names_it
+    freeze_owners = weight_owners z m content hs seat a (record a { held = record { room = r; held_as = Frozen } ∷ a.held }) here refl r x (weight_frozen x now ∙ sym (weight_open (m.pin r) was))
+
     pub freeze_partition : CoversPartition z (put_room m (at_room_pin r) x) content is_key_word (set hs seat (record a { held = record { room = r; held_as = Frozen } ∷ a.held }))
     freeze_partition = partition_same z m (put_room m (at_room_pin r) x) content content is_key_word hs (set hs seat (record a { held = record { room = r; held_as = Frozen } ∷ a.held })) freeze_covers parts
 
@@ -72,6 +76,9 @@ module _ (z : Sizes) (m : RoomMemory) (content : ℕ → List ℕ) (is_key_word 
 
     pub claim_covers : (F : Cover → ℕ) → all_of z (put_room m (at_room_pin r) x) content (set hs seat (record a { held = record { room = r; held_as = Held (copy_at z m r) } ∷ a.held })) F ≡ all_of z m content hs F
     claim_covers = weight_covers z m content hs seat a (record a { held = record { room = r; held_as = Held (copy_at z m r) } ∷ a.held }) here refl r x (weight_held x now ∙ sym (weight_free (m.pin r) was))
+
+    pub claim_owners : (names_it : ℕ → ℕ) → owners_in_rooms z (put_room m (at_room_pin r) x) content (set hs seat (record a { held = record { room = r; held_as = Held (copy_at z m r) } ∷ a.held })) names_it ≡ owners_in_rooms z m content hs names_it
+    claim_owners = weight_owners z m content hs seat a (record a { held = record { room = r; held_as = Held (copy_at z m r) } ∷ a.held }) here refl r x (weight_held x now ∙ sym (weight_free (m.pin r) was))
 
     pub claim_partition : CoversPartition z (put_room m (at_room_pin r) x) content is_key_word (set hs seat (record a { held = record { room = r; held_as = Held (copy_at z m r) } ∷ a.held }))
     claim_partition = partition_same z m (put_room m (at_room_pin r) x) content content is_key_word hs (set hs seat (record a { held = record { room = r; held_as = Held (copy_at z m r) } ∷ a.held })) claim_covers parts
@@ -95,6 +102,10 @@ module _ (z : Sizes) (m : RoomMemory) (content : ℕ → List ℕ) (is_key_word 
     pub hold_covers : (F : Cover → ℕ) → all_of z (put_room m (at_room_pin r) x) content (set hs seat (record a { held = record { room = r; held_as = Held (copy_at z m r) } ∷ without_room r a.held; moving = moving_at m content r ∷ a.moving })) F ≡ all_of z m content hs F
     hold_covers F = let b : RoomHolds = record a { held = record { room = r; held_as = Held (copy_at z m r) } ∷ without_room r a.held; moving = moving_at m content r ∷ a.moving } in
         hold_still z m (put_room m (at_room_pin r) x) content hs (set hs seat b) a b (stepped hs seat a b here) r inside (λ j ne. put-else m.pin r x j ne) (λ j _. refl) (weight_frozen (m.pin r) was) (ap weight (put-here m.pin r x r refl) ∙ weight_held x now) refl F
+
+    pub hold_owners : (names_it : ℕ → ℕ) → owners_in_rooms z (put_room m (at_room_pin r) x) content (set hs seat (record a { held = record { room = r; held_as = Held (copy_at z m r) } ∷ without_room r a.held; moving = moving_at m content r ∷ a.moving })) names_it ≡ owners_in_rooms z m content hs names_it
+    hold_owners names_it = let b : RoomHolds = record a { held = record { room = r; held_as = Held (copy_at z m r) } ∷ without_room r a.held; moving = moving_at m content r ∷ a.moving } in
+        owners_held z m (put_room m (at_room_pin r) x) content hs (set hs seat b) a b (stepped hs seat a b here) r inside (λ j ne. put-else m.pin r x j ne) (λ j _. refl) (weight_frozen (m.pin r) was) (ap weight (put-here m.pin r x r refl) ∙ weight_held x now) refl names_it
 
     pub hold_partition : CoversPartition z (put_room m (at_room_pin r) x) content is_key_word (set hs seat (record a { held = record { room = r; held_as = Held (copy_at z m r) } ∷ without_room r a.held; moving = moving_at m content r ∷ a.moving }))
     hold_partition = partition_same z m (put_room m (at_room_pin r) x) content content is_key_word hs (set hs seat (record a { held = record { room = r; held_as = Held (copy_at z m r) } ∷ without_room r a.held; moving = moving_at m content r ∷ a.moving })) hold_covers parts

@@ -23,7 +23,6 @@ use Rattle.oak_core.proofs.RoomBundles.{RoomBundles}
 use Rattle.pin_word.specs.PinWord.{state_of}
 use Rattle.oak_model.proofs.Counting.{both_true, test-cases}
 use Rattle.chunk_core.specs.declared.states.TheConstants.{OPEN}
-use Rattle.chunk_core.specs.CoverSums.{each, owning}
 use Rattle.chunk_core.specs.KeptRooms.{kept_of_rooms}
 use Rattle.chunk_core.specs.PinnedRooms.{IsGoodRoom}
 use Rattle.chunk_core.specs.RoomsAfter.{pin_with, counted_pin}
@@ -34,6 +33,9 @@ use Rattle.oak_core.specs.Sights.{sights_with}
 use Rattle.oak_core.proofs.CountLessons.{sums_counted, count_heard}
 use Rattle.oak_core.proofs.PlainLoads.{LoadTeachesNothing}
 use Rattle.oak_core.proofs.KeepsLoads.{load_rule, load_taught, quiet_keeps}
+use Rattle.chunk_core.specs.CoverSums.{owners_in_rooms}
+use Rattle.chunk_core.proofs.RoomOwners.{owners_idle}
+use Rattle.chunk_core.specs.declared.holds.RoomHolds.{RoomHolds}
 
 module _ (z : Sizes) (s : TableState) (call seat : ℕ) (v : PassState) (r : Rule z s) (here : get_elem? s.states seat ≡ some v) (going : v.numbers.spent ≡ false) where
   abbrev m : Memory
@@ -79,7 +81,8 @@ module _ (z : Sizes) (s : TableState) (call seat : ℕ) (v : PassState) (r : Rul
     }
 
     owners : (c b : ℕ) → all_others z m (map rooms_held (set s.states seat w)) c b ≡ all_others z m (map rooms_held s.states) c b
-    owners c b = let e = sums (each (owning (names_block c b))) in omega arith
+    owners c b = let e = subst (λ (l : List RoomHolds). owners_in_rooms z m.rooms bytes l (names_block c b) ≡ owners_in_rooms z m.rooms bytes (map rooms_held s.states) (names_block c b)) (sym (map_set rooms_held s.states seat w ∙ ap (set (map rooms_held s.states) seat) rooms_are))
+        (owners_idle z m.rooms bytes (map rooms_held s.states) seat v.rooms (record v.rooms { pin = Some p' }) (at_map rooms_held s.states seat v here) refl (names_block c b)) in omega arith
 
     pub counted_keeps : Rule z (table_after z call (load (in_rooms (at_count p.room))) seat v s)
     counted_keeps = load_rule z s call seat v r here going (in_rooms (at_count p.room)) inside

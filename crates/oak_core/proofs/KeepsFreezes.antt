@@ -13,7 +13,7 @@ use Rattle.chunk_core.specs.RoomReads.{copy_at}
 use Rattle.chunk_core.specs.RoomStep.{freeze_room, claim_room, put_room}
 use Rattle.chunk_core.specs.Rooms.{at_room_pin}
 use Rattle.chunk_core.proofs.KeptHeldRooms.{freeze_kept, claim_kept}
-use Rattle.chunk_core.proofs.RoomKinds.{freeze_rooms, freeze_covers, claim_rooms, claim_covers}
+use Rattle.chunk_core.proofs.RoomKinds.{freeze_rooms, freeze_covers, claim_rooms, claim_covers, freeze_owners, claim_owners}
 use Rattle.oak_core.specs.declared.states.PassState.{PassState}
 use Rattle.oak_core.specs.EntryOwners.{is_key_word}
 use Rattle.oak_core.specs.Memory.{Memory, memory}
@@ -51,6 +51,7 @@ module _ (z : Sizes) (s : TableState) (seat : ℕ) (v : PassState) (r : Rule z s
           rooms_behind z s seat v r here (put_room m.rooms (at_room_pin k) (old + STATE)) (set hs seat (record v.rooms { held = record { room = k; held_as = Frozen } ∷ v.rooms.held }))
           (freeze_rooms z m.rooms (content m.arena.bytes) is_key_word hs r.rooms r.covers seat v.rooms own k (old + STATE) (u.2 ∙ sym g) was (let n = u.1 in omega arith) (u.0 ∙ sym c))
           (freeze_covers z m.rooms (content m.arena.bytes) is_key_word hs r.rooms r.covers seat v.rooms own k (old + STATE) (u.2 ∙ sym g) was (let n = u.1 in omega arith) (u.0 ∙ sym c))
+          (freeze_owners z m.rooms (content m.arena.bytes) is_key_word hs r.rooms r.covers seat v.rooms own k (old + STATE) (u.2 ∙ sym g) was (let n = u.1 in omega arith) (u.0 ∙ sym c))
           (freeze_kept z m.rooms (content m.arena.bytes) hs r.rooms r.kept_in_rooms seat v.rooms own k (old + STATE))
 
   -- a free room without a pin becomes held, where its word is the number, and else nothing changes
@@ -64,4 +65,5 @@ module _ (z : Sizes) (s : TableState) (seat : ℕ) (v : PassState) (r : Rule z s
           rooms_behind z s seat v r here (put_room m.rooms (at_room_pin k) x) (set hs seat (record v.rooms { held = record { room = k; held_as = Held (copy_at z m.rooms k) } ∷ v.rooms.held }))
           (claim_rooms z m.rooms (content m.arena.bytes) is_key_word hs r.rooms r.covers seat v.rooms own k x (u.2 ∙ sym g) was u.1 (u.0 ∙ sym c))
           (claim_covers z m.rooms (content m.arena.bytes) is_key_word hs r.rooms r.covers seat v.rooms own k x (u.2 ∙ sym g) was u.1 (u.0 ∙ sym c))
+          (claim_owners z m.rooms (content m.arena.bytes) is_key_word hs r.rooms r.covers seat v.rooms own k x (u.2 ∙ sym g) was u.1 (u.0 ∙ sym c))
           (claim_kept z m.rooms (content m.arena.bytes) hs r.rooms r.kept_in_rooms seat v.rooms own k x (c ∙ may.rooms.count) was)

@@ -13,7 +13,7 @@ use Rattle.chunk_core.specs.RoomReads.{copy_at, moving_at}
 use Rattle.chunk_core.specs.RoomStep.{hold_room, put_room}
 use Rattle.chunk_core.specs.Rooms.{at_room_pin}
 use Rattle.chunk_core.proofs.KeptHeldRooms.{hold_kept}
-use Rattle.chunk_core.proofs.RoomKinds.{hold_rooms, hold_covers}
+use Rattle.chunk_core.proofs.RoomKinds.{hold_rooms, hold_covers, hold_owners}
 use Rattle.oak_core.specs.declared.states.PassState.{PassState}
 use Rattle.oak_core.specs.EntryOwners.{is_key_word}
 use Rattle.oak_core.specs.Memory.{Memory, memory}
@@ -53,4 +53,5 @@ module _ (z : Sizes) (s : TableState) (seat : ℕ) (v : PassState) (r : Rule z s
           rooms_behind z s seat v r here (put_room m.rooms (at_room_pin k) (old + STATE)) (set hs seat (record v.rooms { held = record { room = k; held_as = Held (copy_at z m.rooms k) } ∷ without_room k v.rooms.held; moving = moving_at m.rooms (content m.arena.bytes) k ∷ v.rooms.moving }))
           (hold_rooms z m.rooms (content m.arena.bytes) is_key_word hs r.rooms r.covers seat v.rooms own k (old + STATE) generation may.inside.0 may.rooms.1 (let n = u.1 in omega arith) c count)
           (hold_covers z m.rooms (content m.arena.bytes) is_key_word hs r.rooms r.covers seat v.rooms own k (old + STATE) generation may.inside.0 may.rooms.1 (let n = u.1 in omega arith) c count)
+          (hold_owners z m.rooms (content m.arena.bytes) is_key_word hs r.rooms r.covers seat v.rooms own k (old + STATE) generation may.inside.0 may.rooms.1 (let n = u.1 in omega arith) c count)
           (hold_kept z m.rooms (content m.arena.bytes) hs r.rooms r.kept_in_rooms seat v.rooms own k (old + STATE) c (ap state_of e ∙ frozen_is) (moving_at m.rooms (content m.arena.bytes) k ∷ v.rooms.moving))

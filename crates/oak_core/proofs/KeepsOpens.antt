@@ -23,7 +23,7 @@ use Rattle.chunk_core.specs.RoomReads.{copy_at}
 use Rattle.chunk_core.specs.RoomStep.{open_room}
 use Rattle.chunk_core.specs.Rooms.{RoomSpot, at_room_pin, read_room}
 use Rattle.chunk_core.proofs.Copies.{held_true}
-use Rattle.chunk_core.proofs.OpenRoom.{just_one, of_range, open_parted, open_partition, open_rooms, open_step}
+use Rattle.chunk_core.proofs.OpenRoom.{just_one, of_range, open_parted, open_partition, open_rooms, open_step, open_owners}
 use Rattle.chunk_core.proofs.Weights.{is_so}
 use Rattle.oak_core.specs.declared.states.PassState.{PassState}
 use Rattle.oak_core.specs.Bounds.{base_over}
@@ -81,6 +81,7 @@ module _ (z : Sizes) (s : TableState) (seat : ℕ) (v : PassState) (r : Rule z s
           come = cover_at m.rooms bytes k ∷ map cover_from (left_of (copy_at z m.rooms k) o.range);
           parted = open_parted z m.rooms bytes is_key_word hs r.rooms r.covers seat v.rooms own k x may.inside.0 (omega arith) o opened down.0 down.2;
           step = open_step z m.rooms bytes is_key_word hs r.rooms r.covers seat v.rooms own k x may.inside.0 (omega arith) o opened down.0 down.2;
+          owners = open_owners z m.rooms bytes is_key_word hs r.rooms r.covers seat v.rooms own k x may.inside.0 (omega arith) o opened down.0 down.2;
           low = just_one (base_over n) (cover_from o.range) (of_range z m.rooms bytes is_key_word hs r.rooms r.covers seat v.rooms own k x may.inside.0 (omega arith) o opened down.0 down.2 (base_over n) r.bounds.bases);
           stand = open_rooms z m.rooms bytes is_key_word hs r.rooms r.covers seat v.rooms own k x may.inside.0 (omega arith) o opened down.0 down.2;
           covers = open_partition z m.rooms bytes is_key_word hs r.rooms r.covers seat v.rooms own k x may.inside.0 (omega arith) o opened down.0 down.2;

@@ -14,7 +14,7 @@ use Rattle.chunk_core.specs.declared.states.TheConstants.{FREE, HELD}
 use Rattle.chunk_core.specs.MovingRanges.{ranges_joined}
 use Rattle.chunk_core.specs.RoomStep.{retire_room}
 use Rattle.chunk_core.specs.Rooms.{at_room_pin}
-use Rattle.chunk_core.proofs.RetireRoom.{Retires, gone_none, left, retire_partition, retire_rooms, retire_step}
+use Rattle.chunk_core.proofs.RetireRoom.{Retires, gone_none, left, retire_partition, retire_rooms, retire_step, retire_owners}
 use Rattle.chunk_core.proofs.Weights.{is_so}
 use Rattle.oak_core.specs.declared.states.PassState.{PassState}
 use Rattle.oak_core.specs.Bounds.{base_over}
@@ -59,6 +59,7 @@ module _ (z : Sizes) (s : TableState) (seat : ℕ) (v : PassState) (r : Rule z s
           come = parts.come;
           parted = parts.parted;
           step = retire_step z m.rooms bytes is_key_word hs r.rooms r.covers seat v.rooms own k x may.inside.0 (omega arith) may.rooms.1 free down.0 down.2;
+          owners = retire_owners z m.rooms bytes is_key_word hs r.rooms r.covers seat v.rooms own k x may.inside.0 (omega arith) may.rooms.1 free down.0 down.2;
           low = gone_none z m.rooms bytes is_key_word hs r.rooms r.covers seat v.rooms own k x may.inside.0 (omega arith) may.rooms.1 free down.0 down.2 (base_over n) r.bounds.bases;
           stand = retire_rooms z m.rooms bytes is_key_word hs r.rooms r.covers seat v.rooms own k x may.inside.0 (omega arith) may.rooms.1 free down.0 down.2;
           covers = retire_partition z m.rooms bytes is_key_word hs r.rooms r.covers seat v.rooms own k x may.inside.0 (omega arith) may.rooms.1 free down.0 down.2;

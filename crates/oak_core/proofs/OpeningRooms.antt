@@ -18,7 +18,7 @@ use Rattle.chunk_core.specs.CoverRule.{CoversPartition}
 use Rattle.chunk_core.specs.CoverSums.{covers, weight, each, is_in, keyless, owning, owners_in_rooms, all_of}
 use Rattle.chunk_core.specs.Covers.{Entry, Cover, cover_at, used_at, span_in, entry_at, moving_of}
 use Rattle.chunk_core.specs.KeyWords.{least_number, low_number, high_number}
-use Rattle.chunk_core.specs.LinkedEntries.{entries_in, prefix_in, first_numbers}
+use Rattle.chunk_core.specs.LinkedEntries.{entries_in, prefix_in, first_numbers, linked}
 use Rattle.chunk_core.specs.PinnedRooms.{OnRoomPin, IsGoodRoom, RoomPinHolds}
 use Rattle.chunk_core.specs.RoomHolds.{no_rooms}
 use Rattle.chunk_core.specs.RoomRule.{AreTrueRanges, RoomHoldsStand, IsInOrder, RoomsStand}
@@ -30,6 +30,8 @@ use Rattle.chunk_core.proofs.SpanLaws.{past-cases, high-none}
 use Rattle.chunk_core.proofs.Weights.{weight_open, open_none}
 use Rattle.oak_core.proofs.EntryBlocks.{no_weight}
 use Rattle.oak_core.proofs.OwnerLaws.{below_zero}
+use Rattle.chunk_core.proofs.RoomLinks.{total_linked}
+use Rattle.oak_model.proofs.Counting.{total_map}
 
 low_zero : (ws : List ℕ) → slice_index ws 0 ≡ 0 → low_number ws ≡ 0
 unfolding low_number key_number digits_number
@@ -94,6 +96,10 @@ module _ (z : Sizes) (m : RoomMemory) (content : ℕ → List ℕ) (some_room : 
   unfolding total first_numbers
   empty f = ap (λ (n : ℕ). total f (map (entry_at m content 0) (first_numbers n))) none_in_use
 
+  -- nor is one linked
+  none_linked : (f : Entry → ℕ) → total f (map (entry_at m content 0) (linked m 0)) ≡ 0
+  none_linked f = total_map (entry_at m content 0) f (linked m 0) ∙ (total_linked (λ i. f (entry_at m content 0 i)) m 0 ∙ (sym (total_map (entry_at m content 0) f (first_numbers (entries_in (m.count 0)))) ∙ empty f))
+
   -- room 0 has all keys
   low_is : low_number (rows 0 BOUND_WORDS (m.low 0)) ≡ 0
   low_is = low_zero (rows 0 BOUND_WORDS (m.low 0)) (rows_at 0 BOUND_WORDS 0 (m.low 0) 0 (omega arith) ∙ behind (at_low 0 0) (omega arith))
@@ -107,9 +113,9 @@ module _ (z : Sizes) (m : RoomMemory) (content : ℕ → List ℕ) (some_room : 
   pub opening_covers : (is_key_word : ℕ → ℕ) → CoversPartition z m content is_key_word hs
   opening_covers is_key_word = record {
     covered = λ k. one_cover (cover_at m content) (is_in k) ∙ all_keys k;
-    once = λ k. let e = one_cover (cover_at m content) (each (λ s x. one_at x.key k)) in let n = empty (λ (x : Entry). one_at x.key k) in omega arith;
-    inside = one_cover (cover_at m content) (each (λ s x. 1 - within s x.key)) ∙ empty (λ (x : Entry). 1 - within (span_in m 0) x.key);
-    placed = one_cover (cover_at m content) (each (λ s x. 1 - is_key_word x.word)) ∙ empty (λ (x : Entry). 1 - is_key_word x.word);
+    once = λ k. let e = one_cover (cover_at m content) (each (λ s x. one_at x.key k)) in let n = none_linked (λ (x : Entry). one_at x.key k) in omega arith;
+    inside = one_cover (cover_at m content) (each (λ s x. 1 - within s x.key)) ∙ none_linked (λ (x : Entry). 1 - within (span_in m 0) x.key);
+    placed = one_cover (cover_at m content) (each (λ s x. 1 - is_key_word x.word)) ∙ none_linked (λ (x : Entry). 1 - is_key_word x.word);
     begun = one_cover (cover_at m content) (λ c. 1 - within c.span c.span.low) ∙ (let e = all_keys (span_in m 0).low in omega arith);
     keyed = one_cover (cover_at m content) (λ c. keyless c.span) ∙ (ap (λ (n : ℕ). past_high n least_number) high_is ∙ high-none least_number);
     bases = one_cover (cover_at m content) (λ c. names_header c.span.base) ∙ (ap names_header (behind (at_base 0) (omega arith)) ∙ no_header);
@@ -117,7 +123,7 @@ module _ (z : Sizes) (m : RoomMemory) (content : ℕ → List ℕ) (some_room : 
 
   -- nothing is added up over entries
   pub no_entry_sums : (f : Span → Entry → ℕ) → all_of z m content (no_rooms ∷ []) (each f) ≡ 0
-  no_entry_sums f = one_cover (cover_at m content) (each f) ∙ empty (f (span_in m 0))
+  no_entry_sums f = one_cover (cover_at m content) (each f) ∙ none_linked (f (span_in m 0))
 
   -- and the base is not above any number
   pub no_base_sums : (n : ℕ) → all_of z m content (no_rooms ∷ []) (λ c. c.span.base - n) ≡ 0

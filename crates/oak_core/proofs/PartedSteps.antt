@@ -14,13 +14,13 @@ use Rattle.chunk_core.specs.declared.holds.MovingRange.{MovingRange}
 use Rattle.chunk_core.specs.declared.holds.RoomHolds.{RoomHolds}
 use Rattle.chunk_core.specs.CoverRule.{CoversPartition}
 use Rattle.chunk_core.specs.Covers.{Cover}
-use Rattle.chunk_core.specs.CoverSums.{all_of, owning}
+use Rattle.chunk_core.specs.CoverSums.{all_of, owners_in_rooms}
 use Rattle.chunk_core.specs.RoomCopies.{without_room}
 use Rattle.chunk_core.specs.RoomRule.{RoomsStand}
 use Rattle.chunk_core.specs.RoomStep.{put_room}
 use Rattle.chunk_core.specs.Rooms.{at_room_pin}
 use Rattle.chunk_core.proofs.FewerKeptRooms.{fewer_kept}
-use Rattle.chunk_core.proofs.Ranges.{Parted, entries_still}
+use Rattle.chunk_core.proofs.Ranges.{Parted}
 use Rattle.oak_core.specs.declared.states.Knowledge.{Knowledge}
 use Rattle.oak_core.specs.declared.states.PassState.{PassState}
 use Rattle.oak_core.specs.Bounds.{base_over}
@@ -64,6 +64,7 @@ module _ (z : Sizes) (s : TableState) (seat : ℕ) (v : PassState) (r : Rule z s
     pub come : List Cover
     pub parted : Parted gone come
     pub step : (F : Cover → ℕ) → all_of z (put_room m.rooms (at_room_pin k) x) bytes (set hs seat (record v.rooms { held = without_room k v.rooms.held; moving = gs })) F + total F gone ≡ all_of z m.rooms bytes hs F + total F come
+    pub owners : (names_it : ℕ → ℕ) → owners_in_rooms z (put_room m.rooms (at_room_pin k) x) bytes (set hs seat (record v.rooms { held = without_room k v.rooms.held; moving = gs })) names_it ≡ owners_in_rooms z m.rooms bytes hs names_it
     pub low : total (base_over (total made_by s.states)) gone ≡ 0
     pub stand : RoomsStand z (put_room m.rooms (at_room_pin k) x) bytes (set hs seat (record v.rooms { held = without_room k v.rooms.held; moving = gs }))
     pub covers : CoversPartition z (put_room m.rooms (at_room_pin k) x) bytes is_key_word (set hs seat (record v.rooms { held = without_room k v.rooms.held; moving = gs }))
@@ -81,7 +82,7 @@ module _ (z : Sizes) (s : TableState) (seat : ℕ) (v : PassState) (r : Rule z s
 
     -- each block has the owners that it had
     owners : (d b : ℕ) → all_others z m' hs' d b ≡ all_others z m hs d b
-    owners d b = let e = entries_still z m.rooms m'.rooms bytes is_key_word hs hs' c.gone c.come c.parted c.step (λ y. owning (names_block d b) (record { low = 0; high = 0; base = 0 }) y) in omega arith
+    owners d b = let e = c.owners (names_block d b) in omega arith
 
     blocks_then : BlocksAreOwned z m.arena.bits (all_others z m' hs') (map blocks_of s.states)
     blocks_then = record {

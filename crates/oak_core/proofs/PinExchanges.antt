@@ -12,7 +12,7 @@ use Rattle.oak_model.proofs.PutLaws.{put-again}
 use Rattle.arena_core.specs.Blocks.{BlocksAreOwned}
 use Rattle.arena_core.specs.Place.{names_block, content}
 use Rattle.chunk_core.specs.declared.holds.RoomHolds.{RoomHolds}
-use Rattle.chunk_core.specs.CoverSums.{all_of, each, owning}
+use Rattle.chunk_core.specs.CoverSums.{all_of, owners_in_rooms}
 use Rattle.chunk_core.specs.Covers.{Cover}
 use Rattle.chunk_core.specs.KeptRooms.{kept_of_rooms}
 use Rattle.chunk_core.specs.RoomRule.{RoomsStand}
@@ -48,25 +48,22 @@ module _ (z : Sizes) (s : TableState) (seat : ℕ) (v : PassState) (r : Rule z s
     pub blocks : BlocksAreOwned z (memory z s.words).arena.bits (λ c b. other_owners z (memory z s.words).headers c b + entry_owners z m' (content (memory z s.words).arena.bytes) hs' c b) (map blocks_of s.states)
     pub covers : (F : Cover → ℕ) → all_of z m' (content (memory z s.words).arena.bytes) hs' F ≡ all_of z (memory z s.words).rooms (content (memory z s.words).arena.bytes) (map rooms_held s.states) F
 
-  -- the owners stay, since they are such a sum
   pub rooms_behind : (m' : RoomMemory) (hs' : List RoomHolds) → RoomsStand z m' (content (memory z s.words).arena.bytes) hs' → ((F : Cover → ℕ) → all_of z m' (content (memory z s.words).arena.bytes) hs' F ≡ all_of z (memory z s.words).rooms (content (memory z s.words).arena.bytes) (map rooms_held s.states) F)
+      → ((names_it : ℕ → ℕ) → owners_in_rooms z m' (content (memory z s.words).arena.bytes) hs' names_it ≡ owners_in_rooms z (memory z s.words).rooms (content (memory z s.words).arena.bytes) (map rooms_held s.states) names_it)
       → KeptNumbersStand same_room_spot (read_room m') (map kept_of_rooms hs') → RoomsBehind m' hs'
-  rooms_behind m' hs' stands same kept = record {
+  rooms_behind m' hs' stands same owned kept = record {
     bundles = record { rooms = stands; covers = partition_same z m.rooms m' (content m.arena.bytes) (content m.arena.bytes) is_key_word hs hs' same r.covers; kept = kept };
     blocks = record {
-      owned = λ c b. let e = owners c b in let w = r.blocks.owned c b in omega arith;
-      inside = λ c b le. let e = owners c b in let w = r.blocks.inside c b le in omega arith;
+      owned = λ c b. let e = owned (names_block c b) in let w = r.blocks.owned c b in omega arith;
+      inside = λ c b le. let e = owned (names_block c b) in let w = r.blocks.inside c b le in omega arith;
       whole = r.blocks.whole;
     };
     covers = same;
   }
-    where
-      owners : (c b : ℕ) → entry_owners z m' (content m.arena.bytes) hs' c b ≡ entry_owners z m.rooms (content m.arena.bytes) hs c b
-      owners c b = same (each (owning (names_block c b)))
 
   -- the pin word of a room becomes what it was
   still : (k : ℕ) → RoomsBehind (put_room (memory z s.words).rooms (at_room_pin k) ((memory z s.words).rooms.pin k)) (set (map rooms_held s.states) seat v.rooms)
-  still k = subst (λ (p : RoomMemory × List RoomHolds). RoomsBehind p.0 p.1) (sym (λ j. (words_still j, set_again hs seat v.rooms (at_rooms z s seat v r here) j))) (rooms_behind m.rooms hs r.rooms (λ F. refl) r.kept_in_rooms)
+  still k = subst (λ (p : RoomMemory × List RoomHolds). RoomsBehind p.0 p.1) (sym (λ j. (words_still j, set_again hs seat v.rooms (at_rooms z s seat v r here) j))) (rooms_behind m.rooms hs r.rooms (λ F. refl) (λ _. refl) r.kept_in_rooms)
     where
       words_still : put_room m.rooms (at_room_pin k) (m.rooms.pin k) ≡ m.rooms
       words_still = λ j. record { pin = put-again m.rooms.pin k j; base = m.rooms.base; count = m.rooms.count; latch = m.rooms.latch; first = m.rooms.first; low = m.rooms.low; high = m.rooms.high; key = m.rooms.key; value = m.rooms.value; next = m.rooms.next }

@@ -16,7 +16,7 @@ use Rattle.header_core.specs.Headers.{at_pin}
 use Rattle.chunk_core.specs.declared.holds.MovingRange.{MovingRange}
 use Rattle.chunk_core.specs.declared.holds.RoomHolds.{RoomHolds}
 use Rattle.chunk_core.specs.Covers.{Cover, moving_of}
-use Rattle.chunk_core.specs.CoverSums.{all_of, each, owning, weight}
+use Rattle.chunk_core.specs.CoverSums.{all_of, each, owning, weight, owners_in_rooms}
 use Rattle.chunk_core.specs.KeptRooms.{kept_of_rooms}
 use Rattle.chunk_core.specs.MovingRanges.{drops, range_without}
 use Rattle.chunk_core.specs.RoomCopies.{rooms_with}
@@ -26,7 +26,7 @@ use Rattle.chunk_core.specs.Rooms.{RoomSpot, read_room, room_at, same_room_spot}
 use Rattle.chunk_core.proofs.CoverFrames.{partition_same}
 use Rattle.chunk_core.proofs.DroppedEntries.{dropped_partition}
 use Rattle.chunk_core.proofs.DroppedSums.{dropped_placed, owners_fewer}
-use Rattle.chunk_core.proofs.RoomStores.{store_step}
+use Rattle.chunk_core.proofs.RoomStores.{store_step, store_owners}
 use Rattle.chunk_core.proofs.StoredKeptRooms.{aside, store_kept}
 use Rattle.chunk_core.proofs.StoredRooms.{pin_still, store_rooms, true_dropped}
 use Rattle.oak_core.specs.declared.states.PassState.{PassState}
@@ -95,6 +95,11 @@ module _ (z : Sizes) (s : TableState) (seat : ℕ) (v : PassState) (r : Rule z s
   unfolding total
   sums rs b c F = let e = store_step z m.rooms bytes hs rs (v.rooms ∷ []) (b ∷ []) c p x no_cover pins F in omega arith
 
+  -- and so do the owners of blocks
+  owned : (rs : List RoomHolds) (b : RoomHolds) → Change hs rs (v.rooms ∷ []) (b ∷ []) → (names_it : ℕ → ℕ) → owners_in_rooms z m'.rooms bytes rs names_it + total (each (owning names_it)) (moving_of v.rooms) ≡ owners_in_rooms z m.rooms bytes hs names_it + total (each (owning names_it)) (moving_of b)
+  unfolding total
+  owned rs b c names_it = let e = store_owners z m.rooms bytes hs rs (v.rooms ∷ []) (b ∷ []) c p x no_cover pins names_it in omega arith
+
   changed : (moving : List MovingRange) → Change hs (set hs seat (held moving)) (v.rooms ∷ []) (held moving ∷ [])
   changed moving = stepped hs seat v.rooms (held moving) own
 
@@ -115,7 +120,7 @@ module _ (z : Sizes) (s : TableState) (seat : ℕ) (v : PassState) (r : Rule z s
   still_sums F = let e = sums (set hs seat (held v.rooms.moving)) (held v.rooms.moving) (changed v.rooms.moving) F in omega arith
 
   still_owners : (c b : ℕ) → all_others z m' (set hs seat (held v.rooms.moving)) c b ≡ all_others z m hs c b
-  still_owners c b = let e : entry_owners z m'.rooms bytes (set hs seat (held v.rooms.moving)) c b ≡ entry_owners z m.rooms bytes hs c b = still_sums (each (owning (names_block c b))) in omega arith
+  still_owners c b = let e = owned (set hs seat (held v.rooms.moving)) (held v.rooms.moving) (changed v.rooms.moving) (names_block c b) in omega arith
 
   -- where the ranges stay, the pass has its blocks still
   pub stored_still : Stored v.blocks v.rooms.moving
@@ -150,7 +155,7 @@ module _ (z : Sizes) (s : TableState) (seat : ℕ) (v : PassState) (r : Rule z s
     low = let d = dropped_placed z m.rooms m'.rooms bytes is_key_word hs hs' r.covers seat v.rooms (held then) own carried word refl step some_dropped in let l = key_word_few word in key_class word (omega arith)
 
     fewer : (c b : ℕ) → entry_owners z m'.rooms bytes hs' c b + names_block c b word ≡ entry_owners z m.rooms bytes hs c b
-    fewer c b = owners_fewer z m.rooms m'.rooms bytes is_key_word hs hs' r.covers seat v.rooms (held then) own carried word refl step some_dropped pos (names_block c b)
+    fewer c b = owners_fewer z m.rooms m'.rooms bytes is_key_word hs hs' r.covers seat v.rooms (held then) own carried word refl step some_dropped pos (names_block c b) (owned hs' (held then) (changed then) (names_block c b))
 
     -- where an entry is dropped, its block comes back
     pub stored_dropped : Stored (block_back m.arena.bytes word v.blocks) (map (range_without word) v.rooms.moving)
