@@ -26,6 +26,10 @@ searches p = p.searches
 abbrev pub header_search : Pass → ℕ
 header_search p = p.header_search
 
+-- how many rooms it has pinned, as far as it counts
+abbrev pub tries : Pass → ℕ
+tries p = p.tries
+
 -- the bytes in its scratch
 abbrev pub scratch_of : Pass → List ℕ
 scratch_of p = p.scratch
@@ -51,6 +55,10 @@ pub record SearchesStay (p q : Pass) : Type 0 where
   pub searches : q.searches ≡ p.searches
   pub header_search : q.header_search ≡ p.header_search
 
+-- it has counted no further rooms
+abbrev pub TriesStay : Pass → Pass → Type 0
+TriesStay p q = q.tries ≡ p.tries
+
 -- it is the same pass with all that it has seen, done and holds, in another call
 pub record Turns (p q : Pass) (next : ℕ) : Type 0 where
   pub table : q.seat.table_id ≡ p.seat.table_id
@@ -59,5 +67,6 @@ pub record Turns (p q : Pass) (next : ℕ) : Type 0 where
   pub state : q.seat.me ≡ p.seat.me
   pub searches : q.searches ≡ p.searches
   pub header_search : q.header_search ≡ p.header_search
+  pub tries : q.tries ≡ p.tries
   pub scratch : q.scratch ≡ p.scratch
   pub sorting : q.sorting ≡ p.sorting

@@ -5,7 +5,7 @@ ghost use prog.Atomic.{either};
 ghost use Rattle.atomic_table.specs.Table.{Allows};
 ghost use Rattle.oak_core.specs.declared.states.PassState.{PassState};
 ghost use Rattle.oak_core.specs.Running.{Holds, KeepsSeat};
-ghost use Rattle.oak_core.specs.Passes.{IsPassOf, Stays, SearchesStay, state, key};
+ghost use Rattle.oak_core.specs.Passes.{IsPassOf, Stays, SearchesStay, TriesStay, state, key};
 
 use crate::states::PassState;
 use crate::table::{OakTable, Pass};
@@ -35,6 +35,7 @@ pub(crate) fn load_said<T: Said>(table: &OakTable, pass: &mut Pass, word: usize)
     requires inside { word < table.now.table.shared.table_id.words }
     requires rule { Allows (Holds (key table.now)) table.now.table.shared.table_id.slots pass.old.seat.id pass.old.seat.me word (λ n. n) (λ n m. T.told n m.0 × KeepsSeat pass.old.seat.me m) }
     ensures own { Stays pass.old pass.new }
+    ensures tries { TriesStay pass.old pass.new }
     ensures searches { SearchesStay pass.old pass.new }
     ensures told { T.told result (state pass.new) }
 {
@@ -46,6 +47,7 @@ pub(crate) fn or_said<T: Said>(table: &OakTable, pass: &mut Pass, word: usize, b
     requires inside { word < table.now.table.shared.table_id.words }
     requires rule { Allows (Holds (key table.now)) table.now.table.shared.table_id.slots pass.old.seat.id pass.old.seat.me word (λ n. bit_or n bits) (λ n m. T.told n m.0 × KeepsSeat pass.old.seat.me m) }
     ensures own { Stays pass.old pass.new }
+    ensures tries { TriesStay pass.old pass.new }
     ensures searches { SearchesStay pass.old pass.new }
     ensures told { T.told result (state pass.new) }
 {
@@ -86,6 +88,7 @@ pub(crate) fn add_said<T: Said>(table: &OakTable, pass: &mut Pass, word: usize, 
     requires inside { word < table.now.table.shared.table_id.words }
     requires rule { Allows (Holds (key table.now)) table.now.table.shared.table_id.slots pass.old.seat.id pass.old.seat.me word (λ n. (n + amount) % 2 ^ 64) (λ n m. T.told n m.0 × KeepsSeat pass.old.seat.me m) }
     ensures own { Stays pass.old pass.new }
+    ensures tries { TriesStay pass.old pass.new }
     ensures told { T.told result (state pass.new) }
 {
     table
@@ -117,6 +120,7 @@ pub(crate) fn sub_said<T: Said>(table: &OakTable, pass: &mut Pass, word: usize, 
     requires inside { word < table.now.table.shared.table_id.words }
     requires rule { Allows (Holds (key table.now)) table.now.table.shared.table_id.slots pass.old.seat.id pass.old.seat.me word (λ n. (n + (2 ^ 64 - amount)) % 2 ^ 64) (λ n m. T.told n m.0 × KeepsSeat pass.old.seat.me m) }
     ensures own { Stays pass.old pass.new }
+    ensures tries { TriesStay pass.old pass.new }
     ensures told { T.told result (state pass.new) }
 {
     table

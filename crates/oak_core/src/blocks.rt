@@ -3,7 +3,7 @@ ghost use Rattle.std.specs.Prelude.{◌≡◌, ◌<◌, ◌≤◌, ◌/◌, slic
 ghost use Rattle.oak_model.specs.Class.{class_number};
 ghost use Rattle.arena_core.specs.Arena.{at_bits, at_bytes, bit_words, block_words, blocks};
 ghost use Rattle.oak_core.specs.Memory.{in_arena, index};
-ghost use Rattle.oak_core.specs.Passes.{key, state, call_of, searches, header_search};
+ghost use Rattle.oak_core.specs.Passes.{TriesStay, key, state, call_of, searches, header_search};
 
 use crate::table::{OakTable, Pass};
 use arena_core::layout::{bit_words, block_words};
@@ -62,6 +62,7 @@ impl Pass {
     pub fn search_from(&mut self, class: Class, block: u32)
         ensures search { searches self.new ≡ slice_set (searches self.old) (class_number class) block }
         ensures same { (self.new.seat.table_id ≡ self.old.seat.table_id) × (self.new.seat.id ≡ self.old.seat.id) × (state self.new ≡ state self.old) × (call_of self.new ≡ call_of self.old) × (header_search self.new ≡ header_search self.old) × (self.new.scratch ≡ self.old.scratch) × (self.new.sorting ≡ self.old.sorting) }
+        ensures tries { TriesStay self.old self.new }
     {
         self.searches[class.number()] = block;
     }

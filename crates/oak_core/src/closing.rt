@@ -62,6 +62,8 @@ impl OakTable {
             sorting: _,
             searches: _,
             header_search: _,
+            tries: _,
+            reader: _,
         } = pass;
         Closed {
             table: table.close_with(seat),

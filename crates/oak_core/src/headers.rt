@@ -2,7 +2,7 @@
 ghost use Rattle.std.specs.Prelude.{◌≡◌, ◌<◌, ◌≤◌};
 ghost use Rattle.header_core.specs.Headers.{at_pin, at_place, at_stamp};
 ghost use Rattle.oak_core.specs.Memory.{in_headers, index};
-ghost use Rattle.oak_core.specs.Passes.{key, state, call_of, searches, header_search};
+ghost use Rattle.oak_core.specs.Passes.{TriesStay, key, state, call_of, searches, header_search};
 
 use crate::table::{OakTable, Pass};
 use header_core::layout::{HEADER_WORDS, header_count};
@@ -56,6 +56,7 @@ impl Pass {
     pub fn header_search_from(&mut self, header: u32)
         ensures search { header_search self.new ≡ header }
         ensures same { (self.new.seat.table_id ≡ self.old.seat.table_id) × (self.new.seat.id ≡ self.old.seat.id) × (state self.new ≡ state self.old) × (call_of self.new ≡ call_of self.old) × (searches self.new ≡ searches self.old) × (self.new.scratch ≡ self.old.scratch) × (self.new.sorting ≡ self.old.sorting) }
+        ensures tries { TriesStay self.old self.new }
     {
         self.header_search = header;
     }

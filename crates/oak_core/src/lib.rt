@@ -7,6 +7,7 @@ pub mod closing;
 pub mod fresh;
 mod header_steps;
 pub mod headers;
+pub mod hinting;
 pub mod layout;
 pub mod loads;
 pub mod notes;
@@ -20,6 +21,7 @@ pub mod sorting;
 pub mod states;
 pub mod steps;
 pub mod table;
+pub mod tries;
 mod usage;
 pub mod writing;
 

@@ -1,7 +1,7 @@
 ghost use Rattle.std.specs.Prelude.{◌≡◌, ◌<◌, slice_index};
 ghost use Rattle.oak_core.specs.AloneWords.{Runs};
 ghost use Rattle.oak_core.specs.Memory.{word_count};
-ghost use Rattle.oak_core.specs.Passes.{IsPassOf, Stays, SearchesStay, state, key, call_of};
+ghost use Rattle.oak_core.specs.Passes.{IsPassOf, Stays, SearchesStay, TriesStay, state, key, call_of};
 ghost use Rattle.oak_core.specs.Splitting.{Loads};
 
 use crate::atoms::load_said;
@@ -15,6 +15,7 @@ pub fn load(table: &OakTable, pass: &mut Pass, word: u32) -> u64
     requires inside { word < word_count (key table.now) }
     ensures own { Stays pass.old pass.new }
     ensures searches { SearchesStay pass.old pass.new }
+    ensures tries { TriesStay pass.old pass.new }
     ensures loaded { Loads (key table.now) (call_of pass.old) word (state pass.old) result (state pass.new) }
     ensures runs { Runs (λ a b. (result ≡ slice_index a word) × (b ≡ a)) (state pass.old) (state pass.new) }
 {

@@ -4,7 +4,7 @@ ghost use Rattle.atomic_table.specs.Table.{Allows};
 ghost use Rattle.oak_core.specs.AloneWords.{Runs};
 ghost use Rattle.oak_core.specs.Lack.{Lacks};
 ghost use Rattle.oak_core.specs.Noting.{Notes};
-ghost use Rattle.oak_core.specs.Passes.{IsPassOf, Stays, SearchesStay, state, key, call_of};
+ghost use Rattle.oak_core.specs.Passes.{IsPassOf, Stays, SearchesStay, TriesStay, state, key, call_of};
 ghost use Rattle.oak_core.specs.Running.{Holds, KeepsSeat};
 
 use crate::atoms::{Said, load_said};
@@ -19,6 +19,7 @@ fn note_said<T: Said>(table: &OakTable, pass: &mut Pass, _lack: Lack)
     requires rule { Allows (Holds (key table.now)) table.now.table.shared.table_id.slots pass.old.seat.id pass.old.seat.me 0 (λ n. n) (λ n m. T.told n m.0 × KeepsSeat pass.old.seat.me m) }
     ensures own { Stays pass.old pass.new }
     ensures searches { SearchesStay pass.old pass.new }
+    ensures tries { TriesStay pass.old pass.new }
     ensures told { (n : ℕ) × T.told n (state pass.new) }
 {
     load_said::<T>(table, pass, 0);
@@ -33,6 +34,7 @@ impl Pass {
         requires lacks { (spare : Option ℕ) × (began : ℕ) × Lacks (key table.now) (call_of self.old) lack spare began (length (state self.old).findings.met) (state self.old).findings }
         ensures own { Stays self.old self.new }
         ensures searches { SearchesStay self.old self.new }
+        ensures tries { TriesStay self.old self.new }
         ensures noted { Notes (key table.now) (call_of self.old) lack (state self.old) (state self.new) }
         ensures runs { Runs (λ a b. b ≡ a) (state self.old) (state self.new) }
     {

@@ -6,7 +6,7 @@ ghost use Rattle.oak_core.specs.AloneWords.{LeavesWords};
 ghost use Rattle.oak_core.specs.Opening.{IsOpened, first_state};
 ghost use Rattle.oak_core.specs.Schedule.{MaySplit, opening};
 ghost use Rattle.oak_core.specs.Step.{MayGive, Told, give_number};
-ghost use Rattle.oak_core.specs.Passes.{IsPassOf, Stays, SearchesStay, Turns, state, key, call_of};
+ghost use Rattle.oak_core.specs.Passes.{IsPassOf, Stays, SearchesStay, TriesStay, Turns, state, key, call_of, tries};
 ghost use Rattle.oak_core.specs.Splitting.{LooksAtGiven, FindsLeast, SplitsOff, FindsAllGiven, SeesLonger, GivesWords, LeavesSame};
 
 use crate::atoms::or_said;
@@ -19,6 +19,7 @@ use crate::table::{OakTable, Pass};
 use crate::writing::Writing;
 use atomic_table::{Join, Split, Table};
 use chunk_core::OPEN;
+use chunk_index::IndexReader;
 use oak_model::{CLASSES, OutOfMemory, Shape};
 use pin_word::pack;
 use std::alloc::Global;
@@ -69,6 +70,7 @@ impl OakTable {
         ensures key { IfOk result (λ t. key t.0 ≡ shape.now) }
         ensures own { IfOk result (λ t. IsPassOf t.0 t.1) }
         ensures first { IfOk result (λ t. (state t.1 ≡ first_state (key t.0) 0) × (call_of t.1 ≡ 0)) }
+        ensures tries { IfOk result (λ t. tries t.1 ≡ 0) }
         ensures words { IfOk result (λ t. LeavesWords (opening (key t.0) 0).words (state t.1)) }
         ensures opened { IfOk result (λ t. IsOpened (key t.0) 0 (opening (key t.0) 0).words) }
     {
@@ -94,6 +96,8 @@ impl OakTable {
             sorting,
             searches: [0; CLASSES],
             header_search: 0,
+            tries: 0,
+            reader: IndexReader::none(),
         };
         Ok((table, pass))
     }
@@ -113,6 +117,7 @@ impl Pass {
         requires own { IsPassOf table.now self.old }
         ensures own { Stays self.old self.new }
         ensures searches { SearchesStay self.old self.new }
+        ensures tries { TriesStay self.old self.new }
         ensures least { FindsLeast (key table.now) (call_of self.old) (state self.old) result (state self.new) }
     {
         load(table, self, 0).trailing_ones()
@@ -125,6 +130,7 @@ impl Pass {
         requires may { MayGive (key table.now) number (state self.old) }
         ensures own { Stays self.old self.new }
         ensures searches { SearchesStay self.old self.new }
+        ensures tries { TriesStay self.old self.new }
         ensures told { Told (key table.now) (call_of self.old) (give_number number) (state self.old) result (state self.new) }
     {
         or_said::<Brand>(table, self, 0, 1 << number)
@@ -136,7 +142,9 @@ impl Pass {
         requires may { MaySplit (state self.old) }
         ensures own { Stays self.old self.new }
         ensures searches { SearchesStay self.old self.new }
+        ensures tries { TriesStay self.old self.new }
         ensures new { IsPassOf table.now result × (call_of result ≡ 0) }
+        ensures none_tried { tries result ≡ 0 }
         ensures cut { (state self.new ≡ left_state (state self.old)) × (state result ≡ right_state (state self.old)) }
     {
         let seat = table.table.shared.split_seat::<Cut>(&mut self.seat);
@@ -147,19 +155,24 @@ impl Pass {
             sorting,
             searches: [0; CLASSES],
             header_search: 0,
+            tries: 0,
+            reader: IndexReader::none(),
         }
     }
 
     /// Splits off a pass for another caller, with the least number that no pass has. It has seen what
-    /// this one has seen. `Limit` comes exactly where one load found all numbers of the shape given. All
-    /// memory is taken before the number. It loads word 0, and sets one bit there; it does so again only
-    /// where another pass took the number between the two. To a pass that is alone no other word changes.
+    /// this one has seen, has pinned no room, and has a reader of no index. `Limit` comes exactly where one
+    /// load found all numbers of the shape given. All memory is taken before the number. It loads word 0,
+    /// and sets one bit there; it does so again only where another pass took the number between the two. To
+    /// a pass that is alone no other word changes.
     pub fn split(&mut self, alloc: Global, table: &OakTable) -> Result<Pass, SplitFault>
         requires own { IsPassOf table.now self.old }
         requires idle { HoldsNothing (state self.old) }
         ensures own { Stays self.old self.new }
         ensures searches { SearchesStay self.old self.new }
+        ensures tries { TriesStay self.old self.new }
         ensures new { IfOk result (λ p. IsPassOf table.now p × (call_of p ≡ 0)) }
+        ensures none_tried { IfOk result (λ p. tries p ≡ 0) }
         ensures split { IfOk result (λ p. SplitsOff (key table.now) (call_of self.old) (state self.old) (state self.new) (state p)) }
         ensures refused { IfErr result (λ _. LooksAtGiven (call_of self.old) (state self.old) (state self.new)) }
         ensures limit { (made : ℕ) → result ≡ Err (SplitFault.Limit made) → (made ≡ (key table.now).passes) × FindsAllGiven (key table.now) (call_of self.old) (state self.old) (state self.new) }
@@ -193,6 +206,7 @@ impl Pass {
         requires idle { HoldsNothing (state self.old) × HoldsNothing (state other) }
         ensures own { Stays self.old self.new }
         ensures searches { SearchesStay self.old self.new }
+        ensures tries { TriesStay self.old self.new }
         ensures joined { state self.new ≡ both_state (state self.old) (state other) }
         ensures seen { (k : ℕ) → SeesLonger (state self.old) (state other) (state self.new) k }
     {
@@ -203,6 +217,8 @@ impl Pass {
             sorting: _,
             searches: _,
             header_search: _,
+            tries: _,
+            reader: _,
         } = other;
         table.table.shared.join_seat::<Glue>(&mut self.seat, seat);
     }

@@ -6,7 +6,8 @@ ghost use Rattle.chunk_core.specs.Rooms.{RoomSpot};
 ghost use Rattle.chunk_core.specs.RoomStep.{EntryField, of_value, pin_room, unpin_room, latch_room, store_entry, publish_entry, unlatch_room, set_value, unlink_entry, freeze_room, hold_room, claim_room, store_room, open_room, retire_room};
 ghost use Rattle.oak_core.specs.RoomCalls.{NamesRoomPin, NamesLatch, NamesEntryWord, NamesCount, NamesRoomWord, PinsRoomWord, UnpinsRoomWord, TakesLatch, StoresEntry, PublishesEntry, GivesLatch, SetsValueWord, UnlinksEntryWord, FreezesRoom, HoldsRoomWord, ClaimsRoom, StoresRoom, OpensRoom, RetiresRoom};
 ghost use Rattle.oak_core.specs.Step.{MayOnRooms};
-ghost use Rattle.oak_core.specs.Passes.{IsPassOf, Stays, state, key, call_of};
+ghost use Rattle.oak_core.specs.Passes.{IsPassOf, Stays, TriesStay, state, key, call_of, tries};
+ghost use Rattle.oak_core.specs.Tries.{raised};
 
 use crate::atoms::{add_said, exchange_of_kind, exchange_said, store_said, sub_said};
 use crate::table::{OakTable, Pass};
@@ -14,14 +15,17 @@ use oak_model::Kind;
 use std::marker::Brand;
 
 /// Pins a room, and sees its base and its bounds: `word` is its pin word, and `operand` one pin. A pass
-/// has one pin on a room at most.
+/// has one pin on a room at most. The pass's tries are raised by 1, whatever was found.
 pub fn pin_room(table: &OakTable, pass: &mut Pass, word: u32, operand: u64) -> u64
     requires own { IsPassOf table.now pass.old }
     requires names { (r : ℕ) × NamesRoomPin (key table.now) r word × (operand ≡ 1) × MayOnRooms (key table.now) (call_of pass.old) (pin_room r) (state pass.old) }
     ensures own { Stays pass.old pass.new }
+    ensures tries { tries pass.new ≡ raised (tries pass.old) 1 }
     ensures told { (r : ℕ) → NamesRoomPin (key table.now) r word → PinsRoomWord (key table.now) (call_of pass.old) r (state pass.old) result (state pass.new) }
 {
-    add_said::<Brand>(table, pass, word as usize, operand)
+    let found = add_said::<Brand>(table, pass, word as usize, operand);
+    pass.tries = pass.tries.saturating_add(1);
+    found
 }
 
 /// Undoes the pass's pin on a room, of which it has no latch: `word` is the room's pin word, and
@@ -30,6 +34,7 @@ pub fn unpin_room(table: &OakTable, pass: &mut Pass, word: u32, operand: u64) ->
     requires own { IsPassOf table.now pass.old }
     requires names { (r : ℕ) × NamesRoomPin (key table.now) r word × (operand ≡ 1) × MayOnRooms (key table.now) (call_of pass.old) (unpin_room r) (state pass.old) }
     ensures own { Stays pass.old pass.new }
+    ensures tries { TriesStay pass.old pass.new }
     ensures told { (r : ℕ) → NamesRoomPin (key table.now) r word → UnpinsRoomWord (key table.now) (call_of pass.old) r (state pass.old) result (state pass.new) }
 {
     sub_said::<Brand>(table, pass, word as usize, operand)

@@ -8,6 +8,7 @@ use crate::sorting::Sorting;
 use crate::states::PassState;
 use crate::writing::Writing;
 use atomic_table::{Seat, Table, TableRule};
+use chunk_index::IndexReader;
 use oak_model::{CLASSES, Shape};
 use std::alloc::Global;
 
@@ -44,6 +45,8 @@ pub struct Pass {
     pub(crate) sorting: Sorting,
     pub(crate) searches: [u32; CLASSES],
     pub(crate) header_search: u32,
+    pub(crate) tries: u64,
+    pub(crate) reader: IndexReader,
     ghost idle: { seat.me.1 ≡ [] },
     ghost going: { seat.me.0.numbers.spent ≡ false },
 }

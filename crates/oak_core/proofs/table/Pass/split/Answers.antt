@@ -14,6 +14,7 @@ pub loop-number-init : goal.loop-number-init
 loop-number-init c = let f = c.least_free-number.ensures.least in let v : PassState = state c.args.self.now in record {
   stays = c.least_free-number.ensures.own;
   searches = c.least_free-number.ensures.searches;
+  tries = c.least_free-number.ensures.tries;
   alone = least_stays (key c.args.table.now) (call_of c.args.self.now) c.least_free-number.result v (state c.least_free-number.new.self) f;
   tried = tried_load (key c.args.table.now) (call_of c.args.self.now) 0 v v (state c.least_free-number.new.self) f.number (none_tried (call_of c.args.self.now) v) f.loads c.least_free-number.result f.lower;
 }
@@ -47,6 +48,7 @@ loop-number-preserved c = let z : Sizes = key c.args.table.now in let call : ℕ
     let f : FindsLeast z call (state c.give_number-found.new.self) i (state c.least_free-number-in-loop-number.new.self) = least_in z call (call_of c.give_number-found.new.self) (state c.give_number-found.new.self) i (state c.least_free-number-in-loop-number.new.self) (c.give_number-found.ensures.own.call ∙ c.loop-number.invariant.stays.call) c.least_free-number-in-loop-number.ensures.least in record {
       stays = search rules;
       searches = search rules;
+      tries = search rules;
       alone = let e = c.passes-passes.ensures.few in let lt = c.loop-number-test.true in not_given z (call_of c.loop-number.self) k (state c.args.self.now) (state c.loop-number.self) (state c.give_number-found.new.self) c.give_number-found.result c.loop-number.invariant.alone c.give_number-found.ensures.told (omega arith) c.if-not-is_set.ensures
           (state c.least_free-number-in-loop-number.new.self) i;
       tried = tried_load z call (k + 1) (state c.args.self.now) (state c.give_number-found.new.self) (state c.least_free-number-in-loop-number.new.self) f.number t f.loads i f.lower;
