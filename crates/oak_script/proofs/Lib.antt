@@ -23,3 +23,4 @@ pub mod InjectiveLemmas
 pub mod SpelledLemmas
 pub mod ScriptLemmas
 pub mod LawLemmas
+pub mod WorkloadLemmas

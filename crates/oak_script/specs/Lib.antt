@@ -12,3 +12,5 @@ pub mod Stops
 pub mod Reading
 pub mod Answers
 pub mod Told
+pub mod Workload
+pub mod Summary

@@ -16,13 +16,21 @@ mod scripts;
 mod shape_lines;
 mod stages;
 mod stops;
+mod summary;
 mod text;
 mod verbs;
 mod words;
+mod workload;
 
 pub use faults::{NoScript, ScriptFault, What};
-pub use laws::{script_limits_in_numbers, script_or_fault};
-pub use limits::{GREATEST_CALLS, GREATEST_SCANS, GREATEST_SCRIPT_NAME, GREATEST_THREADS};
+pub use laws::{first_draws, script_limits_in_numbers, script_or_fault};
+pub use limits::{
+    DRAWN_NUMBERS, GREATEST_CALLS, GREATEST_DRAWS, GREATEST_SCANS, GREATEST_SCRIPT_NAME,
+    GREATEST_THREADS,
+};
+pub use numbers::number_in;
 pub use reader::read_script;
 pub use scripts::{Call, Script, Threads};
+pub use summary::print_summary;
 pub use text::print_run;
+pub use workload::gen_script;

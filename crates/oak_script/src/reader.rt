@@ -17,7 +17,7 @@ use oak_model::{DEFAULT_BLOCKS, DEFAULT_CHUNKS, DEFAULT_ENTRIES, DEFAULT_HEADERS
 use std::alloc::Global;
 
 /// The shape that a script without a `shape` line asks for.
-fn default_shape(threads: u32) -> Shape
+pub fn default_shape(threads: u32) -> Shape
     requires least { 1 ≤ threads }
     requires greatest { threads ≤ GREATEST_THREADS }
     ensures is { result ≡ default_sizes threads }

@@ -3,29 +3,13 @@ ghost use Rattle.std.specs.Fmt.{decimal};
 ghost use Rattle.oak_model.specs.declared.limits.TheConstants.{CLASSES, GREATEST_BLOCKS};
 ghost use Rattle.oak_model.specs.declared.shapes.ShapeField.TheVariants.{Blocks};
 ghost use Rattle.oak_model.specs.Class.{classes};
-ghost use Rattle.oak_script.specs.Numbers.{is_number_in};
 ghost use Rattle.oak_script.specs.ShapeLine.{size_words, size_fields, are_sizes, SizesFit};
 
-use crate::numbers::number_of;
+use crate::numbers::number_in;
 use oak_model::{
     CLASSES, GREATEST_BLOCKS, GREATEST_CHUNKS, GREATEST_ENTRIES, GREATEST_HEADERS, LEAST_ENTRIES,
     Shape,
 };
-
-/// The number of this range that a word spells.
-fn size_of(word: &[u8], least: u32, greatest: u32) -> Option<u32>
-    ensures spelled { IfSome result (λ n. decimal n ≡ word.now) }
-    ensures least { IfSome result (λ n. least ≤ n) }
-    ensures greatest { IfSome result (λ n. n ≤ greatest) }
-    ensures found { is_some result ≡ is_number_in least greatest word.now }
-{
-    let number = number_of(word)?;
-    if u64::from(least) <= number && number <= u64::from(greatest) {
-        Some(number as u32)
-    } else {
-        None
-    }
-}
 
 /// The numbers of blocks that four words spell.
 fn blocks_of(words: &[&[u8]]) -> Option<[u32; CLASSES]>
@@ -37,10 +21,10 @@ fn blocks_of(words: &[&[u8]]) -> Option<[u32; CLASSES]>
 {
     match words {
         [b16, b64, b256, b1024] => {
-            let b16 = size_of(b16, 0, GREATEST_BLOCKS[0])?;
-            let b64 = size_of(b64, 0, GREATEST_BLOCKS[1])?;
-            let b256 = size_of(b256, 0, GREATEST_BLOCKS[2])?;
-            let b1024 = size_of(b1024, 0, GREATEST_BLOCKS[3])?;
+            let b16 = number_in(b16, 0, GREATEST_BLOCKS[0])?;
+            let b64 = number_in(b64, 0, GREATEST_BLOCKS[1])?;
+            let b256 = number_in(b256, 0, GREATEST_BLOCKS[2])?;
+            let b1024 = number_in(b1024, 0, GREATEST_BLOCKS[3])?;
             Some([b16, b64, b256, b1024])
         }
         _ => None,
@@ -56,9 +40,9 @@ pub fn shape_of(words: &[&[u8]]) -> Option<Shape>
 {
     match words {
         [chunks, entries, headers, blocks @ ..] => {
-            let chunks = size_of(chunks, 1, GREATEST_CHUNKS)?;
-            let entries = size_of(entries, LEAST_ENTRIES, GREATEST_ENTRIES)?;
-            let headers = size_of(headers, 1, GREATEST_HEADERS)?;
+            let chunks = number_in(chunks, 1, GREATEST_CHUNKS)?;
+            let entries = number_in(entries, LEAST_ENTRIES, GREATEST_ENTRIES)?;
+            let headers = number_in(headers, 1, GREATEST_HEADERS)?;
             let blocks = blocks_of(blocks)?;
             Some(Shape {
                 passes: 1,

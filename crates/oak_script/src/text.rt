@@ -10,7 +10,7 @@ use crate::scripts::{Call, Script};
 use oak_model::{Class, Key, Lack, OutOfMemory, Pair, Reply, Shape, Usage, Value, Wrote};
 use std::alloc::{AllocError, Global};
 
-fn put(out: &mut Vec<u8>, text: &str) -> Result<(), OutOfMemory>
+pub fn put(out: &mut Vec<u8>, text: &str) -> Result<(), OutOfMemory>
     ensures { OnOk result (out.new.items ≡ out.old.items ++ text.now) }
 {
     out.extend_from_slice(text.as_bytes())?;

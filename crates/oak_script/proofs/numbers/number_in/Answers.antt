@@ -1,9 +1,10 @@
-use Rattle.std.proofs.Common.{◌≡◌, ◌^◌, ◌<◌, ◌≤◌, ◌&&◌, leb, true, false, sym, ◌∙◌, rules, arith}
+use Rattle.std.proofs.Common.{◌≡◌, ◌^◌, ◌<◌, ◌≤◌, ◌&&◌, leb, true, false, sym, ap, ◌∙◌, rules, arith}
 use Rattle.std.specs.Fmt.{decimal}
+use Rattle.std.specs.Str.Parse.{digits_value}
 use Rattle.std.proofs.lemmas.Bool.Decides.{nat_tests}
-use Rattle.oak_script.proofs.NumberLemmas.{in_range}
-use Rattle.oak_script.proofs.shape_lines.size_of.Goals.{else-from-number-via-then-from-number+else-number-from, else-from-number-via-else-from-number}
-use Rattle.oak_script.proofs.shape_lines.size_of.Goals as goal
+use Rattle.oak_script.proofs.NumberLemmas.{in_range, value_written}
+use Rattle.oak_script.proofs.numbers.number_in.Goals.{else-from-number-via-then-from-number+else-number-from, else-from-number-via-else-from-number}
+use Rattle.oak_script.proofs.numbers.number_in.Goals as goal
 
 pub returns-then-number-from-clause-found : goal.returns-then-number-from-clause-found
 returns-then-number-from-clause-found c =
@@ -26,3 +27,10 @@ returns-else-from-number-clause-found c =
       | else-from-number-via-else-from-number w ↦ let low : n < c.args.least = search rules in grind (arith, nat_tests)
     ] in
     test ∙ sym (in_range c.args.least c.args.greatest n c.args.word.now small spelled)
+
+pub returns-then-number-from-clause-value : goal.returns-then-number-from-clause-value
+returns-then-number-from-clause-value c =
+    let n = c.in_ok-number.number in
+    let small : n < 2 ^ 64 = search rules in
+    let spelled : decimal n ≡ c.args.word.now = search rules in
+    sym (value_written n small) ∙ ap (digits_value 10) spelled
