@@ -1,6 +1,7 @@
 //! Passes are made, given their calls, split, joined, and at last closed with their table.
-ghost use Rattle.std.specs.Prelude.{◌≡◌, ℕ, ◌<◌, IfOk, IfErr, MatchBool};
-ghost use Rattle.std.specs.Int.{bit_at};
+ghost use Rattle.std.specs.Prelude.{◌≡◌, ℕ, ◌<◌, ◌*◌, ◌/◌, ◌^◌, [], ◌∷◌, map, IfOk, IfErr, MatchBool};
+ghost use Rattle.std.specs.Int.{bit_at, reverse_bits, w32};
+ghost use Rattle.arena_core.specs.Arena.{blocks};
 ghost use Rattle.oak_core.specs.PassState.{HoldsNothing, left_state, right_state, both_state};
 ghost use Rattle.oak_core.specs.AloneWords.{LeavesWords};
 ghost use Rattle.oak_core.specs.Opening.{IsOpened, first_state};
@@ -20,7 +21,7 @@ use crate::writing::Writing;
 use atomic_table::{Join, Split, Table};
 use chunk_core::OPEN;
 use chunk_index::IndexReader;
-use oak_model::{CLASSES, OutOfMemory, Shape};
+use oak_model::{CLASSES, Class, OutOfMemory, Shape};
 use pin_word::pack;
 use std::alloc::Global;
 use std::marker::Brand;
@@ -61,6 +62,27 @@ fn is_set(word: u64, bit: u32) -> bool
     ensures { MatchBool result (bit_at word bit ≡ 1) (bit_at word bit ≡ 0) }
 {
     word >> bit & 1 == 1
+}
+
+/// Where the pass of this number begins to search among so many: the first pass at 0, the next in the middle, the
+/// next two in the middles of the halves, and so on, so that passes seldom meet at the same words. These are the
+/// points of van der Corput's sequence.
+fn first_place(count: u32, number: u32) -> u32
+    ensures { result ≡ count * reverse_bits w32 number / 2 ^ 32 }
+{
+    (u64::from(count) * u64::from(number.reverse_bits()) >> 32) as u32
+}
+
+/// Where it begins to search in each class.
+fn first_places(table: &OakTable, number: u32) -> [u32; CLASSES]
+    ensures { result ≡ map (λ c. blocks (key table.now) c * reverse_bits w32 number / 2 ^ 32) (0 ∷ 1 ∷ 2 ∷ 3 ∷ []) }
+{
+    [
+        first_place(table.blocks(Class::B16), number),
+        first_place(table.blocks(Class::B64), number),
+        first_place(table.blocks(Class::B256), number),
+        first_place(table.blocks(Class::B1024), number),
+    ]
 }
 
 impl OakTable {
@@ -136,8 +158,8 @@ impl Pass {
         or_said::<Brand>(table, self, 0, 1 << number)
     }
 
-    /// The part of a split that takes the number in hand.
-    fn cut(&mut self, table: &OakTable, scratch: Writing, sorting: Sorting) -> Pass
+    /// The part of a split that takes the number in hand. The new pass begins its searches away from others.
+    fn cut(&mut self, table: &OakTable, number: u32, scratch: Writing, sorting: Sorting) -> Pass
         requires own { IsPassOf table.now self.old }
         requires may { MaySplit (state self.old) }
         ensures own { Stays self.old self.new }
@@ -153,8 +175,8 @@ impl Pass {
             call: 0,
             scratch,
             sorting,
-            searches: [0; CLASSES],
-            header_search: 0,
+            searches: first_places(table, number),
+            header_search: first_place(table.headers(), number),
             tries: 0,
             reader: IndexReader::none(),
         }
@@ -191,7 +213,7 @@ impl Pass {
         while number < passes {
             let found = self.give_number(table, number);
             if !is_set(found, number) {
-                return Ok(self.cut(table, scratch, sorting));
+                return Ok(self.cut(table, number, scratch, sorting));
             }
             // Another pass took the number meanwhile.
             number = self.least_free(table);
