@@ -12,15 +12,19 @@ use Rattle.chunk_core.specs.RoomStep.{pin_room}
 use Rattle.chunk_core.specs.Spans.{Span}
 use Rattle.oak_core.specs.declared.states.PassState.{PassState}
 use Rattle.oak_core.specs.AloneWords.{Runs}
+use Rattle.oak_core.specs.declared.table.Pass.{Pass}
+use Rattle.oak_core.specs.CallSteps.{MetMore}
 use Rattle.oak_core.specs.QuietSteps.{IsQuiet}
+use Rattle.oak_core.specs.Passes.{state}
 use Rattle.oak_core.specs.RoomCalls.{PinsRoomWord}
 use Rattle.oak_core.specs.Step.{on_rooms}
 use Rattle.oak_core.proofs.AloneRuns.{runs_as}
-use Rattle.oak_core.proofs.CallSteps.{step_alone, step_since, step_until, stands_both}
+use Rattle.oak_core.proofs.CallSteps.{met_both, met_none, step_alone, step_since, step_until, stands_both}
 use Rattle.oak_core.proofs.QuietCalls as steps
 use Rattle.chunk_ops.specs.LoneRooms.{IsOff, IsShut, LoneTry}
 use Rattle.chunk_ops.specs.PinRecords.{HasRoomPin, RoomPinned, OnlyMeets, pin_or, room_pin, with_room_pin}
-use Rattle.chunk_ops.specs.RoomPins.{AddsRoomPin, HadMoment, PinsNow, FoundShut, PinsOpen, FoundOff, Unpins}
+use Rattle.chunk_ops.specs.Hints.{TriesFirst}
+use Rattle.chunk_ops.specs.RoomPins.{AddsRoomPin, HadMoment, PinsFirst, PinsNow, FoundShut, PinsOpen, FoundOff, MissesFirst, Unpins}
 use Rattle.chunk_ops.proofs.BoundWords.{same_pin}
 use Rattle.chunk_ops.proofs.LoneRoomLaws.{tried_alone}
 use Rattle.chunk_ops.proofs.MeetingCalls.{only_none, stays_then, then_stays, round}
@@ -30,9 +34,13 @@ use Rattle.chunk_ops.proofs.PinSteps.{pin_stands, pin_blocks, pin_headers, pin_r
 had_moment : (z : Sizes) (call r n : ℕ) (v w : PassState) → PinsRoomWord z call r v n w → HadMoment z v
 had_moment z call r n v w t = (t.table.words, record { states = t.table.states; rule = t.rule; seat = t.seat; here = t.here })
 
--- a try that made no step, or found a moment, and then one that found a moment
-pub had_still : (z : Sizes) (v w : PassState) → (w ≡ v) ⊎ HadMoment z v → HadMoment z w → HadMoment z v
-had_still z v w a m = ⊎_elim (λ (e : w ≡ v). subst (HadMoment z) e m) (λ (h : HadMoment z v). h) a
+-- the step that pinned a room as the first one
+
+abbrev pins_first : (z : Sizes) (call r n : ℕ) (v w : PassState) → PinsRoomWord z call r v n w → PinsFirst z call r v w
+pins_first z call r n v w t = record { number = n; to = w; told = t; ended = met_none call w }
+
+abbrev first_until : (z : Sizes) (call r : ℕ) (v w x : PassState) → MetMore call w x → PinsFirst z call r v w → PinsFirst z call r v x
+first_until z call r v w x a f = record { number = f.number; to = f.to; told = f.told; ended = met_both call f.to w x f.ended a }
 
 module _ (z : Sizes) (call r : ℕ) (v w : PassState) (n : PinsNow z call r v w) where
   pub has_pin : HasRoomPin z r w
@@ -65,26 +73,26 @@ module _ (z : Sizes) (call r : ℕ) (v w : PassState) (n : PinsNow z call r v w)
       made_is : room_pin x ≡ made z call r n.number v w n.told
       made_is = ap (λ (a : RoomHolds). pin_or a.pin) (only.rooms ∙ pin_rooms z call r n.number v w n.told)
 
+  abbrev pub pinned_first : (x : PassState) → OnlyMeets call w x → PinsFirst z call r v x
+  pinned_first x only = first_until z call r v w x only.stands.met (pins_first z call r n.number v w n.told)
+
   -- or that it is not, and the pin is undone
-  pub off_then : (x u : PassState) (P : Span → Type 0) → OnlyMeets call w x → (P (span_of (room_pin w)) → ⊥) → Unpins z call r x u → FoundOff z call r P v u
-  off_then x u P only other e = record {
-    step = step_until z call (on_rooms (pin_room r)) v x u e.stands.met (step_until z call (on_rooms (pin_room r)) v w x only.stands.met (step_alone z call (on_rooms (pin_room r)) v n.number w n.told));
-    off = inr other;
-  }
+  pub off_then : (x u : PassState) (P : Span → Type 0) → OnlyMeets call w x → (P (span_of (room_pin w)) → ⊥) → Unpins z call r x u → MissesFirst z call r P v u
+  off_then x u P only other e = record { step = first_until z call r v x u e.stands.met (pinned_first x only); off = inr other }
 
   pub only_then : (x u : PassState) → OnlyMeets call w x → Unpins z call r x u → OnlyMeets call v u
   only_then x u only e = round z call r v w x u n.number n.told only e
 
 pub found_shut : (z : Sizes) (call r n : ℕ) (v w u : PassState) → PinsRoomWord z call r v n w → state_of n ≢ OPEN → Unpins z call r w u → FoundShut z call r v u
 found_shut z call r n v w u t shut b = record {
-  step = step_until z call (on_rooms (pin_room r)) v w u b.stands.met (step_alone z call (on_rooms (pin_room r)) v n w t);
+  step = first_until z call r v w u b.stands.met (pins_first z call r n v w t);
   shut = shut;
   only = round z call r v w w u n t (only_none call w) b;
   begun = had_moment z call r n v w t;
   still = tried_alone z call r n v w w u t (IsShut z r) (only_none call w) b (λ e. shut (ap state_of (sym (pin_found z call r (pin_room r) refl v n w t t.may.inside.0)) ∙ e));
 }
 
-pub off_shut : (z : Sizes) (call r : ℕ) (P : Span → Type 0) (v w : PassState) → FoundShut z call r v w → FoundOff z call r P v w
+pub off_shut : (z : Sizes) (call r : ℕ) (P : Span → Type 0) (v w : PassState) → FoundShut z call r v w → MissesFirst z call r P v w
 off_shut z call r P v w f = record { step = f.step; off = inl f.shut }
 
 -- to a pass that is alone it is off
@@ -96,6 +104,17 @@ shut_alone z call r P v w f = runs_as (LoneTry z (IsShut z r) v.rooms) (LoneTry 
 pub off_alone : (z : Sizes) (call r : ℕ) (v w x u : PassState) (n : PinsNow z call r v w) (P : Span → Type 0) → OnlyMeets call w x → (P (span_of (room_pin w)) → ⊥) → Unpins z call r x u → Runs (LoneTry z (IsOff z r P) v.rooms) v u
 off_alone z call r v w x u n P only other e = tried_alone z call r n.number v w x u n.told (IsOff z r P) only e
     (inr (λ p. other (subst (λ (q : PinnedRoom). P (span_of q)) (sym (ap (λ (a : RoomHolds). pin_or a.pin) (pin_rooms z call r n.number v w n.told))) p)))
+
+-- what the first step found is found in the call
+
+pub off_first : (z : Sizes) (call r : ℕ) (P : Span → Type 0) (v w : PassState) → MissesFirst z call r P v w → FoundOff z call r P v w
+off_first z call r P v w m = record { step = record { from = v; to = m.step.to; number = m.step.number; told = m.step.told; begun = met_none call v; ended = m.step.ended }; off = m.off }
+
+pub misses_until : (z : Sizes) (call r : ℕ) (P : Span → Type 0) (v w x : PassState) → MetMore call w x → MissesFirst z call r P v w → MissesFirst z call r P v x
+misses_until z call r P v w x a m = record { step = first_until z call r v w x a m.step; off = m.off }
+
+pub missed_first : (z : Sizes) (call r : ℕ) (P : Span → Type 0) (p q : Pass) → MissesFirst z call r P (state p) (state q) → TriesFirst z call r P p q
+missed_first z call r P p q m = record { step = m.step; once = λ opened has. ⊎_elim (λ (n : state_of m.step.number ≢ OPEN). absurd (n opened)) (λ (n : P (span_of (room_pin m.step.to)) → ⊥). absurd (n has)) m.off }
 
 -- a call that began earlier
 

@@ -9,7 +9,7 @@ use Rattle.chunk_core.specs.Rooms.{at_room_pin}
 use Rattle.chunk_core.specs.Spans.{Span}
 use Rattle.oak_core.specs.declared.states.PassState.{PassState}
 use Rattle.oak_core.specs.AloneWords.{Moment, Runs}
-use Rattle.oak_core.specs.CallSteps.{StepOfCall, Stands}
+use Rattle.oak_core.specs.CallSteps.{MetMore, StepOfCall, Stands}
 use Rattle.oak_core.specs.Memory.{in_rooms, index, memory}
 use Rattle.oak_core.specs.QuietSteps.{Quiet}
 use Rattle.oak_core.specs.RoomCalls.{PinsRoomWord}
@@ -39,9 +39,16 @@ pub record PinsNow (z : Sizes) (call r : ℕ) (v w : PassState) : Type 0 where
   pub told : PinsRoomWord z call r v number w
   pub opened : state_of number ≡ OPEN
 
--- a step that pinned the room found it not open, and another undid the pin
+-- the first step between the two pinned the room
+pub record PinsFirst (z : Sizes) (call r : ℕ) (v w : PassState) : Type 0 where
+  pub number : ℕ
+  pub to : PassState
+  pub told : PinsRoomWord z call r v number to
+  pub ended : MetMore call to w
+
+-- it found the room not open, and another undid the pin
 pub record FoundShut (z : Sizes) (call r : ℕ) (v w : PassState) : Type 0 where
-  pub step : StepOfCall z call (on_rooms (pin_room r)) v w
+  pub step : PinsFirst z call r v w
   pub shut : state_of step.number ≢ OPEN
   pub only : OnlyMeets call v w
   pub begun : HadMoment z v
@@ -69,7 +76,12 @@ pub record FoundOff (z : Sizes) (call r : ℕ) (P : Span → Type 0) (v w : Pass
   pub step : StepOfCall z call (on_rooms (pin_room r)) v w
   pub off : (state_of step.number ≢ OPEN) ⊎ (P (span_of (room_pin step.to)) → ⊥)
 
--- so was each room
+-- so it was found by the first step
+pub record MissesFirst (z : Sizes) (call r : ℕ) (P : Span → Type 0) (v w : PassState) : Type 0 where
+  pub step : PinsFirst z call r v w
+  pub off : (state_of step.number ≢ OPEN) ⊎ (P (span_of (room_pin step.to)) → ⊥)
+
+-- each room was found so in the call
 abbrev pub FoundMoved : Sizes → ℕ → (Span → Type 0) → PassState → PassState → Type 0
 FoundMoved z call P v w = (r : ℕ) → r < z.chunks → FoundOff z call r P v w
 

@@ -3,6 +3,7 @@ ghost use Rattle.std.specs.Prelude.{◌≡◌, ◌<◌, MatchOption, slice_index
 ghost use Rattle.chunk_core.specs.declared.layout.TheConstants.{BOUND_WORDS};
 ghost use Rattle.oak_core.specs.Memory.{in_rooms, index};
 ghost use Rattle.oak_core.specs.Passes.{IsPassOf, Stays, state, key, call_of};
+ghost use Rattle.oak_core.specs.Tries.{PinsRooms};
 ghost use Rattle.chunk_ops.specs.PinRecords.{HasRoomPin, OnlyMeets, room_pin};
 ghost use Rattle.chunk_ops.specs.PinnedBounds.{IsBelow, bound_spot, bound_words, bound_bytes, bound_length, low_length, high_length, low_bound, high_bound};
 ghost use Rattle.chunk_ops.specs.Stored.{IsStored};
@@ -43,6 +44,7 @@ pub(crate) fn bound_word(
     requires pinned { HasRoomPin (key table.now) pin.now.room (state pass.old) }
     requires word { j < BOUND_WORDS }
     ensures own { Stays pass.old pass.new }
+    ensures tries { PinsRooms (key table.now) 0 pass.old pass.new }
     ensures word { result ≡ slice_index (bound_words bound (room_pin (state pass.old))) j }
     ensures only { OnlyMeets (call_of pass.old) (state pass.old) (state pass.new) }
 {
@@ -68,6 +70,7 @@ pub fn low_len(table: &OakTable, pass: &mut Pass, pin: &RoomPin) -> usize
     requires own { IsPassOf table.now pass.old }
     requires pinned { HasRoomPin (key table.now) pin.now.room (state pass.old) }
     ensures own { Stays pass.old pass.new }
+    ensures tries { PinsRooms (key table.now) 0 pass.old pass.new }
     ensures length { result ≡ low_length (room_pin (state pass.old)) }
     ensures only { OnlyMeets (call_of pass.old) (state pass.old) (state pass.new) }
 {
@@ -92,6 +95,7 @@ pub fn high_len(table: &OakTable, pass: &mut Pass, pin: &RoomPin) -> Option<usiz
     requires own { IsPassOf table.now pass.old }
     requires pinned { HasRoomPin (key table.now) pin.now.room (state pass.old) }
     ensures own { Stays pass.old pass.new }
+    ensures tries { PinsRooms (key table.now) 0 pass.old pass.new }
     ensures length { result ≡ high_length (room_pin (state pass.old)) }
     ensures only { OnlyMeets (call_of pass.old) (state pass.old) (state pass.new) }
 {

@@ -1,13 +1,15 @@
 //! Rooms are found by their range, and pinned.
-ghost use Rattle.std.specs.Prelude.{◌≡◌, ◌≤◌, ◌<◌, ◌⊎◌, None, IfOk, IfErr, IfSome, IfNone, length};
+ghost use Rattle.std.specs.Prelude.{◌≡◌, ℕ, ◌≤◌, ◌<◌, None, IfOk, IfErr, IfSome, IfNone, length};
 ghost use Rattle.oak_model.specs.declared.limits.TheConstants.{GREATEST_KEY};
 ghost use Rattle.oak_model.specs.Key.{IsKey};
 ghost use Rattle.oak_core.specs.AloneWords.{Runs};
 ghost use Rattle.oak_core.specs.Passes.{IsPassOf, Stays, state, key as sizes, call_of};
+ghost use Rattle.oak_core.specs.Tries.{PinsRooms};
 ghost use Rattle.chunk_ops.specs.AskedRanges.{CoversKey, IsAskable, IsAsked, IsLastFor, IsKeyOrNone, bytes_in_option};
+ghost use Rattle.chunk_ops.specs.Hints.{TriesFirst, first_room};
 ghost use Rattle.chunk_ops.specs.LoneRooms.{IsOff, LoneTry, NeverAlone};
 ghost use Rattle.chunk_ops.specs.PinRecords.{OnlyMeets};
-ghost use Rattle.chunk_ops.specs.RoomPins.{PinsOpen, FoundOff, FoundMoved, HadMoment};
+ghost use Rattle.chunk_ops.specs.RoomPins.{PinsFirst, PinsOpen, MissesFirst, FoundMoved, HadMoment};
 
 use crate::pins::{RoomPin, pin_open, unpin};
 use crate::ranges::{Asked, is_asked};
@@ -33,8 +35,10 @@ fn try_room(
     requires free { (state pass.old).rooms.pin ≡ None }
     requires few { length key.now ≤ GREATEST_KEY }
     ensures own { Stays pass.old pass.new }
+    ensures tries { PinsRooms (sizes table.now) 1 pass.old pass.new }
     ensures pinned { IfSome result (λ p. PinsOpen (sizes table.now) (call_of pass.old) p.room (IsAsked asked key.now) (state pass.old) (state pass.new)) }
-    ensures off { IfNone result (FoundOff (sizes table.now) (call_of pass.old) room (IsAsked asked key.now) (state pass.old) (state pass.new)) }
+    ensures first { IfSome result (λ _. PinsFirst (sizes table.now) (call_of pass.old) room (state pass.old) (state pass.new)) }
+    ensures off { IfNone result (MissesFirst (sizes table.now) (call_of pass.old) room (IsAsked asked key.now) (state pass.old) (state pass.new)) }
     ensures only { IfNone result (OnlyMeets (call_of pass.old) (state pass.old) (state pass.new)) }
     ensures begun { IfNone result (HadMoment (sizes table.now) (state pass.old)) }
     ensures alone { IfNone result (Runs (LoneTry (sizes table.now) (IsOff (sizes table.now) room (IsAsked asked key.now)) (state pass.old).rooms) (state pass.old) (state pass.new)) }
@@ -49,32 +53,19 @@ fn try_room(
     None
 }
 
-/// Tries the room of the hint, where it names one of the table's.
-fn try_hint(
-    table: &OakTable,
-    pass: &mut Pass,
-    hint: Hint,
-    asked: Asked,
-    key: &[u8],
-) -> Option<RoomPin>
-    requires own { IsPassOf table.now pass.old }
-    requires free { (state pass.old).rooms.pin ≡ None }
-    requires few { length key.now ≤ GREATEST_KEY }
-    ensures own { Stays pass.old pass.new }
-    ensures pinned { IfSome result (λ p. PinsOpen (sizes table.now) (call_of pass.old) p.room (IsAsked asked key.now) (state pass.old) (state pass.new)) }
-    ensures only { IfNone result (OnlyMeets (call_of pass.old) (state pass.old) (state pass.new)) }
-    ensures begun { IfNone result ((state pass.new ≡ state pass.old) ⊎ HadMoment (sizes table.now) (state pass.old)) }
+/// The room that is tried first: that of the hint, where it names one of the table's, and else room 0.
+fn first_room(table: &OakTable, hint: Hint) -> u32
+    ensures first { result ≡ first_room (sizes table.now) hint }
+    ensures inside { result < (sizes table.now).chunks }
 {
-    let Some(room) = hint.room else {
-        return None;
-    };
-    if room >= table.rooms() {
-        return None;
+    let rooms = table.rooms();
+    match hint.room {
+        Some(room) if room < rooms => room,
+        _ => 0,
     }
-    try_room(table, pass, room, asked, key)
 }
 
-/// Pins a room whose range is what is asked. The hinted one is tried first, then each.
+/// Pins a room whose range is what is asked. The hinted one, or room 0, is tried first, then each.
 fn pin_asked(
     table: &OakTable,
     pass: &mut Pass,
@@ -87,12 +78,15 @@ fn pin_asked(
     requires askable { IsAskable asked key.now }
     requires few { length key.now ≤ GREATEST_KEY }
     ensures own { Stays pass.old pass.new }
+    ensures tries { (n : ℕ) × PinsRooms (sizes table.now) n pass.old pass.new }
+    ensures first { TriesFirst (sizes table.now) (call_of pass.old) (first_room (sizes table.now) hint) (IsAsked asked key.now) pass.old pass.new }
     ensures pinned { IfOk result (λ p. PinsOpen (sizes table.now) (call_of pass.old) p.room (IsAsked asked key.now) (state pass.old) (state pass.new)) }
     ensures moved { IfErr result (λ _. FoundMoved (sizes table.now) (call_of pass.old) (IsAsked asked key.now) (state pass.old) (state pass.new)) }
     ensures only { IfErr result (λ _. OnlyMeets (call_of pass.old) (state pass.old) (state pass.new)) }
     ensures alone { IfErr result (λ _. Runs (NeverAlone (state pass.old)) (state pass.old) (state pass.new)) }
 {
-    if let Some(pin) = try_hint(table, pass, hint, asked, key) {
+    let first = first_room(table, hint);
+    if let Some(pin) = try_room(table, pass, first, asked, key) {
         return Ok(pin);
     }
     for room in 0..table.rooms() {
@@ -105,13 +99,17 @@ fn pin_asked(
 
 /// Pins the room whose range has the key. `Moved` comes only where each room was found in this call not
 /// open, or open with a range without the key, so it never comes to a pass that is alone and has no room
-/// frozen or held. The hinted room is tried first; the hint promises nothing. The pass has no pin of a
-/// room. The call makes loads, pins and their undoing alone.
+/// frozen or held. The hint promises nothing: the room that it names is tried first, and room 0 where it
+/// names none that the table has, since its range is the lowest. The pass has no pin of a room. The call
+/// makes loads, pins and their undoing alone. The pass's tries are raised by how many rooms it pinned,
+/// duds among them: by 1 where the room tried first was found open with the key in its range.
 pub fn pin_for(table: &OakTable, pass: &mut Pass, key: &[u8], hint: Hint) -> Result<RoomPin, Moved>
     requires own { IsPassOf table.now pass.old }
     requires key { IsKey key.now }
     requires free { (state pass.old).rooms.pin ≡ None }
     ensures own { Stays pass.old pass.new }
+    ensures tries { (n : ℕ) × PinsRooms (sizes table.now) n pass.old pass.new }
+    ensures first { TriesFirst (sizes table.now) (call_of pass.old) (first_room (sizes table.now) hint) (CoversKey key.now) pass.old pass.new }
     ensures pinned { IfOk result (λ p. PinsOpen (sizes table.now) (call_of pass.old) p.room (CoversKey key.now) (state pass.old) (state pass.new)) }
     ensures moved { IfErr result (λ _. FoundMoved (sizes table.now) (call_of pass.old) (CoversKey key.now) (state pass.old) (state pass.new)) }
     ensures only { IfErr result (λ _. OnlyMeets (call_of pass.old) (state pass.old) (state pass.new)) }
@@ -122,9 +120,9 @@ pub fn pin_for(table: &OakTable, pass: &mut Pass, key: &[u8], hint: Hint) -> Res
 
 /// Pins the room whose range has the keys next below the bound: its low bound is below it, and its high
 /// bound is none or not below it. Without a bound it is the room that has the last keys. `Moved` comes
-/// only where each room was found in this call not open, or open with another range than that. The
-/// hinted room is tried first. The pass has no pin of a room. The call makes loads, pins and their
-/// undoing alone.
+/// only where each room was found in this call not open, or open with another range than that. The pass
+/// has no pin of a room. The call makes loads, pins and their undoing alone. The hint is taken and the
+/// pass's tries are raised as by [`pin_for`].
 pub fn pin_last(
     table: &OakTable,
     pass: &mut Pass,
@@ -135,6 +133,8 @@ pub fn pin_last(
     requires bound { IsKeyOrNone (bytes_in_option bound) }
     requires free { (state pass.old).rooms.pin ≡ None }
     ensures own { Stays pass.old pass.new }
+    ensures tries { (n : ℕ) × PinsRooms (sizes table.now) n pass.old pass.new }
+    ensures first { TriesFirst (sizes table.now) (call_of pass.old) (first_room (sizes table.now) hint) (IsLastFor (bytes_in_option bound.entry)) pass.old pass.new }
     ensures pinned { IfOk result (λ p. PinsOpen (sizes table.now) (call_of pass.old) p.room (IsLastFor (bytes_in_option bound.entry)) (state pass.old) (state pass.new)) }
     ensures moved { IfErr result (λ _. FoundMoved (sizes table.now) (call_of pass.old) (IsLastFor (bytes_in_option bound.entry)) (state pass.old) (state pass.new)) }
     ensures only { IfErr result (λ _. OnlyMeets (call_of pass.old) (state pass.old) (state pass.new)) }

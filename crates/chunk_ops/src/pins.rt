@@ -1,6 +1,7 @@
 //! Pins of rooms: made where the room is open, and undone.
 ghost use Rattle.std.specs.Prelude.{◌≡◌, ◌<◌, IfSome, IfNone, None};
 ghost use Rattle.oak_core.specs.Passes.{IsPassOf, Stays, state, key, call_of};
+ghost use Rattle.oak_core.specs.Tries.{PinsRooms};
 ghost use Rattle.chunk_ops.specs.PinRecords.{PinIsOn, HasRoomPin};
 ghost use Rattle.chunk_ops.specs.RoomPins.{PinsNow, FoundShut, Unpins};
 
@@ -17,6 +18,7 @@ fn undo(table: &OakTable, pass: &mut Pass, room: u32)
     requires own { IsPassOf table.now pass.old }
     requires pinned { PinIsOn (key table.now) room (state pass.old).rooms }
     ensures own { Stays pass.old pass.new }
+    ensures tries { PinsRooms (key table.now) 0 pass.old pass.new }
     ensures undone { Unpins (key table.now) (call_of pass.old) room (state pass.old) (state pass.new) }
 {
     let word = table.room_at(room);
@@ -29,6 +31,7 @@ pub(crate) fn pin_open(table: &OakTable, pass: &mut Pass, room: u32) -> Option<R
     requires inside { room < (key table.now).chunks }
     requires free { (state pass.old).rooms.pin ≡ None }
     ensures own { Stays pass.old pass.new }
+    ensures tries { PinsRooms (key table.now) 1 pass.old pass.new }
     ensures opened { IfSome result (λ p. (p.room ≡ room) × PinsNow (key table.now) (call_of pass.old) room (state pass.old) (state pass.new)) }
     ensures shut { IfNone result (FoundShut (key table.now) (call_of pass.old) room (state pass.old) (state pass.new)) }
 {
@@ -48,6 +51,7 @@ pub fn unpin(table: &OakTable, pass: &mut Pass, pin: RoomPin)
     requires latch { (state pass.old).rooms.latch ≡ None }
     requires claim { (state pass.old).rooms.claim ≡ None }
     ensures own { Stays pass.old pass.new }
+    ensures tries { PinsRooms (key table.now) 0 pass.old pass.new }
     ensures unpinned { Unpins (key table.now) (call_of pass.old) pin.room (state pass.old) (state pass.new) }
 {
     let RoomPin { room } = pin;

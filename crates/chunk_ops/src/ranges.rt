@@ -7,6 +7,7 @@ ghost use Rattle.oak_model.specs.Key.{key_cmp};
 ghost use Rattle.oak_model.specs.KeyNumber.{key_number};
 ghost use Rattle.chunk_core.specs.PinnedRooms.{span_of};
 ghost use Rattle.oak_core.specs.Passes.{IsPassOf, Stays, state, key as sizes, call_of};
+ghost use Rattle.oak_core.specs.Tries.{PinsRooms};
 ghost use Rattle.chunk_ops.specs.AskedRanges.{CoversKey, EndsUnder, IsAsked, high_cmp};
 ghost use Rattle.chunk_ops.specs.PinnedBounds.{bound_bytes, bound_length};
 ghost use Rattle.chunk_ops.specs.PinRecords.{HasRoomPin, OnlyMeets, room_pin};
@@ -44,6 +45,7 @@ fn compare_word(
     requires ours { WORD * i < length key.now }
     requires theirs { WORD * i < len }
     ensures own { Stays pass.old pass.new }
+    ensures tries { PinsRooms (sizes table.now) 0 pass.old pass.new }
     ensures order { result ≡ nat_cmp (word_at key.now i) (word_at (bound_bytes bound (room_pin (state pass.old))) i) }
     ensures only { OnlyMeets (call_of pass.old) (state pass.old) (state pass.new) }
 {
@@ -65,6 +67,7 @@ fn compare_bound(
     requires pinned { HasRoomPin (sizes table.now) pin.now.room (state pass.old) }
     requires long { len ≡ bound_length bound (room_pin (state pass.old)) }
     ensures own { Stays pass.old pass.new }
+    ensures tries { PinsRooms (sizes table.now) 0 pass.old pass.new }
     ensures order { result ≡ key_cmp key.now (bound_bytes bound (room_pin (state pass.old))) }
     ensures only { OnlyMeets (call_of pass.old) (state pass.old) (state pass.new) }
 {
@@ -83,6 +86,7 @@ fn order_low(table: &OakTable, pass: &mut Pass, pin: &RoomPin, key: &[u8]) -> Or
     requires pinned { HasRoomPin (sizes table.now) pin.now.room (state pass.old) }
     requires few { length key.now ≤ GREATEST_KEY }
     ensures own { Stays pass.old pass.new }
+    ensures tries { PinsRooms (sizes table.now) 0 pass.old pass.new }
     ensures order { result ≡ nat_cmp (key_number key.now) (span_of (room_pin (state pass.old))).low }
     ensures only { OnlyMeets (call_of pass.old) (state pass.old) (state pass.new) }
 {
@@ -96,6 +100,7 @@ fn order_high(table: &OakTable, pass: &mut Pass, pin: &RoomPin, key: &[u8]) -> O
     requires pinned { HasRoomPin (sizes table.now) pin.now.room (state pass.old) }
     requires few { length key.now ≤ GREATEST_KEY }
     ensures own { Stays pass.old pass.new }
+    ensures tries { PinsRooms (sizes table.now) 0 pass.old pass.new }
     ensures order { result ≡ high_cmp (key_number key.now) (span_of (room_pin (state pass.old))).high }
     ensures only { OnlyMeets (call_of pass.old) (state pass.old) (state pass.new) }
 {
@@ -111,6 +116,7 @@ fn covers(table: &OakTable, pass: &mut Pass, pin: &RoomPin, key: &[u8]) -> bool
     requires pinned { HasRoomPin (sizes table.now) pin.now.room (state pass.old) }
     requires few { length key.now ≤ GREATEST_KEY }
     ensures own { Stays pass.old pass.new }
+    ensures tries { PinsRooms (sizes table.now) 0 pass.old pass.new }
     ensures covers { MatchBool result (CoversKey key.now (span_of (room_pin (state pass.old)))) (CoversKey key.now (span_of (room_pin (state pass.old))) → ⊥) }
     ensures only { OnlyMeets (call_of pass.old) (state pass.old) (state pass.new) }
 {
@@ -128,6 +134,7 @@ fn ends_under(table: &OakTable, pass: &mut Pass, pin: &RoomPin, bound: &[u8]) ->
     requires pinned { HasRoomPin (sizes table.now) pin.now.room (state pass.old) }
     requires few { length bound.now ≤ GREATEST_KEY }
     ensures own { Stays pass.old pass.new }
+    ensures tries { PinsRooms (sizes table.now) 0 pass.old pass.new }
     ensures ends { MatchBool result (EndsUnder bound.now (span_of (room_pin (state pass.old)))) (EndsUnder bound.now (span_of (room_pin (state pass.old))) → ⊥) }
     ensures only { OnlyMeets (call_of pass.old) (state pass.old) (state pass.new) }
 {
@@ -151,6 +158,7 @@ pub(crate) fn is_asked(
     requires pinned { HasRoomPin (sizes table.now) pin.now.room (state pass.old) }
     requires few { length key.now ≤ GREATEST_KEY }
     ensures own { Stays pass.old pass.new }
+    ensures tries { PinsRooms (sizes table.now) 0 pass.old pass.new }
     ensures asked { MatchBool result (IsAsked asked key.now (span_of (room_pin (state pass.old)))) (IsAsked asked key.now (span_of (room_pin (state pass.old))) → ⊥) }
     ensures only { OnlyMeets (call_of pass.old) (state pass.old) (state pass.new) }
 {

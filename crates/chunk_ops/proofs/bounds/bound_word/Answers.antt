@@ -5,6 +5,7 @@ use Rattle.oak_core.specs.Passes.{state, key, call_of}
 use Rattle.oak_core.proofs.Words.{index_below}
 use Rattle.chunk_ops.specs.PinnedBounds.{bound_spot}
 use Rattle.chunk_ops.proofs.WordLoads.{bound_inside, bound_loaded, load_at, only_loaded, bound_plain}
+use Rattle.chunk_ops.proofs.RoomTries.{pins_load}
 use Rattle.chunk_ops.proofs.bounds.bound_word.Goals as goal
 
 pub load-requires-clause-inside : goal.load-requires-clause-inside
@@ -18,3 +19,6 @@ returns-clause-word c = let z : Sizes = key c.args.table.now in let r = c.args.p
 pub returns-clause-only : goal.returns-clause-only
 returns-clause-only c = let z : Sizes = key c.args.table.now in let r = c.args.pin.now.room in
     only_loaded z (call_of c.args.pass.now) c.bound_at-word.result c.load.result (state c.args.pass.now) (state c.load.new.pass) (in_rooms (bound_spot c.args.bound r c.args.j)) (bound_inside z c.args.bound r c.args.j c.requires.pinned.inside c.requires.word) (bound_plain c.args.bound r c.args.j) c.bound_at-word.ensures c.load.ensures.loaded
+
+pub returns-clause-tries : goal.returns-clause-tries
+returns-clause-tries c = let l = c.load.ensures.loaded in pins_load (key c.args.table.now) (call_of c.args.pass.now) l.spot c.load.result c.args.pass.now c.load.new.pass l.told c.load.ensures.tries

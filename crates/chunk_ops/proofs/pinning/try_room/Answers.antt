@@ -6,9 +6,10 @@ use Rattle.oak_core.specs.Passes.{state, key, call_of}
 use Rattle.chunk_ops.specs.AskedRanges.{IsAsked}
 use Rattle.chunk_ops.specs.PinRecords.{HasRoomPin, RoomPinned}
 use Rattle.chunk_ops.specs.RoomPins.{PinsOpen, Unpins}
-use Rattle.chunk_ops.proofs.FoundRooms.{has_pin, now_begun, no_latch_then, pins_asked, off_then, only_then, off_shut, shut_alone, off_alone}
+use Rattle.chunk_ops.proofs.FoundRooms.{has_pin, now_begun, no_latch_then, pins_asked, pinned_first, off_then, only_then, off_shut, shut_alone, off_alone}
 use Rattle.chunk_ops.proofs.MeetingCalls.{only_in}
 use Rattle.chunk_ops.proofs.PinSteps.{unpins_in}
+use Rattle.chunk_ops.proofs.RoomTries.{pins_both}
 use Rattle.chunk_ops.proofs.pinning.try_room.Goals as goal
 
 pub returns-in_default-clause-off : goal.returns-in_default-clause-off
@@ -58,3 +59,14 @@ pub returns-clause-alone : goal.returns-clause-alone
 returns-clause-alone c = let z : Sizes = key c.args.table.now in let call = call_of c.args.pass.now in let o = c.in-Some.ensures.opened in let v = state c.args.pass.now in let w = state c.pin_open.new.pass in let x = state c.is_asked.new.pass in let u = state c.unpin.new.pass in
     off_alone z call c.args.room v w x u o.1 (IsAsked c.args.asked c.args.key.now) (only_in call (call_of c.pin_open.new.pass) w x c.in-Some.ensures.own.call c.if-is_asked.ensures.only) c.if-is_asked.ensures.asked
     (ends z call (call_of c.is_asked.new.pass) c.args.room c.in-Some.pin.room x u (c.if-is_asked.ensures.own.call ∙ c.in-Some.ensures.own.call) o.0 c.unpin.ensures.unpinned)
+
+pub returns-then-is_asked-clause-first : goal.returns-then-is_asked-clause-first
+returns-then-is_asked-clause-first c = let z : Sizes = key c.args.table.now in let call = call_of c.args.pass.now in let v = state c.args.pass.now in let w = state c.pin_open.new.pass in let x = state c.is_asked.new.pass in
+    pinned_first z call c.args.room v w c.in-Some.ensures.opened.1 x (only_in call (call_of c.pin_open.new.pass) w x c.in-Some.ensures.own.call c.if-is_asked.ensures.only)
+
+pub returns-then-is_asked-clause-tries : goal.returns-then-is_asked-clause-tries
+returns-then-is_asked-clause-tries c = pins_both (key c.args.table.now) 1 0 c.args.pass.now c.pin_open.new.pass c.is_asked.new.pass c.in-Some.ensures.tries c.if-is_asked.ensures.tries
+
+pub returns-clause-tries : goal.returns-clause-tries
+returns-clause-tries c = let z : Sizes = key c.args.table.now in let p = c.args.pass.now in let q = c.is_asked.new.pass in
+    pins_both z 1 0 p q c.unpin.new.pass (pins_both z 1 0 p c.pin_open.new.pass q c.in-Some.ensures.tries c.if-is_asked.ensures.tries) c.unpin.ensures.tries

@@ -2,12 +2,13 @@ use Rattle.std.proofs.Common.{ap, sym, subst, ◌∙◌, Bool, MatchBool}
 use Rattle.chunk_core.specs.declared.holds.PinnedRoom.{PinnedRoom}
 use Rattle.chunk_core.specs.PinnedRooms.{span_of}
 use Rattle.oak_model.specs.KeyNumber.{key_number}
-use Rattle.oak_core.specs.Passes.{state, call_of}
+use Rattle.oak_core.specs.Passes.{state, key, call_of}
 use Rattle.chunk_ops.specs.AskedRanges.{CoversKey, high_cmp}
 use Rattle.chunk_ops.specs.PinRecords.{room_pin}
 use Rattle.chunk_ops.proofs.BoundOrder.{before_low, in_range}
 use Rattle.chunk_ops.proofs.BoundWords.{same_pin}
 use Rattle.chunk_ops.proofs.MeetingCalls.{only_both, only_in}
+use Rattle.chunk_ops.proofs.RoomTries.{pins_both}
 use Rattle.chunk_ops.proofs.ranges.covers.Goals as goal
 
 pub returns-then-is_lt-clause-covers : goal.returns-then-is_lt-clause-covers
@@ -22,3 +23,6 @@ returns-clause-covers c = let v = state c.args.pass.now in let w = state c.order
 pub returns-clause-only : goal.returns-clause-only
 returns-clause-only c = let call = call_of c.args.pass.now in let v = state c.args.pass.now in let w = state c.order_low-low.new.pass in let x = state c.order_high-high.new.pass in
     only_both call v w x c.order_low-low.ensures.only (only_in call (call_of c.order_low-low.new.pass) w x c.order_low-low.ensures.own.call c.order_high-high.ensures.only)
+
+pub returns-clause-tries : goal.returns-clause-tries
+returns-clause-tries c = pins_both (key c.args.table.now) 0 0 c.args.pass.now c.order_low-low.new.pass c.order_high-high.new.pass c.order_low-low.ensures.tries c.order_high-high.ensures.tries
