@@ -88,3 +88,30 @@ fn pins_of_one_room(rt: HostRuntime) -> Result<(), Fail> {
     table.close(pass);
     Ok(())
 }
+
+/// Where the room that is tried first is free, or none that the table has, room 0 is pinned.
+fn tries_rise(rt: &impl Abort, table: &OakTable, pass: &mut Pass)
+    requires own { IsPassOf table.now pass.old }
+    requires idle { HoldsNothing (state pass.old) }
+    ensures own { Stays pass.old pass.new }
+    ensures idle { IsIdleAgain (state pass.old) (state pass.new) }
+{
+    assert_eq!(rt; pass.tries(), 0);
+    keys_room(rt, table, pass, &[7], Some(0));
+    assert_eq!(rt; pass.tries(), 1);
+    keys_room(rt, table, pass, &[7], Some(3));
+    assert_eq!(rt; pass.tries(), 2);
+    keys_room(rt, table, pass, &[7], Some(2));
+    assert_eq!(rt; pass.tries(), 4);
+    last_keys(rt, table, pass);
+    assert_eq!(rt; pass.tries(), 5);
+}
+
+#[test]
+fn tries_in_a_table_of_three_rooms(rt: HostRuntime) -> Result<(), Fail> {
+    let shape = Shape::make(1, 3, 4, 1, [1, 1, 1, 1])?;
+    let (table, mut pass) = OakTable::create(rt.alloc(), &shape)?;
+    tries_rise(&rt, &table, &mut pass);
+    table.close(pass);
+    Ok(())
+}

@@ -6,6 +6,7 @@ ghost use Rattle.oak_core.specs.Scratch.{StaysButScratch};
 ghost use Rattle.oak_core.specs.Splitting.{LooksAtGiven};
 
 use chunk_core::OPEN;
+use chunk_index::{IndexReader, IndexWriter};
 use oak_core::steps::{pin_room, unpin_room};
 use oak_core::{OakTable, Pass, SortSlot, SplitFault, Writing, load};
 use oak_model::{BadShape, Shape, ShapeField, Usage};
@@ -210,6 +211,30 @@ fn a_pinned_room(rt: HostRuntime) -> Result<(), Fail> {
     let shape = Shape::make(1, 1, 4, 1, [1, 1, 1, 1])?;
     let (table, mut pass) = OakTable::create(rt.alloc(), &shape)?;
     pin_and_unpin(&rt, &table, &mut pass);
+    table.close(pass);
+    Ok(())
+}
+
+/// The pass hints nothing, and with the reader the room of the minimum `k`.
+fn hints_by(rt: &impl Abort, pass: &mut Pass, reader: IndexReader)
+    ensures { pass.new ≡ pass.old }
+{
+    assert_eq!(rt; pass.hint(b"m").room, None);
+    pass.set_reader(reader);
+    assert_eq!(rt; pass.hint(b"m").room, Some(2));
+    assert_eq!(rt; pass.hint(b"j").room, None);
+    assert_eq!(rt; pass.hint_under(Some(b"m")).room, Some(2));
+    assert_eq!(rt; pass.hint_under(Some(b"k")).room, None);
+}
+
+#[test]
+fn hints_of_a_pass(rt: HostRuntime) -> Result<(), Fail> {
+    let shape = Shape::make(1, 4, 4, 1, [1, 1, 1, 1])?;
+    let mut writer = IndexWriter::create(&rt, 4, 1)?;
+    writer.set(b"k", 2)?;
+    let (table, mut pass) = OakTable::create(rt.alloc(), &shape)?;
+    hints_by(&rt, &mut pass, writer.reader());
+    assert_eq!(rt; pass.tries(), 0);
     table.close(pass);
     Ok(())
 }
