@@ -1,5 +1,6 @@
-use Rattle.std.proofs.Common.{◌∙◌}
+use Rattle.std.proofs.Common.{refl, ◌∙◌}
 use Rattle.oak_core.specs.Passes.{state, key as sizes, call_of}
+use Rattle.oak_core.proofs.CallSteps.{stands_learns}
 use Rattle.chunk_ops.specs.AskedRanges.{CoversKey}
 use Rattle.scan_cursor.proofs.RoomReads.{room_absent, room_here, room_known, room_later, room_leaves, room_nothing, room_stays, room_then}
 use Rattle.scan_cursor.proofs.reading.read_key.Goals as goal
@@ -39,3 +40,6 @@ returns-in-None-clause-here c = room_absent (sizes c.args.table.now) (call_of c.
 pub returns-in-None-clause-still : goal.returns-in-None-clause-still
 returns-in-None-clause-still c = room_stays (sizes c.args.table.now) (call_of c.args.pass.now) c.in-Ok.pin.room (CoversKey c.args.key.now) (state c.args.pass.now) (state c.pin_for.new.pass) (state c.look_up-life.new.pass) (state c.unpin.new.pass) c.requires.idle c.in-Ok.ensures.pinned
     _ _ c.pin_for.ensures.own.call (c.look_up-life.ensures.own.call ∙ c.pin_for.ensures.own.call) c.look_up-life.ensures.under c.look_up-life.ensures.quiet c.unpin.ensures.unpinned c.look_up-life.ensures.still
+
+pub returns-in_default-clause-later : goal.returns-in_default-clause-later
+returns-in_default-clause-later c = let o = c.in_default.ensures.only in record { sizes = refl; call = refl; learns = stands_learns (call_of c.args.pass.now) (state c.args.pass.now) (state c.pin_for.new.pass) o.stands; quiet = o.quiet }
