@@ -5,10 +5,13 @@
 //! [`Failed`] only where that count rose, or stands at its last value, 2^64 - 1.
 #![tactic(auto)]
 
+mod cut_source;
+mod cuts;
 mod fault_plan;
 mod gate;
 mod memory_sink;
 mod memory_source;
+mod short_sink;
 mod std_sink;
 mod std_source;
 mod sure_source;
@@ -22,9 +25,11 @@ ghost use Rattle.std.specs.Io.KnownBytes.{ReadConsumes};
 ghost use Rattle.outside.specs.Cause.{HasCause};
 ghost use Rattle.outside.specs.Taken.{WriteTakes};
 
+pub use cut_source::CutSource;
 pub use gate::{FreeGate, Gate};
 pub use memory_sink::MemorySink;
 pub use memory_source::MemorySource;
+pub use short_sink::ShortSink;
 pub use std_sink::StdSink;
 pub use std_source::StdSource;
 pub use sure_source::SureSource;

@@ -57,6 +57,13 @@ impl MemorySink {
     {
         &self.room[..self.len]
     }
+
+    /// How many writes came so far.
+    pub(crate) fn calls(&self) -> u64
+        ensures { result ≡ self.now.calls }
+    {
+        self.plan.calls
+    }
 }
 
 impl Sink for MemorySink {

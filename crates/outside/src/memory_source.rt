@@ -42,6 +42,13 @@ impl MemorySource {
             plan: FaultPlan::make(fails),
         }
     }
+
+    /// How many reads came so far.
+    pub(crate) fn calls(&self) -> u64
+        ensures { result ≡ self.now.calls }
+    {
+        self.plan.calls
+    }
 }
 
 impl Source for MemorySource {

@@ -1,6 +1,6 @@
 use crate::{
-    Failed, FreeGate, Gate, MemorySink, MemorySource, ReadStop, Sink, Source, SureSource,
-    read_whole, write_whole,
+    CutSource, Failed, FreeGate, Gate, MemorySink, MemorySource, ReadStop, ShortSink, Sink, Source,
+    SureSource, read_whole, write_whole,
 };
 use std::test::Fail;
 
@@ -20,6 +20,87 @@ fn a_memory_source_fails_at_the_listed_reads(rt: HostRuntime) -> Result<(), Fail
     for (answer, bytes) in want {
         assert_eq!(rt; source.read(&mut piece), answer);
         assert!(rt; piece == *bytes);
+    }
+    Ok(())
+}
+
+#[test]
+fn a_cut_source_gives_its_bytes_in_pieces(rt: HostRuntime) -> Result<(), Fail> {
+    let bytes = b"abcdefgh".to_vec(rt.alloc())?;
+    let cuts = [2, 9, 0, 1].to_vec(rt.alloc())?;
+    let mut source = CutSource::make(bytes, cuts, [2].to_vec(rt.alloc())?);
+    let mut piece = [b'.'; 3];
+    let want = [
+        (Ok(2), b"ab."),
+        // the read that fails uses up its cut
+        (Err(Failed), b"ab."),
+        // a cut of 0 counts as 1
+        (Ok(1), b"cb."),
+        (Ok(1), b"db."),
+        // past the cuts all that fits is given
+        (Ok(3), b"efg"),
+        (Ok(1), b"hfg"),
+        (Ok(0), b"hfg"),
+    ];
+    for (answer, bytes) in want {
+        assert_eq!(rt; source.read(&mut piece), answer);
+        assert!(rt; piece == *bytes);
+    }
+    Ok(())
+}
+
+#[test]
+fn a_short_sink_takes_pieces(rt: HostRuntime) -> Result<(), Fail> {
+    let room = b".......".to_vec(rt.alloc())?;
+    let takes = [2, 9, 0, 1].to_vec(rt.alloc())?;
+    let mut sink = ShortSink::make(room, takes, [2].to_vec(rt.alloc())?);
+    let want = [
+        ("abc", Ok(2), "ab"),
+        ("cde", Err(Failed), "ab"),
+        ("cde", Ok(1), "abc"),
+        ("de", Ok(1), "abcd"),
+        ("", Ok(0), "abcd"),
+        ("efgh", Ok(3), "abcdefg"),
+        ("h", Err(Failed), "abcdefg"),
+    ];
+    for (piece, answer, written) in want {
+        assert_eq!(rt; sink.write(piece.as_bytes()), answer);
+        assert_eq!(rt; sink.written(), written.as_bytes());
+    }
+    Ok(())
+}
+
+#[test]
+fn a_source_in_pieces_of_one_byte_is_read_whole(rt: HostRuntime) -> Result<(), Fail> {
+    for fails in 1..8 {
+        let bytes = b"abcdef".to_vec(rt.alloc())?;
+        let ones = vec![in rt.alloc(); 1usize; 8]?;
+        let mut source = CutSource::make(bytes, ones, [fails].to_vec(rt.alloc())?);
+        // six reads give a byte each, and the seventh finds the end
+        assert_eq!(rt;
+            read_whole(rt.alloc(), &mut source, 6).err(),
+            Some(ReadStop::Failed)
+        );
+    }
+    let bytes = b"abcdef".to_vec(rt.alloc())?;
+    let ones = vec![in rt.alloc(); 1usize; 8]?;
+    let mut source = CutSource::make(bytes.clone()?, ones, [8].to_vec(rt.alloc())?);
+    assert_eq!(rt; read_whole(rt.alloc(), &mut source, 6).ok(), Some(bytes));
+    Ok(())
+}
+
+#[test]
+fn a_sink_that_takes_one_byte_is_written_up_to_its_fault(rt: HostRuntime) -> Result<(), Fail> {
+    for (fails, answer, written) in [
+        (1, Err(Failed), ""),
+        (3, Err(Failed), "ab"),
+        (6, Ok(()), "abcde"),
+    ] {
+        let room = b".....".to_vec(rt.alloc())?;
+        let ones = vec![in rt.alloc(); 1usize; 8]?;
+        let mut sink = ShortSink::make(room, ones, [fails].to_vec(rt.alloc())?);
+        assert_eq!(rt; write_whole(&mut sink, b"abcde"), answer);
+        assert_eq!(rt; sink.written(), written.as_bytes());
     }
     Ok(())
 }
