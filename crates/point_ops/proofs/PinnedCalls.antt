@@ -9,7 +9,7 @@ use Rattle.oak_core.specs.CallSteps.{Learns, Stands}
 use Rattle.oak_core.specs.PassState.{HoldsNothing}
 use Rattle.oak_core.specs.RebalanceSteps.{KeepsRooms}
 use Rattle.oak_core.proofs.CallSteps.{learns_both, stands_learns}
-use Rattle.chunk_ops.specs.PinRecords.{UnderPin, room_pin, with_room_pin}
+use Rattle.chunk_ops.specs.PinRecords.{OnlyMeets, UnderPin, room_pin, with_room_pin}
 use Rattle.chunk_ops.specs.RoomPins.{PinsOpen, Unpins}
 use Rattle.point_ops.specs.Halting.{Halts}
 use Rattle.point_ops.specs.Parts.{Answers, KeepsUnder, WroteFits}
@@ -53,3 +53,7 @@ module _ (z : Sizes) (call r : ℕ) (P : Span → Type 0) (v u w x : PassState) 
 
   pub all_halts : (key : List ℕ) (ask : CellCall) (why : Halt) → Halts why z c2 key ask u w → Halts why z call key ask v x
   all_halts key ask why h = halts_in z call key v u w x here (stands_learns call w x away) p.quiet n0.quiet why ask (subst (λ (t : ℕ). Halts why z t key ask u w) e2 h)
+
+-- no room was found, and the pass only met more
+pub met_refuses : (call : ℕ) (v w : PassState) → OnlyMeets call v w → Refuses call v w
+met_refuses call v w o = record { learns = stands_learns call v w o.stands; holds = record { blocks = o.blocks; headers = o.headers; rooms = o.rooms; numbers = o.stands.numbers; fulls = o.stands.fulls; swept = o.stands.swept; rebalances = o.stands.rebalances } }

@@ -1,12 +1,12 @@
 use Rattle.point_ops.proofs.LoneLeftPins.{pinned_leaves}
 use Rattle.point_ops.proofs.LoneCalls.{pinned_never, room_found, room_never}
-use Rattle.std.proofs.Common.{◌∙◌}
+use Rattle.std.proofs.Common.{inl, ◌∙◌}
 use Rattle.oak_model.specs.declared.cells.CellCall.TheVariants.{Compute}
 use Rattle.oak_core.specs.Passes.{state, key as sizes, call_of}
 use Rattle.chunk_ops.specs.AskedRanges.{CoversKey}
 use Rattle.point_ops.proofs.LoneAnswers.{all_same_alone, all_wrote_alone}
 use Rattle.point_ops.proofs.Outcomes.{ok_map, err_map}
-use Rattle.point_ops.proofs.PinnedCalls.{all_answers, all_halts, all_refuses}
+use Rattle.point_ops.proofs.PinnedCalls.{all_answers, all_halts, all_refuses, met_refuses}
 use Rattle.point_ops.proofs.RecipesFed.{feeds_alone, feeds_until}
 use Rattle.point_ops.proofs.computes.try_compute.Goals as goal
 
@@ -52,3 +52,9 @@ returns-clause-alone_fed g c = let o = c.args.recipe.now in let k = (goal.Recipe
 pub returns-clause-alone_left : goal.returns-clause-alone_left
 returns-clause-alone_left g c = ok_map _ _ c.compute_pinned-wrote.result (λ y l. pinned_leaves (sizes c.args.table.now) c.in-Ok.pin.room c.args.key.now (state c.args.pass.now) (state c.pin_for.new.pass) (state c.compute_pinned-wrote.new.pass) (state c.unpin.new.pass)
     c.in-Ok.ensures.pinned.has.inside c.in-Ok.ensures.pinned.still c.unpin.ensures.unpinned.still y l) c.compute_pinned-wrote.ensures.alone_left
+
+pub returns-in_default-clause-refused : goal.returns-in_default-clause-refused
+returns-in_default-clause-refused g c = met_refuses (call_of c.args.pass.now) (state c.args.pass.now) (state c.pin_for.new.pass) c.in_default.ensures.only
+
+pub returns-clause-either : goal.returns-clause-either
+returns-clause-either g c = err_map _ _ c.compute_pinned-wrote.result (λ y e. inl e) c.compute_pinned-wrote.ensures.busy

@@ -5,7 +5,7 @@ use Rattle.oak_core.specs.Passes.{state, key as sizes, call_of}
 use Rattle.chunk_ops.specs.AskedRanges.{CoversKey}
 use Rattle.point_ops.proofs.LoneAnswers.{all_same_alone, all_wrote_alone}
 use Rattle.point_ops.proofs.Outcomes.{ok_map, err_map}
-use Rattle.point_ops.proofs.PinnedCalls.{all_answers, all_halts, all_refuses}
+use Rattle.point_ops.proofs.PinnedCalls.{all_answers, all_halts, all_refuses, met_refuses}
 use Rattle.point_ops.proofs.LoneCalls.{room_found, room_never}
 use Rattle.point_ops.proofs.LonePins.{pinned_puts}
 use Rattle.point_ops.proofs.RecipesFed.{feeds_alone, feeds_until}
@@ -58,3 +58,6 @@ returns-clause-alone_fed g c = let o = c.args.recipe.now in let k = (goal.Recipe
 pub returns-clause-alone_left : goal.returns-clause-alone_left
 returns-clause-alone_left g c = ok_map _ _ c.upsert_pinned-wrote.result (λ y l. pinned_put_leaves (sizes c.args.table.now) c.in-Ok.pin.room c.args.key.now c.args.value.now (state c.args.pass.now) (state c.pin_for.new.pass) (state c.upsert_pinned-wrote.new.pass) (state c.unpin.new.pass)
     c.in-Ok.ensures.pinned.has.inside c.in-Ok.ensures.pinned.still c.unpin.ensures.unpinned.still y l) c.upsert_pinned-wrote.ensures.alone_left
+
+pub returns-in_default-clause-refused : goal.returns-in_default-clause-refused
+returns-in_default-clause-refused g c = met_refuses (call_of c.args.pass.now) (state c.args.pass.now) (state c.pin_for.new.pass) c.in_default.ensures.only

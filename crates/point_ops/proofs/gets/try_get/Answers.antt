@@ -1,5 +1,5 @@
 use Rattle.point_ops.proofs.LoneCalls.{pinned_got, room_found, room_never}
-use Rattle.std.proofs.Common.{◌∙◌}
+use Rattle.std.proofs.Common.{inl, ◌∙◌}
 use Rattle.oak_model.specs.declared.cells.CellCall.TheVariants.{Get}
 use Rattle.oak_core.specs.Passes.{state, key as sizes, call_of}
 use Rattle.oak_core.specs.QuietSteps.{IsQuiet}
@@ -8,7 +8,7 @@ use Rattle.point_ops.proofs.GetLaws.{all_got}
 use Rattle.point_ops.proofs.LoneAnswers.{all_got_alone, all_same_alone}
 use Rattle.point_ops.proofs.Outcomes.{ok_map, err_map}
 use Rattle.point_ops.proofs.OwnSteps.{only_in}
-use Rattle.point_ops.proofs.PinnedCalls.{all_halts, all_refuses, under_keeps}
+use Rattle.point_ops.proofs.PinnedCalls.{all_halts, all_refuses, under_keeps, met_refuses}
 use Rattle.point_ops.proofs.gets.try_get.Goals as goal
 
 pub returns-clause-quiet : goal.returns-clause-quiet
@@ -44,3 +44,9 @@ returns-in_default-clause-alone c = room_found (state c.args.pass.now) (state c.
 
 pub returns-clause-alone : goal.returns-clause-alone
 returns-clause-alone c = pinned_got (sizes c.args.table.now) c.in-Ok.pin.room (state c.args.pass.now) (state c.pin_for.new.pass) (state c.get_pinned-got.new.pass) (state c.unpin.new.pass) c.in-Ok.ensures.pinned.has.inside c.in-Ok.ensures.pinned.still c.unpin.ensures.unpinned.still c.get_pinned-got.result c.get_pinned-got.ensures.alone
+
+pub returns-in_default-clause-refused : goal.returns-in_default-clause-refused
+returns-in_default-clause-refused c = met_refuses (call_of c.args.pass.now) (state c.args.pass.now) (state c.pin_for.new.pass) c.in_default.ensures.only
+
+pub returns-clause-either : goal.returns-clause-either
+returns-clause-either c = err_map _ _ c.get_pinned-got.result (λ y e. inl e) c.get_pinned-got.ensures.busy

@@ -1,12 +1,12 @@
 use Rattle.point_ops.proofs.LoneLeftPins.{pinned_leaves}
 use Rattle.point_ops.proofs.LoneCalls.{pinned_never, room_found, room_never}
-use Rattle.std.proofs.Common.{◌∙◌}
+use Rattle.std.proofs.Common.{inl, ◌∙◌}
 use Rattle.oak_model.specs.declared.cells.CellCall.TheVariants.{Remove}
 use Rattle.oak_core.specs.Passes.{state, key as sizes, call_of}
 use Rattle.chunk_ops.specs.AskedRanges.{CoversKey}
 use Rattle.point_ops.proofs.LoneAnswers.{all_same_alone, all_wrote_alone}
 use Rattle.point_ops.proofs.Outcomes.{ok_map, err_map}
-use Rattle.point_ops.proofs.PinnedCalls.{all_answers, all_halts, all_refuses}
+use Rattle.point_ops.proofs.PinnedCalls.{all_answers, all_halts, all_refuses, met_refuses}
 use Rattle.point_ops.proofs.removes.try_remove.Goals as goal
 
 pub returns-clause-wrote : goal.returns-clause-wrote
@@ -43,3 +43,9 @@ returns-clause-alone c = pinned_never (sizes c.args.table.now) c.in-Ok.pin.room 
 pub returns-clause-alone_left : goal.returns-clause-alone_left
 returns-clause-alone_left c = ok_map _ _ c.remove_pinned-wrote.result (λ y l. pinned_leaves (sizes c.args.table.now) c.in-Ok.pin.room c.args.key.now (state c.args.pass.now) (state c.pin_for.new.pass) (state c.remove_pinned-wrote.new.pass) (state c.unpin.new.pass)
     c.in-Ok.ensures.pinned.has.inside c.in-Ok.ensures.pinned.still c.unpin.ensures.unpinned.still y l) c.remove_pinned-wrote.ensures.alone_left
+
+pub returns-in_default-clause-refused : goal.returns-in_default-clause-refused
+returns-in_default-clause-refused c = met_refuses (call_of c.args.pass.now) (state c.args.pass.now) (state c.pin_for.new.pass) c.in_default.ensures.only
+
+pub returns-clause-either : goal.returns-clause-either
+returns-clause-either c = err_map _ _ c.remove_pinned-wrote.result (λ y e. inl e) c.remove_pinned-wrote.ensures.busy
