@@ -73,3 +73,8 @@ pub mod PairTexts
 pub mod AlikeScans
 pub mod AlikeRuns
 pub mod OneTexts
+pub mod PairKeys
+pub mod DrawnTurns
+pub mod DrawnSums
+pub mod DrawnValues
+pub mod DrawnRuns

@@ -29,3 +29,4 @@ pub mod Working
 pub mod FullsExactly
 pub mod EndsRun
 pub mod ScriptRun
+pub mod WorkloadFits

@@ -11,6 +11,8 @@ use Rattle.oak_model.specs.declared.cells.CellReply.TheVariants as words
 use Rattle.oak_model.specs.Cell.{is_write}
 use Rattle.oak_script.specs.declared.scripts.Call.{Call}
 use Rattle.oak_script.specs.declared.scripts.Call.TheVariants.{Put, Get, PutNew, Compute, Upsert, Remove, Hold, Look, Scan, Back}
+-- the call was refused
+pub use Rattle.oak_script.specs.Summary.{is_full}
 
 -- a call on one key: the key, and what it asks of its cell
 pub record Ask : Type 0 where
@@ -47,20 +49,6 @@ reply_at (replies.Held at) = at
 reply_at replies.Gone = 0
 reply_at replies.Unheld = 0
 reply_at (replies.Pairs pairs) = 0
-
-abbrev pub is_full : Reply → Bool
-is_full (replies.Wrote (wrote.New at)) = false
-is_full (replies.Wrote (wrote.Over at)) = false
-is_full (replies.Wrote (wrote.Kept at)) = false
-is_full (replies.Wrote (wrote.Done at)) = false
-is_full (replies.Wrote (wrote.Removed at)) = false
-is_full (replies.Wrote (wrote.Absent at)) = false
-is_full (replies.Wrote (wrote.Full lack)) = true
-is_full (replies.Value key value at) = false
-is_full (replies.Held at) = false
-is_full replies.Gone = false
-is_full replies.Unheld = false
-is_full (replies.Pairs pairs) = false
 
 abbrev pub is_held : Reply → Bool
 is_held (replies.Held at) = true

@@ -15,6 +15,6 @@ mod splits;
 mod threads;
 mod worker;
 
-pub use laws::one_text;
+pub use laws::{one_text, workload_runs};
 pub use looks::{HeldView, HeldViews};
 pub use runner::{Ran, run_script, run_script_lent};
