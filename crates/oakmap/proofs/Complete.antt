@@ -1,5 +1,5 @@
--- A script that comes without a fault is run, unless memory runs out.
-use Rattle.std.proofs.Common.{◌≡◌, ℕ, ◌≤◌, ◌⊎◌, true, List, length, Option, Some, None, refl, sym, ap, subst, ◌∙◌, arith, inl, inr}
+-- A script that comes without a fault is run, and so is each workload, unless memory runs out.
+use Rattle.std.proofs.Common.{◌≡◌, ℕ, ◌≤◌, ◌⊎◌, List, length, Option, Some, None, refl, sym, ap, subst, ◌∙◌, arith, inl, inr}
 use Rattle.std.proofs.lemmas.List.{append-nil, length-append}
 use Rattle.std.specs.Io.KnownBytes.{Consumes, IsAtEnd}
 use Rattle.outside.specs.Cause.{Rose}
@@ -9,6 +9,8 @@ use Rattle.oak_script.specs.declared.scripts.Script.{Script}
 use Rattle.oak_script.specs.Faults.{IsFirstFault}
 use Rattle.oak_script.specs.Grammar.{Spells}
 use Rattle.oak_script.proofs.LawLemmas.{script_not_fault}
+use Rattle.oakmap.specs.declared.commands.Command.TheVariants.{Run, Gen}
+use Rattle.oakmap.specs.declared.commands.Workload.{Workload}
 use Rattle.oakmap.specs.declared.status.TheConstants.{GREATEST_INPUT}
 use Rattle.oakmap.specs.declared.status.Status.{Status}
 use Rattle.oakmap.specs.declared.status.Status.TheVariants.{Done, Usage, NoScript, ReadFault, WriteFault, NoMemory}
@@ -37,15 +39,24 @@ faultless : (script : Script) (input text : List ℕ) (f : ScriptFault) → Spel
 faultless script input text f spelled same fault = script_not_fault text script f spelled (subst (λ (t : List ℕ). IsFirstFault t f) same fault)
 
 pub complete : (s : Status) (source source_after : Input) (sink sink_after : Output) (text : List ℕ) (script : Script)
-    → Ends s true source source_after sink sink_after → source.left ≡ Some text → length text ≤ GREATEST_INPUT → Spells text script
+    → Ends s (Some Run) source source_after sink sink_after → source.left ≡ Some text → length text ≤ GREATEST_INPUT → Spells text script
     → Unrisen source.faults source_after.faults → Unrisen sink.faults sink_after.faults → (code_of s ≡ 0) ⊎ (code_of s ≡ 6)
 complete (Done closed) source source_after sink sink_after text script e known short spelled u v = inl refl
 complete NoMemory source source_after sink sink_after text script e known short spelled u v = inr refl
-complete Usage source source_after sink sink_after text script e known short spelled u v = absurd cc
-complete ReadFault source source_after sink sink_after text script e known short spelled u v = absurd (calm _ _ u e.1)
-complete (WriteFault closed) source source_after sink sink_after text script e known short spelled u v = absurd (calm _ _ v e.1.2.0)
+complete Usage source source_after sink sink_after text script e known short spelled u v = absurd e
+complete ReadFault source source_after sink sink_after text script e known short spelled u v = absurd (calm _ _ u e.0)
+complete (WriteFault closed) source source_after sink sink_after text script e known short spelled u v = absurd (calm _ _ v e.2.0)
 complete NoScript source source_after sink sink_after text script e known short spelled u v =
-    elim e.1 [
+    elim e [
       | inl long ↦ absurd (not_past source.left source_after.left text long.0.bytes known short long.0.past)
       | inr a ↦ absurd (faultless script a.0 text a.2.0 spelled (all_read source.left source_after.left text a.0 known a.1) a.2.1)
     ]
+
+pub complete_gen : (s : Status) (w : Workload) (source source_after : Input) (sink sink_after : Output)
+    → Ends s (Some (Gen w)) source source_after sink sink_after → Unrisen sink.faults sink_after.faults → (code_of s ≡ 0) ⊎ (code_of s ≡ 6)
+complete_gen (Done closed) w source source_after sink sink_after e v = inl refl
+complete_gen NoMemory w source source_after sink sink_after e v = inr refl
+complete_gen (WriteFault closed) w source source_after sink sink_after e v = absurd (calm _ _ v e.1.0)
+complete_gen Usage w source source_after sink sink_after e v = absurd e.1
+complete_gen NoScript w source source_after sink sink_after e v = absurd e.1
+complete_gen ReadFault w source source_after sink sink_after e v = absurd e.1

@@ -5,7 +5,7 @@ use Rattle.oak_script.specs.declared.faults.What.{What}
 use Rattle.oak_script.specs.Told.{what_text}
 
 abbrev pub usage_line : List ℕ
-usage_line = codes "oakmap: usage: oakmap run" ++ 10 ∷ []
+usage_line = codes "oakmap: usage: oakmap run | gen N T S" ++ 10 ∷ []
 
 abbrev pub long_line : List ℕ
 long_line = codes "oakmap: input is longer than 16777216 bytes" ++ 10 ∷ []

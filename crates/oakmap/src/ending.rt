@@ -1,4 +1,4 @@
-ghost use Rattle.std.specs.Prelude.{◌≡◌, ◌<◌, ◌≤◌, ◌⊎◌, ◌^◌, ℕ, List, map, length, IfOk, Some, true};
+ghost use Rattle.std.specs.Prelude.{◌≡◌, ◌<◌, ◌≤◌, ◌⊎◌, ◌^◌, ℕ, List, map, length, IfOk, Some};
 ghost use Rattle.std.specs.List.{AllByRecursion};
 ghost use Rattle.std.specs.String.{string_bytes};
 ghost use Rattle.oak_core.specs.declared.closing.Closed.{Closed};
@@ -7,13 +7,18 @@ ghost use Rattle.oak_script.specs.declared.scripts.Script.{Script};
 ghost use Rattle.oak_script.specs.Faults.{IsFirstFault};
 ghost use Rattle.oak_script.specs.Grammar.{IsScript, Spells};
 ghost use Rattle.oak_run.specs.ScriptRun.{RunsScript};
+ghost use Rattle.oakmap.specs.declared.commands.Command.TheVariants.{Gen, Run};
+ghost use Rattle.oakmap.specs.declared.commands.Workload.{Workload};
 ghost use Rattle.oakmap.specs.declared.status.Status.{Status};
+ghost use Rattle.oakmap.specs.Commands.{command_of};
 ghost use Rattle.oakmap.specs.Messages.{script_fault_line};
-ghost use Rattle.oakmap.specs.LentRun.{AnsweredLent, EndsLent, PrintsCounts, PrintsLent};
-ghost use Rattle.oakmap.specs.Ends.{Input, Output, Unrisen, Ends, Says, closed_of, code_of, is_run};
+ghost use Rattle.oakmap.specs.LentRun.{AnsweredLent, EndsLent, RunEndsLent, PrintsCounts, PrintsLent};
+ghost use Rattle.oakmap.specs.Ends.{Input, Output, Unrisen, Ends, Says, closed_of, code_of};
 
+use crate::commands::{Command, command_of};
 use crate::ended::Ended;
 use crate::status::{GREATEST_INPUT, Status};
+use crate::workloads::put_workload;
 use oak_core::Closed;
 use oak_model::OutOfMemory;
 use oak_run::{Ran, run_script_lent};
@@ -24,16 +29,19 @@ use std::sync::Wait;
 use std::thread::Threads;
 use value_ops::Recipe;
 
-/// Runs the command that the words name: the threads of the script that came, beside each other over one map
+/// Runs the command that the words name. `run`: the threads of the script that came, beside each other over one map
 /// of its shape. Thread i, from 1 on, computes by the i-th recipe, and asks the gate before each of its calls
-/// and once behind the last. The answer has the status of the process:
+/// and once behind the last. `gen N T S`: the same for the workload that the three numbers name, over a map of the default
+/// shape, and nothing is read from the source. The answer has the status of the process:
 ///
-/// - 0: the run's text was written. Its replies, with their places, and its final map fit the closed map, which is
-///   answered too, and so do the used numbers.
-/// - 2: exactly where the words are not the one word `run`.
-/// - 3: exactly where the input is no script, or longer than 16,777,216 bytes.
+/// - 0: the run's text was written, or its summary. With `run` the replies, with their places, and the final map fit the
+///   closed map, which is answered too, and so do the used numbers. With `gen` what is counted are the replies, the
+///   final pairs and the used blocks of a run that fits the closed map; the sum of the values is the number of the calls
+///   that were not refused, each key takes two blocks, and where no call was refused the keys are all that were drawn.
+/// - 2: exactly where the words are neither the one word `run` nor `gen` with the three numbers of a workload.
+/// - 3: exactly where the words are `run` and the input is no script, or longer than 16,777,216 bytes.
 /// - 4: only where the source counted a fault, and no more than 16,777,216 bytes came.
-/// - 5: only where the sink counted a fault while the run's text was written. Of a text as with 0, some first bytes
+/// - 5: only where the sink counted a fault while the text was written. Of a text as with 0, some first bytes
 ///   or none were written, and the closed map is answered too.
 /// - 6: no memory was found, and nothing was written.
 ///
@@ -48,7 +56,7 @@ pub fn top<R: Threads + Wait + AllocGlobal + Sync, S: Source, K: Sink, G: Gate>(
 ) -> Ended
     requires enough { GREATEST_THREADS ≤ length recipes.items }
     requires counts { AllByRecursion (λ r. calls r < 2 ^ 63) recipes.items }
-    ensures { (s : Status) × (result.status ≡ code_of s) × (result.closed ≡ closed_of s) × Ends s (is_run (map (λ w. string_bytes w) words.now))
+    ensures { (s : Status) × (result.status ≡ code_of s) × (result.closed ≡ closed_of s) × Ends s (command_of (map (λ w. string_bytes w) words.now))
         (record { left = S.left source.old; faults = S.faults source.old }) (record { left = S.left source.new; faults = S.faults source.new })
         (record { written = K.written sink.old; faults = K.faults sink.old }) (record { written = K.written sink.new; faults = K.faults sink.new }) }
 {
@@ -68,7 +76,7 @@ pub fn top_lent<R: Threads + Wait + AllocGlobal + Sync, S: Source, K: Sink, G: G
 ) -> Ended
     requires enough { GREATEST_THREADS ≤ length recipes.old.items }
     requires counts { AllByRecursion (λ r. calls r < 2 ^ 63) recipes.old.items }
-    ensures { (s : Status) × (result.status ≡ code_of s) × (result.closed ≡ closed_of s) × EndsLent s (is_run (map (λ w. string_bytes w) words.now))
+    ensures { (s : Status) × (result.status ≡ code_of s) × (result.closed ≡ closed_of s) × EndsLent s (command_of (map (λ w. string_bytes w) words.now))
         (record { left = S.left source.old; faults = S.faults source.old }) (record { left = S.left source.new; faults = S.faults source.new })
         (record { written = K.written sink.old; faults = K.faults sink.old }) (record { written = K.written sink.new; faults = K.faults sink.new })
         (map (λ c. calls c) recipes.old.items) (map (λ c. calls c) recipes.new.items) }
@@ -86,15 +94,36 @@ fn run<R: Threads + Wait + AllocGlobal + Sync, S: Source, K: Sink, G: Gate>(
 ) -> Status
     requires enough { GREATEST_THREADS ≤ length recipes.old.items }
     requires counts { AllByRecursion (λ r. calls r < 2 ^ 63) recipes.old.items }
-    ensures { EndsLent result (is_run (map (λ w. string_bytes w) words.now))
+    ensures { EndsLent result (command_of (map (λ w. string_bytes w) words.now))
         (record { left = S.left source.old; faults = S.faults source.old }) (record { left = S.left source.new; faults = S.faults source.new })
         (record { written = K.written sink.old; faults = K.faults sink.old }) (record { written = K.written sink.new; faults = K.faults sink.new })
         (map (λ c. calls c) recipes.old.items) (map (λ c. calls c) recipes.new.items) }
 {
-    if !is_run(words) {
-        say(sink, b"oakmap: usage: oakmap run\n");
-        return Status::Usage;
+    match command_of(words) {
+        None => {
+            say(sink, b"oakmap: usage: oakmap run | gen N T S\n");
+            Status::Usage
+        }
+        Some(Command::Run) => run_input(rt, source, sink, gate, recipes),
+        Some(Command::Gen(asked)) => put_workload(rt, asked, sink, gate, recipes),
     }
+}
+
+/// Reads the input to its end, and answers it.
+fn run_input<R: Threads + Wait + AllocGlobal + Sync, S: Source, K: Sink, G: Gate>(
+    rt: &R,
+    source: &mut S,
+    sink: &mut K,
+    gate: &G,
+    recipes: &mut Vec<Box<dyn Recipe + Send>>,
+) -> Status
+    requires enough { GREATEST_THREADS ≤ length recipes.old.items }
+    requires counts { AllByRecursion (λ r. calls r < 2 ^ 63) recipes.old.items }
+    ensures { RunEndsLent result
+        (record { left = S.left source.old; faults = S.faults source.old }) (record { left = S.left source.new; faults = S.faults source.new })
+        (record { written = K.written sink.old; faults = K.faults sink.old }) (record { written = K.written sink.new; faults = K.faults sink.new })
+        (map (λ c. calls c) recipes.old.items) (map (λ c. calls c) recipes.new.items) }
+{
     let text = match read_whole(rt.alloc(), source, GREATEST_INPUT) {
         Ok(text) => text,
         Err(ReadStop::Failed) => {
@@ -108,16 +137,6 @@ fn run<R: Threads + Wait + AllocGlobal + Sync, S: Source, K: Sink, G: Gate>(
         Err(ReadStop::OutOfMemory) => return Status::NoMemory,
     };
     answer(rt, &text, sink, gate, recipes)
-}
-
-/// Whether the words are the one word `run`.
-fn is_run(words: &[String]) -> bool
-    ensures { result ≡ is_run (map (λ w. string_bytes w) words.now) }
-{
-    match words {
-        [word] => word.as_bytes() == b"run".as_slice(),
-        _ => false,
-    }
 }
 
 /// Says one line; that the sink fails changes no status.
@@ -224,9 +243,11 @@ pub(crate) fn text_of(alloc: Global, script: &Script, ran: &Ran) -> Result<Vec<u
     )
 }
 
-/// A script that comes without a fault is run, unless memory runs out.
+/// A script that comes without a fault is run, and so is each workload, unless memory runs out.
 pub fn completeness()
-    ensures { (s : Status) (source source_after : Input) (sink sink_after : Output) (text : List ℕ) (script : Script)
-        → Ends s true source source_after sink sink_after → source.left ≡ Some text → length text ≤ GREATEST_INPUT → Spells text script
+    ensures of_run { (s : Status) (source source_after : Input) (sink sink_after : Output) (text : List ℕ) (script : Script)
+        → Ends s (Some Run) source source_after sink sink_after → source.left ≡ Some text → length text ≤ GREATEST_INPUT → Spells text script
         → Unrisen source.faults source_after.faults → Unrisen sink.faults sink_after.faults → (code_of s ≡ 0) ⊎ (code_of s ≡ 6) }
+    ensures of_gen { (s : Status) (w : Workload) (source source_after : Input) (sink sink_after : Output)
+        → Ends s (Some (Gen w)) source source_after sink sink_after → Unrisen sink.faults sink_after.faults → (code_of s ≡ 0) ⊎ (code_of s ≡ 6) }
 {}

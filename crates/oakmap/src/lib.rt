@@ -1,7 +1,9 @@
 //! The program `oakmap` as a library: `oakmap run` reads a script from standard input, runs its
-//! threads beside each other over one map, and prints every reply, the final map and what the map's table has in use.
+//! threads beside each other over one map, and prints every reply, the final map and what the map's table has
+//! in use; `oakmap gen N T S` runs a generated workload in the same way, and prints a summary.
 #![tactic(auto)]
 
+mod commands;
 mod ended;
 mod ending;
 mod lengths;
@@ -10,7 +12,9 @@ mod recipes;
 mod status;
 #[cfg(test)]
 mod tests;
+mod workloads;
 
+pub use commands::{Command, Workload, command_of};
 pub use ended::Ended;
 pub use ending::{completeness, top, top_lent};
 pub use lengths::length_limit;

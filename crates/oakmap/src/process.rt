@@ -1,5 +1,6 @@
-ghost use Rattle.std.specs.Prelude.{◌≡◌, Bool};
+ghost use Rattle.std.specs.Prelude.{◌≡◌, Option};
 ghost use Rattle.std.specs.Process.{exit_status};
+ghost use Rattle.oakmap.specs.declared.commands.Command.{Command};
 ghost use Rattle.oakmap.specs.declared.status.Status.{Status};
 ghost use Rattle.oakmap.specs.Ends.{Ends, code_of};
 
@@ -24,7 +25,7 @@ pub fn program<R: Threads + Wait + Env + AllocGlobal + Sync, S: Source, K: Sink,
     sink: &mut K,
     gate: &G,
 ) -> ExitCode
-    ensures { (s : Status) × (run : Bool) × (exit_status result ≡ code_of s) × Ends s run
+    ensures { (s : Status) × (command : Option Command) × (exit_status result ≡ code_of s) × Ends s command
         (record { left = S.left source.old; faults = S.faults source.old }) (record { left = S.left source.new; faults = S.faults source.new })
         (record { written = K.written sink.old; faults = K.faults sink.old }) (record { written = K.written sink.new; faults = K.faults sink.new }) }
 {

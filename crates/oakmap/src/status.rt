@@ -7,18 +7,18 @@ use oak_core::Closed;
 /// The greatest number of bytes of an input.
 pub const GREATEST_INPUT: usize = 16_777_216;
 
-/// How the program ended. Where a run's text was written, the map of the run is there, closed.
+/// How the program ended. Where a run's text or its summary was written, the map of the run is there, closed.
 #[derive(Drop)]
 pub enum Status {
-    /// The run's whole text was written.
+    /// The run's whole text was written, or its summary.
     Done(Closed),
-    /// The words are not the one word `run`.
+    /// The words give no command.
     Usage,
     /// The input is no script, or longer than it may be.
     NoScript,
     /// The source failed.
     ReadFault,
-    /// The sink failed while the run's text was written.
+    /// The sink failed while the text was written.
     WriteFault(Closed),
     /// No memory was found.
     NoMemory,

@@ -12,6 +12,7 @@ mod small_shapes;
 mod statuses;
 mod threads;
 mod words;
+mod workloads;
 
 use crate::ending::{text_of, top};
 use crate::recipes::add;

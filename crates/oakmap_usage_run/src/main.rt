@@ -1,4 +1,4 @@
-//! The program `oakmap` once more, for its stored run: words that are not the one word `run` end with 2.
+//! The program `oakmap` once more, for its stored run: words that give no command end with 2.
 #![tactic(auto)]
 
 use oakmap::program;

@@ -35,11 +35,28 @@ fn tells_the_first_fault(rt: HostRuntime) -> Result<(), Fail> {
 #[test]
 fn judges_the_words_first(rt: HostRuntime) -> Result<(), Fail> {
     let alloc = rt.alloc();
-    for words in ["run x", "ran", "Run", ""] {
+    for words in [
+        "run x",
+        "ran",
+        "Run",
+        "",
+        "gen",
+        "gen 1 1",
+        "gen 1 1 0 0",
+        "gen 0 1 0",
+        "gen 65537 1 0",
+        "gen 1 0 0",
+        "gen 1 17 0",
+        "gen 65536 5 0",
+        "gen 1 1 65536",
+        "gen 01 1 0",
+        "gen 1 1 -",
+        "Gen 1 1 0",
+    ] {
         let mut source = SureSource::make(Vec::new(alloc));
         let mut sink = sink_of(alloc, &[])?;
         end(&rt, words, &mut source, &mut sink, &FreeGate, 2)?;
-        let says = b"oakmap: usage: oakmap run\n";
+        let says = b"oakmap: usage: oakmap run | gen N T S\n";
         assert_eq!(rt; sink.written(), says.as_slice(), "{words}");
     }
     Ok(())

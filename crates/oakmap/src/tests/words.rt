@@ -43,19 +43,24 @@ impl<R> Env for Called<R> {
 
 /// Each way to call the program on a script of no call, the status, and the text that it says, with a slash
 /// for a line's end.
-const CALLS: [(&[&[u8]], u8, &str); 6] = [
+const CALLS: [(&[&[u8]], u8, &str); 9] = [
     (&[b"oakmap", b"run"], 0, EMPTY),
     (&[b"run", b"run"], 0, EMPTY),
     (&[b"run"], 2, USAGE),
     (&[b"oakmap", b"ran"], 2, USAGE),
     (&[b"oakmap", b"run", b"run"], 2, USAGE),
     (&[b"oakmap", b"run\xff"], 2, USAGE),
+    (&[b"oakmap", b"gen", b"4", b"1", b"0"], 0, SUMMARY),
+    (&[b"gen", b"4", b"1", b"0"], 2, USAGE),
+    (&[b"oakmap", b"gen", b"65536", b"5", b"0"], 2, USAGE),
 ];
 
 const EMPTY: &str = "map 0/arena/b16 0 16384/b64 0 4096/b256 0 1024/b1024 0 512/headers 0 8192/\
     chunks 1 256/";
 
-const USAGE: &str = "oakmap: usage: oakmap run/";
+const USAGE: &str = "oakmap: usage: oakmap run | gen N T S/";
+
+const SUMMARY: &str = "gen 4 1 0/calls 4/full 0/keys 4/sum 4/b16 8/";
 
 #[test]
 fn takes_the_words_behind_its_name(rt: HostRuntime) -> Result<(), Fail> {

@@ -1,10 +1,16 @@
-use Rattle.std.proofs.Common.{◌≡◌, rules, true, map}
+use Rattle.std.proofs.Common.{◌≡◌, map, Some}
 use Rattle.std.specs.String.{string_bytes}
-use Rattle.oakmap.specs.Ends.{is_run}
-use Rattle.oakmap.proofs.Ends.{ends_lent}
+use Rattle.oakmap.specs.declared.commands.Command.TheVariants.{Run, Gen}
+use Rattle.oakmap.specs.Commands.{command_of}
+use Rattle.oakmap.proofs.Ends.{gen_ends, run_ends}
 use Rattle.oakmap.proofs.ending.run.Goals as goal
 
-pub returns : goal.returns
-returns g c =
-    let is : is_run (map (λ w. string_bytes w) c.args.words.now) ≡ true = search rules in
-    ends_lent c.answer.result _ _ _ _ _ c.in-Ok.text.items _ _ is c.in-Ok.ensures.bytes (rw c.deref.ensures.value at c.answer.ensures)
+pub returns-in-Some-Run : goal.returns-in-Some-Run
+returns-in-Some-Run g c =
+    let is : command_of (map (λ w. string_bytes w) c.args.words.now) ≡ Some Run = cc in
+    run_ends c.run_input.result _ _ _ _ _ _ _ is c.run_input.ensures
+
+pub returns-in-Some-Gen : goal.returns-in-Some-Gen
+returns-in-Some-Gen g c =
+    let is : command_of (map (λ w. string_bytes w) c.args.words.now) ≡ Some (Gen c.in-Some-Gen.asked) = cc in
+    gen_ends c.put_workload.result _ c.in-Some-Gen.asked _ _ _ _ _ is c.put_workload.ensures

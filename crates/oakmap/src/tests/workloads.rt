@@ -1,0 +1,41 @@
+//! Generated workloads, each with its summary.
+
+use super::{bytes_of, end, sink_of};
+use outside::{FreeGate, MemorySource};
+use std::test::Fail;
+
+/// The words of a workload, and its summary, with a slash for a line's end.
+const SUMMARIES: [(&str, &str); 3] = [
+    ("gen 4 1 0", "gen 4 1 0/calls 4/full 0/keys 4/sum 4/b16 8/"),
+    (
+        "gen 1 1 65535",
+        "gen 1 1 65535/calls 1/full 0/keys 1/sum 1/b16 2/",
+    ),
+    (
+        "gen 4096 1 3",
+        "gen 4096 1 3/calls 4096/full 0/keys 1005/sum 4096/b16 2010/",
+    ),
+];
+
+#[test]
+fn sums_up_workloads_and_reads_nothing(rt: HostRuntime) -> Result<(), Fail> {
+    let alloc = rt.alloc();
+    for (words, says) in SUMMARIES {
+        let mut source = MemorySource::make(Vec::new(alloc), Vec::from_slice(alloc, &[1])?);
+        let mut sink = sink_of(alloc, &[])?;
+        end(&rt, words, &mut source, &mut sink, &FreeGate, 0)?;
+        let wanted = bytes_of(alloc, says)?;
+        assert_eq!(rt; sink.written(), wanted.as_slice());
+    }
+    Ok(())
+}
+
+#[test]
+fn counts_a_fault_of_the_sink(rt: HostRuntime) -> Result<(), Fail> {
+    let alloc = rt.alloc();
+    let mut source = MemorySource::make(Vec::new(alloc), Vec::new(alloc));
+    let mut sink = sink_of(alloc, &[1])?;
+    end(&rt, "gen 4 2 0", &mut source, &mut sink, &FreeGate, 5)?;
+    assert_eq!(rt; sink.written(), b"".as_slice());
+    Ok(())
+}
