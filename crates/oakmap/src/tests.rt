@@ -8,6 +8,7 @@ mod answers;
 mod counting;
 mod gates;
 mod lent;
+mod pieces;
 mod small_shapes;
 mod statuses;
 mod threads;
@@ -18,7 +19,7 @@ use crate::ending::{text_of, top};
 use crate::recipes::add;
 use oak_run::{Ran, run_script};
 use oak_script::{GREATEST_THREADS, NoScript, Script, read_script};
-use outside::{FreeGate, Gate, MemorySink, Source, SureSource};
+use outside::{FreeGate, Gate, MemorySink, Sink, Source, SureSource};
 use std::alloc::Global;
 use std::process::Abort;
 use std::sync::Wait;
@@ -93,11 +94,11 @@ fn sink_of(alloc: Global, fails: &[u64]) -> Result<MemorySink, Fail> {
 }
 
 /// Calls the program with these words, and asserts the status, and that a map was closed exactly with 0 and 5.
-fn end<R: Threads + Wait + AllocGlobal + Abort + Sync, S: Source, G: Gate>(
+fn end<R: Threads + Wait + AllocGlobal + Abort + Sync, S: Source, K: Sink, G: Gate>(
     rt: &R,
     words: &str,
     source: &mut S,
-    sink: &mut MemorySink,
+    sink: &mut K,
     gate: &G,
     status: u8,
 ) -> Result<(), Fail> {

@@ -5,7 +5,7 @@ use outside::{FreeGate, MemorySource, SureSource};
 use std::test::Fail;
 
 /// Texts that are no scripts, and the line that tells their first fault.
-const FAULTS: [(&str, &str); 5] = [
+const FAULTS: [(&str, &str); 23] = [
     ("oak 1/thread/get 6b/", "oakmap: line 4: no end"),
     ("oak 1/thread/put 6b3 01/end/", "oakmap: line 3: hex"),
     ("", "oakmap: line 1: head"),
@@ -16,6 +16,45 @@ const FAULTS: [(&str, &str); 5] = [
     (
         "oak 1/thread/shape 4 4 16 2 0 0 0/end/",
         "oakmap: line 3: word",
+    ),
+    ("oak 1", "oakmap: line 2: no end"),
+    ("oak 1\r", "oakmap: line 1: head"),
+    ("oak 1/end", "oakmap: line 2: word"),
+    ("oak 1/thread x/end", "oakmap: line 2: word"),
+    ("oak 1/thread/end/end", "oakmap: line 4: after end"),
+    (
+        "oak 1/shape 0 4 16 2 0 0 0/thread/end",
+        "oakmap: line 2: shape",
+    ),
+    (
+        "oak 1/shape 04 4 16 2 0 0 0/thread/end",
+        "oakmap: line 2: shape",
+    ),
+    (
+        "oak 1/shape 4 4 16 2 0 0/thread/end",
+        "oakmap: line 2: word",
+    ),
+    ("oak 1/thread/put 6B 01/end", "oakmap: line 3: hex"),
+    ("oak 1/thread/put 6b  01/end", "oakmap: line 3: word"),
+    ("oak 1/thread/get -/end", "oakmap: line 3: hex"),
+    ("oak 1/thread/upsert 6b 01/end", "oakmap: line 3: word"),
+    ("oak 1/thread/compute 6b add/end", "oakmap: line 3: recipe"),
+    (
+        "oak 1/thread/compute 6b rev 1/end",
+        "oakmap: line 3: recipe",
+    ),
+    (
+        "oak 1/thread/compute 6b xor 100/end",
+        "oakmap: line 3: recipe",
+    ),
+    (
+        "oak 1/thread/compute 6b add 18446744073709551616/end",
+        "oakmap: line 3: recipe",
+    ),
+    ("oak 1/thread/hold A 6b/end", "oakmap: line 3: name"),
+    (
+        "oak 1/thread/look abcdefghijklmnopq/end",
+        "oakmap: line 3: name",
     ),
 ];
 
@@ -29,7 +68,13 @@ fn tells_the_first_fault(rt: HostRuntime) -> Result<(), Fail> {
         text.push_str("thread/")?;
     }
     text.push_str("end/")?;
-    expect(&rt, text.as_str(), 3, "oakmap: line 18: threads")
+    expect(&rt, text.as_str(), 3, "oakmap: line 18: threads")?;
+    let mut text = String::from_str(rt.alloc(), "oak 1/thread/")?;
+    for _ in 0..33 {
+        text.push_str("scan - -/")?;
+    }
+    text.push_str("end/")?;
+    expect(&rt, text.as_str(), 3, "oakmap: line 35: scans")
 }
 
 #[test]
