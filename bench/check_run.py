@@ -28,201 +28,9 @@ words.
 import collections
 import sys
 
-CLASSES = [16, 64, 256, 1024]
-DEFAULT_SHAPE = [256, 64, 8192, 16384, 4096, 1024, 512]
-ABSENT = None
-
-
-class Wrong(Exception):
-    pass
-
-
-def require(holds, why):
-    if not holds:
-        raise Wrong(why)
-
-
-def some_bytes_in(word):
-    made = bytes.fromhex(word)
-    require(made and made.hex() == word, f"{word!r} is not in digits as they are printed")
-    return made
-
-
-def bytes_in(word):
-    return b"" if word == "-" else some_bytes_in(word)
-
-
-def class_of(length):
-    return next(size for size in CLASSES if length <= size)
-
-
-class Call:
-    """A call line: its word, its thread and number, and what it is about."""
-
-    def __init__(self, thread, number, words):
-        self.label = f"t{thread + 1}.{number}"
-        self.thread = thread
-        self.word = words[0]
-        self.key = self.value = self.recipe = self.name = None
-        self.low = self.high = None
-        if self.word in ("scan", "back"):
-            self.low, self.high = (None if word == "-" else some_bytes_in(word) for word in words[1:])
-        elif self.word == "look":
-            self.name = words[1]
-        elif self.word == "hold":
-            self.name, self.key = words[1], some_bytes_in(words[2])
-        else:
-            self.key = some_bytes_in(words[1])
-        if self.word in ("put", "putnew", "upsert"):
-            self.value = bytes_in(words[2])
-        if self.word == "compute":
-            self.recipe = words[2:]
-        if self.word == "upsert":
-            self.recipe = words[3:]
-
-
-class Reply:
-    """A reply: its word, its place where it has one, the bytes of a value, what was lacking, or a scan's pairs."""
-
-    def __init__(self, word, place=None, value=None, lack=None, pairs=None):
-        self.word = word
-        self.place = place
-        self.value = value
-        self.lack = lack
-        self.pairs = pairs
-
-
-def read_script(text):
-    """The shape of a script without a fault, and the calls of each thread."""
-    lines = text.splitlines()
-    shape = DEFAULT_SHAPE
-    threads = []
-    for line in lines[1:-1]:
-        words = line.split(" ")
-        if words[0] == "shape":
-            shape = [int(word) for word in words[1:]]
-        elif words[0] == "thread":
-            threads.append([])
-        else:
-            threads[-1].append(Call(len(threads) - 1, len(threads[-1]) + 1, words))
-    return shape, threads
-
-
-class Lines:
-    """The lines of a text, taken one by one."""
-
-    def __init__(self, text):
-        require(text.endswith("\n"), "the text does not end with a line feed")
-        self.lines = text[:-1].split("\n")
-        self.next = 0
-
-    def take(self, words):
-        require(self.next < len(self.lines), "the text is too short")
-        line = self.lines[self.next].split(" ")
-        require(len(line) == words, f"line {self.next + 1} has not {words} words")
-        self.next += 1
-        return line
-
-    def words_in_next(self):
-        require(self.next < len(self.lines), "the text is too short")
-        return self.lines[self.next].count(" ") + 1
-
-
-def number_in(word):
-    require(word.isascii() and word.isdigit() and str(int(word)) == word, f"{word!r} is no number")
-    return int(word)
-
-
-def place_in(word):
-    require(word.startswith("@"), f"{word!r} is no place")
-    return number_in(word[1:])
-
-
-REPLIES = {
-    "put": ("new", "over", "full"), "get": ("=", "none"), "putnew": ("new", "kept", "full"),
-    "compute": ("done", "none"), "upsert": ("new", "done", "full"), "remove": ("removed", "none"),
-    "hold": ("held", "none"), "look": ("=", "gone", "unheld"), "scan": ("pairs",), "back": ("pairs",),
-}
-LACKS = ("b16", "b64", "b256", "b1024", "header", "room")
-
-
-def read_reply(lines, call):
-    words = lines.take(lines.words_in_next())
-    require(words[0] == call.label, f"{words[0]!r} stands where {call.label} is due")
-    require(len(words) > 1 and words[1] in REPLIES[call.word], f"{call.label}: no reply of {call.word}")
-    word, rest = words[1], words[2:]
-    require(len(rest) == {"=": 2, "gone": 0, "unheld": 0}.get(word, 1), f"{call.label}: {word} has other words")
-    if word == "=":
-        return Reply(word, place=place_in(rest[1]), value=bytes_in(rest[0]))
-    if word == "full":
-        require(rest[0] in LACKS, f"{call.label}: nothing is called {rest[0]!r}")
-        return Reply(word, lack=rest[0])
-    if word == "pairs":
-        return Reply(word, pairs=[read_pair(lines) for _ in range(number_in(rest[0]))])
-    return Reply(word, place=place_in(rest[0]) if rest else None)
-
-
-def read_pair(lines):
-    plus, key, value, place = lines.take(4)
-    require(plus == "+", "a pair does not begin with +")
-    return some_bytes_in(key), bytes_in(value), place_in(place)
-
-
-def made_by(recipe, value):
-    """What a recipe makes of a value."""
-    if recipe[0] == "rev":
-        return value[::-1]
-    if recipe[0] == "xor":
-        return bytes(byte ^ int(recipe[1], 16) for byte in value)
-    if len(value) < 8:
-        return value
-    number = (int.from_bytes(value[:8], "big") + int(recipe[1])) % 2 ** 64
-    return number.to_bytes(8, "big") + value[8:]
-
-
-def answer(call, state):
-    """What the cell answers to a call on one key, and the state behind it."""
-    if call.word in ("get", "hold"):
-        return ("none" if state is ABSENT else "=" if call.word == "get" else "held"), state
-    if call.word == "remove":
-        return ("none" if state is ABSENT else "removed"), ABSENT
-    if state is ABSENT:
-        return ("none", ABSENT) if call.word == "compute" else ("new", call.value)
-    if call.word == "put":
-        return "over", call.value
-    if call.word == "putnew":
-        return "kept", state
-    return "done", made_by(call.recipe, state)
-
-
-WRITES = ("new", "over", "done", "removed")
-
-
-def gather_writes(threads, replies):
-    """Of each key the calls that wrote it, with their replies, in the order of their places."""
-    writes = collections.defaultdict(list)
-    for calls, answers in zip(threads, replies):
-        for call, reply in zip(calls, answers):
-            if reply.word in WRITES:
-                writes[call.key].append((reply.place, call, reply))
-    for key, made in writes.items():
-        made.sort(key=lambda write: write[0])
-        places = [place for place, _, _ in made]
-        require(places == list(range(1, len(places) + 1)), f"the writes of {key.hex()} have not the places 1 to n")
-    return writes
-
-
-def histories_of(writes):
-    """Of each key that was written its states, from the first, absent, to the last."""
-    histories = {}
-    for key, made in writes.items():
-        states = [ABSENT]
-        for _, call, reply in made:
-            word, after = answer(call, states[-1])
-            require(word == reply.word, f"{call.label}: {reply.word} where {word} is due")
-            states.append(after)
-        histories[key] = states
-    return histories
+sys.dont_write_bytecode = True
+from run_text import (ABSENT, CLASSES, WRITES, Lines, Wrong, answer, bytes_in, class_of, gather_writes, histories_of,
+                      number_in, read_reply, read_script, require, some_bytes_in)
 
 
 class Thread:
@@ -337,7 +145,7 @@ def check_map(lines, histories):
 
 
 def check_table(lines, last, shape):
-    """What is used of the table is what the map takes."""
+    """What is used of the table is what the map takes: the name, the number used and the limit of each part."""
     require(lines.take(1) == ["arena"], "arena is due")
     chunks, _, headers, *blocks = shape
     lengths = [len(part) for pair in last.items() for part in pair]
@@ -352,6 +160,7 @@ def check_table(lines, last, shape):
     require(name == "chunks" and limit == str(chunks), "the chunks of the script are due")
     require(1 <= number_in(used) <= chunks, f"{used} chunks")
     require(lines.next == len(lines.lines), "the text goes on")
+    return due + [(name, int(used), chunks)]
 
 
 def told_counts(threads, replies):
@@ -364,18 +173,36 @@ def told_counts(threads, replies):
     return f"threads {len(threads)}, calls {calls}: {told}"
 
 
-def check(script, text):
+class Run:
+    """A run whose text is right: what its script and its text tell."""
+
+    def __init__(self, threads, replies, writes, histories, table):
+        self.threads = threads
+        self.replies = replies
+        self.writes = writes
+        self.histories = histories
+        self.table = table
+
+
+def judge(script, text):
+    """The run of a script, where the text is right."""
     shape, threads = read_script(script)
     lines = Lines(text)
     replies = [[read_reply(lines, call) for call in calls] for calls in threads]
-    histories = histories_of(gather_writes(threads, replies))
+    writes = gather_writes(threads, replies)
+    histories = histories_of(writes)
     for calls, answers in zip(threads, replies):
         thread = Thread(histories)
         for call, reply in zip(calls, answers):
             thread.judge(call, reply)
     last = check_map(lines, histories)
-    check_table(lines, last, shape)
-    return told_counts(threads, replies)
+    table = check_table(lines, last, shape)
+    return Run(threads, replies, writes, histories, table)
+
+
+def check(script, text):
+    run = judge(script, text)
+    return told_counts(run.threads, run.replies)
 
 
 def main():
@@ -390,4 +217,5 @@ def main():
             sys.exit(1)
 
 
-main()
+if __name__ == "__main__":
+    main()
