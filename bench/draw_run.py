@@ -470,7 +470,7 @@ def draw_legend(picture, x, y, run):
     if len(run.threads) > len(COLOURS):
         picture.stripe(x + 10, y + 1, 14, len(COLOURS))
         y = legend_line(picture, x, y, f"broken: from t{len(COLOURS) + 1} on")
-    for word, words in (("new", "a write: makes its place"), ("get", "a reply behind that write"),
+    for word, words in (("new", "a write: makes its place"), ("get", "a reply that wrote nothing"),
                         ("full", "refused: the table was full")):
         draw_sign(picture, x + 13, y + 8, word)
         y = legend_line(picture, x, y, words)
