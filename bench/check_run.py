@@ -20,7 +20,10 @@ A text is right where all of this holds:
 - The map has the last states, in the order of the keys. The used blocks are those that the map's keys and values
   take, the used headers its keys, the used chunks at least one, and none is above the script's limit.
 
-That a refused call did lack it can't be seen in a text. (A header is retired only after some four milliards of lives,
+- Of a script of one thread each refused call lacked what it tells, and no other call lacked anything: docs/PROMISES.md
+  has what is full to a pass that is alone, in which order. Of chunks it is only judged that one was full of keys.
+
+That a refused call of several threads did lack it can't be seen in a text. (A header is retired only after some four milliards of lives,
 so the used headers are the keys here.) Printed is one line: the number of threads and calls, and of each kind of reply.
 It ends with 0 where the text is right, with 1 and the first thing that is wrong where it isn't, and with 2 for wrong
 words.
@@ -133,6 +136,51 @@ def needs(call, state, lack):
     return class_of(len(after)) == size and (state is ABSENT or class_of(len(state)) != size)
 
 
+class Alone:
+    """What the map of a thread that is alone holds, and takes of the table."""
+
+    def __init__(self, shape):
+        self.chunks, self.entries, self.headers, *blocks = shape
+        self.left = dict(zip(CLASSES, blocks))
+        self.map = {}
+
+    def lack_of(self, call):
+        """What the call lacks of blocks and headers, or none."""
+        before = self.map.get(call.key, ABSENT)
+        word, after = answer(call, before)
+        if word not in WRITES or after is ABSENT:
+            return None
+        of_key, of_value = class_of(len(call.key)), class_of(len(after))
+        if (before is ABSENT or class_of(len(before)) != of_value) and self.left[of_value] == 0:
+            return f"b{of_value}"
+        if before is not ABSENT:
+            return None
+        if len(self.map) == self.headers:
+            return "header"
+        return f"b{of_key}" if self.left[of_key] == (1 if of_key == of_value else 0) else None
+
+    def judge(self, call, reply):
+        lack = self.lack_of(call)
+        if reply.word == "full":
+            due = lack or ("room" if len(self.map) >= self.entries else "nothing")
+            require(reply.lack == due, f"{call.label}: it lacks {reply.lack} where {due} is due")
+        elif reply.word in WRITES:
+            few = reply.word != "new" or self.chunks > 1 or len(self.map) < self.entries
+            require(lack is None and few, f"{call.label}: it lacks {lack or 'room'}, and is not refused")
+            self.write(call.key, answer(call, self.map.get(call.key, ABSENT))[1])
+
+    def write(self, key, value):
+        if key in self.map:
+            self.count(key, self.map.pop(key), 1)
+        if value is not ABSENT:
+            self.count(key, value, -1)
+            self.map[key] = value
+
+    def count(self, key, value, more):
+        for part in (key, value):
+            self.left[class_of(len(part))] += more
+
+
 def check_map(lines, histories):
     """The printed map has the last states, in the order of the keys: the map."""
     last = {key: states[-1] for key, states in histories.items() if states[-1] is not ABSENT}
@@ -163,11 +211,17 @@ def check_table(lines, last, shape):
     return due + [(name, int(used), chunks)]
 
 
-def told_counts(threads, replies):
+def count_replies(replies):
+    """How often each kind of reply came."""
     counts = collections.Counter()
     for answers in replies:
         for reply in answers:
             counts[f"full {reply.lack}" if reply.word == "full" else reply.word] += 1
+    return counts
+
+
+def told_counts(threads, replies):
+    counts = count_replies(replies)
     calls = sum(len(calls) for calls in threads)
     told = ", ".join(f"{counts[word]} {word}" for word in sorted(counts))
     return f"threads {len(threads)}, calls {calls}: {told}"
@@ -195,14 +249,13 @@ def judge(script, text):
         thread = Thread(histories)
         for call, reply in zip(calls, answers):
             thread.judge(call, reply)
+    if len(threads) == 1:
+        alone = Alone(shape)
+        for call, reply in zip(threads[0], replies[0]):
+            alone.judge(call, reply)
     last = check_map(lines, histories)
     table = check_table(lines, last, shape)
     return Run(threads, replies, writes, histories, table)
-
-
-def check(script, text):
-    run = judge(script, text)
-    return told_counts(run.threads, run.replies)
 
 
 def main():
@@ -211,7 +264,8 @@ def main():
         sys.exit(2)
     with open(sys.argv[1], encoding="ascii", newline="") as script, open(sys.argv[2], encoding="ascii", newline="") as text:
         try:
-            print(check(script.read(), text.read()))
+            run = judge(script.read(), text.read())
+            print(told_counts(run.threads, run.replies))
         except (Wrong, ValueError) as wrong:
             print(f"check_run.py: {wrong}", file=sys.stderr)
             sys.exit(1)

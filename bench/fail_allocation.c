@@ -1,6 +1,7 @@
 /* Preloaded into a program, makes one of its allocations find no memory: the one whose number, from 1 on, the
-   environment gives as FAIL_ALLOCATION. How many allocations were asked for is kept in the file COUNT_ALLOCATIONS, of
-   eight bytes. bench/fail_allocations.sh compiles and uses it. */
+   environment gives as FAIL_ALLOCATION, and all later ones, too, where FAIL_LATER is there. How many allocations were
+   asked for is kept in the file COUNT_ALLOCATIONS, of eight bytes. bench/fail_allocations.sh and bench/torture.sh compile
+   and use it. */
 #define _GNU_SOURCE
 #include <dlfcn.h>
 #include <errno.h>
@@ -8,8 +9,10 @@
 #include <stdint.h>
 #include <stdlib.h>
 #include <sys/mman.h>
+#include <unistd.h>
 
 static uint64_t none, failing, *count = &none;
+static int later;
 static void *(*next_malloc)(size_t);
 static void *(*next_realloc)(void *, size_t);
 static int (*next_memalign)(void **, size_t, size_t);
@@ -22,13 +25,18 @@ __attribute__((constructor)) static void begin(void) {
     next_realloc = (void *(*)(void *, size_t))dlsym(RTLD_NEXT, "realloc");
     next_memalign = (int (*)(void **, size_t, size_t))dlsym(RTLD_NEXT, "posix_memalign");
     if (kept == MAP_FAILED) abort();
+    close(at);
     count = kept;
     *count = 0;
     failing = number ? strtoull(number, NULL, 10) : 0;
+    later = failing && getenv("FAIL_LATER");
 }
 
 /* Several threads may allocate beside each other. */
-static int fails(void) { return __atomic_add_fetch(count, 1, __ATOMIC_SEQ_CST) == failing; }
+static int fails(void) {
+    uint64_t number = __atomic_add_fetch(count, 1, __ATOMIC_SEQ_CST);
+    return number == failing || (later && number > failing);
+}
 
 void *malloc(size_t size) {
     if (!next_malloc) next_malloc = (void *(*)(size_t))dlsym(RTLD_NEXT, "malloc");

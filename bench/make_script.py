@@ -133,4 +133,5 @@ def main():
     write_script(words[0], calls, keys, shape, threads)
 
 
-main()
+if __name__ == "__main__":
+    main()
