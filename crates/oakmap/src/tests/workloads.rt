@@ -5,7 +5,7 @@ use outside::{FreeGate, MemorySource};
 use std::test::Fail;
 
 /// The words of a workload, and its summary, with a slash for a line's end.
-const SUMMARIES: [(&str, &str); 3] = [
+const SUMMARIES: [(&str, &str); 4] = [
     ("gen 4 1 0", "gen 4 1 0/calls 4/full 0/keys 4/sum 4/b16 8/"),
     (
         "gen 1 1 65535",
@@ -14,6 +14,10 @@ const SUMMARIES: [(&str, &str); 3] = [
     (
         "gen 4096 1 3",
         "gen 4096 1 3/calls 4096/full 0/keys 1005/sum 4096/b16 2010/",
+    ),
+    (
+        "gen 65536 4 7",
+        "gen 65536 4 7/calls 262144/full 0/keys 1024/sum 262144/b16 2048/",
     ),
 ];
 
