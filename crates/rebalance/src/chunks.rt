@@ -1,5 +1,5 @@
 //! A chunk that a call holds alone: found by a key, compacted, and opened again.
-ghost use Rattle.std.specs.Prelude.{◌≡◌, ℕ, List, IfSome, IfNone, MatchBool, None, true, false};
+ghost use Rattle.std.specs.Prelude.{◌≡◌, ℕ, List, IfErr, IfOk, IfSome, IfNone, MatchBool, None, true, false};
 ghost use Rattle.oak_model.specs.Key.{IsKey};
 ghost use Rattle.oak_model.specs.KeyNumber.{key_number};
 ghost use Rattle.chunk_core.specs.declared.holds.HeldRoom.{HeldRoom};
@@ -7,7 +7,9 @@ ghost use Rattle.chunk_core.specs.declared.holds.MovingRange.{MovingRange};
 ghost use Rattle.chunk_core.specs.declared.holds.RoomCopy.{RoomCopy};
 ghost use Rattle.chunk_core.specs.Spans.{within};
 ghost use Rattle.oak_core.specs.Passes.{IsPassOf, Stays, state, key as sizes, call_of};
-ghost use Rattle.chunk_ops.specs.PinRecords.{HasRoomPin};
+ghost use Rattle.chunk_ops.specs.AskedRanges.{CoversKey};
+ghost use Rattle.chunk_ops.specs.PinRecords.{HasRoomPin, OnlyMeets};
+ghost use Rattle.chunk_ops.specs.RoomPins.{PinsOpen};
 ghost use Rattle.chunk_ops.specs.Stored.{IsStored};
 ghost use Rattle.rebalance.specs.Copies.{copy_span};
 ghost use Rattle.rebalance.specs.Chunks.{ComesBack, HoldsFor, HoldsFront, HoldsPinned, LosesPinned, OpensFront};
@@ -16,9 +18,9 @@ ghost use Rattle.rebalance.specs.HeldTables.{HoldsOnlyRooms, WorksOnRooms};
 use crate::held::HeldTable;
 use crate::holding::{freeze_pinned, hold_frozen, open_held};
 use crate::ranges::has_key;
-use chunk_ops::{RoomPin, StoredKey, pin_for, unpin};
+use chunk_ops::{Moved, RoomPin, StoredKey, pin_for, unpin};
 use oak_core::{OakTable, Pass};
-use oak_model::{GREATEST_ENTRIES, NO_HINT};
+use oak_model::GREATEST_ENTRIES;
 use std::sync::Wait;
 use std::thread;
 
@@ -69,6 +71,19 @@ pub(crate) fn open_front(table: &OakTable, pass: &mut Pass, room: u32)
     open_held(table, pass, room);
 }
 
+/// Pins the room that has the key in its range, which is looked for first where the pass's hint says.
+fn pin_covering(table: &OakTable, pass: &mut Pass, key: &[u8]) -> Result<RoomPin, Moved>
+    requires own { IsPassOf table.now pass.old }
+    requires key { IsKey key.now }
+    requires free { (state pass.old).rooms.pin ≡ None }
+    ensures own { Stays pass.old pass.new }
+    ensures pinned { IfOk result (λ p. PinsOpen (sizes table.now) (call_of pass.old) p.room (CoversKey key.now) (state pass.old) (state pass.new)) }
+    ensures only { IfErr result (λ _. OnlyMeets (call_of pass.old) (state pass.old) (state pass.new)) }
+{
+    let hint = pass.hint(key);
+    pin_for(table, pass, key, hint)
+}
+
 /// Tries to hold the chunk that covers the key. Where another pass has frozen or moved it, the pass has what
 /// it had.
 fn try_hold<R: Wait>(rt: &R, table: &OakTable, pass: &mut Pass, key: &[u8]) -> Option<u32>
@@ -79,7 +94,7 @@ fn try_hold<R: Wait>(rt: &R, table: &OakTable, pass: &mut Pass, key: &[u8]) -> O
     ensures holds { IfSome result (λ r. (w : RoomCopy) × (g : MovingRange) × HoldsFor (sizes table.now) (call_of pass.old) key.now r w g (state pass.old) (state pass.new)) }
     ensures back { IfNone result (ComesBack (sizes table.now) (call_of pass.old) (state pass.old) (state pass.new)) }
 {
-    let Ok(pin) = pin_for(table, pass, key, NO_HINT) else {
+    let Ok(pin) = pin_covering(table, pass, key) else {
         return None;
     };
     let room = pin.room;

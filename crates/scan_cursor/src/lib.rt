@@ -3,6 +3,7 @@
 
 mod cursor;
 mod gathering;
+mod hinted;
 mod marks;
 mod reading;
 mod spots;

@@ -11,9 +11,9 @@ ghost use Rattle.chunk_ops.specs.PinRecords.{HasRoomPin, UnderPin, WordsStay, ro
 ghost use Rattle.scan_cursor.specs.Reading.{LeavesHere, LooksUp, ReadsHere};
 ghost use Rattle.scan_cursor.specs.Views.{IsKnown, KnowsLast, Later, View, view_of};
 
-use chunk_ops::{Content, Found, RoomPin, content, find, pin_for, unpin};
+use crate::hinted::pin_covering;
+use chunk_ops::{Content, Found, RoomPin, content, find, unpin};
 use oak_core::{OakTable, Pass};
-use oak_model::NO_HINT;
 use value_ops::{BadPin, PinnedValue, pin_at};
 
 /// What a read of a key came to: it is present, and its value is pinned; it is absent; or its room was moved, or its
@@ -73,7 +73,7 @@ pub(crate) fn read_key(table: &OakTable, pass: &mut Pass, key: &[u8]) -> Here
     ensures here { let z = sizes table.now in let call = call_of pass.old in ReadsHere result key.now (view_of z call (state pass.old)) (view_of z call (state pass.new)) }
     ensures still { LeavesHere result (sizes table.now) (state pass.old) (state pass.new) }
 {
-    let Ok(pin) = pin_for(table, pass, key, NO_HINT) else {
+    let Ok(pin) = pin_covering(table, pass, key) else {
         return Here::Again;
     };
     let life = look_up(table, pass, &pin, key);

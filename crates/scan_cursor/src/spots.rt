@@ -9,11 +9,11 @@ ghost use Rattle.chunk_ops.specs.RoomPins.{AddsRoomPin};
 ghost use Rattle.scan_cursor.specs.Holding.{HasRoom, IsAhead, bound_in, room_at};
 ghost use Rattle.scan_cursor.specs.Views.{Later, view_of};
 
+use crate::hinted::{pin_below, pin_covering};
 use crate::marks::Mark;
 use crate::ways::Way;
-use chunk_ops::{KeyBytes, Moved, RoomPin, high_key, low_key, pin_for, pin_last};
+use chunk_ops::{KeyBytes, Moved, RoomPin, high_key, low_key};
 use oak_core::{OakTable, Pass};
-use oak_model::NO_HINT;
 
 /// Pins the room in which the scan goes on: the one that has the mark's key, or, where a scan that goes down is past
 /// that, the one with the keys next below it.
@@ -34,8 +34,8 @@ pub(crate) fn pin_ahead(
     ensures stays { IfErr result (λ _. Runs WordsStay (state pass.old) (state pass.new)) }
 {
     match way {
-        Way::Down if mark.past => pin_last(table, pass, Some(mark.key.as_slice()), NO_HINT),
-        _ => pin_for(table, pass, mark.key.as_slice(), NO_HINT),
+        Way::Down if mark.past => pin_below(table, pass, mark.key.as_slice()),
+        _ => pin_covering(table, pass, mark.key.as_slice()),
     }
 }
 

@@ -12,22 +12,22 @@ use Rattle.scan_cursor.proofs.spots.pin_ahead.Goals.{in_default-via-in-Down+else
 use Rattle.scan_cursor.proofs.spots.pin_ahead.Goals as goal
 
 pub returns-in-Down-clause-ahead : goal.returns-in-Down-clause-ahead
-returns-in-Down-clause-ahead c = let z : Sizes = key c.args.table.now in let call = call_of c.args.pass.now in let v = state c.args.pass.now in let w = state c.pin_last.new.pass in let k : List ℕ = c.args.mark.now.key in
-    IfOk-weaker c.pin_last.result (λ p. PinsOpen z call p.room (EndsUnder k) v w) (λ p. IsAhead z p.room c.args.way c.args.mark.now.past k w)
+returns-in-Down-clause-ahead c = let z : Sizes = key c.args.table.now in let call = call_of c.args.pass.now in let v = state c.args.pass.now in let w = state c.pin_below.new.pass in let k : List ℕ = c.args.mark.now.key in
+    IfOk-weaker c.pin_below.result (λ p. PinsOpen z call p.room (EndsUnder k) v w) (λ p. IsAhead z p.room c.args.way c.args.mark.now.past k w)
     (λ p o. subst (λ (way : Way). IsAhead z p.room way c.args.mark.now.past k w) (sym c.in-Down.is) (subst (λ (past : Bool). IsAhead z p.room Down past k w) (sym c.if-mark.true) (below_ahead z call p.room v w c.requires.idle k c.requires.key o)))
-    (subst (λ (q : List ℕ). IfOk c.pin_last.result (λ p. PinsOpen z call p.room (EndsUnder q) v w)) c.as_slice.ensures c.pin_last.ensures.pinned)
+    (subst (λ (q : List ℕ). IfOk c.pin_below.result (λ p. PinsOpen z call p.room (EndsUnder q) v w)) c.as_slice.ensures c.pin_below.ensures.pinned)
 
 pub returns-in_default-clause-ahead : goal.returns-in_default-clause-ahead
-returns-in_default-clause-ahead c = let z : Sizes = key c.args.table.now in let call = call_of c.args.pass.now in let v = state c.args.pass.now in let w = state c.pin_for.new.pass in let k : List ℕ = c.args.mark.now.key in
-    IfOk-weaker c.pin_for.result (λ p. PinsOpen z call p.room (CoversKey k) v w) (λ p. IsAhead z p.room c.args.way c.args.mark.now.past k w)
+returns-in_default-clause-ahead c = let z : Sizes = key c.args.table.now in let call = call_of c.args.pass.now in let v = state c.args.pass.now in let w = state c.pin_covering.new.pass in let k : List ℕ = c.args.mark.now.key in
+    IfOk-weaker c.pin_covering.result (λ p. PinsOpen z call p.room (CoversKey k) v w) (λ p. IsAhead z p.room c.args.way c.args.mark.now.past k w)
     (λ p o. elim c.in_default.branch [
       | in_default-via-in-Down+else-mark b ↦ subst (λ (way : Way). IsAhead z p.room way c.args.mark.now.past k w) (sym b.in-Down.is) (subst (λ (past : Bool). IsAhead z p.room Down past k w) (sym b.if-mark.false) (down_ahead z call p.room v w c.requires.idle k c.requires.key o))
       | in_default-via-in_default b ↦ subst (λ (way : Way). IsAhead z p.room way c.args.mark.now.past k w) (sym b.in_default.is) (up_ahead z call p.room v w c.requires.idle k c.requires.key c.args.mark.now.past o)
     ])
-    (subst (λ (q : List ℕ). IfOk c.pin_for.result (λ p. PinsOpen z call p.room (CoversKey q) v w)) c.as_slice-in_default.ensures c.pin_for.ensures.pinned)
+    (subst (λ (q : List ℕ). IfOk c.pin_covering.result (λ p. PinsOpen z call p.room (CoversKey q) v w)) c.as_slice-in_default.ensures c.pin_covering.ensures.pinned)
 
 pub returns-in-Down-clause-later : goal.returns-in-Down-clause-later
-returns-in-Down-clause-later c = spot_later (key c.args.table.now) (call_of c.args.pass.now) _ (state c.args.pass.now) (state c.pin_last.new.pass) c.pin_last.result c.pin_last.ensures.pinned c.pin_last.ensures.only
+returns-in-Down-clause-later c = spot_later (key c.args.table.now) (call_of c.args.pass.now) _ (state c.args.pass.now) (state c.pin_below.new.pass) c.pin_below.result c.pin_below.ensures.pinned c.pin_below.ensures.only
 
 pub returns-in_default-clause-later : goal.returns-in_default-clause-later
-returns-in_default-clause-later c = spot_later (key c.args.table.now) (call_of c.args.pass.now) _ (state c.args.pass.now) (state c.pin_for.new.pass) c.pin_for.result c.pin_for.ensures.pinned c.pin_for.ensures.only
+returns-in_default-clause-later c = spot_later (key c.args.table.now) (call_of c.args.pass.now) _ (state c.args.pass.now) (state c.pin_covering.new.pass) c.pin_covering.result c.pin_covering.ensures.pinned c.pin_covering.ensures.only
