@@ -4,12 +4,11 @@
 #
 # usage: bench/fail_allocations.sh
 #
-# The runs are those of the scripts in examples/, by bin/oakmap, which proves and builds the program first where it was
-# not yet. Printed is for each how many allocations it has, and how many of them the program can't do without.
+# The runs are those of the scripts in examples/, by the program that bin/oakmap runs, which is proved and built first
+# where there is none of these sources yet. Printed is for each how many allocations it has, and how many of them the
+# program can't do without.
 . "$(dirname "$(readlink -f "${BASH_SOURCE[0]}")")/common.sh"
-program=$home/crates/oakmap_program/out/oakmap_program
-
-"$home/bin/oakmap" run <"$home/examples/first.oak" >"$room/text" || fail "the program does not run"
+program=$("$home/bin/oakmap" --program) || fail "there is no program"
 cc -shared -fPIC -O1 -o "$room/fail.so" "$home/bench/fail_allocation.c" -ldl || fail "the failing allocator does not compile"
 head -c 8 /dev/zero >"$room/count"
 

@@ -6,9 +6,9 @@
 # SECONDS is the limit of each run, 60 where it is left out. The scripts are made by bench/make_script.py: numbers on
 # four keys that all threads count up, mixed calls on eight keys that all share, keys of each thread's own, small tables
 # that run out of blocks of each class, of headers and of chunks, and the greatest script, of 262,144 calls in the
-# greatest table. Each is run once by bin/oakmap, which proves and builds the program first where it was not yet, has to
-# end with 0, and its text has to pass bench/check_run.py. Printed are for each its seconds, and how many replies of each
-# kind came. It ends with 0 where that is so of each run, and each of the six refusals came.
+# greatest table. Each is run once by bin/oakmap, which proves and builds the program first where there is none of
+# these sources yet, has to end with 0, and its text has to pass bench/check_run.py. Printed are for each its seconds, and
+# how many replies of each kind came. It ends with 0 where that is so of each run, and each of the six refusals came.
 . "$(dirname "$(readlink -f "${BASH_SOURCE[0]}")")/common.sh"
 take_number SECONDS 5 60 "$@"
 most=$number

@@ -8,9 +8,9 @@
 # each by 1, 2, 4 and 16 threads that share its calls out: mixed calls with 32 scans over 30,000 keys in the greatest
 # shape, the same over 1,000 keys in the default shape, and mixed calls without scans over 16,000 keys in the greatest
 # shape, which are shared out as well, so that each thread has its own. A run of the second load by one thread may take
-# 2 seconds, and each other run 20. Each is run once by bin/oakmap, which proves and builds the program first where it
-# was not yet. Printed are for each load the seconds of its runs, reading and printing among them, and the last lines of
-# the text of the first: what is used of the table.
+# 2 seconds, and each other run 20. Each is run once by bin/oakmap, which proves and builds the program first where
+# there is none of these sources yet. Printed are for each load the seconds of its runs, reading and printing among them,
+# and the last lines of the text of the first: what is used of the table.
 . "$(dirname "$(readlink -f "${BASH_SOURCE[0]}")")/common.sh"
 take_number CALLS 6 262144 "$@"
 calls=$number

@@ -8,8 +8,8 @@
 # often each kind of run ended with each status, a line for each run that differed, with its seed and the folder in which
 # its files are kept, and a table behind all. It ends with 0 where none differed. The second form runs one seed, keeps its
 # files, and says what came and where they are. Of a run all but the order of the threads comes from its seed alone. OAKMAP
-# may name a program that takes the place of bin/oakmap, which else proves and builds the program first where it was not
-# yet.
+# may name a program that takes the place of the one that bin/oakmap runs, which is proved and built first where there is
+# none of these sources yet.
 #
 # A script has 1 to 16 threads that make up to 8,000 calls on few keys, most in a table that runs full. The kinds of runs:
 #
@@ -43,8 +43,7 @@ fi
 
 program=${OAKMAP:-}
 if [[ -z $program ]]; then
-    "$home/bin/oakmap" run <"$home/examples/first.oak" >"$room/text" || fail "the program does not run"
-    program=$home/crates/oakmap_program/out/oakmap_program
+    program=$("$home/bin/oakmap" --program) || fail "there is no program"
 fi
 [[ -x $program ]] || fail "there is no program $program"
 for library in fail_io fail_allocation; do

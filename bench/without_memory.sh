@@ -9,7 +9,7 @@
 . "$(dirname "$(readlink -f "${BASH_SOURCE[0]}")")/common.sh"
 take_number STEP 6 64 "$@"
 step=$number
-program=$home/crates/oakmap_program/out/oakmap_program
+program=$("$home/bin/oakmap" --program) || fail "there is no program"
 
 # Runs the program within so many kilobytes.
 run_within() {
