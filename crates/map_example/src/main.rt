@@ -22,7 +22,9 @@ struct Found {
 }
 
 /// Makes a map for two passes, has it filled by two threads, reads it, and closes it.
-fn run<R: Threads + Wait + Sync + AllocGlobal>(rt: &R) -> anyhow::Result<Found> {
+fn run<R: Threads + Wait + Clone + Drop + Send + Sync + AllocGlobal>(
+    rt: &R,
+) -> anyhow::Result<Found> {
     let shape = Shape::make(2, 16, 64, 1024, [2048, 0, 0, 0])?;
     let (map, mut pass) = OakMap::create(rt, &shape)?;
     let filled = fill(rt, &map, &mut pass);

@@ -18,7 +18,7 @@ use std::sync::Wait;
 use std::thread::{Threads, join_mut};
 
 /// The pass's next call, in which it made no write so far.
-fn next_call(map: &OakMap, pass: &mut MapPass, call: u32)
+fn next_call<R: Wait + Drop + Send>(map: &OakMap<R>, pass: &mut MapPass, call: u32)
     requires own { IsReady map.now pass.old }
     requires above { call_of pass.old < call }
     requires ready { IsReadyFor (call_of pass.old) (state pass.old) }
@@ -31,7 +31,13 @@ fn next_call(map: &OakMap, pass: &mut MapPass, call: u32)
 }
 
 /// Puts a row, in a call of its own.
-fn put_row<R: Wait>(rt: &R, map: &OakMap, pass: &mut MapPass, call: u32, row: &Row) -> Wrote
+fn put_row<R: Wait + Drop + Send>(
+    rt: &R,
+    map: &OakMap<R>,
+    pass: &mut MapPass,
+    call: u32,
+    row: &Row,
+) -> Wrote
     requires own { IsReady map.now pass.old }
     requires above { call_of pass.old < call }
     requires ready { IsReadyFor (call_of pass.old) (state pass.old) }
@@ -44,7 +50,12 @@ fn put_row<R: Wait>(rt: &R, map: &OakMap, pass: &mut MapPass, call: u32, row: &R
 }
 
 /// Puts rows one by one: whether each was new.
-fn put_rows<R: Wait>(rt: &R, map: &OakMap, pass: &mut MapPass, rows: &[Row; HOURS]) -> bool
+fn put_rows<R: Wait + Drop + Send>(
+    rt: &R,
+    map: &OakMap<R>,
+    pass: &mut MapPass,
+    rows: &[Row; HOURS],
+) -> bool
     requires own { IsReady map.now pass.old }
     requires first { call_of pass.old ≡ 0 }
     requires ready { IsReadyFor 0 (state pass.old) }
@@ -60,9 +71,9 @@ fn put_rows<R: Wait>(rt: &R, map: &OakMap, pass: &mut MapPass, rows: &[Row; HOUR
 }
 
 /// Two threads put the rows of a shop each, beside each other: whether each row was new.
-fn put_beside<R: Threads + Wait + Sync>(
+fn put_beside<R: Threads + Wait + Drop + Send + Sync>(
     rt: &R,
-    map: &OakMap,
+    map: &OakMap<R>,
     one: &mut MapPass,
     other: &mut MapPass,
 ) -> bool
@@ -94,9 +105,9 @@ fn put_beside<R: Threads + Wait + Sync>(
 
 /// Splits a pass off for a second thread, has both threads put their rows, and joins the pass again: whether each row
 /// was new.
-pub fn fill<R: Threads + Wait + Sync + AllocGlobal>(
+pub fn fill<R: Threads + Wait + Drop + Send + Sync + AllocGlobal>(
     rt: &R,
-    map: &OakMap,
+    map: &OakMap<R>,
     pass: &mut MapPass,
 ) -> Result<bool, SplitFault>
     requires own { IsReady map.now pass.old }
@@ -126,7 +137,12 @@ fn number_in(reading: &mut Reading<'_>) -> Option<u64>
 }
 
 /// What was sold, by the key of the row; none where there is no such row.
-pub fn sold_at<R: Wait>(rt: &R, map: &OakMap, pass: &mut Pass, key: &[u8]) -> Option<u64>
+pub fn sold_at<R: Wait + Drop + Send>(
+    rt: &R,
+    map: &OakMap<R>,
+    pass: &mut Pass,
+    key: &[u8],
+) -> Option<u64>
     requires own { IsPassOf (table_of map.now) pass.old }
     requires idle { HoldsNothing (table_state pass.old) }
     requires key { IsKey key.now }
@@ -194,9 +210,9 @@ fn go_over<R: Wait>(rt: &R, cursor: &mut Cursor<'_>) -> (u64, u64)
 }
 
 /// How many rows there are from the one key to the other, and how much was sold in all of them.
-pub fn sum_between<R: Wait>(
+pub fn sum_between<R: Wait + Drop + Send>(
     rt: &R,
-    map: &OakMap,
+    map: &OakMap<R>,
     pass: &mut Pass,
     low: &[u8],
     high: &[u8],

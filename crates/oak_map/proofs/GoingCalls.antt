@@ -1,7 +1,7 @@
 -- How a call that puts goes on after a try without an answer, and how it gives up.
 use Rattle.oak_core.specs.declared.states.Finding.{Finding}
 use Rattle.oak_core.specs.CallSteps.{MetMore}
-use Rattle.std.proofs.Common.{◌≤◌, length-append, ap, arith, ◌≡◌, ℕ, Bool, true, false, List, length, refl, sym, subst, Option, Some, None, IfSome, IfNone, Result, Ok, ◌⊎◌, ⊎_elim, inl, inr}
+use Rattle.std.proofs.Common.{◌≤◌, length-append, ap, arith, ◌≡◌, ℕ, Bool, true, false, List, length, refl, sym, subst, Option, Some, None, IfSome, IfNone, ◌⊎◌, ⊎_elim, inl, inr}
 use Rattle.oak_model.specs.declared.cells.CellCall.{CellCall}
 use Rattle.oak_model.specs.declared.classes.Class.{Class}
 use Rattle.oak_model.specs.declared.replies.Lack.{Lack}
@@ -17,16 +17,15 @@ use Rattle.oak_core.specs.Noting.{Notes}
 use Rattle.oak_core.specs.QuietSteps.{MetOnly}
 use Rattle.oak_core.proofs.CallSteps.{begins_same}
 use Rattle.oak_core.proofs.KnownReads.{read_since, read_stays}
+use Rattle.chunk_ops.specs.PinRecords.{OnlyMeets}
 use Rattle.point_ops.specs.declared.halts.Halt.{Halt}
 use Rattle.point_ops.specs.declared.halts.Halt.TheVariants.{Busy, Moved, NoHeader}
 use Rattle.point_ops.specs.Needs.{Needs, NeedsNow}
 use Rattle.point_ops.specs.Halting.{AllTaken, Halts}
 use Rattle.point_ops.specs.Replies.{GoesOn, Refuses}
 use Rattle.point_ops.proofs.Composed.{bare_in, sighted_in}
-use Rattle.rebalance.specs.declared.answers.NoRoom.{NoRoom}
-use Rattle.rebalance.specs.declared.answers.Split.{Split}
-use Rattle.rebalance.specs.declared.answers.Split.TheVariants.{Halved, Loosened}
-use Rattle.rebalance.specs.Calls.{FindsNoRoom, Halves, Loosens, Settles}
+use Rattle.point_ops.proofs.PinnedCalls.{met_refuses}
+use Rattle.rebalance.specs.Calls.{FindsNoRoom, Halves, Settles}
 use Rattle.rebalance.proofs.SweptKeys.{sweeps_since, sweeps_until}
 use Rattle.oak_map.specs.MakingRoom.{MakesWay}
 use Rattle.oak_map.specs.Putting.{Going, LastTry}
@@ -48,15 +47,13 @@ going_settled z call before after u v w g s = record {
   swept = λ _ k is. sweeps_since call k u v w g.tries.holds.swept g.tries.goes.met (s.covered k is);
 }
 
--- a split that made room left all else
-pub split_tries : (z : Sizes) (call : ℕ) (key : List ℕ) (v w : PassState) (s : Split) → ((let r : Result Split NoRoom = Ok s in r) ≡ Ok Loosened → Loosens z call key v w) → ((room : ℕ) → (let r : Result Split NoRoom = Ok s in r) ≡ Ok (Halved room) → Halves z call key room v w) → Tries z call v w
-split_tries z call key v w Loosened loosened halved = let c = (loosened refl).compacts in tries_leaves z call v w c.leaves c.claims
-split_tries z call key v w (Halved room) loosened halved = let h = halved room refl in tries_leaves z call v w h.leaves h.claims
+-- what only met more left all else
+pub tries_only : (z : Sizes) (call : ℕ) (v w : PassState) → OnlyMeets call v w → Tries z call v w
+tries_only z call v w o = tries_refused z call v w (met_refuses call v w o)
 
--- it dropped entries, or opened the range as two
-pub split_ways : (z : Sizes) (call : ℕ) (key : List ℕ) (v w : PassState) (s : Split) → ((let r : Result Split NoRoom = Ok s in r) ≡ Ok Loosened → Loosens z call key v w) → ((room : ℕ) → (let r : Result Split NoRoom = Ok s in r) ≡ Ok (Halved room) → Halves z call key room v w) → Loosens z call key v w ⊎ ((room : ℕ) × Halves z call key room v w)
-split_ways z call key v w Loosened loosened halved = inl (loosened refl)
-split_ways z call key v w (Halved room) loosened halved = inr (room, halved room refl)
+-- a split in two, behind which it only met more
+pub tries_halves : (z : Sizes) (call room : ℕ) (key : List ℕ) (v x w : PassState) → Halves z call key room v x → OnlyMeets call x w → Tries z call v w
+tries_halves z call room key v x w h o = tries_both z call v x w (tries_leaves z call v x h.leaves h.claims) (tries_only z call x w o)
 
 -- one that waited made no room
 pub waits_way : (z : Sizes) (call : ℕ) (key : List ℕ) (halt : Halt) (settled : Bool) (v : PassState) → (halt ≡ Busy) ⊎ (halt ≡ Moved) → MakesWay halt z call key settled settled None v v

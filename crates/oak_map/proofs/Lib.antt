@@ -6,6 +6,8 @@ mod SameScratch
 mod Trying
 mod AnsweredPuts
 mod LackingCalls
+mod ChunkReads
+mod MendedMaps
 mod GoingCalls
 mod SettledStays
 mod SettledSplits

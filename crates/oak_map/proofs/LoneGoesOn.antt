@@ -25,7 +25,7 @@ way_learns Moved z call key settled then result w x none m = ap (λ (y : PassSta
 way_learns (NoBlock k) z call key settled then result w x none m = (settles_then z call settled then (Block k) result w x m none).leaves.knowledge
 way_learns NoHeader z call key settled then result w x none m = (settles_then z call settled then Header result w x m none).leaves.knowledge
 way_learns Crowded z call key settled then result w x none (inl (again, inl s)) = s.compacts.leaves.knowledge
-way_learns Crowded z call key settled then result w x none (inl (again, inr h)) = h.1.leaves.knowledge
+way_learns Crowded z call key settled then result w x none (inl (again, inr (room, t, h, o))) = o.stands.knowledge ∙ h.leaves.knowledge
 way_learns Crowded z call key settled then result w x none (inr (t, f, r)) = (settles_then z call settled then Room result t x r none).leaves.knowledge ∙ f.compacts.leaves.knowledge
 
 -- the call began at u, its last try, from v to w, was refused, and it made way until x

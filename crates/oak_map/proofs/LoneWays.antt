@@ -16,6 +16,7 @@ use Rattle.oak_core.specs.PassState.{IsAlone}
 use Rattle.lone_counts.specs.Lacks.{new_lack}
 use Rattle.lone_counts.specs.LoneTable.{retired_in}
 use Rattle.lone_counts.specs.Maps.{IsMapOf, last_states}
+use Rattle.chunk_ops.specs.PinRecords.{OnlyMeets}
 use Rattle.point_ops.specs.declared.halts.Halt.{Halt}
 use Rattle.point_ops.specs.declared.halts.Halt.TheVariants.{Busy, Moved, Crowded, NoBlock, NoHeader}
 use Rattle.point_ops.specs.LoneInserts.{SpareOnly}
@@ -27,6 +28,7 @@ use Rattle.oak_map.specs.LoneRetrying.{Retries, StaysSettled}
 use Rattle.oak_map.specs.MakingRoom.{IsRefused, MakesWay}
 use Rattle.oak_map.proofs.SettledSplits.{FullRoom, halved_valued, half_left, never_fewer}
 use Rattle.oak_map.proofs.SettledStays.{RoomsStay, carried, opens_still, retired_same, settled_still, spare_stays}
+use Rattle.oak_map.proofs.WordsThrough.{still_to}
 
 -- ---- the words behind the try
 
@@ -96,29 +98,29 @@ module _ (z : Sizes) (call : ℕ) (key value : List ℕ) (ask : CellCall) (settl
       };
     }
 
-    -- it opened the chunk as two
-    halved_on : (IsAlone u → StaysSettled z key ask u c → NothingLacks z key value u c) → LoneHalts Crowded z key value b c → then ≡ settled → (upper : ℕ) → Halves z call key upper w x → Goes
-    halved_on lacks q same upper h = let r = h.alone.goes c l in let i = halts_stay Crowded z key value b c q in let n = retries_still z key ask settled u a b c i p in let e = retired_same z c r.after r.does.does.leaves.headers in record {
+    -- it opened the chunk as two, and only met more behind that
+    halved_on : (IsAlone u → StaysSettled z key ask u c → NothingLacks z key value u c) → LoneHalts Crowded z key value b c → then ≡ settled → (upper : ℕ) (t : PassState) → Halves z call key upper w t → OnlyMeets call t x → Goes
+    halved_on lacks q same upper t h o = let r = h.alone.goes c l in let i = halts_stay Crowded z key value b c q in let n = retries_still z key ask settled u a b c i p in let e = retired_same z c r.after r.does.does.leaves.headers in still_to (λ _ d. Retries z key ask then u a d) c t x (record {
       after = r.after;
       leaves = r.leaves;
       does = record {
         retired = e ∙ n.retired;
-        settled_stays = λ is. let s = n.settled_stays (sym same ∙ is) in let o = r.does.divides.covered (key_number key) in record {
+        settled_stays = λ is. let s = n.settled_stays (sym same ∙ is) in let there = r.does.divides.covered (key_number key) in record {
           divides = r.does.divides;
-          valued = halved_valued z call key upper w x h c r.after r.does s.valued;
+          valued = halved_valued z call key upper w t h c r.after r.does s.valued;
           rooms = inr (λ alone. let f = lacks alone s in record {
             absent = f.absent;
             value = value;
             makes = makes;
             lacks = λ m is. subst (λ (k : ℕ). new_lack z m k key value ≡ None) (sym e) (f.lacks m is);
-            room = o.0;
-            is_open = o.1;
-            covers = o.2;
-            left = half_left z call key upper w x h c r.after r.does (some alone) o.0 o.1 o.2;
+            room = there.0;
+            is_open = there.1;
+            covers = there.2;
+            left = half_left z call key upper w t h c r.after r.does (some alone) there.0 there.1 there.2;
           });
         };
       };
-    }
+    }) o.still
 
     -- it found no room, and settled
     roomless_on : LoneHalts Crowded z key value b c → result ≡ None → (t : PassState) → FindsNoRoom z call key w t → IsRefused z call settled then Room result t x → Goes
@@ -131,5 +133,5 @@ module _ (z : Sizes) (call : ℕ) (key value : List ℕ) (ask : CellCall) (settl
     ways_on (NoBlock k) lacks none m q = settles_on a c w l ((halts_stay (NoBlock k) z key value b c q).retired ∙ p.retired) (settles_then z call settled then (Block k) result w x m none)
     ways_on NoHeader lacks none m q = settles_on a c w l ((halts_stay NoHeader z key value b c q).retired ∙ p.retired) (settles_then z call settled then Header result w x m none)
     ways_on Crowded lacks none (inl (again, inl s)) q = loosened_on q again.same s
-    ways_on Crowded lacks none (inl (again, inr h)) q = halved_on (λ alone s. lacks refl alone q s) q again.same h.0 h.1
+    ways_on Crowded lacks none (inl (again, inr (room, t, h, o))) q = halved_on (λ alone s. lacks refl alone q s) q again.same room t h o
     ways_on Crowded lacks none (inr (t, f, r)) q = roomless_on q none t f r

@@ -1,5 +1,5 @@
 -- What a call of a pass that is alone did to the words, part by part: it went on, its last try was refused, and it did the rest.
-use Rattle.std.proofs.Common.{◌≡◌, ℕ, List, [], inl, inr, ⊎_elim, refl, ap, subst, arith, Bool, cond}
+use Rattle.std.proofs.Common.{◌≡◌, ℕ, List, [], inl, inr, ⊎_elim, refl, sym, ap, subst, arith, Bool, cond}
 use Rattle.std.specs.Prelude.{slice_index}
 use Rattle.std.proofs.lemmas.Bool.{cases_Bool}
 use Rattle.pin_word.specs.PinWord.{state_of}
@@ -9,8 +9,13 @@ use Rattle.oak_core.specs.declared.states.PassState.{PassState}
 use Rattle.oak_core.specs.AloneWords.{LeavesWords, Runs, RunsTo}
 use Rattle.oak_core.specs.Memory.{Spot, in_rooms, index, is_inside, number_at}
 use Rattle.oak_core.specs.PassState.{IsAlone}
+use Rattle.chunk_ops.specs.PinRecords.{WordsStay}
 use Rattle.point_ops.specs.declared.halts.Halt.{Halt}
 use Rattle.point_ops.specs.LonePuts.{LoneHalts}
+
+-- the words that it left stay
+pub still_to : (P : List ℕ → List ℕ → Type 0) (a : List ℕ) (v w : PassState) → RunsTo P a v → Runs WordsStay v w → RunsTo P a w
+still_to P a v w r s = let t = s.goes r.after r.leaves in record { after = t.after; leaves = t.leaves; does = subst (P a) (sym t.does) r.does }
 
 -- where there are no words, there is no room
 number_none : (z : Sizes) (p : Spot) → number_at z [] p ≡ 0

@@ -5,6 +5,7 @@ use Rattle.oak_model.specs.declared.replies.Lack.TheVariants.{Block, Header, Roo
 use Rattle.oak_model.specs.Limits.{Sizes}
 use Rattle.oak_core.specs.declared.states.PassState.{PassState}
 use Rattle.oak_core.specs.Noting.{Notes}
+use Rattle.chunk_ops.specs.PinRecords.{OnlyMeets}
 use Rattle.point_ops.specs.declared.halts.Halt.{Halt}
 use Rattle.point_ops.specs.declared.halts.Halt.TheVariants.{Busy, Moved, Crowded, NoBlock, NoHeader}
 use Rattle.rebalance.specs.Calls.{FindsNoRoom, Halves, Loosens, Settles}
@@ -19,10 +20,14 @@ pub record IsRefused (z : Sizes) (call : ℕ) (settled then : Bool) (lack : Lack
   pub full : settled ≡ true → (result ≡ Some lack) × Notes z call lack v w
   pub again : settled ≡ false → (result ≡ None) × (then ≡ true) × Settles z call v w
 
--- it made room in the chunk of the key, or found no room and lacks that
+-- it made room in the chunk of the key; where it opened its range as two, it only met more behind that, by loads, pins and their undoing alone, while the index was told
+abbrev pub MakesRoom : Sizes → ℕ → List ℕ → PassState → PassState → Type 0
+MakesRoom z call key v w = Loosens z call key v w ⊎ ((room : ℕ) × (x : PassState) × Halves z call key room v x × OnlyMeets call x w)
+
+-- it made room, or found no room and lacks that
 abbrev pub SplitsChunk : Sizes → ℕ → List ℕ → (settled then : Bool) → Option Lack → PassState → PassState → Type 0
 SplitsChunk z call key settled then result v w =
-    (TriesAgain settled then result × (Loosens z call key v w ⊎ ((room : ℕ) × Halves z call key room v w)))
+    (TriesAgain settled then result × MakesRoom z call key v w)
     ⊎ ((x : PassState) × FindsNoRoom z call key v x × IsRefused z call settled then Room result x w)
 
 -- by why it was refused

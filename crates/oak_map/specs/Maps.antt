@@ -10,11 +10,11 @@ use Rattle.oak_map.specs.declared.map.MapPass.{MapPass}
 use Rattle.oak_map.specs.declared.map.OakMap.{OakMap}
 
 -- the table of the map
-abbrev pub table_of : OakMap → OakTable
+abbrev pub table_of : {R : Type 0} → OakMap R → OakTable
 table_of m = m.table
 
 -- its shape
-abbrev pub sizes : OakMap → Sizes
+abbrev pub sizes : {R : Type 0} → OakMap R → Sizes
 sizes m = key (table_of m)
 
 -- the pass on the table
@@ -30,7 +30,7 @@ abbrev pub call_of : MapPass → ℕ
 call_of p = table_call (pass_of p)
 
 -- the pass belongs to the map's table, and holds nothing
-pub record IsReady (m : OakMap) (p : MapPass) : Type 0 where
+pub record IsReady {R : Type 0} (m : OakMap R) (p : MapPass) : Type 0 where
   pub own : IsPassOf (table_of m) (pass_of p)
   pub idle : HoldsNothing (state p)
 

@@ -14,20 +14,20 @@ ghost use Rattle.point_ops.specs.Parts.{WroteFits};
 ghost use Rattle.point_ops.specs.Replies.{HoldsAsBefore};
 ghost use Rattle.oak_map.specs.Maps.{IsReady, call_of, pass_of, sizes, state};
 
+use crate::hinted::{try_compute, try_remove};
 use crate::map::{MapPass, OakMap};
-use oak_model::{NO_HINT, Wrote};
-use point_ops::{try_compute, try_remove};
+use oak_model::Wrote;
 use std::sync::Wait;
 use std::thread;
 use value_ops::Recipe;
 
-impl OakMap {
+impl<R: Wait + Drop + Send> OakMap<R> {
     /// Computes the value of a key anew: `Done` where it was present, by exactly one call of the recipe on the
     /// bytes that the key held right before the write; and `Absent` where it was not, with a number at whose
     /// place it was. There the recipe's count, and what it says of the bytes that it was fed, are as before. It
     /// is tried again while other passes are at work on the key or move its room. Where the pass is alone, the
     /// answer is the cell's on the last state of the key. The pass made no write in this turn.
-    pub fn compute<R: Wait>(
+    pub fn compute(
         &self,
         rt: &R,
         pass: &mut MapPass,
@@ -50,7 +50,7 @@ impl OakMap {
         ensures told { (told_kind recipe.new ≡ told_kind recipe.old) × (told_argument recipe.new ≡ told_argument recipe.old) }
     {
         for _ in rt.forever() {
-            if let Ok(wrote) = try_compute(&self.table, &mut pass.pass, NO_HINT, key, recipe) {
+            if let Ok(wrote) = try_compute(&self.table, &mut pass.pass, key, recipe) {
                 return wrote;
             }
             thread::yield_now();
@@ -62,7 +62,7 @@ impl OakMap {
     /// was not, with a number at whose place it was. It is tried again while other passes are at work on the
     /// key or move its room. Where the pass is alone, the answer is the cell's on the last state of the key.
     /// The pass made no write in this turn.
-    pub fn remove<R: Wait>(&self, rt: &R, pass: &mut MapPass, key: &[u8]) -> Wrote
+    pub fn remove(&self, rt: &R, pass: &mut MapPass, key: &[u8]) -> Wrote
         requires ready { IsReady self.now pass.old }
         requires key { IsKey key.now }
         requires turn { IsNewCall (call_of pass.old) (state pass.old) }
@@ -74,7 +74,7 @@ impl OakMap {
         ensures alone_left { Runs (LeavesBy result (sizes self.now) key.now) (state pass.old) (state pass.new) }
     {
         for _ in rt.forever() {
-            if let Ok(wrote) = try_remove(&self.table, &mut pass.pass, NO_HINT, key) {
+            if let Ok(wrote) = try_remove(&self.table, &mut pass.pass, key) {
                 return wrote;
             }
             thread::yield_now();

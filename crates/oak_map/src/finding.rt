@@ -7,9 +7,9 @@ ghost use Rattle.value_ops.specs.Views.{KnowsView};
 ghost use Rattle.oak_map.specs.Finding.{PinsKey, PinsView, TriesKey};
 ghost use Rattle.oak_map.specs.Lending.{FindsAbsent, FindsOver};
 
+use crate::hinted::try_get;
 use oak_core::{OakTable, Pass};
-use oak_model::NO_HINT;
-use point_ops::{Got, try_get};
+use point_ops::Got;
 use std::sync::Wait;
 use std::thread;
 use value_ops::{HeaderPin, NoRead, ValueView};
@@ -30,7 +30,7 @@ fn try_value(table: &OakTable, pass: &mut Pass, key: &[u8]) -> Tried
     ensures own { Stays pass.old pass.new }
     ensures tried { TriesKey result (sizes table.now) (call_of pass.old) key.now (state pass.old) (state pass.new) }
 {
-    match try_get(table, pass, NO_HINT, key) {
+    match try_get(table, pass, key) {
         Err(_) => Tried::Again,
         Ok(Got::Absent { at }) => Tried::Absent { at },
         Ok(Got::View(view)) => match view.pin(table, pass) {

@@ -35,7 +35,12 @@ pub enum Looked<'p> {
 
 /// [`OakMap::get`] by the pass on the map's table. It takes the pass first: in this form its caller learns
 /// what becomes of the pass where nothing is read.
-pub fn get_of<'p, R: Wait>(pass: &'p mut Pass, rt: &R, map: &'p OakMap, key: &[u8]) -> Lent<'p>
+pub fn get_of<'p, R: Wait + Drop + Send>(
+    pass: &'p mut Pass,
+    rt: &R,
+    map: &'p OakMap<R>,
+    key: &[u8],
+) -> Lent<'p>
     requires own { IsPassOf (table_of map.now) pass.old }
     requires idle { HoldsNothing (table_state pass.old) }
     requires key { IsKey key.now }
@@ -49,10 +54,10 @@ pub fn get_of<'p, R: Wait>(pass: &'p mut Pass, rt: &R, map: &'p OakMap, key: &[u
 }
 
 /// [`OakMap::look`] by the pass on the map's table, which it takes first, as [`get_of`] does.
-pub fn look_of<'p, R: Wait>(
+pub fn look_of<'p, R: Wait + Drop + Send>(
     pass: &'p mut Pass,
     rt: &R,
-    map: &'p OakMap,
+    map: &'p OakMap<R>,
     view: &ValueView,
 ) -> Looked<'p>
     requires own { IsPassOf (table_of map.now) pass.old }
@@ -68,8 +73,8 @@ pub fn look_of<'p, R: Wait>(
 }
 
 /// [`OakMap::scan`] by the pass on the map's table, with bounds that it copies.
-pub fn scan_of<'p>(
-    map: &'p OakMap,
+pub fn scan_of<'p, R: Wait + Drop + Send>(
+    map: &'p OakMap<R>,
     pass: &'p mut Pass,
     low: Option<&[u8]>,
     high: Option<&[u8]>,
@@ -93,8 +98,8 @@ pub fn scan_of<'p>(
 }
 
 /// The same with bounds that live as long as the loan.
-fn scan_within<'p>(
-    map: &'p OakMap,
+fn scan_within<'p, R: Wait + Drop + Send>(
+    map: &'p OakMap<R>,
     pass: &'p mut Pass,
     low: Option<&'p [u8]>,
     high: Option<&'p [u8]>,
@@ -117,12 +122,12 @@ fn scan_within<'p>(
     scan_of(map, pass, low, high, way)
 }
 
-impl OakMap {
+impl<R: Wait + Drop + Send> OakMap<R> {
     /// Looks for a key, and reads its value where it has one: the answer is the cell's at the place of the
     /// number `at`, or of the reading's stamp, in the key's history. It is tried again while other passes
     /// are at work on the key or move its room. It only loads words, and pins and undoes pins, so it takes no
     /// lock. Where the pass is alone, the answer is the cell's on the last state of the key.
-    pub fn get<'p, R: Wait>(&'p self, rt: &R, pass: &'p mut MapPass, key: &[u8]) -> Lent<'p>
+    pub fn get<'p>(&'p self, rt: &R, pass: &'p mut MapPass, key: &[u8]) -> Lent<'p>
         requires ready { IsReady self.now pass.old }
         requires key { IsKey key.now }
         ensures* rests { sem 𝓛 (MapRests (sizes self.now) pass.entry key.now result) }
@@ -133,12 +138,7 @@ impl OakMap {
 
     /// Reads the value that the life of a view has. It waits while a pass writes it. `Gone` comes only where
     /// the life was found to be over. It only loads words, and pins and undoes pins, so it takes no lock.
-    pub fn look<'p, R: Wait>(
-        &'p self,
-        rt: &R,
-        pass: &'p mut MapPass,
-        view: &ValueView,
-    ) -> Looked<'p>
+    pub fn look<'p>(&'p self, rt: &R, pass: &'p mut MapPass, view: &ValueView) -> Looked<'p>
         requires ready { IsReady self.now pass.old }
         requires known { KnowsView (sizes self.now) view.now (state pass.old) }
         ensures* rests { sem 𝓛 (MapLookedRests (sizes self.now) pass.entry view.now result) }

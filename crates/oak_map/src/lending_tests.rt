@@ -38,9 +38,9 @@ fn copy_if(reading: &mut Reading<'_>, out: &mut [u8]) -> usize
 }
 
 /// Copies the value of a key, and tells its stamp and its length.
-fn copies_of<R: Wait>(
+fn copies_of<R: Wait + Drop + Send>(
     rt: &R,
-    map: &OakMap,
+    map: &OakMap<R>,
     pass: &mut Pass,
     key: &[u8],
     out: &mut [u8],
@@ -65,9 +65,9 @@ fn copies_of<R: Wait>(
 }
 
 /// Copies the value of a view's life, and tells its stamp and its length.
-fn looks_of<R: Wait>(
+fn looks_of<R: Wait + Drop + Send>(
     rt: &R,
-    map: &OakMap,
+    map: &OakMap<R>,
     pass: &mut Pass,
     view: &ValueView,
     out: &mut [u8],
@@ -126,9 +126,9 @@ fn next_all<R: Wait>(rt: &R, cursor: &mut Cursor<'_>, out: &mut [u8])
 }
 
 /// The first bytes of the keys of a range, in the order of the scan.
-fn collects<R: Wait>(
+fn collects<R: Wait + Drop + Send>(
     rt: &R,
-    map: &OakMap,
+    map: &OakMap<R>,
     pass: &mut Pass,
     low: Option<&[u8]>,
     high: Option<&[u8]>,
@@ -151,7 +151,12 @@ fn collects<R: Wait>(
 }
 
 /// A view of k, with the value "one", shows what is put over that, and nothing once k was removed, and put anew.
-fn one_life<R: Abort + Wait>(rt: &R, map: &OakMap, pass: &mut MapPass, view: &ValueView)
+fn one_life<R: Abort + Wait + Drop + Send>(
+    rt: &R,
+    map: &OakMap<R>,
+    pass: &mut MapPass,
+    view: &ValueView,
+)
     requires ready { IsReady map.now pass.old }
     requires wrote { IsReadyFor 2 (state pass.old) }
     requires call { call_of pass.old ≡ 2 }
@@ -179,7 +184,7 @@ fn one_life<R: Abort + Wait>(rt: &R, map: &OakMap, pass: &mut MapPass, view: &Va
 }
 
 /// So does the view that is got of k.
-fn one_view<R: Abort + Wait>(rt: &R, map: &OakMap, pass: &mut MapPass)
+fn one_view<R: Abort + Wait + Drop + Send>(rt: &R, map: &OakMap<R>, pass: &mut MapPass)
     requires ready { IsReady map.now pass.old }
     requires wrote { IsReadyFor 2 (state pass.old) }
     requires call { call_of pass.old ≡ 2 }

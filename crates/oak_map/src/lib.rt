@@ -2,15 +2,21 @@
 #![tactic(auto)]
 
 mod changing;
+mod chunks;
 #[cfg(test)]
 mod error_tests;
 mod finding;
+mod hinted;
+#[cfg(test)]
+mod index_tests;
 mod lending;
 #[cfg(test)]
 mod lending_tests;
 mod looking;
 mod making_room;
 mod map;
+mod mending;
+mod publishing;
 mod putting;
 #[cfg(test)]
 mod row_tests;

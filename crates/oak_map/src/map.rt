@@ -5,7 +5,7 @@ ghost use Rattle.oak_core.specs.AloneWords.{LeavesWords};
 ghost use Rattle.oak_core.specs.Closing.{closed_key, closed_state, closed_words, FullsLacked};
 ghost use Rattle.oak_core.specs.KnownPlaces.{PlacesStand};
 ghost use Rattle.oak_core.specs.Opening.{IsOpened, first_state};
-ghost use Rattle.oak_core.specs.Passes.{SearchesStay, Stays, Turns};
+ghost use Rattle.oak_core.specs.Passes.{SearchesStay, Stays, Turns, tries};
 ghost use Rattle.oak_core.specs.PassState.{IsAlone, both_state};
 ghost use Rattle.oak_core.specs.Schedule.{opening};
 ghost use Rattle.oak_core.specs.Splitting.{Ends, FindsAllGiven, GivesWords, LeavesSame, LooksAtGiven, SeesLonger, SplitsOff};
@@ -17,13 +17,16 @@ ghost use Rattle.oak_map.specs.Maps.{IsReady, call_of, pass_of, sizes, state};
 ghost use Rattle.oak_map.specs.Rests.{with_pass};
 ghost use Rattle.oak_map.specs.contracts.map.MapPass.{the_row};
 
+use chunk_index::ChunkIndex;
 use oak_core::{Closed, OakTable, Pass, SplitFault};
 use oak_model::{OutOfMemory, Shape};
 use std::sync::Wait;
 
-/// A map, shared by its passes.
-pub struct OakMap {
+/// A map, shared by its passes, with an index of the minima of its chunks. `R` is the handle by which callers wait, of
+/// which the index keeps a clone.
+pub struct OakMap<R: Wait + Drop + Send> {
     pub(crate) table: OakTable,
+    pub(crate) index: ChunkIndex<R>,
 }
 
 /// A caller's token for a map. It is spent by [`OakMap::join`] or [`OakMap::close`], and can't be dropped.
@@ -41,6 +44,13 @@ impl MapPass {
         self.pass.turn(call);
     }
 
+    /// How many rooms the pass has pinned, as [`Pass::tries`] counts them.
+    pub fn tries(&self) -> u64
+        ensures { result ≡ tries (pass_of self.now) }
+    {
+        self.pass.tries()
+    }
+
     /// The pass on the map's table.
     pub fn pass_mut(&mut self) -> &mut Pass
         ensures* rests { sem 𝓛 (Lends the_row table_pass.the_row self.entry result (with_pass self.old)) }
@@ -50,32 +60,31 @@ impl MapPass {
     }
 }
 
-impl OakMap {
+impl<R: Wait + Drop + Send> OakMap<R> {
     /// An empty map of this shape with its first pass, which has the number 0. The pass is alone, holds
     /// nothing, and has met the making of the map.
-    pub fn create<R: Wait + AllocGlobal>(
-        rt: &R,
-        shape: &Shape,
-    ) -> Result<(OakMap, MapPass), OutOfMemory>
+    pub fn create(rt: &R, shape: &Shape) -> Result<(OakMap<R>, MapPass), OutOfMemory>
+    where
+        R: Clone + AllocGlobal,
         ensures key { IfOk result (λ t. sizes t.0 ≡ shape.now) }
         ensures ready { IfOk result (λ t. IsReady t.0 t.1) }
         ensures first { IfOk result (λ t. (state t.1 ≡ first_state (sizes t.0) 0) × (call_of t.1 ≡ 0)) }
         ensures words { IfOk result (λ t. LeavesWords (opening (sizes t.0) 0).words (state t.1)) }
         ensures opened { IfOk result (λ t. IsOpened (sizes t.0) 0 (opening (sizes t.0) 0).words) }
     {
-        let (table, pass) = OakTable::create(rt.alloc(), shape)?;
-        Ok((OakMap { table }, MapPass { pass }))
+        let index = ChunkIndex::create(rt, shape.chunks, shape.passes)?;
+        let (table, mut pass) = OakTable::create(rt.alloc(), shape)?;
+        pass.set_reader(index.reader(rt));
+        Ok((OakMap { table, index }, MapPass { pass }))
     }
 
     /// Splits off a pass for another caller, with the least number that no pass has. It has seen what
     /// this one has seen, and holds nothing. `Limit` comes exactly where one load found all numbers of the
     /// shape given. Where the pass is alone only the bit of that number changed in the words, and none where it is
     /// refused.
-    pub fn split<R: Wait + AllocGlobal>(
-        &self,
-        rt: &R,
-        pass: &mut MapPass,
-    ) -> Result<MapPass, SplitFault>
+    pub fn split(&self, rt: &R, pass: &mut MapPass) -> Result<MapPass, SplitFault>
+    where
+        R: AllocGlobal,
         requires ready { IsReady self.now pass.old }
         ensures own { Stays (pass_of pass.old) (pass_of pass.new) }
         ensures searches { SearchesStay (pass_of pass.old) (pass_of pass.new) }
@@ -89,7 +98,10 @@ impl OakMap {
         ensures alone_refused { IfErr result (λ _. LeavesSame (state pass.old) (state pass.new)) }
     {
         match pass.pass.split(rt.alloc(), &self.table) {
-            Ok(pass) => Ok(MapPass { pass }),
+            Ok(mut pass) => {
+                pass.set_reader(self.index.reader(rt));
+                Ok(MapPass { pass })
+            }
             Err(fault) => Err(fault),
         }
     }
@@ -122,7 +134,7 @@ impl OakMap {
         ensures places { PlacesStand result }
         ensures settled { (words : List ℕ) → LeavesWords words (state pass) → IsSettled (sizes self) words → UsesJustMap result }
     {
-        let OakMap { table } = self;
+        let OakMap { table, index: _ } = self;
         let MapPass { pass } = pass;
         table.close(pass)
     }

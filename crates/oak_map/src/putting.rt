@@ -14,14 +14,14 @@ ghost use Rattle.oak_map.specs.Maps.{IsReady, call_of, pass_of, sizes, state};
 ghost use Rattle.oak_map.specs.Putting.{StaysButRoom};
 ghost use Rattle.oak_map.specs.Replying.{PutFits};
 
+use crate::hinted::{try_put, try_put_if_absent, try_upsert};
 use crate::making_room::make_way;
 use crate::map::{MapPass, OakMap};
-use oak_model::{NO_HINT, Wrote};
-use point_ops::{try_put, try_put_if_absent, try_upsert};
+use oak_model::Wrote;
 use std::sync::Wait;
 use value_ops::Recipe;
 
-impl OakMap {
+impl<R: Wait + Drop + Send> OakMap<R> {
     /// Puts the value of a key: `New` where it was absent, `Over` where it was present, with the stamp of
     /// the write. It is tried again while other passes are at work on the key or move its room, and its
     /// chunk is split while it has no entry left for the key. `Full` comes only where the call settled the
@@ -30,7 +30,7 @@ impl OakMap {
     /// no room for the key; and where its first try is answered the rooms stay, and no range is swept. Each
     /// room that the call claims, it claims while it holds a chunk that was full when it came to hold it. The
     /// pass made no write in this turn.
-    pub fn put<R: Wait>(&self, rt: &R, pass: &mut MapPass, key: &[u8], value: &[u8]) -> Wrote
+    pub fn put(&self, rt: &R, pass: &mut MapPass, key: &[u8], value: &[u8]) -> Wrote
         requires ready { IsReady self.now pass.old }
         requires key { IsKey key.now }
         requires turn { IsNewCall (call_of pass.old) (state pass.old) }
@@ -45,12 +45,12 @@ impl OakMap {
     {
         let mut settled = false;
         for _ in rt.forever() {
-            match try_put(&self.table, &mut pass.pass, NO_HINT, key, value) {
+            match try_put(&self.table, &mut pass.pass, key, value) {
                 Ok(wrote) => return wrote,
                 Err(halt) => {
                     if let Some(lack) = make_way(
                         rt,
-                        &self.table,
+                        self,
                         &mut pass.pass,
                         &mut settled,
                         key,
@@ -66,13 +66,7 @@ impl OakMap {
 
     /// Puts the value of a key if it is absent: `New` then, and `Kept` where it was present, with a number
     /// at whose place it was. It is tried again, and answers `Full`, as [`OakMap::put`] does.
-    pub fn put_if_absent<R: Wait>(
-        &self,
-        rt: &R,
-        pass: &mut MapPass,
-        key: &[u8],
-        value: &[u8],
-    ) -> Wrote
+    pub fn put_if_absent(&self, rt: &R, pass: &mut MapPass, key: &[u8], value: &[u8]) -> Wrote
         requires ready { IsReady self.now pass.old }
         requires key { IsKey key.now }
         requires turn { IsNewCall (call_of pass.old) (state pass.old) }
@@ -87,12 +81,12 @@ impl OakMap {
     {
         let mut settled = false;
         for _ in rt.forever() {
-            match try_put_if_absent(&self.table, &mut pass.pass, NO_HINT, key, value) {
+            match try_put_if_absent(&self.table, &mut pass.pass, key, value) {
                 Ok(wrote) => return wrote,
                 Err(halt) => {
                     if let Some(lack) = make_way(
                         rt,
-                        &self.table,
+                        self,
                         &mut pass.pass,
                         &mut settled,
                         key,
@@ -109,7 +103,7 @@ impl OakMap {
     /// Computes the value of a key anew, as [`OakMap::compute`] does, or puts one where it was absent:
     /// `Done` or `New`. The recipe's count is one more exactly after `Done`, and then it was fed the bytes that
     /// the key held right before the write. It is tried again, and answers `Full`, as [`OakMap::put`] does.
-    pub fn upsert<R: Wait>(
+    pub fn upsert(
         &self,
         rt: &R,
         pass: &mut MapPass,
@@ -136,12 +130,12 @@ impl OakMap {
     {
         let mut settled = false;
         for _ in rt.forever() {
-            match try_upsert(&self.table, &mut pass.pass, NO_HINT, key, value, recipe) {
+            match try_upsert(&self.table, &mut pass.pass, key, value, recipe) {
                 Ok(wrote) => return wrote,
                 Err(halt) => {
                     if let Some(lack) = make_way(
                         rt,
-                        &self.table,
+                        self,
                         &mut pass.pass,
                         &mut settled,
                         key,

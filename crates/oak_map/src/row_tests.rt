@@ -92,9 +92,9 @@ fn is_due(
 }
 
 /// The map answers the call so.
-fn answers<R: Abort + Wait>(
+fn answers<R: Abort + Wait + Drop + Send>(
     rt: &R,
-    map: &OakMap,
+    map: &OakMap<R>,
     pass: &mut MapPass,
     writes: &mut [Write; CALLS],
     number: usize,
@@ -126,9 +126,9 @@ fn answers<R: Abort + Wait>(
 }
 
 /// So it does each of them, whose writes are noted.
-fn answers_all<R: Abort + Wait>(
+fn answers_all<R: Abort + Wait + Drop + Send>(
     rt: &R,
-    map: &OakMap,
+    map: &OakMap<R>,
     pass: &mut MapPass,
     writes: &mut [Write; CALLS],
     calls: &[Call],
@@ -204,9 +204,9 @@ fn goes_over<R: Abort + Wait>(
 }
 
 /// A scan of the whole map gives these pairs.
-fn scans<R: Abort + Wait>(
+fn scans<R: Abort + Wait + Drop + Send>(
     rt: &R,
-    map: &OakMap,
+    map: &OakMap<R>,
     pass: &mut Pass,
     writes: &[Write],
     pairs: &[Held],
@@ -224,9 +224,9 @@ fn scans<R: Abort + Wait>(
 }
 
 /// So does one up, and another down.
-fn scans_both<R: Abort + Wait>(
+fn scans_both<R: Abort + Wait + Drop + Send>(
     rt: &R,
-    map: &OakMap,
+    map: &OakMap<R>,
     pass: &mut MapPass,
     writes: &[Write],
     pairs: &[Held],
@@ -240,7 +240,10 @@ fn scans_both<R: Abort + Wait>(
 }
 
 /// The row is right.
-fn works<R: Abort + Wait + AllocGlobal>(rt: &R, row: &Row<'_>) -> Result<(), Fail> {
+fn works<R: Abort + Wait + Clone + Drop + Send + AllocGlobal>(
+    rt: &R,
+    row: &Row<'_>,
+) -> Result<(), Fail> {
     assert!(rt; row.calls.len() <= CALLS);
     let (chunks, entries, headers, blocks) = row.shape;
     let shape = Shape::make(1, chunks, entries, headers, [blocks, 0, 0, 0])?;

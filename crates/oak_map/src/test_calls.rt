@@ -18,7 +18,7 @@ use std::sync::Wait;
 use value_ops::ValueView;
 
 /// The pass's next call.
-pub(crate) fn turn(map: &OakMap, pass: &mut MapPass, call: u32)
+pub(crate) fn turn<R: Wait + Drop + Send>(map: &OakMap<R>, pass: &mut MapPass, call: u32)
     requires own { IsReady map.now pass.old }
     requires above { call_of pass.old < call }
     requires ready { IsReadyFor (call_of pass.old) (state pass.old) }
@@ -31,9 +31,9 @@ pub(crate) fn turn(map: &OakMap, pass: &mut MapPass, call: u32)
 }
 
 /// Puts the value of the key, in a call of its own.
-pub(crate) fn put<R: Wait>(
+pub(crate) fn put<R: Wait + Drop + Send>(
     rt: &R,
-    map: &OakMap,
+    map: &OakMap<R>,
     pass: &mut MapPass,
     call: u32,
     key: &[u8],
@@ -53,9 +53,9 @@ pub(crate) fn put<R: Wait>(
 }
 
 /// Removes the key, in a call of its own.
-pub(crate) fn remove<R: Wait>(
+pub(crate) fn remove<R: Wait + Drop + Send>(
     rt: &R,
-    map: &OakMap,
+    map: &OakMap<R>,
     pass: &mut MapPass,
     call: u32,
     key: &[u8],
@@ -73,7 +73,7 @@ pub(crate) fn remove<R: Wait>(
 }
 
 /// Settles the map.
-pub(crate) fn settle<R: Wait>(rt: &R, map: &OakMap, pass: &mut MapPass)
+pub(crate) fn settle<R: Wait + Drop + Send>(rt: &R, map: &OakMap<R>, pass: &mut MapPass)
     requires own { IsReady map.now pass.old }
     requires ready { IsReadyFor (call_of pass.old) (state pass.old) }
     ensures own { IsReady map.now pass.new }
@@ -103,9 +103,9 @@ fn shows(table: &OakTable, pass: &mut Pass, view: &ValueView, bytes: &[u8]) -> b
 }
 
 /// Looks for the key, whose value must be these bytes where it has one: the stamp of that.
-pub(crate) fn get<R: Abort + Wait>(
+pub(crate) fn get<R: Abort + Wait + Drop + Send>(
     rt: &R,
-    map: &OakMap,
+    map: &OakMap<R>,
     pass: &mut MapPass,
     key: &[u8],
     bytes: &[u8],
@@ -128,7 +128,11 @@ pub(crate) fn get<R: Abort + Wait>(
 }
 
 /// Begins a scan of the whole map.
-pub(crate) fn scan_whole<'p>(map: &'p OakMap, pass: &'p mut Pass, way: Way) -> Cursor<'p>
+pub(crate) fn scan_whole<'p, R: Wait + Drop + Send>(
+    map: &'p OakMap<R>,
+    pass: &'p mut Pass,
+    way: Way,
+) -> Cursor<'p>
     requires own { IsPassOf (table_of map.now) pass.old }
     requires idle { HoldsNothing (table_state pass.old) }
     ensures same_reference { result.pass.ghost_name ≡ pass.entry.ghost_name }

@@ -35,7 +35,13 @@ fn stays(letter: u8) -> bool {
 }
 
 /// Puts a letter that is new.
-fn adds<R: Abort + Wait>(rt: &R, map: &OakMap, pass: &mut MapPass, call: u32, letter: u8)
+fn adds<R: Abort + Wait + Drop + Send>(
+    rt: &R,
+    map: &OakMap<R>,
+    pass: &mut MapPass,
+    call: u32,
+    letter: u8,
+)
     requires own { IsReady map.now pass.old }
     requires above { call_of pass.old < call }
     requires ready { IsReadyFor (call_of pass.old) (state pass.old) }
@@ -51,7 +57,13 @@ fn adds<R: Abort + Wait>(rt: &R, map: &OakMap, pass: &mut MapPass, call: u32, le
 }
 
 /// Removes a letter that is there.
-fn takes<R: Abort + Wait>(rt: &R, map: &OakMap, pass: &mut MapPass, call: u32, letter: u8)
+fn takes<R: Abort + Wait + Drop + Send>(
+    rt: &R,
+    map: &OakMap<R>,
+    pass: &mut MapPass,
+    call: u32,
+    letter: u8,
+)
     requires own { IsReady map.now pass.old }
     requires above { call_of pass.old < call }
     requires ready { IsReadyFor (call_of pass.old) (state pass.old) }
@@ -67,7 +79,7 @@ fn takes<R: Abort + Wait>(rt: &R, map: &OakMap, pass: &mut MapPass, call: u32, l
 }
 
 /// Puts the letters that stay.
-fn fill<R: Abort + Wait>(rt: &R, map: &OakMap, pass: &mut MapPass)
+fn fill<R: Abort + Wait + Drop + Send>(rt: &R, map: &OakMap<R>, pass: &mut MapPass)
     requires own { IsReady map.now pass.old }
     requires first { call_of pass.old ≡ 0 }
     requires ready { IsReadyFor 0 (state pass.old) }
@@ -82,7 +94,7 @@ fn fill<R: Abort + Wait>(rt: &R, map: &OakMap, pass: &mut MapPass)
 
 /// The write of this number: in turn each letter that comes and goes is put, in an order that changes, and each is
 /// removed.
-fn write<R: Abort + Wait>(rt: &R, map: &OakMap, pass: &mut MapPass, number: u32)
+fn write<R: Abort + Wait + Drop + Send>(rt: &R, map: &OakMap<R>, pass: &mut MapPass, number: u32)
     requires own { IsReady map.now pass.old }
     requires few { number < WRITES }
     requires above { call_of pass.old < STAY + 1 + number }
@@ -103,7 +115,7 @@ fn write<R: Abort + Wait>(rt: &R, map: &OakMap, pass: &mut MapPass, number: u32)
 }
 
 /// Settles the map behind each seventh write.
-fn rest<R: Wait>(rt: &R, map: &OakMap, pass: &mut MapPass, number: u32)
+fn rest<R: Wait + Drop + Send>(rt: &R, map: &OakMap<R>, pass: &mut MapPass, number: u32)
     requires own { IsReady map.now pass.old }
     requires ready { IsReadyFor (call_of pass.old) (state pass.old) }
     ensures own { IsReady map.now pass.new }
@@ -116,7 +128,7 @@ fn rest<R: Wait>(rt: &R, map: &OakMap, pass: &mut MapPass, number: u32)
 }
 
 /// All writes.
-fn write_all<R: Abort + Wait>(rt: &R, map: &OakMap, pass: &mut MapPass)
+fn write_all<R: Abort + Wait + Drop + Send>(rt: &R, map: &OakMap<R>, pass: &mut MapPass)
     requires own { IsReady map.now pass.old }
     requires call { call_of pass.old ≡ STAY }
     requires ready { IsReadyFor STAY (state pass.old) }
@@ -194,7 +206,7 @@ fn goes_over<R: Abort + Wait>(rt: &R, cursor: &mut Cursor<'_>, way: Way) -> u32
 }
 
 /// A scan of the whole map has each letter that stays once.
-fn scans<R: Abort + Wait>(rt: &R, map: &OakMap, pass: &mut Pass, way: Way)
+fn scans<R: Abort + Wait + Drop + Send>(rt: &R, map: &OakMap<R>, pass: &mut Pass, way: Way)
     requires own { IsPassOf (table_of map.now) pass.old }
     requires idle { HoldsNothing (table_state pass.old) }
     ensures own { StaysButSlots pass.old pass.new }
@@ -208,7 +220,7 @@ fn scans<R: Abort + Wait>(rt: &R, map: &OakMap, pass: &mut Pass, way: Way)
 }
 
 /// So does each of them, up and down in turn.
-fn scan_all<R: Abort + Wait>(rt: &R, map: &OakMap, pass: &mut MapPass)
+fn scan_all<R: Abort + Wait + Drop + Send>(rt: &R, map: &OakMap<R>, pass: &mut MapPass)
     requires own { IsReady map.now pass.old }
     ensures own { IsReady map.now pass.new }
     ensures numbers { (state pass.new).numbers ≡ (state pass.old).numbers }
@@ -221,9 +233,9 @@ fn scan_all<R: Abort + Wait>(rt: &R, map: &OakMap, pass: &mut MapPass)
 }
 
 /// Both at once.
-fn work_together<R: Threads + Abort + Wait + Sync>(
+fn work_together<R: Threads + Abort + Wait + Sync + Drop + Send>(
     rt: &R,
-    map: &OakMap,
+    map: &OakMap<R>,
     a: &mut MapPass,
     b: &mut MapPass,
 )
@@ -256,9 +268,9 @@ fn work_together<R: Threads + Abort + Wait + Sync>(
 }
 
 /// A pass is split off for that, and joined again.
-fn split_and_work<R: Threads + Abort + Wait + Sync + AllocGlobal>(
+fn split_and_work<R: Threads + Abort + Wait + Sync + AllocGlobal + Drop + Send>(
     rt: &R,
-    map: &OakMap,
+    map: &OakMap<R>,
     pass: &mut MapPass,
 )
     requires own { IsReady map.now pass.old }

@@ -31,10 +31,10 @@ at_each P (x ∷ xs) all zero d lt = all.0
 at_each P (x ∷ xs) all (suc i) d lt = at_each P xs all.1 i d (omega arith)
 
 -- what is said of each place of the rows, of the threads before and behind
-abbrev pub RanAt : {W : Type 0} → (W → MapPass) → (W → Option Answered) → OakMap → List (Vec Call Global) → List W → List W → Type 0
+abbrev pub RanAt : {R W : Type 0} → (W → MapPass) → (W → Option Answered) → OakMap R → List (Vec Call Global) → List W → List W → Type 0
 RanAt p a m vs xs zs = (i : ℕ) (d : _) → i < length xs → HasRun m (calls_at vs i) (p (slice_index_or xs i d)) (p (slice_index_or zs i d)) (a (slice_index_or zs i d))
 
-module _ {W : Type 0} (p : W → MapPass) (a : W → Option Answered) (m : OakMap) where
+module _ {R W : Type 0} (p : W → MapPass) (a : W → Option Answered) (m : OakMap R) where
   pub all_ran : (vs : List (Vec Call Global)) (xs zs : List W) → length xs ≡ length vs → length zs ≡ length xs → RanAt p a m vs xs zs → AllRan m (map (λ v. v.items) vs) (map p xs) (map p zs) (map a zs)
   all_ran [] [] [] e l ran = record { runs = []; calls_are = refl; before_are = refl; now_are = refl; answered_are = refl; each = tt }
   all_ran [] [] (z ∷ zs) e l ran = absurd (omega arith)
@@ -61,18 +61,18 @@ of_map f P (x ∷ xs) all = (all.0, of_map f P xs all.1)
 abbrev pub numbers_at : List MapPass → List Numbers
 numbers_at ps = map (λ (p : MapPass). (state p).numbers) ps
 
-kept : (m : OakMap) (rs : List ThreadRun) → AllByRecursion (λ (r : ThreadRun). HasRun m r.calls r.before r.now r.answered) rs → numbers_at (map (λ (r : ThreadRun). r.now) rs) ≡ numbers_at (map (λ (r : ThreadRun). r.before) rs)
+kept : {R : Type 0} (m : OakMap R) (rs : List ThreadRun) → AllByRecursion (λ (r : ThreadRun). HasRun m r.calls r.before r.now r.answered) rs → numbers_at (map (λ (r : ThreadRun). r.now) rs) ≡ numbers_at (map (λ (r : ThreadRun). r.before) rs)
 kept m [] each = refl
 kept m (r ∷ rs) each = λ i. each.0.numbers i ∷ kept m rs each.1 i
 
-pub numbers_kept : (m : OakMap) (threads : List (List Call)) (before now : List MapPass) (answered : List (Option Answered)) → AllRan m threads before now answered → numbers_at now ≡ numbers_at before
+pub numbers_kept : {R : Type 0} (m : OakMap R) (threads : List (List Call)) (before now : List MapPass) (answered : List (Option Answered)) → AllRan m threads before now answered → numbers_at now ≡ numbers_at before
 numbers_kept m threads before now answered ran = subst (λ (ps : List MapPass × List MapPass). numbers_at ps.0 ≡ numbers_at ps.1) (λ i. (ran.now_are i, ran.before_are i)) (kept m ran.runs ran.each)
 
-ready : (m : OakMap) (rs : List ThreadRun) → AllByRecursion (λ (r : ThreadRun). HasRun m r.calls r.before r.now r.answered) rs → AllByRecursion (IsReady m) (map (λ (r : ThreadRun). r.now) rs)
+ready : {R : Type 0} (m : OakMap R) (rs : List ThreadRun) → AllByRecursion (λ (r : ThreadRun). HasRun m r.calls r.before r.now r.answered) rs → AllByRecursion (IsReady m) (map (λ (r : ThreadRun). r.now) rs)
 ready m [] each = tt
 ready m (r ∷ rs) each = (each.0.ready, ready m rs each.1)
 
-pub all_ready : (m : OakMap) (threads : List (List Call)) (before now : List MapPass) (answered : List (Option Answered)) → AllRan m threads before now answered → AllByRecursion (IsReady m) now
+pub all_ready : {R : Type 0} (m : OakMap R) (threads : List (List Call)) (before now : List MapPass) (answered : List (Option Answered)) → AllRan m threads before now answered → AllByRecursion (IsReady m) now
 all_ready m threads before now answered ran = subst (AllByRecursion (IsReady m)) ran.now_are (ready m ran.runs ran.each)
 
 -- ---- the ends of the threads
@@ -88,10 +88,10 @@ answered_in rs = map (λ (r : ThreadRun). r.answered) rs
 abbrev some_of : List Answered → List (Option Answered)
 some_of answers = map (λ (a : Answered). Some a) answers
 
-its_answer : (m : OakMap) (r : ThreadRun) (a : Answered) → r.answered ≡ Some a → HasRun m r.calls r.before r.now r.answered → AnswersThread (sizes m) (state r.now) r.calls a
+its_answer : {R : Type 0} (m : OakMap R) (r : ThreadRun) (a : Answered) → r.answered ≡ Some a → HasRun m r.calls r.before r.now r.answered → AnswersThread (sizes m) (state r.now) r.calls a
 its_answer m r a e run = subst (λ (o : Option Answered). IfSome o (AnswersThread (sizes m) (state r.now) r.calls)) e run.answers
 
-each_answer : (m : OakMap) (rs : List ThreadRun) (answers : List Answered) → answered_in rs ≡ some_of answers → AllByRecursion (λ (r : ThreadRun). HasRun m r.calls r.before r.now r.answered) rs
+each_answer : {R : Type 0} (m : OakMap R) (rs : List ThreadRun) (answers : List Answered) → answered_in rs ≡ some_of answers → AllByRecursion (λ (r : ThreadRun). HasRun m r.calls r.before r.now r.answered) rs
     → EachFits (sizes m) (ends_in rs answers) × AllByRecursion (λ (a : Answered). a.computed ≡ times_computed a.replies.items) answers
 unfolding ends_in
 each_answer m [] [] e each = (tt, tt)
@@ -137,7 +137,7 @@ its_numbers n (r ∷ rs) (a ∷ answers) e bare are =
     (first, ap (λ (k : Numbers). k.joined) bare.0, its_numbers (suc n) rs answers rest bare.1 others)
 
 -- The first pass, in the state v behind all splits, has all of them back, and all answered.
-pub all_came : (z : Sizes) (m : OakMap) (v w : PassState) (threads : List (List Call)) (before now : List MapPass) (answered : List (Option Answered)) (answers : List Answered) → HasSplit z v (numbers_at before) → z.passes ≡ length before + 1
+pub all_came : {R : Type 0} (z : Sizes) (m : OakMap R) (v w : PassState) (threads : List (List Call)) (before now : List MapPass) (answered : List (Option Answered)) (answers : List Answered) → HasSplit z v (numbers_at before) → z.passes ≡ length before + 1
     → AllRan m threads before now answered → w ≡ joined_passes v (map state now) → answered ≡ some_of answers → AllCame (sizes m) w threads answers
 all_came z m v w threads before now answered answers split few ran joined all =
     let fits = each_answer m ran.runs answers whole ran.each in
@@ -169,7 +169,7 @@ all_came z m v w threads before now answered answers split few ran joined all =
 
 -- ---- the same of a row of workers, xs before their threads and zs behind them
 
-module _ {W : Type 0} (p : W → MapPass) (a : W → Option Answered) (z : Sizes) (m : OakMap) (v w : PassState) (xs zs : List W)
+module _ {R W : Type 0} (p : W → MapPass) (a : W → Option Answered) (z : Sizes) (m : OakMap R) (v w : PassState) (xs zs : List W)
     (split : HasSplit z v (map (λ x. (state (p x)).numbers) xs)) (joined : w ≡ joined_passes v (map (λ x. state (p x)) zs)) where
   pub alone_home : map (λ x. (state (p x)).numbers) zs ≡ map (λ x. (state (p x)).numbers) xs → IsAlone w
   alone_home same = subst IsAlone (sym joined) (alone_again z v (map (λ x. (state (p x)).numbers) xs) (map (λ x. state (p x)) zs) split (map-map (λ (s : PassState). s.numbers) (λ x. state (p x)) zs ∙ same))
@@ -180,13 +180,13 @@ module _ {W : Type 0} (p : W → MapPass) (a : W → Option Answered) (z : Sizes
       (joined ∙ ap (joined_passes v) (sym (map-map state p zs))) all
 
 -- a row that was changed in place
-pub ran_back : {W : Type 0} (p : W → MapPass) (a : W → Option Answered) (m : OakMap) (vs : List (Vec Call Global)) (xs us ys : List W) (n : ℕ) → us ≡ xs → length us ≡ length vs → length ys ≡ n → length ys ≡ length us → RanAt p a m vs us ys
+pub ran_back : {R W : Type 0} (p : W → MapPass) (a : W → Option Answered) (m : OakMap R) (vs : List (Vec Call Global)) (xs us ys : List W) (n : ℕ) → us ≡ xs → length us ≡ length vs → length ys ≡ n → length ys ≡ length us → RanAt p a m vs us ys
     → AllRan m (map (λ v. v.items) vs) (map p xs) (map p (take n (ys ++ drop (length ys) xs))) (map a (take n (ys ++ drop (length ys) xs)))
 ran_back p a m vs xs us ys n same each long still ran =
     subst (λ (l : List _ × List _). AllRan m (map (λ v. v.items) vs) (map p l.0) (map p l.1) (map a l.1)) (λ i. (same i, sym (take_at ys (drop (length ys) xs) n long) i)) (all_ran p a m vs us ys each still ran)
 
 -- what stays of them
-module _ {W : Type 0} (p : W → MapPass) (a : W → Option Answered) (m : OakMap) (threads : List (List Call)) (xs zs : List W) (ran : AllRan m threads (map p xs) (map p zs) (map a zs)) where
+module _ {R W : Type 0} (p : W → MapPass) (a : W → Option Answered) (m : OakMap R) (threads : List (List Call)) (xs zs : List W) (ran : AllRan m threads (map p xs) (map p zs) (map a zs)) where
   pub numbers_stay : map (λ x. (state (p x)).numbers) zs ≡ map (λ x. (state (p x)).numbers) xs
   numbers_stay = sym (map-map (λ (q : MapPass). (state q).numbers) p zs) ∙ (numbers_kept m threads (map p xs) (map p zs) (map a zs) ran ∙ map-map (λ (q : MapPass). (state q).numbers) p xs)
 
@@ -194,5 +194,5 @@ module _ {W : Type 0} (p : W → MapPass) (a : W → Option Answered) (m : OakMa
   ready_again = of_map p (IsReady m) zs (all_ready m threads (map p xs) (map p zs) (map a zs) ran)
 
 -- they are ready before they run, too
-pub fresh_ready : {W : Type 0} (p : W → MapPass) (m : OakMap) (xs : List W) → AllByRecursion (λ x. IsFresh m (p x)) xs → AllByRecursion (λ x. IsReady m (p x)) xs
+pub fresh_ready : {R W : Type 0} (p : W → MapPass) (m : OakMap R) (xs : List W) → AllByRecursion (λ x. IsFresh m (p x)) xs → AllByRecursion (λ x. IsReady m (p x)) xs
 fresh_ready p m xs fresh = all-map (λ x. IsFresh m (p x)) (λ x. IsReady m (p x)) xs (λ x f. f.ready) fresh

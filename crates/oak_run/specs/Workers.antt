@@ -25,7 +25,7 @@ abbrev pub calls_at : List (Vec Call) → ℕ → List Call
 calls_at threads i = slice_index_or (map (λ (v : Vec Call). v.items) threads) i []
 
 -- a pass before the first call of its thread
-pub record IsFresh (m : OakMap) (p : MapPass) : Type 0 where
+pub record IsFresh {R : Type 0} (m : OakMap R) (p : MapPass) : Type 0 where
   pub ready : IsReady m p
   pub unused : call_of p ≡ 0
   pub unwritten : (state p).knowledge.mine ≡ []
@@ -36,7 +36,7 @@ pub record AnswersThread (z : Sizes) (v : PassState) (calls : List Call) (a : An
   pub counted : a.computed ≡ times_computed a.replies.items
 
 -- The thread with these calls ran, from the pass p to the pass q. Where memory was lacking it answered nothing.
-pub record HasRun (m : OakMap) (calls : List Call) (p q : MapPass) (answered : Option Answered) : Type 0 where
+pub record HasRun {R : Type 0} (m : OakMap R) (calls : List Call) (p q : MapPass) (answered : Option Answered) : Type 0 where
   pub ready : IsReady m q
   pub numbers : (state q).numbers ≡ (state p).numbers
   pub answers : IfSome answered (AnswersThread (sizes m) (state q) calls)
@@ -49,7 +49,7 @@ pub record ThreadRun : Type 0 where
   pub answered : Option Answered
 
 -- threads with these calls ran
-pub record AllRan (m : OakMap) (threads : List (List Call)) (before now : List MapPass) (answered : List (Option Answered)) : Type 0 where
+pub record AllRan {R : Type 0} (m : OakMap R) (threads : List (List Call)) (before now : List MapPass) (answered : List (Option Answered)) : Type 0 where
   pub runs : List ThreadRun
   pub calls_are : map (λ (r : ThreadRun). r.calls) runs ≡ threads
   pub before_are : map (λ (r : ThreadRun). r.before) runs ≡ before

@@ -36,10 +36,10 @@ pub fn bytes_of(key: &Key) -> &[u8]
 }
 
 /// [`get`] by the pass on the map's table.
-fn get_by<R: Wait>(
+fn get_by<R: Wait + Drop + Send>(
     rt: &R,
     alloc: Global,
-    map: &OakMap,
+    map: &OakMap<R>,
     pass: &mut Pass,
     key: &Key,
 ) -> Result<Reply, OutOfMemory>
@@ -62,10 +62,10 @@ fn get_by<R: Wait>(
 }
 
 /// The value of a key, or that it has none.
-pub fn get<R: Wait>(
+pub fn get<R: Wait + Drop + Send>(
     rt: &R,
     alloc: Global,
-    map: &OakMap,
+    map: &OakMap<R>,
     pass: &mut MapPass,
     key: &Key,
 ) -> Result<Reply, OutOfMemory>
@@ -79,7 +79,13 @@ pub fn get<R: Wait>(
 }
 
 /// Puts the value of a key.
-pub fn put<R: Wait>(rt: &R, map: &OakMap, pass: &mut MapPass, key: &Key, value: &Value) -> Reply
+pub fn put<R: Wait + Drop + Send>(
+    rt: &R,
+    map: &OakMap<R>,
+    pass: &mut MapPass,
+    key: &Key,
+    value: &Value,
+) -> Reply
     requires ready { IsReady map.now pass.old }
     requires turn { IsNewCall (call_of pass.old) (state pass.old) }
     ensures ready { IsReady map.now pass.new }
@@ -90,7 +96,13 @@ pub fn put<R: Wait>(rt: &R, map: &OakMap, pass: &mut MapPass, key: &Key, value: 
 }
 
 /// Puts the value of a key where it is absent.
-pub fn put_new<R: Wait>(rt: &R, map: &OakMap, pass: &mut MapPass, key: &Key, value: &Value) -> Reply
+pub fn put_new<R: Wait + Drop + Send>(
+    rt: &R,
+    map: &OakMap<R>,
+    pass: &mut MapPass,
+    key: &Key,
+    value: &Value,
+) -> Reply
     requires ready { IsReady map.now pass.old }
     requires turn { IsNewCall (call_of pass.old) (state pass.old) }
     ensures ready { IsReady map.now pass.new }
@@ -101,9 +113,9 @@ pub fn put_new<R: Wait>(rt: &R, map: &OakMap, pass: &mut MapPass, key: &Key, val
 }
 
 /// Computes the value of a key by the recipe, which is told what to do.
-pub fn compute<R: Wait>(
+pub fn compute<R: Wait + Drop + Send>(
     rt: &R,
-    map: &OakMap,
+    map: &OakMap<R>,
     pass: &mut MapPass,
     recipe: &mut Box<dyn Recipe + Send>,
     key: &Key,
@@ -124,9 +136,9 @@ pub fn compute<R: Wait>(
 }
 
 /// Computes the value of a key as [`compute`] does, or puts one where it is absent.
-pub fn upsert<R: Wait>(
+pub fn upsert<R: Wait + Drop + Send>(
     rt: &R,
-    map: &OakMap,
+    map: &OakMap<R>,
     pass: &mut MapPass,
     recipe: &mut Box<dyn Recipe + Send>,
     key: &Key,
@@ -148,7 +160,12 @@ pub fn upsert<R: Wait>(
 }
 
 /// Removes a key.
-pub fn remove<R: Wait>(rt: &R, map: &OakMap, pass: &mut MapPass, key: &Key) -> Reply
+pub fn remove<R: Wait + Drop + Send>(
+    rt: &R,
+    map: &OakMap<R>,
+    pass: &mut MapPass,
+    key: &Key,
+) -> Reply
     requires ready { IsReady map.now pass.old }
     requires turn { IsNewCall (call_of pass.old) (state pass.old) }
     ensures ready { IsReady map.now pass.new }

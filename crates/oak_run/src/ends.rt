@@ -11,9 +11,9 @@ use oak_model::{OutOfMemory, Pair};
 use std::sync::Wait;
 
 /// Settles the map, scans all of it and closes it, by the pass into which all others were joined.
-pub fn end<R: Wait + AllocGlobal>(
+pub fn end<R: Wait + Drop + Send + AllocGlobal>(
     rt: &R,
-    map: OakMap,
+    map: OakMap<R>,
     mut pass: MapPass,
 ) -> Result<(Vec<Pair>, Closed), OutOfMemory>
     requires ready { IsReady map pass }

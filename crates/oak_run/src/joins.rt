@@ -10,6 +10,7 @@ use crate::worker::Answered;
 use oak_map::{MapPass, OakMap};
 use oak_model::OutOfMemory;
 use std::alloc::Global;
+use std::sync::Wait;
 use value_ops::Recipe;
 
 /// Puts a recipe in at the place, where there is room for it.
@@ -26,8 +27,8 @@ fn put_back(recipes: &mut Vec<Box<dyn Recipe + Send>>, place: usize, recipe: Box
 }
 
 /// Joins a worker's pass into the first, puts its recipe in at the place, and hands on what the worker answered.
-fn join_worker(
-    map: &OakMap,
+fn join_worker<R: Wait + Drop + Send>(
+    map: &OakMap<R>,
     first: &mut MapPass,
     recipes: &mut Vec<Box<dyn Recipe + Send>>,
     place: usize,
@@ -71,9 +72,9 @@ fn both(a: bool, b: bool) -> bool
 
 /// Joins the passes of all workers, in their order, into the first, however the threads ended. The answers are
 /// those of all workers, in their order, and their recipes stand in front of the others again.
-pub fn join_all(
+pub fn join_all<R: Wait + Drop + Send>(
     alloc: Global,
-    map: &OakMap,
+    map: &OakMap<R>,
     first: &mut MapPass,
     recipes: &mut Vec<Box<dyn Recipe + Send>>,
     mut workers: Vec<Worker>,

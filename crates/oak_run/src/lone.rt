@@ -20,7 +20,7 @@ use value_ops::Recipe;
 const END: u32 = 262_145;
 
 /// Runs the calls of the one thread: what it answered, the last pairs, and the closed map.
-pub fn run_one<R: Wait + AllocGlobal, G: Gate>(
+pub fn run_one<R: Wait + Clone + Drop + Send + AllocGlobal, G: Gate>(
     rt: &R,
     shape: &Shape,
     gate: &G,
@@ -44,7 +44,10 @@ pub fn run_one<R: Wait + AllocGlobal, G: Gate>(
 
 /// A map without keys, with one pass. It has the number 1, and is alone, as the first pass is joined into
 /// it.
-fn begin<R: Wait + AllocGlobal>(rt: &R, shape: &Shape) -> Result<(OakMap, MapPass), OutOfMemory>
+fn begin<R: Wait + Clone + Drop + Send + AllocGlobal>(
+    rt: &R,
+    shape: &Shape,
+) -> Result<(OakMap<R>, MapPass), OutOfMemory>
     requires passes { shape.now.passes ≡ 2 }
     ensures sizes { IfOk result (λ t. sizes t.0 ≡ shape.now) }
     ensures ready { IfOk result (λ t. IsReady t.0 t.1) }

@@ -28,10 +28,10 @@ pub struct HeldView {
 pub type HeldViews = BTreeMap<Name, HeldView>;
 
 /// Lets a name stand for the present life of a key, or for nothing where it is absent.
-pub fn hold<R: Wait>(
+pub fn hold<R: Wait + Drop + Send>(
     rt: &R,
     alloc: Global,
-    map: &OakMap,
+    map: &OakMap<R>,
     pass: &mut MapPass,
     holds: &mut HeldViews,
     name: &Name,
@@ -59,10 +59,10 @@ pub fn hold<R: Wait>(
 }
 
 /// Reads the life that a name stands for.
-pub fn look<R: Wait>(
+pub fn look<R: Wait + Drop + Send>(
     rt: &R,
     alloc: Global,
-    map: &OakMap,
+    map: &OakMap<R>,
     pass: &mut MapPass,
     holds: &HeldViews,
     name: &Name,
@@ -81,10 +81,10 @@ pub fn look<R: Wait>(
 }
 
 /// Reads the life that was held.
-fn look_at<R: Wait>(
+fn look_at<R: Wait + Drop + Send>(
     rt: &R,
     alloc: Global,
-    map: &OakMap,
+    map: &OakMap<R>,
     pass: &mut Pass,
     held: &HeldView,
 ) -> Result<Reply, OutOfMemory>

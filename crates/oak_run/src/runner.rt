@@ -32,7 +32,7 @@ pub struct Ran {
 /// without keys. Each thread has the pass with its number, from 1 on, and computes by the recipe at its place.
 /// The gate is asked before each call, and once behind each thread's last. A thread that finds no memory for a
 /// reply stops; then nothing is answered but that.
-pub fn run_script<R: Threads + Wait + AllocGlobal + Sync, G: Gate>(
+pub fn run_script<R: Threads + Wait + Clone + Drop + Send + Sync + AllocGlobal, G: Gate>(
     rt: &R,
     script: &Script,
     gate: &G,
@@ -49,7 +49,7 @@ pub fn run_script<R: Threads + Wait + AllocGlobal + Sync, G: Gate>(
 /// [`run_script`] by recipes that are lent, as many as there are threads or more. Behind the run each stands
 /// where it stood, and the count of the i-th has risen by `recipe_calls[i]`; those of no thread are as they were.
 /// Where memory was lacking the recipes of threads may have been called.
-pub fn run_script_lent<R: Threads + Wait + AllocGlobal + Sync, G: Gate>(
+pub fn run_script_lent<R: Threads + Wait + Clone + Drop + Send + Sync + AllocGlobal, G: Gate>(
     rt: &R,
     script: &Script,
     gate: &G,
@@ -78,7 +78,7 @@ pub fn run_script_lent<R: Threads + Wait + AllocGlobal + Sync, G: Gate>(
 }
 
 /// Runs the threads of a script, a single one by a pass that is alone.
-fn run_threads<R: Threads + Wait + AllocGlobal + Sync, G: Gate>(
+fn run_threads<R: Threads + Wait + Clone + Drop + Send + Sync + AllocGlobal, G: Gate>(
     rt: &R,
     script: &Script,
     gate: &G,

@@ -21,10 +21,10 @@ use std::alloc::Global;
 use std::sync::Wait;
 
 /// The pairs of a range of keys, in the order of the scan, which ends early where no memory is found.
-pub fn scanned<R: Wait>(
+pub fn scanned<R: Wait + Drop + Send>(
     rt: &R,
     alloc: Global,
-    map: &OakMap,
+    map: &OakMap<R>,
     pass: &mut MapPass,
     low: &Option<Key>,
     high: &Option<Key>,
@@ -43,10 +43,10 @@ pub fn scanned<R: Wait>(
 }
 
 /// The same by the pass on the map's table.
-fn scan_pairs<R: Wait>(
+fn scan_pairs<R: Wait + Drop + Send>(
     rt: &R,
     alloc: Global,
-    map: &OakMap,
+    map: &OakMap<R>,
     pass: &mut Pass,
     low: &Option<Key>,
     high: &Option<Key>,

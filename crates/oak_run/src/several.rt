@@ -26,7 +26,7 @@ use value_ops::Recipe;
 
 /// Runs the threads beside each other: what they answered, in their order, the last pairs, and the closed
 /// map. Each thread computes by the recipe at its place.
-pub fn run_several<R: Threads + Wait + AllocGlobal + Sync, G: Gate>(
+pub fn run_several<R: Threads + Wait + Clone + Drop + Send + Sync + AllocGlobal, G: Gate>(
     rt: &R,
     shape: &Shape,
     gate: &G,
@@ -56,9 +56,9 @@ pub fn run_several<R: Threads + Wait + AllocGlobal + Sync, G: Gate>(
 }
 
 /// Splits off a pass for each thread, runs all threads and joins all passes, which it does in any case.
-fn run_threads<R: Threads + Wait + AllocGlobal + Sync, G: Gate>(
+fn run_threads<R: Threads + Wait + Drop + Send + Sync + AllocGlobal, G: Gate>(
     rt: &R,
-    map: &OakMap,
+    map: &OakMap<R>,
     first: &mut MapPass,
     gate: &G,
     threads: &[Vec<Call>],
@@ -89,9 +89,9 @@ fn run_threads<R: Threads + Wait + AllocGlobal + Sync, G: Gate>(
 }
 
 /// Runs the threads where each has its worker.
-fn run_split<R: Threads + Wait + AllocGlobal + Sync, G: Gate>(
+fn run_split<R: Threads + Wait + Drop + Send + Sync + AllocGlobal, G: Gate>(
     rt: &R,
-    map: &OakMap,
+    map: &OakMap<R>,
     gate: &G,
     threads: &[Vec<Call>],
     workers: &mut Vec<Worker>,

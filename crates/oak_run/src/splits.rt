@@ -12,7 +12,11 @@ use std::sync::Wait;
 use value_ops::Recipe;
 
 /// A pass that is split off, unless memory or numbers are lacking.
-fn split_pass<R: Wait + AllocGlobal>(rt: &R, map: &OakMap, first: &mut MapPass) -> Option<MapPass>
+fn split_pass<R: Wait + Drop + Send + AllocGlobal>(
+    rt: &R,
+    map: &OakMap<R>,
+    first: &mut MapPass,
+) -> Option<MapPass>
     requires ready { IsReady map.now first.old }
     requires unwritten { (state first.old).knowledge.mine ≡ [] }
     ensures ready { IsReady map.now first.new }
@@ -53,9 +57,9 @@ fn add_worker(workers: &mut Vec<Worker>, worker: Worker)
 
 /// Splits off a pass for each thread, and moves the first recipes over to the workers, one to each. Where it
 /// answers false memory was lacking, and the passes that were split off stand in the workers.
-pub fn split_workers<R: Wait + AllocGlobal>(
+pub fn split_workers<R: Wait + Drop + Send + AllocGlobal>(
     rt: &R,
-    map: &OakMap,
+    map: &OakMap<R>,
     first: &mut MapPass,
     recipes: &mut Vec<Box<dyn Recipe + Send>>,
     threads: usize,

@@ -21,9 +21,9 @@ pub struct Worker {
 }
 
 /// Runs the calls of the thread at the place. Its number is one more.
-fn run_worker<R: Wait + AllocGlobal, G: Gate>(
+fn run_worker<R: Wait + Drop + Send + AllocGlobal, G: Gate>(
     rt: &R,
-    map: &OakMap,
+    map: &OakMap<R>,
     gate: &G,
     threads: &[Vec<Call>],
     place: usize,
@@ -51,9 +51,9 @@ fn run_worker<R: Wait + AllocGlobal, G: Gate>(
 }
 
 /// Runs the calls of all threads beside each other, each by the worker at its place.
-pub fn run_workers<R: Threads + Wait + AllocGlobal + Sync, G: Gate>(
+pub fn run_workers<R: Threads + Wait + Drop + Send + Sync + AllocGlobal, G: Gate>(
     rt: &R,
-    map: &OakMap,
+    map: &OakMap<R>,
     gate: &G,
     threads: &[Vec<Call>],
     workers: &mut [Worker],

@@ -24,10 +24,10 @@ use std::sync::Wait;
 use value_ops::Recipe;
 
 /// The reply to a call. What a name is to stand for is kept in `holds`.
-fn reply_to<R: Wait>(
+fn reply_to<R: Wait + Drop + Send>(
     rt: &R,
     alloc: Global,
-    map: &OakMap,
+    map: &OakMap<R>,
     pass: &mut MapPass,
     recipe: &mut Box<dyn Recipe + Send>,
     holds: &mut HeldViews,
@@ -93,10 +93,10 @@ fn times_in(reply: &Reply) -> u64
 /// Makes the calls of the thread with this number, one by one, and keeps its replies. The gate is asked
 /// before each call, and once behind the last. Where memory is lacking for a reply it stops, and the pass
 /// can be joined or closed all the same.
-pub fn run_calls<R: Wait, G: Gate>(
+pub fn run_calls<R: Wait + Drop + Send, G: Gate>(
     rt: &R,
     alloc: Global,
-    map: &OakMap,
+    map: &OakMap<R>,
     pass: &mut MapPass,
     recipe: &mut Box<dyn Recipe + Send>,
     gate: &G,

@@ -46,7 +46,12 @@ use value_ops::Recipe;
 /// - 6: no memory was found, and nothing was written.
 ///
 /// With 2, 3 and 4 one line says why.
-pub fn top<R: Threads + Wait + AllocGlobal + Sync, S: Source, K: Sink, G: Gate>(
+pub fn top<
+    R: Threads + Wait + Clone + Drop + Send + Sync + AllocGlobal,
+    S: Source,
+    K: Sink,
+    G: Gate,
+>(
     rt: &R,
     words: &[String],
     source: &mut S,
@@ -66,7 +71,12 @@ pub fn top<R: Threads + Wait + AllocGlobal + Sync, S: Source, K: Sink, G: Gate>(
 /// [`top`] by recipes that are lent, sixteen or more. Behind the run each stands where it stood. With 0 and 5 the count of
 /// the i-th rose as often as the i-th thread's replies, which the text tells, are `done`, and the others are as they
 /// were, as all are with 2, 3 and 4; with 6 they may have been called.
-pub fn top_lent<R: Threads + Wait + AllocGlobal + Sync, S: Source, K: Sink, G: Gate>(
+pub fn top_lent<
+    R: Threads + Wait + Clone + Drop + Send + Sync + AllocGlobal,
+    S: Source,
+    K: Sink,
+    G: Gate,
+>(
     rt: &R,
     words: &[String],
     source: &mut S,
@@ -84,7 +94,7 @@ pub fn top_lent<R: Threads + Wait + AllocGlobal + Sync, S: Source, K: Sink, G: G
     run(rt, words, source, sink, gate, recipes).told()
 }
 
-fn run<R: Threads + Wait + AllocGlobal + Sync, S: Source, K: Sink, G: Gate>(
+fn run<R: Threads + Wait + Clone + Drop + Send + Sync + AllocGlobal, S: Source, K: Sink, G: Gate>(
     rt: &R,
     words: &[String],
     source: &mut S,
@@ -110,7 +120,12 @@ fn run<R: Threads + Wait + AllocGlobal + Sync, S: Source, K: Sink, G: Gate>(
 }
 
 /// Reads the input to its end, and answers it.
-fn run_input<R: Threads + Wait + AllocGlobal + Sync, S: Source, K: Sink, G: Gate>(
+fn run_input<
+    R: Threads + Wait + Clone + Drop + Send + Sync + AllocGlobal,
+    S: Source,
+    K: Sink,
+    G: Gate,
+>(
     rt: &R,
     source: &mut S,
     sink: &mut K,
@@ -147,7 +162,7 @@ fn say<K: Sink>(sink: &mut K, line: &[u8])
 }
 
 /// Answers an input that was read to its end.
-fn answer<R: Threads + Wait + AllocGlobal + Sync, K: Sink, G: Gate>(
+fn answer<R: Threads + Wait + Clone + Drop + Send + Sync + AllocGlobal, K: Sink, G: Gate>(
     rt: &R,
     text: &[u8],
     sink: &mut K,
@@ -188,7 +203,7 @@ fn fault_text(alloc: Global, fault: ScriptFault) -> Result<String, AllocError>
 }
 
 /// Runs a script, and writes the text of the run.
-fn put_run<R: Threads + Wait + AllocGlobal + Sync, K: Sink, G: Gate>(
+fn put_run<R: Threads + Wait + Clone + Drop + Send + Sync + AllocGlobal, K: Sink, G: Gate>(
     rt: &R,
     script: &Script,
     sink: &mut K,
@@ -212,7 +227,7 @@ fn put_run<R: Threads + Wait + AllocGlobal + Sync, K: Sink, G: Gate>(
 }
 
 /// The text of a run of the script, and the map of the run, which was closed behind it.
-fn run_text<R: Threads + Wait + AllocGlobal + Sync, G: Gate>(
+fn run_text<R: Threads + Wait + Clone + Drop + Send + Sync + AllocGlobal, G: Gate>(
     rt: &R,
     script: &Script,
     gate: &G,

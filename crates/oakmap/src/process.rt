@@ -19,12 +19,12 @@ use value_ops::StepRecipe;
 /// The whole program: [`top`] on the words behind the program's name, with this gate and a recipe for each
 /// thread that a script may have, and its status as that of the process. A word that is not UTF-8 is none that the program
 /// takes, and ends with 2; where there is no memory for the words or the recipes it ends with 6.
-pub fn program<R: Threads + Wait + Env + AllocGlobal + Sync, S: Source, K: Sink, G: Gate>(
-    rt: &R,
-    source: &mut S,
-    sink: &mut K,
-    gate: &G,
-) -> ExitCode
+pub fn program<
+    R: Threads + Wait + Clone + Drop + Send + Sync + Env + AllocGlobal,
+    S: Source,
+    K: Sink,
+    G: Gate,
+>(rt: &R, source: &mut S, sink: &mut K, gate: &G) -> ExitCode
     ensures { (s : Status) × (command : Option Command) × (exit_status result ≡ code_of s) × Ends s command
         (record { left = S.left source.old; faults = S.faults source.old }) (record { left = S.left source.new; faults = S.faults source.new })
         (record { written = K.written sink.old; faults = K.faults sink.old }) (record { written = K.written sink.new; faults = K.faults sink.new }) }

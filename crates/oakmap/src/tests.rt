@@ -75,7 +75,7 @@ fn script_of(alloc: Global, text: &str) -> Result<Script, Fail>
 }
 
 /// Runs the text's script under the gate: what the run answered, and the text of the run.
-fn run_of<R: Threads + Wait + AllocGlobal + Sync, G: Gate>(
+fn run_of<R: Threads + Wait + Clone + Drop + Send + Sync + AllocGlobal, G: Gate>(
     rt: &R,
     text: &str,
     gate: &G,
@@ -94,14 +94,12 @@ fn sink_of(alloc: Global, fails: &[u64]) -> Result<MemorySink, Fail> {
 }
 
 /// Calls the program with these words, and asserts the status, and that a map was closed exactly with 0 and 5.
-fn end<R: Threads + Wait + AllocGlobal + Abort + Sync, S: Source, K: Sink, G: Gate>(
-    rt: &R,
-    words: &str,
-    source: &mut S,
-    sink: &mut K,
-    gate: &G,
-    status: u8,
-) -> Result<(), Fail> {
+fn end<
+    R: Threads + Wait + Clone + Drop + Send + Sync + AllocGlobal + Abort,
+    S: Source,
+    K: Sink,
+    G: Gate,
+>(rt: &R, words: &str, source: &mut S, sink: &mut K, gate: &G, status: u8) -> Result<(), Fail> {
     let alloc = rt.alloc();
     let words = words_in(alloc, words)?;
     let ended = top(rt, &words, source, sink, gate, recipes_of(alloc)?);
@@ -111,7 +109,7 @@ fn end<R: Threads + Wait + AllocGlobal + Abort + Sync, S: Source, K: Sink, G: Ga
 }
 
 /// Runs `oakmap run` on the text under the gate, and asserts the status: what was written.
-fn written<R: Threads + Wait + AllocGlobal + Abort + Sync, G: Gate>(
+fn written<R: Threads + Wait + Clone + Drop + Send + Sync + AllocGlobal + Abort, G: Gate>(
     rt: &R,
     text: &str,
     gate: &G,
@@ -125,7 +123,7 @@ fn written<R: Threads + Wait + AllocGlobal + Abort + Sync, G: Gate>(
 }
 
 /// Runs `oakmap run` on the text under the gate, and asserts the status and what was written.
-fn expect_under<R: Threads + Wait + AllocGlobal + Abort + Sync, G: Gate>(
+fn expect_under<R: Threads + Wait + Clone + Drop + Send + Sync + AllocGlobal + Abort, G: Gate>(
     rt: &R,
     text: &str,
     gate: &G,
@@ -139,7 +137,7 @@ fn expect_under<R: Threads + Wait + AllocGlobal + Abort + Sync, G: Gate>(
 }
 
 /// The same under a gate that holds no thread.
-fn expect<R: Threads + Wait + AllocGlobal + Abort + Sync>(
+fn expect<R: Threads + Wait + Clone + Drop + Send + Sync + AllocGlobal + Abort>(
     rt: &R,
     text: &str,
     status: u8,
@@ -162,7 +160,7 @@ fn used_text(alloc: Global, says: &str, used: Used) -> Result<String, Fail> {
 }
 
 /// Runs the script, whose text has to end with the table of the default shape.
-fn expect_used<R: Threads + Wait + AllocGlobal + Abort + Sync>(
+fn expect_used<R: Threads + Wait + Clone + Drop + Send + Sync + AllocGlobal + Abort>(
     rt: &R,
     text: &str,
     says: &str,

@@ -19,7 +19,7 @@ use std::thread::Threads;
 use value_ops::Recipe;
 
 /// Runs a workload, and writes the summary of the run.
-pub fn put_workload<R: Threads + Wait + AllocGlobal + Sync, K: Sink, G: Gate>(
+pub fn put_workload<R: Threads + Wait + Clone + Drop + Send + Sync + AllocGlobal, K: Sink, G: Gate>(
     rt: &R,
     asked: Workload,
     sink: &mut K,
@@ -44,7 +44,7 @@ pub fn put_workload<R: Threads + Wait + AllocGlobal + Sync, K: Sink, G: Gate>(
 }
 
 /// The summary of a run of the workload, and the map of the run, which was closed behind it.
-fn summary_text<R: Threads + Wait + AllocGlobal + Sync, G: Gate>(
+fn summary_text<R: Threads + Wait + Clone + Drop + Send + Sync + AllocGlobal, G: Gate>(
     rt: &R,
     asked: Workload,
     gate: &G,

@@ -18,7 +18,7 @@ const ROOM: usize = 8_192;
 const SCRIPTS: [&str; 6] = ["first", "views", "scans", "refusals", "threads", "fault"];
 
 /// Whether the program, which gets the words of this process, writes the script's text.
-fn writes_its_text<R: Threads + Wait + Env + Files + AllocGlobal + Sync>(
+fn writes_its_text<R: Threads + Wait + Clone + Drop + Send + Sync + Env + Files + AllocGlobal>(
     rt: &R,
     name: &str,
 ) -> anyhow::Result<bool> {

@@ -1,30 +1,38 @@
-//! Fills a map with keys that come in a scrambled order, and scans it whole again and again: an example of the map's
-//! calls and of its scans, whose time is measured (`bench/time_scans.sh`).
+//! Fills a map with keys that come in a scrambled order, and then scans it whole, looks up each key, or settles it, again
+//! and again: an example of the map's calls, whose time is measured (`bench/time_scans.sh`, `bench/time_chunks.sh`).
 //!
-//! usage: scan_rounds KEYS SCANS WAY
+//! usage: scan_rounds KEYS ROUNDS WORK [ENTRIES]
 #![tactic(auto)]
 
-ghost use Rattle.std.specs.Prelude.{◌≤◌, IfOk, IfSome};
+ghost use Rattle.std.specs.Prelude.{◌<◌, ◌≤◌, IfOk, IfSome};
 ghost use Rattle.scan_rounds.specs.declared.rounds.TheConstants.{MOST_KEYS};
 
+mod gets;
 mod rounds;
+mod work;
 
-use oak_map::{OakMap, Way};
-use oak_model::{DEFAULT_BLOCKS, DEFAULT_CHUNKS, DEFAULT_ENTRIES, DEFAULT_HEADERS, Shape, Usage};
-use rounds::{MOST_KEYS, fill, scan_again};
+use oak_map::OakMap;
+use oak_model::{
+    BadShape, DEFAULT_BLOCKS, DEFAULT_CHUNKS, DEFAULT_ENTRIES, DEFAULT_HEADERS, GREATEST_CHUNKS,
+    GREATEST_ENTRIES, LEAST_ENTRIES, Shape, Usage,
+};
+use rounds::{MOST_KEYS, fill};
 use std::process::ExitCode;
 use std::sync::Wait;
 use std::{env, io};
+use work::{Work, go_rounds};
 
-/// What the words ask for: so many keys, and so many scans in this way.
+/// What the words ask for: so many keys, and so many rounds of this work, in a map with so many entries a chunk.
 #[derive(Clone, Copy, Debug)]
 struct Asked {
     keys: u32,
-    scans: u32,
-    way: Way,
+    rounds: u32,
+    work: Work,
+    entries: u32,
 }
 
-/// What a run came to: the keys that were new, the pairs of all scans, the sum of their values, and what is in use.
+/// What a run came to: the keys that were new, the pairs that all rounds read, the sum of their values, and what is in
+/// use.
 #[derive(Clone, Copy, Debug)]
 struct Told {
     keys: u32,
@@ -41,46 +49,62 @@ fn count_at(rt: &HostRuntime, place: usize) -> io::Result<Option<u32>> {
     Ok(word.parse().ok())
 }
 
-/// The way that the third word names.
-fn way_named(rt: &HostRuntime) -> io::Result<Option<Way>> {
+/// The work that the third word names.
+fn work_named(rt: &HostRuntime) -> io::Result<Option<Work>> {
     let Some(word) = env::args(rt)?.nth(3) else {
         return Ok(None);
     };
-    Ok(match word.as_str() {
-        "up" => Some(Way::Up),
-        "down" => Some(Way::Down),
-        _ => None,
-    })
+    Ok(Work::named(&word))
 }
 
-/// What the words ask for, where there are not too many keys.
+/// The entries of a chunk that the fourth word names. Without one there are as many as by default.
+fn entries_named(rt: &HostRuntime) -> io::Result<Option<u32>> {
+    if env::args(rt)?.nth(4).is_none() {
+        return Ok(Some(DEFAULT_ENTRIES));
+    }
+    count_at(rt, 4)
+}
+
+/// What the words ask for, where there are not too many keys, and a chunk may have so many entries.
 fn read_words(rt: &HostRuntime) -> io::Result<Option<Asked>>
     ensures few { IfOk result (λ found. IfSome found (λ x. x.keys ≤ MOST_KEYS)) }
+    ensures entries { IfOk result (λ found. IfSome found (λ x. 0 < x.entries)) }
 {
-    let (Some(keys), Some(scans), Some(way)) = (count_at(rt, 1)?, count_at(rt, 2)?, way_named(rt)?)
-    else {
+    let (Some(keys), Some(rounds), Some(work), Some(entries)) = (
+        count_at(rt, 1)?,
+        count_at(rt, 2)?,
+        work_named(rt)?,
+        entries_named(rt)?,
+    ) else {
         return Ok(None);
     };
-    if keys > MOST_KEYS {
+    if keys > MOST_KEYS || entries < LEAST_ENTRIES || entries > GREATEST_ENTRIES {
         return Ok(None);
     }
-    Ok(Some(Asked { keys, scans, way }))
+    Ok(Some(Asked {
+        keys,
+        rounds,
+        work,
+        entries,
+    }))
 }
 
-/// Makes a map of the default shape, fills it, scans it, and closes it.
-fn run<R: Wait + AllocGlobal>(rt: &R, asked: &Asked) -> anyhow::Result<Told>
-    requires few { asked.now.keys ≤ MOST_KEYS }
+/// The default shape with so many entries a chunk, and so many chunks that it has as many entries in all, if it may.
+fn shape_of(entries: u32) -> Result<Shape, BadShape>
+    requires { 0 < entries }
 {
-    let shape = Shape::make(
-        1,
-        DEFAULT_CHUNKS,
-        DEFAULT_ENTRIES,
-        DEFAULT_HEADERS,
-        DEFAULT_BLOCKS,
-    )?;
-    let (map, mut pass) = OakMap::create(rt, &shape)?;
+    let chunks = (DEFAULT_CHUNKS * DEFAULT_ENTRIES / entries).min(GREATEST_CHUNKS);
+    Shape::make(1, chunks, entries, DEFAULT_HEADERS, DEFAULT_BLOCKS)
+}
+
+/// Makes a map, fills it, does the work on it, and closes it.
+fn run<R: Wait + Clone + Drop + Send + AllocGlobal>(rt: &R, asked: &Asked) -> anyhow::Result<Told>
+    requires few { asked.now.keys ≤ MOST_KEYS }
+    requires entries { 0 < asked.now.entries }
+{
+    let (map, mut pass) = OakMap::create(rt, &shape_of(asked.entries)?)?;
     let keys = fill(rt, &map, &mut pass, asked.keys);
-    let (pairs, sum) = scan_again(rt, &map, &mut pass, asked.scans, asked.way);
+    let (pairs, sum) = go_rounds(rt, &map, &mut pass, asked.keys, asked.work, asked.rounds);
     let used = map.close(pass).usage();
     Ok(Told {
         keys,
@@ -92,17 +116,22 @@ fn run<R: Wait + AllocGlobal>(rt: &R, asked: &Asked) -> anyhow::Result<Told>
 
 fn main(rt: HostRuntime) -> anyhow::Result<ExitCode> {
     let Some(asked) = read_words(&rt)? else {
-        println!(rt; "usage: scan_rounds KEYS SCANS WAY, at most {MOST_KEYS} keys, up or down")?;
+        println!(rt;
+            "usage: scan_rounds KEYS ROUNDS up|down|get|settle [ENTRIES], at most {MOST_KEYS} keys"
+        )?;
         return Ok(ExitCode::from(2));
     };
     let told = run(&rt, &asked)?;
     let Usage {
         blocks,
         headers,
-        ..
+        chunks,
     } = told.used;
     println!(rt; "{} keys", told.keys)?;
     println!(rt; "{} pairs, sum {}", told.pairs, told.sum)?;
-    println!(rt; "{} blocks and {headers} headers in use", blocks[0])?;
+    println!(rt;
+        "{} blocks, {headers} headers and {chunks} chunks in use",
+        blocks[0]
+    )?;
     Ok(ExitCode::SUCCESS)
 }

@@ -1,4 +1,4 @@
-//! A map that is filled in a scrambled order, and scanned whole, again and again.
+//! A map that is filled in a scrambled order, and scanned whole.
 ghost use Rattle.std.specs.Prelude.{◌≡◌, ◌+◌, ◌<◌, ◌≤◌, IsSome};
 ghost use Rattle.oak_core.specs.MayWrite.{IsNewCall};
 ghost use Rattle.oak_core.specs.PassState.{HoldsNothing};
@@ -17,12 +17,12 @@ use std::sync::Wait;
 pub const MOST_KEYS: u32 = 65_536;
 
 /// The bytes of a number's key: the keys of rising numbers come in a scrambled order.
-fn key_of(number: u32) -> [u8; 8] {
+pub fn key_of(number: u32) -> [u8; 8] {
     (u64::from(number) * 40_503 % u64::from(MOST_KEYS)).to_be_bytes()
 }
 
 /// The pass's next call, in which it made no write so far.
-fn next_call(map: &OakMap, pass: &mut MapPass, call: u32)
+fn next_call<R: Wait + Drop + Send>(map: &OakMap<R>, pass: &mut MapPass, call: u32)
     requires own { IsReady map.now pass.old }
     requires above { call_of pass.old < call }
     requires ready { IsReadyFor (call_of pass.old) (state pass.old) }
@@ -35,7 +35,7 @@ fn next_call(map: &OakMap, pass: &mut MapPass, call: u32)
 }
 
 /// Puts the number as the value of its key, in a call of its own.
-fn put<R: Wait>(rt: &R, map: &OakMap, pass: &mut MapPass, number: u32) -> Wrote
+fn put<R: Wait + Drop + Send>(rt: &R, map: &OakMap<R>, pass: &mut MapPass, number: u32) -> Wrote
     requires own { IsReady map.now pass.old }
     requires few { number < MOST_KEYS }
     requires above { call_of pass.old ≤ number }
@@ -60,7 +60,7 @@ fn new_keys(said: Wrote) -> u32
 }
 
 /// Puts so many numbers: how many of their keys are new.
-pub fn fill<R: Wait>(rt: &R, map: &OakMap, pass: &mut MapPass, keys: u32) -> u32
+pub fn fill<R: Wait + Drop + Send>(rt: &R, map: &OakMap<R>, pass: &mut MapPass, keys: u32) -> u32
     requires own { IsReady map.now pass.old }
     requires few { keys ≤ MOST_KEYS }
     requires first { call_of pass.old ≡ 0 }
@@ -125,7 +125,7 @@ fn go_over<R: Wait>(rt: &R, cursor: &mut Cursor<'_>) -> (u64, u64)
 }
 
 /// Begins a scan of the whole map.
-fn begin<'p>(map: &'p OakMap, pass: &'p mut Pass, way: Way) -> Cursor<'p>
+fn begin<'p, R: Wait + Drop + Send>(map: &'p OakMap<R>, pass: &'p mut Pass, way: Way) -> Cursor<'p>
     requires own { IsPassOf (table_of map.now) pass.old }
     requires idle { HoldsNothing (table_state pass.old) }
     ensures same_reference { result.pass.ghost_name ≡ pass.entry.ghost_name }
@@ -135,8 +135,8 @@ fn begin<'p>(map: &'p OakMap, pass: &'p mut Pass, way: Way) -> Cursor<'p>
     scan_of(map, pass, None, None, way)
 }
 
-/// Scans the whole map by the pass on its table.
-fn scan<R: Wait>(rt: &R, map: &OakMap, pass: &mut Pass, way: Way) -> (u64, u64)
+/// Scans the whole map by the pass on its table: how many pairs it gave, and their values, added up.
+pub fn scan<R: Wait + Drop + Send>(rt: &R, map: &OakMap<R>, pass: &mut Pass, way: Way) -> (u64, u64)
     requires own { IsPassOf (table_of map.now) pass.old }
     requires idle { HoldsNothing (table_state pass.old) }
     ensures own { StaysButSlots pass.old pass.new }
@@ -147,26 +147,4 @@ fn scan<R: Wait>(rt: &R, map: &OakMap, pass: &mut Pass, way: Way) -> (u64, u64)
     let told = go_over(rt, &mut cursor);
     cursor.finish();
     told
-}
-
-/// Scans the whole map so many times: how many pairs it gave, and their values, added up.
-pub fn scan_again<R: Wait>(
-    rt: &R,
-    map: &OakMap,
-    pass: &mut MapPass,
-    count: u32,
-    way: Way,
-) -> (u64, u64)
-    requires own { IsReady map.now pass.old }
-    ensures own { IsReady map.now pass.new }
-    ensures numbers { (state pass.new).numbers ≡ (state pass.old).numbers }
-{
-    let mut pairs = 0u64;
-    let mut sum = 0u64;
-    for _ in 0..count {
-        let (more, added) = scan(rt, map, pass.pass_mut(), way);
-        pairs = pairs.wrapping_add(more);
-        sum = sum.wrapping_add(added);
-    }
-    (pairs, sum)
 }

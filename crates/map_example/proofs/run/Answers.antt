@@ -10,7 +10,7 @@ pub fill-filled-requires-clause-alone : goal.fill-filled-requires-clause-alone
 fill-filled-requires-clause-alone g c κs within = numbers_alone (state c.in_ok-map.pass) (λ i. (c.in_ok-map.ensures.first.0 i).numbers)
 
 pub close-requires-clause-alone : goal.close-requires-clause-alone
-close-requires-clause-alone g c =
+close-requires-clause-alone g c κs within =
     let sold = c.sold_at-at_nine.ensures.numbers ∙ ap (λ (p : Pass). (table_state p).numbers) c.pass_mut.ensures.pass in
     let scanned = c.sum_between-rows.ensures.numbers ∙ (ap (λ (p : Pass). (table_state p).numbers) c.pass_mut-2.ensures.pass ∙ sold) in
     alone_later (state c.fill-filled.new.pass) (table_state c.sum_between-rows.new.pass) scanned c.fill-filled.ensures.alone

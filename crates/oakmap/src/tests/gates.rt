@@ -72,7 +72,7 @@ impl Gate for HoldingGate {
 const GATES: [(Asked, Asked); 2] = [((1, 1), (2, 2)), ((2, 1), (1, 2))];
 
 /// Runs the script under the gate that holds so, and asserts that it did, and the text of the run.
-fn expect_held<R: Threads + Wait + AllocGlobal + Abort + Sync>(
+fn expect_held<R: Threads + Wait + Clone + Drop + Send + Sync + AllocGlobal + Abort>(
     rt: &R,
     text: &str,
     (held, until): (Asked, Asked),

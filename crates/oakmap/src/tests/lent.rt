@@ -19,7 +19,7 @@ fn expect_calls<R: Abort>(rt: &R, recipes: &[Box<dyn Recipe + Send>], calls: [u6
 }
 
 /// Runs the text's script by recipes that are lent, and asserts how often they were called.
-fn expect_lent<R: Threads + Wait + AllocGlobal + Abort + Sync>(
+fn expect_lent<R: Threads + Wait + Clone + Drop + Send + Sync + AllocGlobal + Abort>(
     rt: &R,
     text: &str,
     calls: [u64; 3],

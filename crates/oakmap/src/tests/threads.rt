@@ -27,7 +27,7 @@ fn own_replies(alloc: Global, name: u8) -> Result<String, Fail> {
 }
 
 /// Threads that work on keys of their own have one text.
-fn expect_own<R: Threads + Wait + AllocGlobal + Abort + Sync>(
+fn expect_own<R: Threads + Wait + Clone + Drop + Send + Sync + AllocGlobal + Abort>(
     rt: &R,
     threads: u8,
 ) -> Result<(), Fail> {

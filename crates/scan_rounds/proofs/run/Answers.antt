@@ -4,4 +4,4 @@ use Rattle.oak_map.specs.Maps.{state}
 use Rattle.scan_rounds.proofs.run.Goals as goal
 
 pub close-requires-clause-alone : goal.close-requires-clause-alone
-close-requires-clause-alone g c = numbers_alone (state c.scan_again-pairs.new.pass) (c.scan_again-pairs.ensures.numbers ∙ (c.fill-keys.ensures.numbers ∙ (λ i. (c.in_ok-map.ensures.first.0 i).numbers)))
+close-requires-clause-alone g c κs within = numbers_alone (state c.go_rounds-pairs.new.pass) (c.go_rounds-pairs.ensures.numbers ∙ (c.fill-keys.ensures.numbers ∙ (λ i. (c.in_ok-map.ensures.first.0 i).numbers)))

@@ -5,7 +5,7 @@ use Rattle.oak_core.proofs.Alone.{numbers_alone}
 use Rattle.oak_map.proofs.lending_tests.lent_values.Goals as goal
 
 pub close-requires-clause-alone : goal.close-requires-clause-alone
-close-requires-clause-alone g c =
+close-requires-clause-alone g c κs =
     let one = c.put.ensures.ready.numbers ∙ (λ i. (c.in_ok-map.ensures.first.0 i).numbers) in
     let two = c.put-2.ensures.ready.numbers ∙ one in
     let held = c.copies_of-held.ensures.ready.numbers ∙ (ap (λ (p : Pass). (table_state p).numbers) c.pass_mut.ensures.pass ∙ two) in

@@ -9,13 +9,13 @@ use Rattle.oak_map.proofs.LendingTests.{has_known}
 use Rattle.oak_map.proofs.lending_tests.one_life.Goals as goal
 
 pub looks_of-second-requires-clause-known : goal.looks_of-second-requires-clause-known
-looks_of-second-requires-clause-known g c = let z = sizes c.args.map.now in let x : Viewed = c.args.view.now in
+looks_of-second-requires-clause-known g c κs lives = let z = sizes c.args.map.now in let x : Viewed = c.args.view.now in
     let start : HasView z x (table_state c.pass_mut.result.now) = subst (λ (p : Pass). HasView z x (table_state p)) (sym c.pass_mut.ensures.pass) c.requires.has in
     let over : HasView z x (state c.put-over.new.pass) = view_again z x _ _ _ c.put-over.ensures.ready (view_again z x _ _ _ c.looks_of-first.ensures.ready start) in
     has_known z x _ (subst (λ (p : Pass). HasView z x (table_state p)) (sym c.pass_mut-2.ensures.pass) over)
 
 pub looks_of-gone-requires-clause-known : goal.looks_of-gone-requires-clause-known
-looks_of-gone-requires-clause-known g c = let z = sizes c.args.map.now in let x : Viewed = c.args.view.now in
+looks_of-gone-requires-clause-known g c κs lives = let z = sizes c.args.map.now in let x : Viewed = c.args.view.now in
     let start : HasView z x (table_state c.pass_mut.result.now) = subst (λ (p : Pass). HasView z x (table_state p)) (sym c.pass_mut.ensures.pass) c.requires.has in
     let over : HasView z x (state c.put-over.new.pass) = view_again z x _ _ _ c.put-over.ensures.ready (view_again z x _ _ _ c.looks_of-first.ensures.ready start) in
     let second : HasView z x (table_state c.pass_mut-2.result.now) = subst (λ (p : Pass). HasView z x (table_state p)) (sym c.pass_mut-2.ensures.pass) over in
@@ -23,7 +23,7 @@ looks_of-gone-requires-clause-known g c = let z = sizes c.args.map.now in let x 
     has_known z x _ (subst (λ (p : Pass). HasView z x (table_state p)) (sym c.pass_mut-3.ensures.pass) removed)
 
 pub looks_of-other-requires-clause-known : goal.looks_of-other-requires-clause-known
-looks_of-other-requires-clause-known g c = let z = sizes c.args.map.now in let x : Viewed = c.args.view.now in
+looks_of-other-requires-clause-known g c κs lives = let z = sizes c.args.map.now in let x : Viewed = c.args.view.now in
     let start : HasView z x (table_state c.pass_mut.result.now) = subst (λ (p : Pass). HasView z x (table_state p)) (sym c.pass_mut.ensures.pass) c.requires.has in
     let over : HasView z x (state c.put-over.new.pass) = view_again z x _ _ _ c.put-over.ensures.ready (view_again z x _ _ _ c.looks_of-first.ensures.ready start) in
     let second : HasView z x (table_state c.pass_mut-2.result.now) = subst (λ (p : Pass). HasView z x (table_state p)) (sym c.pass_mut-2.ensures.pass) over in

@@ -9,7 +9,7 @@ use Rattle.oak_run.proofs.OnlyThreads.{nothing_written, only_thread}
 use Rattle.oak_run.proofs.lone.begin.Goals as goal
 
 pub close-closed-requires-clause-alone : goal.close-closed-requires-clause-alone
-close-closed-requires-clause-alone g c = numbers_alone (state c.split.new.pass) (ap (λ (x : PassState). x.numbers) c.in-Err-split.ensures.refused.after ∙ ap (λ (x : PassState). x.numbers) c.in-Ok.ensures.first.0)
+close-closed-requires-clause-alone g c κs within = numbers_alone (state c.split.new.pass) (ap (λ (x : PassState). x.numbers) c.in-Err-split.ensures.refused.after ∙ ap (λ (x : PassState). x.numbers) c.in-Ok.ensures.first.0)
 
 pub returns-in-Ok-split-clause-only : goal.returns-in-Ok-split-clause-only
 returns-in-Ok-split-clause-only g c = let z = sizes c.in-Ok.made.0 in let v = state c.in-Ok.made.1 in let first : v ≡ first_state z 0 = c.in-Ok.ensures.first.0 in

@@ -8,7 +8,7 @@ use Rattle.oak_run.proofs.OnlyThreads.{only_still}
 use Rattle.oak_run.proofs.lone.run_one.Goals as goal
 
 pub end-ended-requires-clause-alone : goal.end-ended-requires-clause-alone
-end-ended-requires-clause-alone g c = subst (λ (v : PassState). IsAlone v) (ap (λ m. m.0) (sym c.turn.ensures.state)) (only_still (state c.in_ok-map.pass) (state c.run_calls-answered.new.pass) c.run_calls-answered.ensures.numbers c.in_ok-map.ensures.only).alone
+end-ended-requires-clause-alone g c κs within = subst (λ (v : PassState). IsAlone v) (ap (λ m. m.0) (sym c.turn.ensures.state)) (only_still (state c.in_ok-map.pass) (state c.run_calls-answered.new.pass) c.run_calls-answered.ensures.numbers c.in_ok-map.ensures.only).alone
 
 pub returns-clause-runs : goal.returns-clause-runs
 returns-clause-runs g c =

@@ -14,7 +14,7 @@ pub returns-in-None-clause-looked : goal.returns-in-None-clause-looked
 returns-in-None-clause-looked g c = unheld_did (sizes c.args.map.now) (call_of c.args.pass.now) (state c.args.pass.now) c.args.holds.now c.args.name.now (sym (rw c.in-None.is at c.get.ensures.value))
 
 pub look_at-requires-clause-known : goal.look_at-requires-clause-known
-look_at-requires-clause-known g c = let z = sizes c.args.map.now in let l = (name_held z (state c.args.pass.now) c.args.holds.now c.requires.known.0 c.args.name.now c.in-Some.held.now (sym (rw c.in-Some.is at c.get.ensures.value)) c.requires.known.1).2.life in
+look_at-requires-clause-known g c κs within = let z = sizes c.args.map.now in let l = (name_held z (state c.args.pass.now) c.args.holds.now c.requires.known.0 c.args.name.now c.in-Some.held.now (sym (rw c.in-Some.is at c.get.ensures.value)) c.requires.known.1).2.life in
     subst (λ (p : Pass). KnowsView z c.in-Some.held.now.view (table_state p)) (sym c.pass_mut.ensures.pass) (view_known z c.in-Some.held.now.view (state c.args.pass.now) l.inside l.loaded)
 
 pub returns-in-Some-clause-looked : goal.returns-in-Some-clause-looked

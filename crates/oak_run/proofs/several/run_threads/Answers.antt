@@ -25,7 +25,7 @@ returns-else-whole-clause-alone g c = alone_home (λ w. w.pass) (λ w. w.answere
     c.split_workers-whole.ensures.split c.join_all-answers.ensures.joined c.run_split.ensures.numbers
 
 pub join_all-answers-requires-clause-room : goal.join_all-answers-requires-clause-room
-join_all-answers-requires-clause-room g c =
+join_all-answers-requires-clause-room g c κs within =
     let fit : length c.args.recipes.now.items ≤ vec_capacity c.split_workers-whole.new.recipes = (let k = c.split_workers-whole.ensures.capacity in let n = c.args.recipes.now.ok.0 in let fits = c.args.recipes.now.ok.1 in omega arith) in
     room_back (λ w. w.recipe) c.split_workers-whole.new.workers.items c.run_split.new.workers.items c.split_workers-whole.new.recipes.items c.args.recipes.now.items (vec_capacity c.split_workers-whole.new.recipes) (still_by (λ w. (state w.pass).numbers) c.split_workers-whole.new.workers.items c.run_split.new.workers.items c.run_split.ensures.numbers) c.split_workers-whole.ensures.moved fit
 

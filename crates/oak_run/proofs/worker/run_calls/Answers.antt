@@ -24,14 +24,14 @@ loop-call-init g c = record {
 }
 
 pub reply_to-requires-clause-turn : goal.reply_to-requires-clause-turn
-reply_to-requires-clause-turn g c = let i = c.loop-call.call-index in let inv = c.loop-call.invariant in let cs : List Call = take i c.args.thread.now in
+reply_to-requires-clause-turn g c κs within = let i = c.loop-call.call-index in let inv = c.loop-call.invariant in let cs : List Call = take i c.args.thread.now in
     let counted : length cs ≡ i = length-take-le i c.args.thread.now (let lt = c.loop-call-test.true in omega arith) in
     let called = c.turn.ensures.call in let number = inv.number in let few = c.requires.few in let lt = c.loop-call-test.true in
     subst (λ (v : PassState). IsNewCall (call_of c.turn.new.self) v) (ap (λ m. m.0) (sym c.turn.ensures.state))
     (next_new (call_of c.turn.new.self) cs (state c.loop-call.pass) (omega arith) (omega arith) inv.working.early)
 
 pub reply_to-requires-clause-known : goal.reply_to-requires-clause-known
-reply_to-requires-clause-known g c = let w = c.loop-call.invariant.working in
+reply_to-requires-clause-known g c κs within = let w = c.loop-call.invariant.working in
     (names_of no_names w.fits.turns, subst (λ (v : PassState). KeepsViews (sizes c.args.map.now) c.loop-call.holds v (names_of no_names w.fits.turns)) (ap (λ m. m.0) (sym c.turn.ensures.state)) w.keeps)
 
 pub loop-call-preserved : goal.loop-call-preserved

@@ -26,7 +26,7 @@ returns-in-Ok-clause-claims g c = let z = sizes c.args.self.now in let call = ca
     put_claims z call u v w i.going.tries c.in-Ok.wrote key (Put c.args.value.now) (subst (λ (k : ℕ). WroteFits c.in-Ok.wrote k key (Put c.args.value.now) v w) i.stays.call c.in-Ok.ensures.wrote)
 
 pub make_way-requires-clause-tried : goal.make_way-requires-clause-tried
-make_way-requires-clause-tried g c = let u = state c.args.pass.now in let v = state c.loop.pass in let i = c.loop.invariant in let o = c.try_put.ensures.own in let e = c.in-Err.ensures in
+make_way-requires-clause-tried g c κs lives = let u = state c.args.pass.now in let v = state c.loop.pass in let i = c.loop.invariant in let o = c.try_put.ensures.own in let e = c.in-Err.ensures in
     (Put c.args.value.now, u, v, last_try (sizes c.args.self.now) (call_of c.args.pass.now) (call_of c.loop.pass) (table_call c.try_put.new.pass) c.args.key.now c.in-Err.halt c.loop.settled (Put c.args.value.now) u v (table_state c.try_put.new.pass) i.stays.call o.call i.going e.refused e.halted)
 
 -- it gives up

@@ -2,10 +2,12 @@
 use Rattle.std.proofs.Common.{◌≡◌, List, [], ◌∷◌, None, refl, sym, ap, ◌∙◌, subst}
 use Rattle.std.specs.Prelude.{IfSome, MatchOption}
 use Rattle.std.proofs.raw_atomic.Walks.{proved, leaves}
-use mir.Syntax.{named}
+use mir.Syntax.{a_type, dcons, dnil, named}
+use mir.MapTy.{inst_fn}
 use mir.Val.{Val}
 use base.Logic.{SProp, emp, id⊢}
-use base.Fml.{GName, ftrue, flft}
+use base.Fml.{GName, ftrue, fsep, flft}
+use contract.BorrowLft.{◌⊑◌}
 use contract.Monad.{fact, fact_i}
 use contract.Running.{tables}
 use types.Kit.{‵, raw, ◌⊛◌, some, later, ◌$◌, ◌∵◌, !, qed, by, move, keep, drop, use0, use1, split, join, fsplit, fjoin, pick, await, rewrite}
@@ -16,6 +18,8 @@ use denote.Exit.{yes, no}
 use denote.Follow.{follows}
 use denote.Laws.{Is, shows}
 use denote.RattleType.{RattleType, owns}
+use denote.Param.{param, bounded}
+use denote.Param.Send.{IsSend}
 use denote.Ref.{MutBor, MutRef, shr_vals, shr_Tells, mut_vals, mut_Tells}
 use denote.Signature.{Slot, types_at, plain, named_lft}
 use denote.Steps.{nothing, only, heard, peeks}
@@ -54,26 +58,27 @@ use Rattle.oak_map.specs.contracts.lending.scan_within as h
 use Rattle.oak_map.proofs.lending.scan_within.Met as h_met
 
 pub scan_spec : {M : Type 1} → statement M
-scan_spec 𝓤 𝓛 𝓜 𝓡 wired =
-    let 𝓣 = tables 𝓤 𝓛.H 𝓜 𝓡 𝓡.env in
-    let En = f.ended in let c = f.clauses 𝓛 𝓜.mem 𝓡.returns in
-    let s₀ : Slot 1 = RefOf (0 ∷ []) tt (plain (λ κs. map.the_row)) (λ κs. tt) in
-    let s₁ : Slot 1 = RefMutOf (0 ∷ []) tt (plain (λ κs. mine.the_row)) (λ κs. tt) in
-    let s₂ : Slot 1 = plain (λ κs. bound (named_lft 1 0 tt κs)) in
-    let s₃ : Slot 1 = plain (λ κs. way.the_row) in
+scan_spec 𝓤 𝓛 𝓜 𝓡 wired X L gw dw dd mw md =
+    let 𝓣 = tables 𝓤 𝓛.H 𝓜 𝓡 𝓡.env in let R : RattleType = param 0 X in
+    let En = f.ended X gw dw dd in let c = f.clauses X gw dw dd 𝓛 𝓜.mem 𝓡.returns in
+    let inst = bounded (a_type ∷ []) (X, tt) (dcons dw (dcons dd dnil)) in let fn = inst_fn inst code.function in
+    let s₀ : Slot 2 = RefOf (0 ∷ []) tt (plain (λ κs. map.the_row R)) (λ κs. tt) in
+    let s₁ : Slot 2 = RefMutOf (0 ∷ []) tt (plain (λ κs. mine.the_row)) (λ κs. tt) in
+    let s₂ : Slot 2 = plain (λ κs. bound (named_lft 2 0 tt κs)) in
+    let s₃ : Slot 2 = plain (λ κs. way.the_row) in
     let hs : Stays En.signature.params En.kept = (stay_dropped s₀ yes, (stay_dropped s₁ no, (stay_dropped s₂ En.kept.1.1.0, (stay_dropped s₂ En.kept.1.1.1.0, (stay_dropped s₃ En.kept.1.1.1.1.0, tt))))) in
     proved 𝓛 En hs c 𝓜 𝓡
-    (Goes-dropped 𝓛 1 s₀ yes (λ κs x w. refl), (Goes-dropped 𝓛 1 s₁ no (λ κs x w. refl), (Goes-dropped 𝓛 1 s₂ En.kept.1.1.0 (λ κs x w. refl), (Goes-dropped 𝓛 1 s₂ En.kept.1.1.1.0 (λ κs x w. refl), (Goes-dropped 𝓛 1 s₃ En.kept.1.1.1.1.0 (λ κs x w. refl), tt)))))
-    f.Key.name code.function (code.unfolded 𝓤 𝓛.H 𝓜 𝓡 wired)
-    (λ κs. let b = bound_told (named_lft 1 0 tt κs) in (shr_vals, (mut_vals, ((λ x. b.val x ∷ []), ((λ x. b.val x ∷ []), ((λ x. way_laws.the_told.val x ∷ []), tt))))))
-    (λ κs. let b = bound_told (named_lft 1 0 tt κs) in (shr_Tells (named 0) κs.0 map.the_row, (mut_Tells (named 0) κs.0 mine.the_row, (b.tells, (b.tells, (way_laws.the_told.tells, tt)))))) (λ κs qs bounds a gh are.
-    let ℓ = named_lft 1 0 tt κs in let b = bound_told ℓ in let w = way_laws.the_told in
+    (Goes-dropped 𝓛 2 s₀ yes (λ κs x w. refl), (Goes-dropped 𝓛 2 s₁ no (λ κs x w. refl), (Goes-dropped 𝓛 2 s₂ En.kept.1.1.0 (λ κs x w. refl), (Goes-dropped 𝓛 2 s₂ En.kept.1.1.1.0 (λ κs x w. refl), (Goes-dropped 𝓛 2 s₃ En.kept.1.1.1.1.0 (λ κs x w. refl), tt)))))
+    (f.Key.name inst) fn (code.unfolded 𝓤 𝓛.H 𝓜 𝓡 wired (X, tt) dw dd)
+    (λ κs. let b = bound_told (named_lft 2 0 tt κs) in (shr_vals, (mut_vals, ((λ x. b.val x ∷ []), ((λ x. b.val x ∷ []), ((λ x. way_laws.the_told.val x ∷ []), tt))))))
+    (λ κs. let b = bound_told (named_lft 2 0 tt κs) in (shr_Tells (named 0) κs.0 (map.the_row R), (mut_Tells (named 0) κs.0 mine.the_row, (b.tells, (b.tells, (way_laws.the_told.tells, tt)))))) (λ κs qs bounds a gh are.
+    let ℓ = named_lft 2 0 tt κs in let b = bound_told ℓ in let w = way_laws.the_told in
     let lo = b.val a.1.1.0 ∷ [] in let hi = b.val a.1.1.1.0 ∷ [] in let wy = w.val a.1.1.1.1.0 ∷ [] in
     let y : (walk_of 𝓛 En hs c).Ghost = ((κs, qs, bounds, a, (shr_vals a.0, (mut_vals a.1.0, (lo, (hi, (wy, tt)))))), gh) in
     let Post : Val → SProp 𝓤 = (walk_of 𝓛 En hs c).post y in
-    let t₀ = ‵ (flft κs.0 qs.0) in let ts = ‵ ftrue in
+    let t₀ = ‵ (flft κs.0 qs.0) in let ts = ‵ (fsep (flft κs.1.0 qs.1.0) ftrue) in
     let m : MutBor MapPass = a.1.0 in let table = a.0.now.table in let z' : Sizes = table_sizes table in
-    let Ready : Type 0 = IsReady a.0.now m.now in let Own : Pass → Type 0 = λ v. IsPassOf table v in let Free : Pass → Type 0 = λ v. HoldsNothing (table_state v) in
+    let Lives : Type 0 = κs.1.0 ⊑ X.lives in let Sends : Type 0 = IsSend R in let Ready : Type 0 = IsReady a.0.now m.now in let Own : Pass → Type 0 = λ v. IsPassOf table v in let Free : Pass → Type 0 = λ v. HoldsNothing (table_state v) in
     let Low : Type 0 = IfSome a.1.1.0 (λ k. IsKey k.now) in let High : Type 0 = IfSome a.1.1.1.0 (λ k. IsKey k.now) in
     let PR : RattleType = MutRef (named 0) κs.0 pass.the_row in let Ct : RattleType = cursor.the_row ℓ in
     let tlo = ((bound_laws ℓ).lawful 𝓛).typed a.1.1.0 lo are.1.1.0 in let thi = ((bound_laws ℓ).lawful 𝓛).typed a.1.1.1.0 hi are.1.1.1.0 in let twy = (way_laws.the_row_laws.lawful 𝓛).typed a.1.1.1.1.0 wy are.1.1.1.1.0 in
@@ -87,11 +92,11 @@ scan_spec 𝓤 𝓛 𝓜 𝓡 wired =
     let NoValue : Ct.Denot → Type 0 = λ n. n.value ≡ None in
     let Is' : Ct.Denot → Type 0 = λ n. IsCursor n in
     let Starts : Pass → Ct.Denot → Type 0 = λ v n. HasGiven n (view_at z' v) [] in
-    qed 𝓛 (((t₀ ⊛ ts) ⊛ ‵ (owns (types_at En.signature.params κs) a y.0.4)) ∷ raw (fact 𝓤 Ready) ∷ raw (fact 𝓤 Low) ∷ raw (fact 𝓤 High) ∷ []) ∵
-    move ! (1 ∷ 2 ∷ 3 ∷ []) $ heard ! Ready (λ ready. heard ! Low (λ keyed_low. heard ! High (λ keyed_high.
+    qed 𝓛 (((t₀ ⊛ ts) ⊛ ‵ (owns (types_at En.signature.params κs) a y.0.4)) ∷ raw (fact 𝓤 Lives) ∷ raw (fact 𝓤 Sends) ∷ raw (fact 𝓤 Ready) ∷ raw (fact 𝓤 Low) ∷ raw (fact 𝓤 High) ∷ []) ∵
+    move ! (1 ∷ 2 ∷ 3 ∷ 4 ∷ 5 ∷ []) $ heard ! Lives (λ lives. heard ! Sends (λ sends. heard ! Ready (λ ready. heard ! Low (λ keyed_low. heard ! High (λ keyed_high.
     split ! $ split ! $ move ! (2 ∷ []) $ fsplit ! $ move ! (1 ∷ []) $ fsplit ! $
     -- [the pass; the bounds and the way; the map; the tokens]
-    enter ! 𝓣.C 𝓣.Λ code.function _ Post $ alloc_all ! (λ l. pass_all ! refl ((tt, tt), ((tt, tt), (tlo.0, (thi.0, (twy.0, tt))))) $
+    enter ! 𝓣.C 𝓣.Λ fn _ Post $ alloc_all ! (λ l. pass_all ! refl ((tt, tt), ((tt, tt), (tlo.0, (thi.0, (twy.0, tt))))) $
     sets ! (addr ! (through ! refl (stop !))) refl (tt, tt) $
     let G = triple_of 𝓛 g.signature (g.spec 𝓛 𝓜.mem 𝓡.returns) in
     let z : G.Ghost = (((κs.0, tt), (qs.0, tt), tt, (m, tt), (mut_vals m, tt)), tt) in
@@ -105,17 +110,17 @@ scan_spec 𝓤 𝓛 𝓜 𝓡 wired =
     rewrite ! 0 (λ (vs : List Val). ‵ (PR.own_val r vs)) told refl $ lands_as ! (ap only told) refl (tt, tt) $
     sets ! (of_opd ! (get ! refl)) refl tlo.0 $ sets ! (of_opd ! (get ! refl)) refl thi.0 $
     -- [the pass of the table; its token; how the map's pass follows; the bounds and the way; the map; the other tokens]
-    let H = triple_of 𝓛 h.signature (h.spec 𝓛 𝓜.mem 𝓡.returns) in
-    let b' : Args h.signature κs = (a.0, (r, a.1.1)) in
+    let H = triple_of 𝓛 (h.signature X) (h.spec X gw dw dd 𝓛 𝓜.mem 𝓡.returns) in
+    let b' : Args (h.signature X) κs = (a.0, (r, a.1.1)) in
     let x : H.Ghost = ((κs, qs, bounds, b', (shr_vals a.0, (mut_vals r, (lo, (hi, (wy, tt)))))), tt) in
     move ! (0 ∷ 3 ∷ []) $ fjoin ! $ move ! (3 ∷ 0 ∷ []) $ fjoin ! $ move ! (1 ∷ 3 ∷ []) $ join ! $ join ! $
     use0 𝓛 (raw (fact 𝓤 High)) (fact_i 𝓤 High (emp 𝓤) keyed_high) $ use0 𝓛 (raw (fact 𝓤 Low)) (fact_i 𝓤 Low (emp 𝓤) keyed_low) $ join ! $
     use0 𝓛 (raw (fact 𝓤 (Free r.now))) (fact_i 𝓤 (Free r.now) (emp 𝓤) (subst Free (sym e) ready.idle)) $ join ! $ use0 𝓛 (raw (fact 𝓤 (Own r.now))) (fact_i 𝓤 (Own r.now) (emp 𝓤) (subst Own (sym e) ready.own)) $ join ! $
-    move ! (1 ∷ 0 ∷ []) $ join ! $ use1 𝓛 (raw (H.pre x)) (id⊢ 𝓤 _) $
-    calls_at ! (framed 𝓤 𝓛.H 𝓜 (tables 𝓤 𝓛.H 𝓜 𝓡 𝓡.env)) H (h_met.met 𝓤 𝓛 𝓜 𝓡 (code.calls-oak_map::lending::scan_within 𝓡.env wired)) x
+    use0 𝓛 (raw (fact 𝓤 Sends)) (fact_i 𝓤 Sends (emp 𝓤) sends) $ join ! $ use0 𝓛 (raw (fact 𝓤 Lives)) (fact_i 𝓤 Lives (emp 𝓤) lives) $ join ! $ move ! (1 ∷ 0 ∷ []) $ join ! $ use1 𝓛 (raw (H.pre x)) (id⊢ 𝓤 _) $
+    calls_at ! (framed 𝓤 𝓛.H 𝓜 (tables 𝓤 𝓛.H 𝓜 𝓡 𝓡.env)) H (h_met.met 𝓤 𝓛 𝓜 𝓡 (code.calls-oak_map::lending::scan_within 𝓡.env wired) X L gw dw dd mw md) x
     (and_then ! (get ! refl) (and_then ! (get ! refl) (and_then ! (get ! refl) (and_then ! (get ! refl) (and_then ! (get ! refl) (no_more !)))))) (λ u.
     use1 𝓛 (later (some (λ (n : Ct.Denot). ((t₀ ⊛ ts) ⊛ ‵ (Ct.own_val n (u ∷ []))) ⊛
-    some (λ (ws' : Lasts h.ended κs b'). ‵ (lasts h.ended κs b' ws') ⊛ (raw (fact 𝓤 (Named r n)) ⊛ (raw (fact 𝓤 (Tabled n)) ⊛ (raw (fact 𝓤 (Same r.now n)) ⊛ (raw (fact 𝓤 (FromLow n)) ⊛ (raw (fact 𝓤 (ToHigh n)) ⊛ (raw (fact 𝓤 (Ways n)) ⊛ (raw (fact 𝓤 (NoValue n)) ⊛ (raw (fact 𝓤 (Is' n)) ⊛ raw (fact 𝓤 (Starts r.now n)))))))))))))) (id⊢ 𝓤 _) $
+    some (λ (ws' : Lasts (h.ended X gw dw dd) κs b'). ‵ (lasts (h.ended X gw dw dd) κs b' ws') ⊛ (raw (fact 𝓤 (Named r n)) ⊛ (raw (fact 𝓤 (Tabled n)) ⊛ (raw (fact 𝓤 (Same r.now n)) ⊛ (raw (fact 𝓤 (FromLow n)) ⊛ (raw (fact 𝓤 (ToHigh n)) ⊛ (raw (fact 𝓤 (Ways n)) ⊛ (raw (fact 𝓤 (NoValue n)) ⊛ (raw (fact 𝓤 (Is' n)) ⊛ raw (fact 𝓤 (Starts r.now n)))))))))))))) (id⊢ 𝓤 _) $
     await ! tt $ pick ! (λ n. split ! $ move ! (1 ∷ []) $ pick ! (λ ws'. split ! $ drop ! $ split ! $ heard ! (Named r n) (λ named'. split ! $ heard ! (Tabled n) (λ tabled. split ! $ heard ! (Same r.now n) (λ same. split ! $ heard ! (FromLow n) (λ from_low. split ! $ heard ! (ToHigh n) (λ to_high.
     split ! $ heard ! (Ways n) (λ ways. split ! $ heard ! (NoValue n) (λ no_value. split ! $ heard ! (Is' n) (λ is_cursor. heard ! (Starts r.now n) (λ starts.
     move ! (1 ∷ []) $ rewrite ! 0 (λ (γ : GName). ‵ (follows mine.the_row pass.the_row m.ghost_name γ (with_pass m.now))) (sym named') refl $ move ! (1 ∷ []) $ split ! $ move ! (1 ∷ []) $
@@ -127,4 +132,4 @@ scan_spec 𝓤 𝓛 𝓜 𝓡 wired =
     use0 𝓛 (raw (fact 𝓤 (Same m.now.pass n))) (fact_i 𝓤 (Same m.now.pass n) (emp 𝓤) (same ∙ e)) $ join ! $ use0 𝓛 (raw (fact 𝓤 (Tabled n))) (fact_i 𝓤 (Tabled n) (emp 𝓤) tabled) $ join ! $
     move ! (3 ∷ 0 ∷ []) $ join ! $ returns ! (look_at ! 0 refl) $ free_all ! refl $
     nothing ! $ nothing ! $ fjoin ! $ nothing ! $ fjoin ! $ nothing ! $ fjoin ! $ nothing ! $ fjoin ! $ nothing ! $ fjoin ! $ keep ! (3 ∷ 0 ∷ 2 ∷ 1 ∷ []) $
-    by ! (leaves 𝓛 En hs c y u n (tt, (tt, (tt, (tt, (tt, tt))))) (tt, (tt, (tt, (tt, (tt, tt)))))))))))))))))))))))))))))
+    by ! (leaves 𝓛 En hs c y u n (tt, (tt, (tt, (tt, (tt, tt))))) (tt, (tt, (tt, (tt, (tt, tt)))))))))))))))))))))))))))))))

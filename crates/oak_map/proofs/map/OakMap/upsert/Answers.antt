@@ -38,7 +38,7 @@ returns-in-Ok-clause-claims g c = let z = sizes c.args.self.now in let call = ca
     put_claims z call u v w i.going.tries c.in-Ok.wrote key ask (subst (λ (k : ℕ). WroteFits c.in-Ok.wrote k key ask v w) i.stays.call c.in-Ok.ensures.wrote)
 
 pub make_way-requires-clause-tried : goal.make_way-requires-clause-tried
-make_way-requires-clause-tried g c = let now = c.loop.recipe in let y = goal.Recipe-dyn g (now.vtable, now.value) in let ask = Upsert c.args.value.now (y.told_kind now.value) (y.told_argument now.value) in let u = state c.args.pass.now in let v = state c.loop.pass in let i = c.loop.invariant in let o = c.try_upsert.ensures.own in let e = c.in-Err.ensures in
+make_way-requires-clause-tried g c κs lives = let now = c.loop.recipe in let y = goal.Recipe-dyn g (now.vtable, now.value) in let ask = Upsert c.args.value.now (y.told_kind now.value) (y.told_argument now.value) in let u = state c.args.pass.now in let v = state c.loop.pass in let i = c.loop.invariant in let o = c.try_upsert.ensures.own in let e = c.in-Err.ensures in
     (ask, u, v, last_try (sizes c.args.self.now) (call_of c.args.pass.now) (call_of c.loop.pass) (table_call c.try_upsert.new.pass) c.args.key.now c.in-Err.halt c.loop.settled ask u v (table_state c.try_upsert.new.pass) i.stays.call o.call i.going e.refused e.halted)
 
 -- it gives up

@@ -1,6 +1,6 @@
 use Rattle.std.proofs.Common.{◌≡◌}
 use Rattle.oak_map.specs.Maps.{IsReady, state}
-use Rattle.scan_rounds.proofs.rounds.scan_again.Given as goal
+use Rattle.scan_rounds.proofs.work.go_rounds.Given as goal
 
 abbrev pub invariant-loop : goal.invariant-loop
 invariant-loop g l = record {

@@ -1,0 +1,81 @@
+#!/usr/bin/env bash
+# Measures what a get and a pair of a scan cost a thread that is alone, and how long settling takes, by the chunks that
+# are open; and times a script that goes on putting new keys where all chunks are in use.
+#
+# usage: bench/time_chunks.sh [READS]
+#
+# A chunk has four entries, and the map in turn 3, 139, 577 and 1,965 keys, each of eight bytes with a value of eight, which
+# were put in a scrambled order: so 1, 50, 200 and 800 chunks are open. A run gets each key, or scans the whole map up or
+# down and reads each value, again and again, until it has read READS values, or 400000; or it settles the map of 200 or 800
+# chunks once. The program is crates/scan_rounds, proved and built by `rt run` there (minutes, where nothing is proved
+# yet), and makes seven runs of each kind. Printed are the nanoseconds of processor time of a get and of a pair, and the
+# seconds of settling, in the fastest run, without the time of filling the map.
+#
+# The script puts 3,200 rising keys, one by one, where a chunk has four entries and there may be 1,024 chunks, the most
+# that there can be. It is run once by bin/oakmap, which proves and builds the program first where it was not yet. Printed
+# are the seconds of the run, reading and printing among them, how many puts were refused, and the chunks in use.
+. "$(dirname "$(readlink -f "${BASH_SOURCE[0]}")")/common.sh"
+take_number READS 8 400000 "$@"
+reads=$number
+
+RUNS=7
+ENTRIES=4
+RISING_KEYS=3200
+
+# The fewest seconds of processor time of a run with so many keys and rounds of this work, which has to tell so many
+# pairs and, where it leaves the chunks as they are, so many chunks.
+fewest_seconds() {
+    local keys=$1 rounds=$2 work=$3 pairs=$4 chunks=$5 TIMEFORMAT='%U %S' run
+    for ((run = 0; run < RUNS; run++)); do
+        { time "$home/crates/scan_rounds/out/scan_rounds" "$keys" "$rounds" "$work" "$ENTRIES" >"$room/said"; } 2>&1 ||
+            fail "a run failed"
+        grep -qx "$keys keys" "$room/said" || fail "not all keys were new"
+        grep -qx "$pairs pairs, sum $((pairs * (keys - 1) / 2))" "$room/said" || fail "other values were read"
+        [[ $chunks == any ]] || grep -q " $chunks chunks in use" "$room/said" || fail "$keys keys have not $chunks chunks"
+    done | awk '{ print $1 + $2 }' | sort -n | head -n 1
+}
+
+# Prints the line of the map with so many keys and chunks.
+time_chunks() {
+    local keys=$1 chunks=$2 rounds=$(((reads + $1 - 1) / $1)) filled got up down settled=-
+    local pairs=$((rounds * keys))
+    filled=$(fewest_seconds "$keys" 0 get 0 "$chunks") || exit 1
+    got=$(fewest_seconds "$keys" "$rounds" get "$pairs" "$chunks") || exit 1
+    up=$(fewest_seconds "$keys" "$rounds" up "$pairs" "$chunks") || exit 1
+    down=$(fewest_seconds "$keys" "$rounds" down "$pairs" "$chunks") || exit 1
+    if ((chunks >= 200)); then
+        settled=$(fewest_seconds "$keys" 1 settle 0 any) || exit 1
+    fi
+    awk -v chunks="$chunks" -v pairs="$pairs" -v filled="$filled" -v got="$got" -v up="$up" -v down="$down" -v settled="$settled" 'BEGIN {
+        printf "%6d %8.0f %12.0f %14.0f", chunks, (got - filled) * 1e9 / pairs, (up - filled) * 1e9 / pairs, (down - filled) * 1e9 / pairs
+        if (settled != "-") printf " %12.3f", settled - filled
+        print ""
+    }'
+}
+
+write_rising() {
+    printf 'oak 1\nshape 1024 %d 8192 16384 4096 1024 512\nthread\n' "$ENTRIES"
+    awk -v keys="$RISING_KEYS" 'BEGIN { for (i = 0; i < keys; i++) printf "put %08x %016x\n", i, i }'
+    printf 'end\n'
+}
+
+(cd "$home/crates/scan_rounds" && rt run -- 0 0 up) >"$room/log" 2>&1 || {
+    cat "$room/log" >&2
+    fail "crates/scan_rounds was not proved and built"
+}
+"$home/bin/oakmap" run <"$home/examples/first.oak" >"$room/text" || fail "the program does not run"
+cmp -s "$room/text" "$home/examples/first.txt" || fail "the first example has another text"
+
+echo "chunks   get, ns  pair up, ns  pair down, ns  settling, s"
+time_chunks 3 1
+time_chunks 139 50
+time_chunks 577 200
+time_chunks 1965 800
+
+write_rising >"$room/script"
+TIMEFORMAT=%R
+seconds=$({ time "$home/bin/oakmap" run <"$room/script" >"$room/text"; } 2>&1) ||
+    fail "the program failed: $(head -n 1 "$room/text") $seconds"
+grep -qx 'chunks 1024 1024' "$room/text" || fail "the script left chunks: $(tail -n 1 "$room/text")"
+printf '%d rising keys at %d entries a chunk, %d of them refused, with 1024 chunks in use: %s seconds\n' \
+    "$RISING_KEYS" "$ENTRIES" "$(grep -c ' full room$' "$room/text")" "$seconds"
