@@ -3,11 +3,14 @@
 # most; and `opened`, whether there is a line `thread` before it.
 
 BEGIN {
-    form["put"] = "KV"; form["get"] = "K"; form["putnew"] = "KV"; form["compute"] = "KR"; form["upsert"] = "KVR"
-    form["remove"] = "K"; form["hold"] = "AK"; form["look"] = "A"; form["scan"] = "BB"; form["back"] = "BB"
-    written["put"] = "put K V"; written["get"] = "get K"; written["putnew"] = "putnew K V"
-    written["compute"] = "compute K R"; written["upsert"] = "upsert K V R"; written["remove"] = "remove K"
-    written["hold"] = "hold A K"; written["look"] = "look A"; written["scan"] = "scan L H"; written["back"] = "back L H"
+    calls = split("put K V,get K,putnew K V,compute K R,upsert K V R,remove K,hold A K,look A,scan L H,back L H", call, ",")
+    for (i = 1; i <= calls; i++) {
+        split(call[i], verb, " ")
+        written[verb[1]] = call[i]
+        form[verb[1]] = substr(call[i], length(verb[1]) + 1)
+        gsub(/ /, "", form[verb[1]])
+        gsub(/[LH]/, "B", form[verb[1]])
+    }
 
     means["head"] = "line 1 is \"oak 1\", and nothing else stands in it"
     means["after end"] = "no line stands behind the line \"end\""
