@@ -11,6 +11,7 @@ pub mod RoomLinks
 pub mod Chains
 pub mod ChainLinks
 pub mod WholeChains
+pub mod ChainedRooms
 pub mod UnlinkedWords
 pub mod RoomStores
 pub mod RoomPins

@@ -18,7 +18,6 @@ use Rattle.oak_model.proofs.Counting.{one_at-same, one_at-true, test-cases, both
 use Rattle.oak_model.proofs.Lists.{rows_at}
 use Rattle.oak_model.proofs.MemberLaws.{has_some, each_at, each_has, filter-cases, each_filter}
 use Rattle.oak_model.proofs.PutLaws.{put-here, put-else}
-use Rattle.oak_model.proofs.RowLaws.{rows_map}
 use Rattle.oak_model.proofs.SumLaws.{total_in}
 use Rattle.pin_word.specs.PinWord.{state_of, generation_of, count_of}
 use Rattle.chunk_core.specs.CoverRule.{CoversPartition}
@@ -35,6 +34,7 @@ use Rattle.chunk_core.specs.RoomStep.{put_room}
 use Rattle.chunk_core.specs.Rooms.{RoomMemory, at_room_pin}
 use Rattle.chunk_core.specs.Spans.{within}
 use Rattle.chunk_core.specs.ValueWord.{names_header}
+use Rattle.chunk_core.proofs.ChainedRooms.{copied_word}
 use Rattle.chunk_core.proofs.CoverLaws.{all_in, range_le}
 use Rattle.chunk_core.proofs.EntryNumbers.{numbers_once, take_rows, rows_total}
 use Rattle.chunk_core.proofs.RoomLinks.{total_linked}
@@ -150,15 +150,12 @@ module _ (z : Sizes) (m : RoomMemory) (content : ℕ → List ℕ) (is_key_word 
       let s = total_in (λ j. one_at (m.key r j) (m.key r i)) i (first_numbers E) (let n = numbers_once E i l in omega arith) in let o = one_at-same (m.key r i) (m.key r i) refl in
       let h = has_some (λ (y : Carried). one_at y.word (m.key r i)) (upper_of w g) (omega arith) in (h.0, in_filter (is_upper w) g.carried h.0 h.1, one_at-true h.0.word (m.key r i) h.2)
 
-  word_at_place : (i : ℕ) → i < z.entries → word_held w i ≡ m.key r i
-  word_at_place i l = ap (λ (ws : List ℕ). slice_index ws i) (rows_map (λ (e : EntryWords). e.word) 0 z.entries (words_at m r)) ∙ (rows_at 0 z.entries i (λ k. m.key r k) 0 l ∙ ap (m.key r) (let q : 0 + i ≡ i = omega arith in q))
-
   key_is : (y : Carried) → Has y g.carried → (word : ℕ) → y.word ≡ word → key_in y.word y.words ≡ key_at content word
   key_is y has word e = ap (key_in y.word) (sym (each_has (λ (t : Carried). content t.word ≡ t.words) g.carried y true_words has)) ∙ ap (λ (t : ℕ). key_at content t) e
 
   sorted_here : (i j : ℕ) → i < j → j < prefix_in (m.count r) → key_at content (m.key r i) < key_at content (m.key r j)
-  sorted_here i j l k = let few = may.few in let pre = may.prefix in let c = among i (omega arith) in let d = among j (omega arith) in
-      let s = may.sorted i j c.0 d.0 l k c.1 d.1 (c.2 ∙ sym (word_at_place i (omega arith))) (d.2 ∙ sym (word_at_place j (omega arith))) in
+  sorted_here i j l k = let few = may.few in let pre = may.chained.whole in let c = among i (omega arith) in let d = among j (omega arith) in
+      let s = may.sorted i j c.0 d.0 l k c.1 d.1 (c.2 ∙ sym (copied_word z m r i (omega arith))) (d.2 ∙ sym (copied_word z m r j (omega arith))) in
       subst (λ (t : ℕ × ℕ). t.0 < t.1) (λ t. (key_is c.0 c.1 (m.key r i) c.2 t, key_is d.0 d.1 (m.key r j) d.2 t)) s
 
   first_word : (f : ℕ → ℕ) → slice_index (rows 0 BOUND_WORDS f) 0 ≡ f 0
@@ -166,4 +163,4 @@ module _ (z : Sizes) (m : RoomMemory) (content : ℕ → List ℕ) (is_key_word 
 
   pub open_rooms : RoomsStand z m' content hs'
   open_rooms = given_up z m content hs rule seat a here r x held count generation (omega arith) (λ s is. open_none x s opened is) (ranges_left (copy_at z m r) a.moving)
-      (λ _. record { few = may.few; prefix = may.prefix; sorted = sorted_here; bounds = subst (λ (t : ℕ × ℕ). AreBounds t.0 t.1) (λ i. (first_word (m.low r) i, first_word (m.high r) i)) may.bounds }) (true_left content w a.moving (rule.carried seat a here))
+      (λ _. record { few = may.few; prefix = let pre = may.chained.whole in omega arith; sorted = sorted_here; bounds = subst (λ (t : ℕ × ℕ). AreBounds t.0 t.1) (λ i. (first_word (m.low r) i, first_word (m.high r) i)) may.bounds }) (true_left content w a.moving (rule.carried seat a here))

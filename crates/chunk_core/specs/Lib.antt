@@ -15,4 +15,5 @@ pub mod RoomReads
 pub mod RoomCopies
 pub mod MovingRanges
 pub mod RoomsAfter
+pub mod ChainedRooms
 pub mod MayOnRooms

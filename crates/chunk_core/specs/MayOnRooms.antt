@@ -22,6 +22,7 @@ use Rattle.chunk_core.specs.LinkedEntries.{entries_in, prefix_in}
 use Rattle.chunk_core.specs.PinnedRooms.{IsGoodRoom, span_of, found_key}
 use Rattle.chunk_core.specs.RoomRule.{AreBounds, room_pins, latches_on, in_room_state}
 use Rattle.chunk_core.specs.RoomStep.{RoomStep, pin_room, unpin_room, latch_room, store_entry, publish_entry, unlatch_room, set_value, unlink_entry, freeze_room, hold_room, claim_room, store_room, open_room, retire_room}
+use Rattle.chunk_core.specs.ChainedRooms.{IsChained}
 use Rattle.chunk_core.specs.RoomCopies.{copy_of, entries_held, word_held}
 use Rattle.chunk_core.specs.MovingRanges.{takes, upper_of, ranges_without, range_of, is_below}
 
@@ -73,7 +74,8 @@ pub record MayOpenRoom (z : Sizes) (w : RoomCopy) (gs : List MovingRange) : Type
   pub base : w.base ≡ range.base
   pub latch : w.latch ≡ 0
   pub few : entries_in w.count ≤ z.entries
-  pub prefix : prefix_in w.count ≤ entries_in w.count
+  -- its entries are the prefix, links name each in turn, and nothing is behind them
+  pub chained : IsChained z w
   pub entries : (f : ℕ → ℕ → ℕ) → total (λ (e : EntryWords). f e.word e.value) (entries_held w) ≡ total (λ (c : Carried). f c.word c.value) (upper_of w range)
   -- the low bound is in the range
   pub under : within (record { low = low_number range.low; high = high_number range.high; base = 0 }) (low_number w.low) ≡ 1

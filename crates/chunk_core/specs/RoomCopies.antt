@@ -71,3 +71,11 @@ entries_held w = take (entries_in w.count) w.entries
 -- the key word of an entry of a held room
 abbrev pub word_held : RoomCopy → ℕ → ℕ
 word_held w i = slice_index (map (λ (e : EntryWords). e.word) w.entries) i
+
+-- its value word
+abbrev pub value_held : RoomCopy → ℕ → ℕ
+value_held w i = slice_index (map (λ (e : EntryWords). e.value) w.entries) i
+
+-- and its link
+abbrev pub next_held : RoomCopy → ℕ → ℕ
+next_held w i = slice_index (map (λ (e : EntryWords). e.next) w.entries) i
