@@ -1,9 +1,9 @@
 -- Room 0 of a new table, which has no entry, may be frozen, held and opened again by a pass that is alone.
 use Rattle.std.proofs.Common.{◌≡◌, ◌≢◌, ℕ, ◌-◌, ◌<◌, ◌==◌, nat_le, cond, Bool, true, List, [], ◌∷◌, map, sym, refl, ap, ◌∙◌, subst, arith, eq-eqb}
-use Rattle.std.specs.Prelude.{take, filter, slice_index}
+use Rattle.std.specs.Prelude.{take, filter, nat_lt, slice_index}
 use Rattle.std.proofs.lemmas.Bool.{le-leb}
 use Rattle.oak_model.specs.Limits.{Sizes}
-use Rattle.oak_model.specs.Counts.{total, rows}
+use Rattle.oak_model.specs.Counts.{one_if, total, rows}
 use Rattle.oak_model.proofs.Counting.{true_both}
 use Rattle.oak_model.proofs.Lists.{rows_at}
 use Rattle.arena_core.specs.Place.{content}
@@ -14,14 +14,16 @@ use Rattle.chunk_core.specs.declared.holds.MovingRange.{MovingRange}
 use Rattle.chunk_core.specs.declared.holds.RoomCopy.{RoomCopy}
 use Rattle.chunk_core.specs.declared.holds.RoomHeldAs.TheVariants.{Frozen, Held}
 use Rattle.chunk_core.specs.declared.holds.RoomHolds.{RoomHolds}
+use Rattle.chunk_core.specs.ChainedRooms.{IsChained}
 use Rattle.chunk_core.specs.KeyWords.{low_number, high_number}
 use Rattle.chunk_core.specs.LinkedEntries.{entries_in, prefix_in, first_numbers}
 use Rattle.chunk_core.specs.MayOnRooms.{MayOpenRoom}
 use Rattle.chunk_core.specs.MovingRanges.{takes, left_of, is_upper}
 use Rattle.chunk_core.specs.RoomHolds.{no_rooms}
 use Rattle.chunk_core.specs.RoomReads.{copy_at, moving_at, carried_at, words_at}
-use Rattle.chunk_core.specs.Rooms.{RoomMemory, RoomSpot, at_room_pin, at_base, at_count, at_latch, at_low, at_high, read_room, kind_at}
+use Rattle.chunk_core.specs.Rooms.{RoomMemory, RoomSpot, at_room_pin, at_base, at_count, at_latch, at_first, at_low, at_high, at_key, at_value, read_room, kind_at}
 use Rattle.chunk_core.specs.Spans.{past, past_high, within}
+use Rattle.chunk_core.proofs.ChainedRooms.{copied_word, copied_value}
 use Rattle.chunk_core.proofs.SpanLaws.{past-cases, high-none}
 use Rattle.oak_core.proofs.OpeningRooms.{high_zero, no_entries, no_prefix}
 
@@ -79,6 +81,16 @@ module _ (z : Sizes) (m : RoomMemory) (content : ℕ → List ℕ) (bare : IsBar
   low_inside : (a : ℕ) → within (record { low = a; high = high_number (rows 0 BOUND_WORDS (m.high 0)); base = 0 }) a ≡ 1
   low_inside a = ap (λ (h : ℕ). past a a - past_high h a) no_high ∙ (let p = past-cases a a (λ (n : ℕ). n ≡ 1) (λ _. refl) (λ l. absurd (omega arith)) in let h = high-none a in omega arith)
 
+  -- no link is needed, and nothing is behind its entries, of which there are none
+  bare_chained : IsChained z (copy_with_base z m 0)
+  bare_chained = let n = none_counted in record {
+    whole = none_sorted ∙ sym none_counted;
+    begins = zero_at (at_first 0) (omega arith) ∙ sym (ap (λ (k : ℕ). one_if (nat_lt 0 k)) none_counted);
+    links = λ i l. absurd (omega arith);
+    ends = λ i e. absurd (omega arith);
+    zeros = λ i _ l. (copied_word z m 0 i l ∙ zero_at (at_key 0 i) (omega arith), copied_value z m 0 i l ∙ zero_at (at_value 0 i) (omega arith));
+  }
+
   -- it may be opened over the range that came with it
   pub may_reopen : MayOpenRoom z (copy_with_base z m 0) (moving_at m content 0 ∷ [])
   may_reopen = let low : ℕ = low_number (rows 0 BOUND_WORDS (m.low 0)) in let n = none_counted in let s = none_sorted in let l = first_low in let h = first_high in record {
@@ -90,7 +102,7 @@ module _ (z : Sizes) (m : RoomMemory) (content : ℕ → List ℕ) (bare : IsBar
     base = sym (zero_at (at_base 0) (omega arith));
     latch = zero_at (at_latch 0) (omega arith);
     few = omega arith;
-    prefix = omega arith;
+    chained = bare_chained;
     entries = λ f. none_held (λ (e : EntryWords). f e.word e.value) (λ (c : Carried). f c.word c.value) (is_upper (copy_with_base z m 0)) (rows 0 z.entries (words_at m 0)) (carried_at m content 0) (entries_in (m.count 0)) none_counted;
     under = low_inside low;
     key = λ other. absurd (other refl);
