@@ -103,6 +103,7 @@ pub mod JoinedNumbers
 pub mod SeatBundles
 pub mod TwoSeats
 pub mod Opening
+pub mod OpeningWords
 pub mod OpeningBlocks
 pub mod KeptInArena
 pub mod OwnerLaws

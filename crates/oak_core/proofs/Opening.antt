@@ -1,15 +1,15 @@
 -- The rule holds at the start.
-use Rattle.std.proofs.Common.{set, replicate, length-set, get_or-set_same, get_or-set_other, ◌≢◌, ne_eqb, eq-eqb, true≢false, ◌≡◌, ℕ, zero, suc, ◌+◌, ◌-◌, ◌*◌, ◌%◌, ◌^◌, ◌<◌, ◌≤◌, cond, Bool, true, false, eqb, leb, ltb, ◌&&◌, List, [], ◌∷◌, length, get_or, sym, refl, ap, ◌∙◌, subst, arith}
+use Rattle.std.proofs.Common.{◌≢◌, ne_eqb, eq-eqb, true≢false, ◌≡◌, ℕ, zero, suc, ◌+◌, ◌-◌, ◌*◌, ◌%◌, ◌^◌, ◌<◌, ◌≤◌, cond, Bool, true, false, eqb, leb, ltb, ◌&&◌, List, [], ◌∷◌, length, get_or, sym, refl, ap, ◌∙◌, subst, arith}
 use Rattle.std.specs.Int.{bit_at}
 use Rattle.std.proofs.lemmas.Bool.{le-leb, le-ltb, lt-ltb}
 use Rattle.std.proofs.lemmas.Nat.Bits.{bit_at-pow_same, bit_at-pow_other}
 use mathlib.Core.Logic.{dite}
-use native.Mathlib.Decide.{ℕ_discrete, dec_lt}
+use native.Mathlib.Decide.{dec_lt}
 use Rattle.pin_word.specs.PinWord.{packed}
 use Rattle.oak_model.specs.Limits.{Sizes, IsInLimits}
 use Rattle.oak_model.specs.Counts.{one_at, total, rows}
 use Rattle.oak_model.specs.Kept.{KeptNumbersStand}
-use Rattle.oak_model.proofs.Lists.{every_one, rows_length, rows_at, same_elements}
+use Rattle.oak_model.proofs.Lists.{every_one, rows_length, rows_at}
 use Rattle.oak_model.proofs.Counting.{test-cases, one_at-same, one_at-other}
 use Rattle.arena_core.specs.HeldBlocks.{kept_of_blocks}
 use Rattle.arena_core.specs.Place.{content}
@@ -197,68 +197,11 @@ module _ (z : Sizes) (g : ℕ) (is : IsInLimits z) (lt : g < LAST_GENERATION) wh
 
 -- the same of a table with that key and its pass
 
-pub leaves_at : (z k : Sizes) (v : PassState) → k ≡ z → v ≡ first_state z 0 → LeavesWords (opening k 0).words v
-leaves_at z k v e s = subst (λ (j : Sizes). LeavesWords (opening j 0).words v) (sym e) (subst (LeavesWords (opening z 0).words) (sym s) (first_leaves z 0))
+pub leaves_at : (z k : Sizes) (g : ℕ) (v : PassState) → k ≡ z → v ≡ first_state z g → LeavesWords (opening k g).words v
+leaves_at z k g v e s = subst (λ (j : Sizes). LeavesWords (opening j g).words v) (sym e) (subst (LeavesWords (opening z g).words) (sym s) (first_leaves z g))
 
-pub opened_at : (z k : Sizes) → IsInLimits z → k ≡ z → IsOpened k 0 (opening k 0).words
-opened_at z k is e = subst (λ (j : Sizes). IsOpened j 0 (opening j 0).words) (sym e) (opened z 0 is.chunks_least)
+pub opened_at : (z k : Sizes) (g : ℕ) → IsInLimits z → k ≡ z → IsOpened k g (opening k g).words
+opened_at z k g is e = subst (λ (j : Sizes). IsOpened j g (opening j g).words) (sym e) (opened z g is.chunks_least)
 
--- the words that a table is made with are those of the opening state at generation 0
-
-abbrev zeros : ℕ → List ℕ
-zeros n = replicate n 0
-
-zeros_length : (n : ℕ) → length (zeros n) ≡ n
-zeros_length zero = refl
-zeros_length (suc n) = ap suc (zeros_length n)
-
-zeros_at : (n k : ℕ) → get_or (zeros n) k 0 ≡ 0
-zeros_at zero k = refl
-zeros_at (suc n) zero = refl
-zeros_at (suc n) (suc k) = zeros_at n k
-
-module _ (z : Sizes) (is : IsInLimits z) where
-  abbrev laid : List ℕ
-  laid = set (set (zeros (word_count z)) 0 1) (rooms_at z) (packed 0 1 0)
-
-  long : length laid ≡ word_count z
-  long = length-set (set (zeros (word_count z)) 0 1) (rooms_at z) (packed 0 1 0) ∙ (length-set (zeros (word_count z)) 0 1 ∙ zeros_length (word_count z))
-
-  -- a header is free at the generation 0 where its pin word is 0
-  free_zero : packed 0 0 0 ≡ 0
-  unfolding packed
-  free_zero = refl
-
-  -- the number of word k, where it is not the first, and not that of room 0
-  abbrev pin_word : ℕ → ℕ
-  pin_word k = cond (leb (headers_at z) k && (ltb k (rooms_at z) && (eqb ((k - headers_at z) % HEADER_WORDS) 0))) (packed 0 0 0) 0
-
-  abbrev past_first : ℕ → ℕ
-  past_first k = cond (eqb k (rooms_at z)) (packed 0 1 0) (pin_word k)
-
-  none_in_headers : (k : ℕ) → pin_word k ≡ 0
-  none_in_headers k = elim (leb (headers_at z) k && (ltb k (rooms_at z) && (eqb ((k - headers_at z) % HEADER_WORDS) 0))) as (λ t. cond t (packed 0 0 0) 0 ≡ 0) [ true ↦ free_zero | false ↦ refl ]
-
-  number_first : (k : ℕ) → k ≡ 0 → opening_number z 0 k ≡ 1
-  number_first k e = ap (λ (t : Bool). cond t 1 (past_first k)) (eq-eqb k 0 e)
-
-  number_room : (k : ℕ) → k ≢ 0 → k ≡ rooms_at z → opening_number z 0 k ≡ packed 0 1 0
-  number_room k ne e = ap (λ (t : Bool). cond t 1 (past_first k)) (ne_eqb k 0 ne) ∙ ap (λ (t : Bool). cond t (packed 0 1 0) (pin_word k)) (eq-eqb k (rooms_at z) e)
-
-  number_other : (k : ℕ) → k ≢ 0 → k ≢ rooms_at z → opening_number z 0 k ≡ 0
-  number_other k ne nor = ap (λ (t : Bool). cond t 1 (past_first k)) (ne_eqb k 0 ne) ∙ (ap (λ (t : Bool). cond t (packed 0 1 0) (pin_word k)) (ne_eqb k (rooms_at z) nor) ∙ none_in_headers k)
-
-  laid_at : (k : ℕ) → k < word_count z → get_or laid k 0 ≡ opening_number z 0 k
-  laid_at k lt = let b = zeros_length (word_count z) in dite (ℕ_discrete k (rooms_at z))
-      (λ e. ap (λ (i : ℕ). get_or laid i 0) e ∙ (get_or-set_same (set (zeros (word_count z)) 0 1) (rooms_at z) (packed 0 1 0) 0 (let a = length-set (zeros (word_count z)) 0 1 in omega arith) ∙ sym (number_room k (λ q. omega arith) e)))
-      (λ ne. get_or-set_other (set (zeros (word_count z)) 0 1) (rooms_at z) k (packed 0 1 0) 0 ne ∙ dite (ℕ_discrete k 0)
-      (λ e. ap (λ (i : ℕ). get_or (set (zeros (word_count z)) 0 1) i 0) e ∙ (get_or-set_same (zeros (word_count z)) 0 1 0 (omega arith) ∙ sym (number_first k e)))
-      (λ no. get_or-set_other (zeros (word_count z)) 0 k 1 0 no ∙ (zeros_at (word_count z) k ∙ sym (number_other k no ne))))
-
-  laid_is : laid ≡ (opening z 0).words
-  laid_is = same_elements laid (rows 0 (word_count z) (opening_number z 0)) 0 (long ∙ sym (rows_length 0 (word_count z) (opening_number z 0)))
-      (λ k lt. let l = long in laid_at k (omega arith) ∙ (ap (opening_number z 0) (let q : k ≡ 0 + k = omega arith in q) ∙ sym (rows_at 0 (word_count z) k (opening_number z 0) 0 (omega arith))))
-
-  pub opens_at : (ws : List ℕ) (n r x : ℕ) → n ≡ word_count z → r ≡ rooms_at z → x ≡ packed 0 1 0 → ws ≡ set (set (zeros n) 0 1) r x → Rule z record { words = ws; states = first_state z 0 ∷ [] }
-  opens_at ws n r x is_n is_r is_x e = subst (λ (l : List ℕ). Rule z record { words = l; states = first_state z 0 ∷ [] })
-      (sym (e ∙ ((λ i. set (set (zeros (is_n i)) 0 1) (is_r i) (is_x i)) ∙ laid_is))) (opening_rule z 0 is (omega arith))
+pub opens_at : (z : Sizes) (g : ℕ) → IsInLimits z → g < LAST_GENERATION → (ws : List ℕ) → ws ≡ opening_words z g → Rule z record { words = ws; states = first_state z g ∷ [] }
+opens_at z g is early ws e = subst (λ (l : List ℕ). Rule z record { words = l; states = first_state z g ∷ [] }) (sym e) (opening_rule z g is early)

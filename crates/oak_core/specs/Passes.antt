@@ -8,7 +8,11 @@ use Rattle.oak_core.specs.declared.table.Pass.{Pass}
 
 -- the shape of the table
 abbrev pub key : OakTable → Sizes
-key t = t.table.shared.key
+key t = t.table.shared.key.shape
+
+-- the generation at which its headers began
+abbrev pub opened_at : OakTable → ℕ
+opened_at t = t.table.shared.key.generation
 
 -- what the pass has seen, done and holds
 abbrev pub state : Pass → PassState

@@ -4,6 +4,7 @@
 mod atoms;
 pub mod blocks;
 pub mod closing;
+mod first_words;
 pub mod fresh;
 mod header_steps;
 pub mod headers;

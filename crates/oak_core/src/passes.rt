@@ -2,27 +2,26 @@
 ghost use Rattle.std.specs.Prelude.{◌≡◌, ℕ, ◌<◌, ◌*◌, ◌/◌, ◌^◌, [], ◌∷◌, map, IfOk, IfErr, MatchBool};
 ghost use Rattle.std.specs.Int.{bit_at, reverse_bits, w32};
 ghost use Rattle.arena_core.specs.Arena.{blocks};
+ghost use Rattle.header_core.specs.declared.states.TheConstants.{LAST_GENERATION};
 ghost use Rattle.oak_core.specs.PassState.{HoldsNothing, left_state, right_state, both_state};
 ghost use Rattle.oak_core.specs.AloneWords.{LeavesWords};
 ghost use Rattle.oak_core.specs.Opening.{IsOpened, first_state};
 ghost use Rattle.oak_core.specs.Schedule.{MaySplit, opening};
 ghost use Rattle.oak_core.specs.Step.{MayGive, Told, give_number};
-ghost use Rattle.oak_core.specs.Passes.{IsPassOf, Stays, SearchesStay, TriesStay, Turns, state, key, call_of, tries};
+ghost use Rattle.oak_core.specs.Passes.{IsPassOf, Stays, SearchesStay, TriesStay, Turns, state, key, opened_at, call_of, tries};
 ghost use Rattle.oak_core.specs.Splitting.{LooksAtGiven, FindsLeast, SplitsOff, FindsAllGiven, SeesLonger, GivesWords, LeavesSame};
 
 use crate::atoms::or_said;
-use crate::layout::{rooms_at, word_count};
+use crate::first_words::opening_words;
 use crate::loads::load;
 use crate::offsets::Offsets;
 use crate::sorting::Sorting;
 use crate::states::PassState;
-use crate::table::{OakTable, Pass};
+use crate::table::{OakTable, Opened, Pass};
 use crate::writing::Writing;
 use atomic_table::{Join, Split, Table};
-use chunk_core::OPEN;
 use chunk_index::IndexReader;
 use oak_model::{CLASSES, Class, OutOfMemory, Shape};
-use pin_word::pack;
 use std::alloc::Global;
 use std::marker::Brand;
 use thiserror::Error;
@@ -87,24 +86,45 @@ fn first_places(table: &OakTable, number: u32) -> [u32; CLASSES]
 
 impl OakTable {
     /// A table of this shape with its first pass, which has the number 0: an empty map, in which room 0
-    /// covers every key. The pass is alone, and has met the making of the table, with all its words.
+    /// covers every key, and each header is free at generation 0. The pass is alone, and has met the making of the
+    /// table, with all its words.
     pub fn create(alloc: Global, shape: &Shape) -> Result<(OakTable, Pass), OutOfMemory>
         ensures key { IfOk result (λ t. key t.0 ≡ shape.now) }
+        ensures generation { IfOk result (λ t. opened_at t.0 ≡ 0) }
         ensures own { IfOk result (λ t. IsPassOf t.0 t.1) }
         ensures first { IfOk result (λ t. (state t.1 ≡ first_state (key t.0) 0) × (call_of t.1 ≡ 0)) }
         ensures tries { IfOk result (λ t. tries t.1 ≡ 0) }
         ensures words { IfOk result (λ t. LeavesWords (opening (key t.0) 0).words (state t.1)) }
         ensures opened { IfOk result (λ t. IsOpened (key t.0) 0 (opening (key t.0) 0).words) }
     {
+        OakTable::create_aged(alloc, shape, 0)
+    }
+
+    /// A table as [`OakTable::create`] makes it, but for its headers: each is free at this generation, which is not
+    /// the last one. A header that is taken back comes to the next generation, so one that began at the last but one
+    /// is used once.
+    pub fn create_aged(
+        alloc: Global,
+        shape: &Shape,
+        generation: u32,
+    ) -> Result<(OakTable, Pass), OutOfMemory>
+        requires early { generation < LAST_GENERATION }
+        ensures key { IfOk result (λ t. key t.0 ≡ shape.now) }
+        ensures generation { IfOk result (λ t. opened_at t.0 ≡ generation) }
+        ensures own { IfOk result (λ t. IsPassOf t.0 t.1) }
+        ensures first { IfOk result (λ t. (state t.1 ≡ first_state (key t.0) generation) × (call_of t.1 ≡ 0)) }
+        ensures tries { IfOk result (λ t. tries t.1 ≡ 0) }
+        ensures words { IfOk result (λ t. LeavesWords (opening (key t.0) generation).words (state t.1)) }
+        ensures opened { IfOk result (λ t. IsOpened (key t.0) generation (opening (key t.0) generation).words) }
+    {
         // Reading a field shows that the sizes are within their limits.
         let _passes = shape.passes;
         let shape = *shape;
-        let mut words = vec![in alloc; 0u64; word_count(&shape)]?;
-        words[0] = 1;
-        words[rooms_at(&shape)] = pack(0, OPEN, 0);
+        let words = opening_words(alloc, &shape, generation)?;
         let scratch = Writing::make(alloc)?;
         let sorting = Sorting::make(alloc)?;
-        let (table, seat) = Table::of_words(alloc, words.as_slice(), &shape)?;
+        let opened = Opened { shape, generation };
+        let (table, seat) = Table::of_words(alloc, words.as_slice(), &opened)?;
         let offsets = Offsets::of(&shape);
         let table = OakTable {
             table,

@@ -12,24 +12,31 @@ use chunk_index::IndexReader;
 use oak_model::{CLASSES, Shape};
 use std::alloc::Global;
 
+/// How a table was opened: its sizes, and the generation at which its headers began.
+#[derive(Clone, Copy)]
+pub struct Opened {
+    pub(crate) shape: Shape,
+    pub(crate) generation: u32,
+}
+
 /// The rule under which the words stand: that of the definitions, for every state of the running table.
 pub struct OakRule;
 
-impl TableRule<(), PassState, Shape> for OakRule {
+impl TableRule<(), PassState, Opened> for OakRule {
     ghost use Rattle.oak_core.specs.Running.{Holds};
     ghost use Rattle.oak_core.specs.Opening.{first_state};
 
-    ghost holds = { Holds };
+    ghost holds = { λ o. Holds o.shape };
 
-    ghost first = { λ z. first_state z 0 };
+    ghost first = { λ o. first_state o.shape o.generation };
 }
 
 /// A table of words, shared by its passes.
 pub struct OakTable {
-    pub(crate) table: Table<(), PassState, Shape, OakRule, Global>,
+    pub(crate) table: Table<(), PassState, Opened, OakRule, Global>,
     pub(crate) shape: Shape,
     pub(crate) offsets: Offsets,
-    ghost shape_is: { shape ≡ table.shared.key },
+    ghost shape_is: { shape ≡ table.shared.key.shape },
     ghost offsets_are: { offsets ≡ offsets_of shape },
     ghost few: { word_count shape < 2 ^ 32 },
     ghost counted: { table.shared.table_id.words ≡ word_count shape },
