@@ -1,7 +1,7 @@
 -- Pairs that rise, and of which no two have one room, still do where one is set among them; and what halving finds in them.
-use Rattle.std.proofs.Common.{◌≡◌, ◌≢◌, ℕ, suc, zero, ◌+◌, ◌-◌, ◌<◌, ◌≤◌, Bool, true, false, List, [], ◌∷◌, length, get_or, Option, Some, None, nat_eq, not, ◌&&◌, refl, sym, ap, subst, ◌∙◌, ⊎_elim, arith, Ordering, Less, Equal, Greater}
+use Rattle.std.proofs.Common.{◌≡◌, ◌≢◌, ℕ, suc, zero, ◌-◌, ◌<◌, ◌≤◌, Bool, true, false, List, [], ◌∷◌, length, get_or, Option, Some, None, refl, sym, ap, subst, ◌∙◌, ⊎_elim, arith, Ordering, Less, Equal, Greater}
 use Rattle.std.specs.Prelude.{MatchOption, MatchResult, filter, fold, if◌then◌else◌}
-use Rattle.std.specs.List.{All, AllPairs, Any, HoldsAt, insert}
+use Rattle.std.specs.List.{All, AllPairs, HoldsAt, insert}
 use Rattle.std.specs.List.Sorted.{IsPartitionPoint, IsPartitionedBy}
 use Rattle.std.specs.Ordering.{is_eq, is_le, is_lt, ordering_reverse}
 use Rattle.std.specs.declared.result.Result.{Result}
@@ -10,10 +10,10 @@ use Rattle.std.specs.Cmp.Lexicographic.{nat_list_cmp_total}
 use Rattle.std.proofs.lemmas.Bool.{and_parts, cases_eq, cases_lt, cond_both, eqb-false, false≢true, not-true}
 use Rattle.std.proofs.lemmas.Cmp.{alike_right}
 use Rattle.std.proofs.lemmas.List.{get_or_default}
-use Rattle.std.proofs.lemmas.List.Elements.{All-cons, All-filter, All-head, All-nil, All-tail, filter_passes}
+use Rattle.std.proofs.lemmas.List.Elements.{All-cons, All-head, All-nil, All-tail, filter_passes}
 use Rattle.std.proofs.lemmas.List.Kept.{AllPairs-cons, AllPairs-filter}
 use Rattle.oak_model.specs.Key.{IsKeyBefore, key_cmp, same_key}
-use Rattle.chunk_index.specs.Lows.{Low, IsGreatest, IsOnePerRoom, IsRising, NamesGreatest, comes_before, comes_upto, is_apart, put_low, set_low}
+use Rattle.chunk_index.specs.Lows.{Low, IsOnePerRoom, IsRising, NamesGreatest, comes_before, comes_upto, is_apart, put_low, set_low}
 
 -- ---- orders
 

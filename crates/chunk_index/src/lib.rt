@@ -3,6 +3,7 @@
 //! Scalable Off-Heap Allocated Key-Value Map", PPoPP 2020); two copies for readers that do not wait are `left_right`'s.
 #![tactic(auto)]
 
+mod heads;
 mod index;
 mod low;
 mod lows;

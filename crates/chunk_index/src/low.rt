@@ -1,31 +1,36 @@
 //! The minimum of a chunk, with the chunk's room.
 ghost use Rattle.std.specs.Prelude.{◌≡◌};
-ghost use Rattle.oak_model.specs.Key.{IsKey};
+ghost use Rattle.oak_model.specs.Key.{IsKey, key_cmp};
+ghost use Rattle.chunk_index.specs.Heads.{key_head};
 ghost use Rattle.chunk_index.specs.Lows.{is_apart};
 
+use crate::heads::head_of;
 use oak_model::{GREATEST_KEY, cmp_keys};
 use std::cmp::Ordering;
 use std::marker::Model;
 
-/// The minimum of a chunk, 1 to [`GREATEST_KEY`] bytes, and its room. The bytes stand in line, so a second one takes
-/// no memory.
+/// The minimum of a chunk, 1 to [`GREATEST_KEY`] bytes, with its head, and its room. The bytes stand in line, so a
+/// second one takes no memory.
 #[derive(Drop)]
 pub struct Low {
+    head: u64,
     bytes: [u8; GREATEST_KEY],
     length: usize,
     room: u32,
 }
 
 impl Model for Low {
-    ghost use Rattle.std.specs.Prelude.{◌≤◌, take};
+    ghost use Rattle.std.specs.Prelude.{◌≡◌, ◌≤◌, take};
     ghost use Rattle.oak_model.specs.declared.limits.TheConstants.{GREATEST_KEY};
+    ghost use Rattle.oak_model.specs.Key.{AreBytes};
+    ghost use Rattle.chunk_index.specs.Heads.{key_head};
     ghost use Rattle.chunk_index.specs.Lows.{Low as Pair};
 
     ghost Value = { Pair };
 
     ghost view = { λ l. (take l.length l.bytes, l.room) };
 
-    ghost invariant = { λ l. l.length ≤ GREATEST_KEY };
+    ghost invariant = { λ l. (l.length ≤ GREATEST_KEY) × AreBytes (take l.length l.bytes) × (l.head ≡ key_head (take l.length l.bytes)) };
 }
 
 impl Low {
@@ -37,6 +42,7 @@ impl Low {
         let mut bytes = [0; GREATEST_KEY];
         bytes[..minimum.len()].copy_from_slice(minimum);
         Low {
+            head: head_of(minimum),
             bytes,
             length: minimum.len(),
             room,
@@ -48,6 +54,7 @@ impl Low {
         ensures { result ≡ self.now }
     {
         Low {
+            head: self.head,
             bytes: self.bytes,
             length: self.length,
             room: self.room,
@@ -68,10 +75,21 @@ impl Low {
         self.room
     }
 
+    /// The order of the minimum and a key with this head. The bytes are compared only where the heads are the same.
+    pub fn cmp_key(&self, head: u64, key: &[u8]) -> Ordering
+        requires { head ≡ key_head key.now }
+        ensures { result ≡ key_cmp self.now.0 key.now }
+    {
+        match self.head.cmp(&head) {
+            Ordering::Equal => cmp_keys(self.minimum(), key),
+            apart => apart,
+        }
+    }
+
     /// Whether the other has neither this room nor this minimum.
     pub fn is_apart(&self, other: &Low) -> bool
         ensures { result ≡ is_apart self.now other.now }
     {
-        other.room != self.room && cmp_keys(other.minimum(), self.minimum()) != Ordering::Equal
+        other.room != self.room && other.cmp_key(self.head, self.minimum()) != Ordering::Equal
     }
 }

@@ -6,9 +6,10 @@ ghost use Rattle.std.specs.List.Sorted.{IsPartitionPoint};
 ghost use Rattle.std.specs.Vec.{vec_len, vec_capacity};
 ghost use Rattle.chunk_index.specs.Lows.{IsRising, NamesGreatest, comes_before, comes_under, comes_upto, is_apart, set_low};
 
+use crate::heads::head_of;
 use crate::low::Low;
 use left_right::Absorb;
-use oak_model::{Hint, cmp_keys};
+use oak_model::Hint;
 use std::alloc::{AllocError, Global};
 use std::marker::Model;
 
@@ -52,8 +53,9 @@ impl Lows {
         ensures few { result ≤ length self.now }
         ensures point { IsPartitionPoint (λ p. comes_before key.now p ≡ true) (λ p. comes_before key.now p ≡ false) self.now result }
     {
+        let head = head_of(key);
         self.lows
-            .partition_point(|low| cmp_keys(low.minimum(), key).is_lt())
+            .partition_point(|low| low.cmp_key(head, key).is_lt())
     }
 
     /// How many minima are not above the key.
@@ -61,8 +63,9 @@ impl Lows {
         ensures few { result ≤ length self.now }
         ensures point { IsPartitionPoint (λ p. comes_upto key.now p ≡ true) (λ p. comes_upto key.now p ≡ false) self.now result }
     {
+        let head = head_of(key);
         self.lows
-            .partition_point(|low| cmp_keys(low.minimum(), key).is_le())
+            .partition_point(|low| low.cmp_key(head, key).is_le())
     }
 
     /// How many minima come before the bound; without one all do.

@@ -24,6 +24,20 @@ fn a_hint_is_the_room_of_the_greatest_minimum(rt: HostRuntime) -> Result<(), Fai
 }
 
 #[test]
+fn minima_of_one_head_are_told_apart(rt: HostRuntime) -> Result<(), Fail> {
+    let mut writer = IndexWriter::create(&rt, 4, 2)?;
+    let mut reader = writer.reader();
+    writer.set(b"abcdefgh2", 1)?;
+    writer.set(b"abcdefgh", 2)?;
+    writer.set(b"a\0", 3)?;
+    assert_eq!(rt; reader.hint(b"a").room, None);
+    assert_eq!(rt; reader.hint(b"abc").room, Some(3));
+    assert_eq!(rt; reader.hint(b"abcdefgh1").room, Some(2));
+    assert_eq!(rt; reader.hint(b"abcdefgh2\0").room, Some(1));
+    Ok(())
+}
+
+#[test]
 fn a_pair_takes_out_those_of_its_room_and_minimum(rt: HostRuntime) -> Result<(), Fail> {
     let mut writer = IndexWriter::create(&rt, 4, 2)?;
     let mut reader = writer.reader();
