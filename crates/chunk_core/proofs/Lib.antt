@@ -43,3 +43,6 @@ pub mod KeptHeldRooms
 pub mod FewerKeptRooms
 pub mod StoredCopies
 pub mod StoredKeptRooms
+pub mod ReachedEntries
+pub mod LinkLoads
+pub mod LinkStores

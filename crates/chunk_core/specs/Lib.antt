@@ -17,3 +17,6 @@ pub mod MovingRanges
 pub mod RoomsAfter
 pub mod ChainedRooms
 pub mod MayOnRooms
+pub mod LinkWords
+pub mod ReachedEntries
+pub mod FoundLinks
