@@ -213,3 +213,6 @@ pub mod KnownLives
 pub mod StampSteps
 pub mod PinTold
 pub mod RoomPins
+pub mod GapReach
+pub mod GapKeys
+pub mod LinkLessons

@@ -11,17 +11,18 @@ use Rattle.oak_core.specs.declared.states.Knowledge.{Knowledge}
 use Rattle.oak_core.specs.declared.states.Lesson.{Lesson}
 use Rattle.oak_core.specs.declared.states.PassState.{PassState}
 use Rattle.oak_core.specs.declared.states.Taught.{Taught}
-use Rattle.oak_core.specs.declared.states.Taught.TheVariants.{OfKey, OfRoom}
+use Rattle.oak_core.specs.declared.states.Taught.TheVariants.{OfKey, OfRoom, OfGap}
 use Rattle.oak_core.specs.Memory.{Memory}
 use Rattle.oak_core.specs.PassState.{seen_of, knowledge_of}
 use Rattle.oak_core.specs.KeyHistories.{state_behind, before, IsRemovedAt}
 use Rattle.oak_core.specs.KeyReads.{home_of, history_now, level_now}
 use Rattle.oak_core.specs.Learning.{reach_of, heard_of}
 
--- a key of a room's lesson is absent behind its writes
+-- a key of a room's lesson, or of a gap's, is absent behind its writes
 abbrev pub IsAbsentBehind : Taught → ℕ → List KeyedWrite → Type 0
 IsAbsentBehind (OfKey n) k h = Unit {0}
 IsAbsentBehind (OfRoom p) k h = 0 < reach_of (OfRoom p) k → state_behind h ≡ None
+IsAbsentBehind (OfGap g) k h = 0 < reach_of (OfGap g) k → state_behind h ≡ None
 
 -- what holds of one lesson of a pass
 pub record LessonStands (level : ℕ → ℕ) (hist : ℕ → List KeyedWrite) (q : Knowledge) (l : Lesson) : Type 0 where

@@ -34,8 +34,8 @@ pub use passes::SplitFault;
 pub use schedules::every_schedule;
 pub use sorting::{SortSlot, Sorting};
 pub use states::{
-    Finding, Findings, Full, Gone, Joined, KeyedNumber, KeyedWrite, Knowledge, KnownLife, Lesson,
-    Numbers, PassState, Rebalanced, Sight, Swept, Taken, Taught,
+    Finding, Findings, Full, Gap, Gone, Joined, KeyedNumber, KeyedWrite, Knowledge, KnownLife,
+    Lesson, Numbers, PassState, Rebalanced, Sight, Swept, Taken, Taught,
 };
 pub use table::{OakTable, Pass};
 pub use writing::Writing;

@@ -2,7 +2,7 @@
 //! part belongs to one bundle of the table's rule, and those of the arena, the headers and the rooms
 //! stand in their crates.
 use arena_core::HeldBlocks;
-use chunk_core::{PinnedRoom, RoomHolds};
+use chunk_core::{FoundEntry, PinnedRoom, RoomHolds};
 use header_core::HeaderHolds;
 use oak_model::{Class, Key, Lack, Write};
 use std::collections::LinkedList;
@@ -92,11 +92,21 @@ pub struct KnownLife {
     pub home: u64,
 }
 
-/// Of which keys a step taught its pass all writes up to a number: of one key, or of each key of the
-/// range of a pinned room that has none of the entries found below its count, up to the room's base.
+/// What a link of a pinned room steps over: the keys of the room's range above the entry that the link
+/// is of, where it is not the room's first, and below the entry that it names, where it names one.
+pub struct Gap {
+    pub room: PinnedRoom,
+    pub from: Option<FoundEntry>,
+    pub to: Option<FoundEntry>,
+}
+
+/// Of which keys a step taught its pass all writes up to a number: of one key, of each key of the range
+/// of a pinned room that has none of the entries found below its count, or of each key of a gap, the
+/// last two up to the room's base. No step teaches of a gap so far.
 pub enum Taught {
     OfKey(KeyedNumber),
     OfRoom(PinnedRoom),
+    OfGap(Gap),
 }
 
 /// A key, and a number up to which its writes are known.
