@@ -10,6 +10,7 @@ mod header_steps;
 pub mod headers;
 pub mod hinting;
 pub mod layout;
+mod leaving;
 pub mod loads;
 pub mod notes;
 mod offsets;

@@ -43,7 +43,7 @@ pub struct OakTable {
     ghost bare: { table.shared.table_id.slots ≡ 0 },
 }
 
-/// A caller's token for a table. It is spent by [`Pass::join`] or [`OakTable::close`], and can't be
+/// A caller's token for a table. It is spent by [`Pass::join`], [`OakTable::close`] or [`Pass::leave`], and can't be
 /// dropped.
 pub struct Pass {
     pub(crate) seat: Seat<(), PassState>,

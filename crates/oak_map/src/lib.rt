@@ -9,6 +9,7 @@ mod finding;
 mod hinted;
 #[cfg(test)]
 mod index_tests;
+mod leaving;
 mod lending;
 #[cfg(test)]
 mod lending_tests;

@@ -29,7 +29,8 @@ pub struct OakMap<R: Wait + Drop + Send> {
     pub(crate) index: ChunkIndex<R>,
 }
 
-/// A caller's token for a map. It is spent by [`OakMap::join`] or [`OakMap::close`], and can't be dropped.
+/// A caller's token for a map. It is spent by [`OakMap::join`], [`OakMap::close`] or [`MapPass::leave`], and can't be
+/// dropped.
 pub struct MapPass {
     pub(crate) pass: Pass,
 }

@@ -52,3 +52,23 @@ fn a_put_key(rt: HostRuntime) -> Result<(), Fail> {
     assert_eq!(rt; usage.chunks, 1);
     Ok(())
 }
+
+#[test]
+fn passes_are_left_and_their_map_is_freed(rt: HostRuntime) -> Result<(), Fail> {
+    let shape = Shape::make(2, 1, 4, 1, [2, 0, 0, 0])?;
+    let (map, mut pass) = OakMap::create(&rt, &shape)?;
+    let split = match map.split(&rt, &mut pass) {
+        Ok(other) => {
+            other.leave();
+            true
+        }
+        Err(_) => false,
+    };
+    pass.turn(1);
+    let new = map.put(&rt, &mut pass, b"k", b"one");
+    pass.leave();
+    map.free();
+    assert!(rt; split);
+    assert!(rt; new == Wrote::New { at: 1 });
+    Ok(())
+}
