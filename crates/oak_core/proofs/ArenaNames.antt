@@ -69,16 +69,16 @@ mask_below z c b word bits n = let e = n.word_is in let h = index_below z (in_ar
 pub word_below : (z : Sizes) (c : Class) (b k word : ℕ) → NamesWord z c b k word → word < word_count z
 word_below z c b k word n = let e = n.word_is in let h = index_below z (in_arena (at_bytes (class_number c) b k)) (class_below c, n.inside, n.place) in omega arith
 
-module _ (z : Sizes) (call : ℕ) (slots id : ℕ) (me : Me (Unit {0}) PassState) (going : me.0.numbers.spent ≡ false) where
+module _ (z : Sizes) (start call : ℕ) (slots id : ℕ) (me : Me (Unit {0}) PassState) (going : me.0.numbers.spent ≡ false) where
   pub allows_take : (word bits : ℕ) (c : Class) (b : ℕ) → NamesBit z c b word bits
-      → Allows (Holds z) slots id me word (λ n. bit_or n bits) (λ n m. ((d : Class) (e : ℕ) → NamesBit z d e word bits → Sets z call d e me.0 n m.0) × KeepsSeat me m)
-  allows_take word bits c b names = allows_at z call slots id me going (on_arena (take_bit c b)) (λ n w. (d : Class) (e : ℕ) → NamesBit z d e word bits → Sets z call d e me.0 n w) word (λ n. bit_or n bits)
+      → Allows (Holds z start) slots id me word (λ n. bit_or n bits) (λ n m. ((d : Class) (e : ℕ) → NamesBit z d e word bits → Sets z call d e me.0 n m.0) × KeepsSeat me m)
+  allows_take word bits c b names = allows_at z start call slots id me going (on_arena (take_bit c b)) (λ n w. (d : Class) (e : ℕ) → NamesBit z d e word bits → Sets z call d e me.0 n w) word (λ n. bit_or n bits)
       (sym names.word_is) (λ i n. bit_or n (sym names.operand_is i)) names.inside
       (λ n w told d e named. let s = one_bit z c d b e word bits names named in subst (λ (p : Class × ℕ). Sets z call p.0 p.1 me.0 n w) (λ i. (s.0 i, s.1 i)) told)
 
   pub allows_clear : (word bits : ℕ) (c : Class) (b : ℕ) → NamesMask z c b word bits → HoldsBlock z (class_number c) b me.0.blocks
-      → Allows (Holds z) slots id me word (λ n. bit_and n bits) (λ n m. ((d : Class) (e : ℕ) → NamesMask z d e word bits → Clears z call d e me.0 n m.0) × KeepsSeat me m)
-  allows_clear word bits c b names held = allows_at z call slots id me going (on_arena (clear_bit c b)) (λ n w. (d : Class) (e : ℕ) → NamesMask z d e word bits → Clears z call d e me.0 n w) word (λ n. bit_and n bits)
+      → Allows (Holds z start) slots id me word (λ n. bit_and n bits) (λ n m. ((d : Class) (e : ℕ) → NamesMask z d e word bits → Clears z call d e me.0 n m.0) × KeepsSeat me m)
+  allows_clear word bits c b names held = allows_at z start call slots id me going (on_arena (clear_bit c b)) (λ n w. (d : Class) (e : ℕ) → NamesMask z d e word bits → Clears z call d e me.0 n w) word (λ n. bit_and n bits)
       (sym names.word_is) (λ i n. bit_and n (sym names.operand_is i)) held
       (λ n w told d e named. let s = one_mask z c d b e word bits names named in subst (λ (p : Class × ℕ). Clears z call p.0 p.1 me.0 n w) (λ i. (s.0 i, s.1 i)) told)
 
@@ -103,8 +103,8 @@ module _ (z : Sizes) (call : ℕ) (slots id : ℕ) (me : Me (Unit {0}) PassState
   stores (of_locked h) c b k x = refl
 
   pub allows_store : (word x : ℕ) (o : BlockOwner) (c : Class) (b k : ℕ) → NamesWord z c b k word → MayStoreTo z o c b me.0 → x < 2 ^ 64
-      → Allows (Holds z) slots id me word (λ _. x) (λ _ m. ((p : BlockOwner) (d : Class) (e l : ℕ) → NamesWord z d e l word → MayStoreTo z p d e me.0 → Writes z call p d e l x me.0 m.0) × KeepsSeat me m)
-  allows_store word x o c b k names may small = allows_at z call slots id me going (store_step o c b k x) (λ _ w. (p : BlockOwner) (d : Class) (e l : ℕ) → NamesWord z d e l word → MayStoreTo z p d e me.0 → Writes z call p d e l x me.0 w) word (λ _. x)
+      → Allows (Holds z start) slots id me word (λ _. x) (λ _ m. ((p : BlockOwner) (d : Class) (e l : ℕ) → NamesWord z d e l word → MayStoreTo z p d e me.0 → Writes z call p d e l x me.0 m.0) × KeepsSeat me m)
+  allows_store word x o c b k names may small = allows_at z start call slots id me going (store_step o c b k x) (λ _ w. (p : BlockOwner) (d : Class) (e l : ℕ) → NamesWord z d e l word → MayStoreTo z p d e me.0 → Writes z call p d e l x me.0 w) word (λ _. x)
       (ap (index z) (store_spot o c b k x) ∙ sym names.word_is) (stores o c b k x) (may_store o c b k x may names.place small)
       (λ n w told p d e l named also. let s = one_word z c d b e k l word names named in
       let q = same_owner told.table told.seat told.rule told.here o p c b may (subst (λ (i : Class × ℕ). MayStoreTo z p i.0 i.1 me.0) (λ i. (sym s.0 i, sym s.1 i)) also) in

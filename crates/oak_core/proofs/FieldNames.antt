@@ -54,7 +54,7 @@ same_header f g h k s = sym (header_of_spot-is (field_spot f h) ∙ header_at-fi
 pub field_below : (z : Sizes) (f : HeaderField) (h word : ℕ) → NamesField z f h word → word < word_count z
 field_below z f h word n = let e = n.word_is in let b = index_below z (in_headers (field_spot f h)) (field_inside z f h n.inside) in omega arith
 
-module _ (z : Sizes) (call : ℕ) (slots id : ℕ) (me : Me (Unit {0}) PassState) (going : me.0.numbers.spent ≡ false) where
+module _ (z : Sizes) (start call : ℕ) (slots id : ℕ) (me : Me (Unit {0}) PassState) (going : me.0.numbers.spent ≡ false) where
   -- an owned header is not locked
   owned_unlocked : (t : TableState) (seat h : ℕ) → Rule z t → get_elem? t.states seat ≡ some me.0 → 0 < in_state h OWNED me.0.headers → 0 < in_state h LOCKED me.0.headers → ⊥
   owned_unlocked t seat h r here owned locked = let at = at_map headers_held t.states seat me.0 here in
@@ -94,8 +94,8 @@ module _ (z : Sizes) (call : ℕ) (slots id : ℕ) (me : Me (Unit {0}) PassState
   tells of_locked_place h x n w told = (n, told)
 
   pub allows_field : (word x : ℕ) (f : HeaderField) (h : ℕ) → NamesField z f h word → MayOnHeaders z (field_step f h x) me.0
-      → Allows (Holds z) slots id me word (λ _. x) (λ _ m. ((g : HeaderField) (k : ℕ) → NamesField z g k word → MayOnHeaders z (field_step g k x) me.0 → StoresField z call g k x me.0 m.0) × KeepsSeat me m)
-  allows_field word x f h names may = allows_at z call slots id me going (on_headers (field_step f h x)) (λ _ w. (g : HeaderField) (k : ℕ) → NamesField z g k word → MayOnHeaders z (field_step g k x) me.0 → StoresField z call g k x me.0 w) word (λ _. x)
+      → Allows (Holds z start) slots id me word (λ _. x) (λ _ m. ((g : HeaderField) (k : ℕ) → NamesField z g k word → MayOnHeaders z (field_step g k x) me.0 → StoresField z call g k x me.0 m.0) × KeepsSeat me m)
+  allows_field word x f h names may = allows_at z start call slots id me going (on_headers (field_step f h x)) (λ _ w. (g : HeaderField) (k : ℕ) → NamesField z g k word → MayOnHeaders z (field_step g k x) me.0 → StoresField z call g k x me.0 w) word (λ _. x)
       (ap (index z) (store_spot f h x) ∙ sym names.word_is) (stores f h x) (may, ends f h x)
       (λ n w told g k named also. let s = same_spots z f g h k word names named in let e = same_header f g h k s in
       let q = same_field told.table told.seat told.rule told.here f g h x (s ∙ ap (λ (i : ℕ). in_headers (field_spot g i)) (sym e)) may (subst (λ (i : ℕ). MayOnHeaders z (field_step g i x) me.0) (sym e) also) in

@@ -58,33 +58,33 @@ one_release z h k s t a word operand may n m = (pin_apart z h k word n.inside m.
 pub pin_below : (z : Sizes) (h word : ℕ) → h < z.headers → word ≡ index z (in_headers (at_pin h)) → word < word_count z
 pin_below z h word lt e = let b = index_below z (in_headers (at_pin h)) lt in omega arith
 
-module _ (z : Sizes) (call : ℕ) (slots id : ℕ) (me : Me (Unit {0}) PassState) (going : me.0.numbers.spent ≡ false) where
+module _ (z : Sizes) (start call : ℕ) (slots id : ℕ) (me : Me (Unit {0}) PassState) (going : me.0.numbers.spent ≡ false) where
   pub allows_claim : (word old new h : ℕ) → NamesClaim z h word old new
-      → Allows (Holds z) slots id me word (λ n. either (n == old) new n) (λ n m. ((k : ℕ) → NamesClaim z k word old new → Claims z call k old me.0 n m.0) × KeepsSeat me m)
-  allows_claim word old new h names = allows_at z call slots id me going (on_headers (claim_header h old)) (λ n w. (k : ℕ) → NamesClaim z k word old new → Claims z call k old me.0 n w) word (λ n. either (n == old) new n)
+      → Allows (Holds z start) slots id me word (λ n. either (n == old) new n) (λ n m. ((k : ℕ) → NamesClaim z k word old new → Claims z call k old me.0 n m.0) × KeepsSeat me m)
+  allows_claim word old new h names = allows_at z start call slots id me going (on_headers (claim_header h old)) (λ n w. (k : ℕ) → NamesClaim z k word old new → Claims z call k old me.0 n w) word (λ n. either (n == old) new n)
       (sym names.word_is) (λ i n. either (n == old) (sym names.new_is i) n) (record { inside = names.inside; headers = names.unpinned; block = tt; known = tt }, tt)
       (λ n w told k named. subst (λ (j : ℕ). Claims z call j old me.0 n w) (one_exchange z FREE h k word old new names named) told)
 
   pub allows_open : (word operand h : ℕ) → NamesPin z h word → operand ≡ STATE → MayOnHeaders z (open_header h) me.0
-      → Allows (Holds z) slots id me word (λ n. (n + operand) % 2 ^ 64) (λ n m. ((k : ℕ) → NamesPin z k word → Opens z call k me.0 n m.0) × KeepsSeat me m)
-  allows_open word operand h names e may = allows_at z call slots id me going (on_headers (open_header h)) (λ n w. (k : ℕ) → NamesPin z k word → Opens z call k me.0 n w) word (λ n. (n + operand) % 2 ^ 64)
+      → Allows (Holds z start) slots id me word (λ n. (n + operand) % 2 ^ 64) (λ n m. ((k : ℕ) → NamesPin z k word → Opens z call k me.0 n m.0) × KeepsSeat me m)
+  allows_open word operand h names e may = allows_at z start call slots id me going (on_headers (open_header h)) (λ n w. (k : ℕ) → NamesPin z k word → Opens z call k me.0 n w) word (λ n. (n + operand) % 2 ^ 64)
       (sym names.word_is) (λ i n. (n + sym e i) % 2 ^ 64) (may, tt)
       (λ n w told k named. subst (λ (j : ℕ). Opens z call j me.0 n w) (one_header z h k word names named) told)
 
   pub allows_pin : (word operand g h : ℕ) → NamesPin z h word → operand ≡ 1 → MayOnHeaders z (pin_header h g) me.0
-      → Allows (Holds z) slots id me word (λ n. (n + operand) % 2 ^ 64) (λ n m. ((k : ℕ) → NamesPin z k word → Pins z call k g me.0 n m.0) × KeepsSeat me m)
-  allows_pin word operand g h names e may = allows_at z call slots id me going (on_headers (pin_header h g)) (λ n w. (k : ℕ) → NamesPin z k word → Pins z call k g me.0 n w) word (λ n. (n + operand) % 2 ^ 64)
+      → Allows (Holds z start) slots id me word (λ n. (n + operand) % 2 ^ 64) (λ n m. ((k : ℕ) → NamesPin z k word → Pins z call k g me.0 n m.0) × KeepsSeat me m)
+  allows_pin word operand g h names e may = allows_at z start call slots id me going (on_headers (pin_header h g)) (λ n w. (k : ℕ) → NamesPin z k word → Pins z call k g me.0 n w) word (λ n. (n + operand) % 2 ^ 64)
       (sym names.word_is) (λ i n. (n + sym e i) % 2 ^ 64) (may, tt)
       (λ n w told k named. subst (λ (j : ℕ). Pins z call j g me.0 n w) (one_header z h k word names named) told)
 
   pub allows_unpin : (word operand h : ℕ) → NamesPin z h word → operand ≡ 1 → MayOnHeaders z (unpin_header h) me.0
-      → Allows (Holds z) slots id me word (λ n. (n + (2 ^ 64 - operand)) % 2 ^ 64) (λ n m. ((k : ℕ) → NamesPin z k word → Unpins z call k me.0 n m.0) × KeepsSeat me m)
-  allows_unpin word operand h names e may = allows_at z call slots id me going (on_headers (unpin_header h)) (λ n w. (k : ℕ) → NamesPin z k word → Unpins z call k me.0 n w) word (λ n. (n + (2 ^ 64 - operand)) % 2 ^ 64)
+      → Allows (Holds z start) slots id me word (λ n. (n + (2 ^ 64 - operand)) % 2 ^ 64) (λ n m. ((k : ℕ) → NamesPin z k word → Unpins z call k me.0 n m.0) × KeepsSeat me m)
+  allows_unpin word operand h names e may = allows_at z start call slots id me going (on_headers (unpin_header h)) (λ n w. (k : ℕ) → NamesPin z k word → Unpins z call k me.0 n w) word (λ n. (n + (2 ^ 64 - operand)) % 2 ^ 64)
       (sym names.word_is) (λ i n. (n + (2 ^ 64 - sym e i)) % 2 ^ 64) (may, tt)
       (λ n w told k named. subst (λ (j : ℕ). Unpins z call j me.0 n w) (one_header z h k word names named) told)
 
   pub allows_release : (word operand h : ℕ) (s : HeldAs) → NamesRelease z h s word operand → MayOnHeaders z (release_header h s) me.0
-      → Allows (Holds z) slots id me word (λ n. (n + (2 ^ 64 - operand)) % 2 ^ 64) (λ n m. ((k : ℕ) (t : HeldAs) → NamesRelease z k t word operand → Releases z call k t me.0 n m.0) × KeepsSeat me m)
-  allows_release word operand h s names may = allows_at z call slots id me going (on_headers (release_header h s)) (λ n w. (k : ℕ) (t : HeldAs) → NamesRelease z k t word operand → Releases z call k t me.0 n w) word (λ n. (n + (2 ^ 64 - operand)) % 2 ^ 64)
+      → Allows (Holds z start) slots id me word (λ n. (n + (2 ^ 64 - operand)) % 2 ^ 64) (λ n m. ((k : ℕ) (t : HeldAs) → NamesRelease z k t word operand → Releases z call k t me.0 n m.0) × KeepsSeat me m)
+  allows_release word operand h s names may = allows_at z start call slots id me going (on_headers (release_header h s)) (λ n w. (k : ℕ) (t : HeldAs) → NamesRelease z k t word operand → Releases z call k t me.0 n w) word (λ n. (n + (2 ^ 64 - operand)) % 2 ^ 64)
       (sym names.word_is) (λ i n. (n + (2 ^ 64 - sym names.operand_is i)) % 2 ^ 64) (may, tt)
       (λ n w told k t named. let q = one_release z h k s t me.0.headers word operand may.headers.1 names named in subst (λ (p : ℕ × HeldAs). Releases z call p.0 p.1 me.0 n w) (λ i. (q.0 i, q.1 i)) told)

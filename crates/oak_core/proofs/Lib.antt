@@ -102,6 +102,7 @@ pub mod KnownInTwo
 pub mod JoinedNumbers
 pub mod SeatBundles
 pub mod TwoSeats
+pub mod Reached
 pub mod Opening
 pub mod OpeningWords
 pub mod OpeningBlocks

@@ -28,6 +28,7 @@ use Rattle.oak_core.specs.PassState.{bare_state, no_findings, kept_of}
 use Rattle.oak_core.specs.Rule.{AloneStands, FoundStays, WordsStand, NumbersStand, FindingsHold, SpentIsSpent, JoinedStand, Rule, PassStands}
 use Rattle.oak_core.specs.AloneWords.{LeavesWords}
 use Rattle.oak_core.specs.Opening.{opening_number, opening_words, making, first_state, IsOpened}
+use Rattle.oak_core.specs.Running.{IsReached}
 use Rattle.oak_core.specs.Schedule.{opening}
 use Rattle.oak_core.proofs.Words.{first_word, memory_read, read-of, inside_is, index_below, index_apart, index-rooms, rooms_from, number_at-out}
 use Rattle.oak_core.proofs.Alone.{first_alone}
@@ -40,6 +41,7 @@ use Rattle.oak_core.proofs.OpeningRooms.{opening_rooms, opening_covers, no_owner
 use Rattle.oak_core.proofs.RoomBundles.{RoomBundles, keeps_none, none_true}
 use Rattle.oak_core.proofs.KeyBundles.{KeyBundles}
 use Rattle.oak_core.proofs.OpeningKeys.{opening_keys}
+use Rattle.oak_core.proofs.Reached.{reached_first}
 
 either_small : (b : Bool) (x y : ℕ) → x < 2 ^ 64 → y < 2 ^ 64 → cond b x y < 2 ^ 64
 either_small true x y h k = h
@@ -203,5 +205,5 @@ leaves_at z k g v e s = subst (λ (j : Sizes). LeavesWords (opening j g).words v
 pub opened_at : (z k : Sizes) (g : ℕ) → IsInLimits z → k ≡ z → IsOpened k g (opening k g).words
 opened_at z k g is e = subst (λ (j : Sizes). IsOpened j g (opening j g).words) (sym e) (opened z g is.chunks_least)
 
-pub opens_at : (z : Sizes) (g : ℕ) → IsInLimits z → g < LAST_GENERATION → (ws : List ℕ) → ws ≡ opening_words z g → Rule z record { words = ws; states = first_state z g ∷ [] }
-opens_at z g is early ws e = subst (λ (l : List ℕ). Rule z record { words = l; states = first_state z g ∷ [] }) (sym e) (opening_rule z g is early)
+pub opens_at : (z : Sizes) (g : ℕ) → IsInLimits z → g < LAST_GENERATION → (ws : List ℕ) → ws ≡ opening_words z g → (Rule z record { words = ws; states = first_state z g ∷ [] }) × IsReached z g record { words = ws; states = first_state z g ∷ [] }
+opens_at z g is early ws e = subst (λ (l : List ℕ). (Rule z record { words = l; states = first_state z g ∷ [] }) × IsReached z g record { words = l; states = first_state z g ∷ [] }) (sym e) (opening_rule z g is early, reached_first z g)

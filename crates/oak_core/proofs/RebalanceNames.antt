@@ -32,39 +32,39 @@ room_word_below z p word n = let e = n.word_is in let b = index_below z (in_room
 
 -- each step may be taken, and tells of the room or the word that is named
 
-module _ (z : Sizes) (call : ℕ) (slots id : ℕ) (me : Me (Unit {0}) PassState) (going : me.0.numbers.spent ≡ false) where
+module _ (z : Sizes) (start call : ℕ) (slots id : ℕ) (me : Me (Unit {0}) PassState) (going : me.0.numbers.spent ≡ false) where
   pub allows_freeze : (word old new r : ℕ) → NamesRoomPin z r word → new ≡ old + STATE → MayOnRooms z call (freeze_room r old) me.0
-      → Allows (Holds z) slots id me word (λ n. either (n == old) new n) (λ n m. ((k : ℕ) → NamesRoomPin z k word → FreezesRoom z call k old me.0 n m.0) × KeepsSeat me m)
-  allows_freeze word old new r names e may = allows_at z call slots id me going (on_rooms (freeze_room r old)) (λ n w. (k : ℕ) → NamesRoomPin z k word → FreezesRoom z call k old me.0 n w) word (λ n. either (n == old) new n)
+      → Allows (Holds z start) slots id me word (λ n. either (n == old) new n) (λ n m. ((k : ℕ) → NamesRoomPin z k word → FreezesRoom z call k old me.0 n m.0) × KeepsSeat me m)
+  allows_freeze word old new r names e may = allows_at z start call slots id me going (on_rooms (freeze_room r old)) (λ n w. (k : ℕ) → NamesRoomPin z k word → FreezesRoom z call k old me.0 n w) word (λ n. either (n == old) new n)
       (sym names.word_is) (λ i n. either (n == old) (sym e i) n) may
       (λ n w told k named. subst (λ (j : ℕ). FreezesRoom z call j old me.0 n w) (one_room z r k word names named) told)
 
   pub allows_hold : (word old new r : ℕ) → NamesRoomPin z r word → new ≡ old + STATE → MayOnRooms z call (hold_room r old) me.0
-      → Allows (Holds z) slots id me word (λ n. either (n == old) new n) (λ n m. ((k : ℕ) → NamesRoomPin z k word → HoldsRoomWord z call k old me.0 n m.0) × KeepsSeat me m)
-  allows_hold word old new r names e may = allows_at z call slots id me going (on_rooms (hold_room r old)) (λ n w. (k : ℕ) → NamesRoomPin z k word → HoldsRoomWord z call k old me.0 n w) word (λ n. either (n == old) new n)
+      → Allows (Holds z start) slots id me word (λ n. either (n == old) new n) (λ n m. ((k : ℕ) → NamesRoomPin z k word → HoldsRoomWord z call k old me.0 n m.0) × KeepsSeat me m)
+  allows_hold word old new r names e may = allows_at z start call slots id me going (on_rooms (hold_room r old)) (λ n w. (k : ℕ) → NamesRoomPin z k word → HoldsRoomWord z call k old me.0 n w) word (λ n. either (n == old) new n)
       (sym names.word_is) (λ i n. either (n == old) (sym e i) n) may
       (λ n w told k named. subst (λ (j : ℕ). HoldsRoomWord z call j old me.0 n w) (one_room z r k word names named) told)
 
   pub allows_claim_room : (word old new r : ℕ) → NamesRoomPin z r word → new ≡ old + HELD * STATE → MayOnRooms z call (claim_room r old) me.0
-      → Allows (Holds z) slots id me word (λ n. either (n == old) new n) (λ n m. ((k : ℕ) → NamesRoomPin z k word → ClaimsRoom z call k old me.0 n m.0) × KeepsSeat me m)
-  allows_claim_room word old new r names e may = allows_at z call slots id me going (on_rooms (claim_room r old)) (λ n w. (k : ℕ) → NamesRoomPin z k word → ClaimsRoom z call k old me.0 n w) word (λ n. either (n == old) new n)
+      → Allows (Holds z start) slots id me word (λ n. either (n == old) new n) (λ n m. ((k : ℕ) → NamesRoomPin z k word → ClaimsRoom z call k old me.0 n m.0) × KeepsSeat me m)
+  allows_claim_room word old new r names e may = allows_at z start call slots id me going (on_rooms (claim_room r old)) (λ n w. (k : ℕ) → NamesRoomPin z k word → ClaimsRoom z call k old me.0 n w) word (λ n. either (n == old) new n)
       (sym names.word_is) (λ i n. either (n == old) (sym e i) n) may
       (λ n w told k named. subst (λ (j : ℕ). ClaimsRoom z call j old me.0 n w) (one_room z r k word names named) told)
 
   pub allows_room_word : (word x : ℕ) (p : RoomSpot) → NamesRoomWord z p word → MayOnRooms z call (store_room p x) me.0
-      → Allows (Holds z) slots id me word (λ _. x) (λ _ m. ((q : RoomSpot) → NamesRoomWord z q word → StoresRoom z call q x me.0 m.0) × KeepsSeat me m)
-  allows_room_word word x p names may = allows_at z call slots id me going (on_rooms (store_room p x)) (λ _ w. (q : RoomSpot) → NamesRoomWord z q word → StoresRoom z call q x me.0 w) word (λ _. x)
+      → Allows (Holds z start) slots id me word (λ _. x) (λ _ m. ((q : RoomSpot) → NamesRoomWord z q word → StoresRoom z call q x me.0 m.0) × KeepsSeat me m)
+  allows_room_word word x p names may = allows_at z start call slots id me going (on_rooms (store_room p x)) (λ _ w. (q : RoomSpot) → NamesRoomWord z q word → StoresRoom z call q x me.0 w) word (λ _. x)
       (sym names.word_is) refl may
       (λ n w told q named. subst (λ (o : RoomSpot). StoresRoom z call o x me.0 w) (one_room_word z p q word names named) (n, told))
 
   pub allows_open_room : (word operand r : ℕ) → NamesRoomPin z r word → operand ≡ (HELD - OPEN) * STATE → MayOnRooms z call (open_room r) me.0
-      → Allows (Holds z) slots id me word (λ n. (n + (2 ^ 64 - operand)) % 2 ^ 64) (λ n m. ((k : ℕ) → NamesRoomPin z k word → OpensRoom z call k me.0 n m.0) × KeepsSeat me m)
-  allows_open_room word operand r names e may = allows_at z call slots id me going (on_rooms (open_room r)) (λ n w. (k : ℕ) → NamesRoomPin z k word → OpensRoom z call k me.0 n w) word (λ n. (n + (2 ^ 64 - operand)) % 2 ^ 64)
+      → Allows (Holds z start) slots id me word (λ n. (n + (2 ^ 64 - operand)) % 2 ^ 64) (λ n m. ((k : ℕ) → NamesRoomPin z k word → OpensRoom z call k me.0 n m.0) × KeepsSeat me m)
+  allows_open_room word operand r names e may = allows_at z start call slots id me going (on_rooms (open_room r)) (λ n w. (k : ℕ) → NamesRoomPin z k word → OpensRoom z call k me.0 n w) word (λ n. (n + (2 ^ 64 - operand)) % 2 ^ 64)
       (sym names.word_is) (λ i n. (n + (2 ^ 64 - sym e i)) % 2 ^ 64) may
       (λ n w told k named. subst (λ (j : ℕ). OpensRoom z call j me.0 n w) (one_room z r k word names named) told)
 
   pub allows_retire : (word operand r : ℕ) → NamesRoomPin z r word → operand ≡ HELD * STATE → MayOnRooms z call (retire_room r) me.0
-      → Allows (Holds z) slots id me word (λ n. (n + (2 ^ 64 - operand)) % 2 ^ 64) (λ n m. ((k : ℕ) → NamesRoomPin z k word → RetiresRoom z call k me.0 n m.0) × KeepsSeat me m)
-  allows_retire word operand r names e may = allows_at z call slots id me going (on_rooms (retire_room r)) (λ n w. (k : ℕ) → NamesRoomPin z k word → RetiresRoom z call k me.0 n w) word (λ n. (n + (2 ^ 64 - operand)) % 2 ^ 64)
+      → Allows (Holds z start) slots id me word (λ n. (n + (2 ^ 64 - operand)) % 2 ^ 64) (λ n m. ((k : ℕ) → NamesRoomPin z k word → RetiresRoom z call k me.0 n m.0) × KeepsSeat me m)
+  allows_retire word operand r names e may = allows_at z start call slots id me going (on_rooms (retire_room r)) (λ n w. (k : ℕ) → NamesRoomPin z k word → RetiresRoom z call k me.0 n w) word (λ n. (n + (2 ^ 64 - operand)) % 2 ^ 64)
       (sym names.word_is) (λ i n. (n + (2 ^ 64 - sym e i)) % 2 ^ 64) may
       (λ n w told k named. subst (λ (j : ℕ). RetiresRoom z call j me.0 n w) (one_room z r k word names named) told)

@@ -90,51 +90,51 @@ one_entry z f g r i k j word n m = let s = index_apart z (in_rooms (entry_spot f
 pub entry_below : (z : Sizes) (f : EntryField) (r i word : ℕ) → NamesEntryWord z f r i word → word < word_count z
 entry_below z f r i word n = let e = n.word_is in let b = index_below z (in_rooms (entry_spot f r i)) (entry_inside z f r i n.inside n.entry) in omega arith
 
-module _ (z : Sizes) (call : ℕ) (slots id : ℕ) (me : Me (Unit {0}) PassState) (going : me.0.numbers.spent ≡ false) where
+module _ (z : Sizes) (start call : ℕ) (slots id : ℕ) (me : Me (Unit {0}) PassState) (going : me.0.numbers.spent ≡ false) where
   pub allows_pin_room : (word operand r : ℕ) → NamesRoomPin z r word → operand ≡ 1 → MayOnRooms z call (pin_room r) me.0
-      → Allows (Holds z) slots id me word (λ n. (n + operand) % 2 ^ 64) (λ n m. ((k : ℕ) → NamesRoomPin z k word → PinsRoomWord z call k me.0 n m.0) × KeepsSeat me m)
-  allows_pin_room word operand r names e may = allows_at z call slots id me going (on_rooms (pin_room r)) (λ n w. (k : ℕ) → NamesRoomPin z k word → PinsRoomWord z call k me.0 n w) word (λ n. (n + operand) % 2 ^ 64)
+      → Allows (Holds z start) slots id me word (λ n. (n + operand) % 2 ^ 64) (λ n m. ((k : ℕ) → NamesRoomPin z k word → PinsRoomWord z call k me.0 n m.0) × KeepsSeat me m)
+  allows_pin_room word operand r names e may = allows_at z start call slots id me going (on_rooms (pin_room r)) (λ n w. (k : ℕ) → NamesRoomPin z k word → PinsRoomWord z call k me.0 n w) word (λ n. (n + operand) % 2 ^ 64)
       (sym names.word_is) (λ i n. (n + sym e i) % 2 ^ 64) may
       (λ n w told k named. subst (λ (j : ℕ). PinsRoomWord z call j me.0 n w) (one_room z r k word names named) told)
 
   pub allows_unpin_room : (word operand r : ℕ) → NamesRoomPin z r word → operand ≡ 1 → MayOnRooms z call (unpin_room r) me.0
-      → Allows (Holds z) slots id me word (λ n. (n + (2 ^ 64 - operand)) % 2 ^ 64) (λ n m. ((k : ℕ) → NamesRoomPin z k word → UnpinsRoomWord z call k me.0 n m.0) × KeepsSeat me m)
-  allows_unpin_room word operand r names e may = allows_at z call slots id me going (on_rooms (unpin_room r)) (λ n w. (k : ℕ) → NamesRoomPin z k word → UnpinsRoomWord z call k me.0 n w) word (λ n. (n + (2 ^ 64 - operand)) % 2 ^ 64)
+      → Allows (Holds z start) slots id me word (λ n. (n + (2 ^ 64 - operand)) % 2 ^ 64) (λ n m. ((k : ℕ) → NamesRoomPin z k word → UnpinsRoomWord z call k me.0 n m.0) × KeepsSeat me m)
+  allows_unpin_room word operand r names e may = allows_at z start call slots id me going (on_rooms (unpin_room r)) (λ n w. (k : ℕ) → NamesRoomPin z k word → UnpinsRoomWord z call k me.0 n w) word (λ n. (n + (2 ^ 64 - operand)) % 2 ^ 64)
       (sym names.word_is) (λ i n. (n + (2 ^ 64 - sym e i)) % 2 ^ 64) may
       (λ n w told k named. subst (λ (j : ℕ). UnpinsRoomWord z call j me.0 n w) (one_room z r k word names named) told)
 
   pub allows_latch : (word old new r : ℕ) → NamesLatch z r word → old ≡ 0 → new ≡ 1 → MayOnRooms z call (latch_room r) me.0
-      → Allows (Holds z) slots id me word (λ n. either (n == old) new n) (λ n m. ((k : ℕ) → NamesLatch z k word → TakesLatch z call k me.0 n m.0) × KeepsSeat me m)
-  allows_latch word old new r names o e may = allows_at z call slots id me going (on_rooms (latch_room r)) (λ n w. (k : ℕ) → NamesLatch z k word → TakesLatch z call k me.0 n w) word (λ n. either (n == old) new n)
+      → Allows (Holds z start) slots id me word (λ n. either (n == old) new n) (λ n m. ((k : ℕ) → NamesLatch z k word → TakesLatch z call k me.0 n m.0) × KeepsSeat me m)
+  allows_latch word old new r names o e may = allows_at z start call slots id me going (on_rooms (latch_room r)) (λ n w. (k : ℕ) → NamesLatch z k word → TakesLatch z call k me.0 n w) word (λ n. either (n == old) new n)
       (sym names.word_is) (λ i n. either (n == sym o i) (sym e i) n) may
       (λ n w told k named. subst (λ (j : ℕ). TakesLatch z call j me.0 n w) (one_latch z r k word names named) told)
 
   pub allows_publish : (word value r : ℕ) → NamesCount z r word → MayOnRooms z call (publish_entry r value) me.0
-      → Allows (Holds z) slots id me word (λ _. value) (λ n m. ((k : ℕ) → NamesCount z k word → PublishesEntry z call k value me.0 m.0) × KeepsSeat me m)
-  allows_publish word value r names may = allows_at z call slots id me going (on_rooms (publish_entry r value)) (λ _ w. (k : ℕ) → NamesCount z k word → PublishesEntry z call k value me.0 w) word (λ _. value)
+      → Allows (Holds z start) slots id me word (λ _. value) (λ n m. ((k : ℕ) → NamesCount z k word → PublishesEntry z call k value me.0 m.0) × KeepsSeat me m)
+  allows_publish word value r names may = allows_at z start call slots id me going (on_rooms (publish_entry r value)) (λ _ w. (k : ℕ) → NamesCount z k word → PublishesEntry z call k value me.0 w) word (λ _. value)
       (sym names.word_is) refl may
       (λ n w told k named. subst (λ (j : ℕ). PublishesEntry z call j value me.0 w) (one_count z r k word names named) (n, told))
 
   pub allows_unlatch : (word value r : ℕ) → NamesLatch z r word → value ≡ 0 → MayOnRooms z call (unlatch_room r) me.0
-      → Allows (Holds z) slots id me word (λ _. value) (λ _ m. ((k : ℕ) → NamesLatch z k word → GivesLatch z call k me.0 m.0) × KeepsSeat me m)
-  allows_unlatch word value r names e may = allows_at z call slots id me going (on_rooms (unlatch_room r)) (λ _ w. (k : ℕ) → NamesLatch z k word → GivesLatch z call k me.0 w) word (λ _. value)
+      → Allows (Holds z start) slots id me word (λ _. value) (λ _ m. ((k : ℕ) → NamesLatch z k word → GivesLatch z call k me.0 m.0) × KeepsSeat me m)
+  allows_unlatch word value r names e may = allows_at z start call slots id me going (on_rooms (unlatch_room r)) (λ _ w. (k : ℕ) → NamesLatch z k word → GivesLatch z call k me.0 w) word (λ _. value)
       (sym names.word_is) (λ i _. sym e i) may
       (λ n w told k named. subst (λ (j : ℕ). GivesLatch z call j me.0 w) (one_latch z r k word names named) (n, told))
 
   pub allows_entry : (word x : ℕ) (f : EntryField) (r i : ℕ) → NamesEntryWord z f r i word → MayOnRooms z call (store_entry f r i x) me.0
-      → Allows (Holds z) slots id me word (λ _. x) (λ _ m. ((g : EntryField) (k j : ℕ) → NamesEntryWord z g k j word → StoresEntry z call g k j x me.0 m.0) × KeepsSeat me m)
-  allows_entry word x f r i names may = allows_at z call slots id me going (on_rooms (store_entry f r i x)) (λ _ w. (g : EntryField) (k j : ℕ) → NamesEntryWord z g k j word → StoresEntry z call g k j x me.0 w) word (λ _. x)
+      → Allows (Holds z start) slots id me word (λ _. x) (λ _ m. ((g : EntryField) (k j : ℕ) → NamesEntryWord z g k j word → StoresEntry z call g k j x me.0 m.0) × KeepsSeat me m)
+  allows_entry word x f r i names may = allows_at z start call slots id me going (on_rooms (store_entry f r i x)) (λ _ w. (g : EntryField) (k j : ℕ) → NamesEntryWord z g k j word → StoresEntry z call g k j x me.0 w) word (λ _. x)
       (sym names.word_is) refl may
       (λ n w told g k j named. let o = one_entry z f g r i k j word names named in subst (λ (t : EntryField × (ℕ × ℕ)). StoresEntry z call t.0 t.1.0 t.1.1 x me.0 w) (λ q. (o.0 q, (o.1 q, o.2 q))) (n, told))
 
   pub allows_set : (word old new r i : ℕ) (kind : Kind) → NamesEntryWord z of_value r i word → MayOnRooms z call (set_value r i old new kind) me.0
-      → Allows (Holds z) slots id me word (λ n. either (n == old) new n) (λ n m. ((k j : ℕ) → NamesEntryWord z of_value k j word → SetsValueWord z call k j old new kind me.0 n m.0) × KeepsSeat me m)
-  allows_set word old new r i kind names may = allows_at z call slots id me going (on_rooms (set_value r i old new kind)) (λ n w. (k j : ℕ) → NamesEntryWord z of_value k j word → SetsValueWord z call k j old new kind me.0 n w) word (λ n. either (n == old) new n)
+      → Allows (Holds z start) slots id me word (λ n. either (n == old) new n) (λ n m. ((k j : ℕ) → NamesEntryWord z of_value k j word → SetsValueWord z call k j old new kind me.0 n m.0) × KeepsSeat me m)
+  allows_set word old new r i kind names may = allows_at z start call slots id me going (on_rooms (set_value r i old new kind)) (λ n w. (k j : ℕ) → NamesEntryWord z of_value k j word → SetsValueWord z call k j old new kind me.0 n w) word (λ n. either (n == old) new n)
       (sym names.word_is) refl may
       (λ n w told k j named. let o = one_entry z of_value of_value r i k j word names named in subst (λ (t : ℕ × ℕ). SetsValueWord z call t.0 t.1 old new kind me.0 n w) (λ q. (o.1 q, o.2 q)) told)
 
   pub allows_unlink : (word x r i : ℕ) → NamesEntryWord z of_value r i word → MayOnRooms z call (unlink_entry r i x) me.0
-      → Allows (Holds z) slots id me word (λ _. x) (λ _ m. ((k j : ℕ) → NamesEntryWord z of_value k j word → UnlinksEntryWord z call k j x me.0 m.0) × KeepsSeat me m)
-  allows_unlink word x r i names may = allows_at z call slots id me going (on_rooms (unlink_entry r i x)) (λ _ w. (k j : ℕ) → NamesEntryWord z of_value k j word → UnlinksEntryWord z call k j x me.0 w) word (λ _. x)
+      → Allows (Holds z start) slots id me word (λ _. x) (λ _ m. ((k j : ℕ) → NamesEntryWord z of_value k j word → UnlinksEntryWord z call k j x me.0 m.0) × KeepsSeat me m)
+  allows_unlink word x r i names may = allows_at z start call slots id me going (on_rooms (unlink_entry r i x)) (λ _ w. (k j : ℕ) → NamesEntryWord z of_value k j word → UnlinksEntryWord z call k j x me.0 w) word (λ _. x)
       (sym names.word_is) refl may
       (λ n w told k j named. let o = one_entry z of_value of_value r i k j word names named in subst (λ (t : ℕ × ℕ). UnlinksEntryWord z call t.0 t.1 x me.0 w) (λ q. (o.1 q, o.2 q)) (n, told))

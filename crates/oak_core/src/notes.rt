@@ -4,7 +4,7 @@ ghost use Rattle.atomic_table.specs.Table.{Allows};
 ghost use Rattle.oak_core.specs.AloneWords.{Runs};
 ghost use Rattle.oak_core.specs.Lack.{Lacks};
 ghost use Rattle.oak_core.specs.Noting.{Notes};
-ghost use Rattle.oak_core.specs.Passes.{IsPassOf, Stays, SearchesStay, TriesStay, state, key, call_of};
+ghost use Rattle.oak_core.specs.Passes.{IsPassOf, Stays, SearchesStay, TriesStay, state, key, opened_at, call_of};
 ghost use Rattle.oak_core.specs.Running.{Holds, KeepsSeat};
 
 use crate::atoms::{Said, load_said};
@@ -16,7 +16,7 @@ use std::marker::Brand;
 fn note_said<T: Said>(table: &OakTable, pass: &mut Pass, _lack: Lack)
     requires own { IsPassOf table.now pass.old }
     requires inside { 0 < table.now.table.shared.table_id.words }
-    requires rule { Allows (Holds (key table.now)) table.now.table.shared.table_id.slots pass.old.seat.id pass.old.seat.me 0 (λ n. n) (λ n m. T.told n m.0 × KeepsSeat pass.old.seat.me m) }
+    requires rule { Allows (Holds (key table.now) (opened_at table.now)) table.now.table.shared.table_id.slots pass.old.seat.id pass.old.seat.me 0 (λ n. n) (λ n m. T.told n m.0 × KeepsSeat pass.old.seat.me m) }
     ensures own { Stays pass.old pass.new }
     ensures searches { SearchesStay pass.old pass.new }
     ensures tries { TriesStay pass.old pass.new }

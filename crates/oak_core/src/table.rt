@@ -26,7 +26,7 @@ impl TableRule<(), PassState, Opened> for OakRule {
     ghost use Rattle.oak_core.specs.Running.{Holds};
     ghost use Rattle.oak_core.specs.Opening.{first_state};
 
-    ghost holds = { λ o. Holds o.shape };
+    ghost holds = { λ o. Holds o.shape o.generation };
 
     ghost first = { λ o. first_state o.shape o.generation };
 }

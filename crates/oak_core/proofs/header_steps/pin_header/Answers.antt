@@ -1,10 +1,10 @@
 use Rattle.std.proofs.Common.{arith}
-use Rattle.oak_core.specs.Passes.{key, call_of}
+use Rattle.oak_core.specs.Passes.{key, opened_at, call_of}
 use Rattle.oak_core.proofs.HeaderNames.{pin_below, allows_pin}
 use Rattle.oak_core.proofs.header_steps.pin_header.Goals as goal
 
 pub add_wanted-requires-clause-rule : goal.add_wanted-requires-clause-rule
-add_wanted-requires-clause-rule c = let n = c.requires.names in allows_pin (key c.args.table.now) (call_of c.args.pass.now) _ c.args.pass.now.seat.id c.args.pass.now.seat.me c.args.pass.now.going c.args.word c.args.operand c.args.generation n.0 n.1 n.2 n.3
+add_wanted-requires-clause-rule c = let n = c.requires.names in allows_pin (key c.args.table.now) (opened_at c.args.table.now) (call_of c.args.pass.now) _ c.args.pass.now.seat.id c.args.pass.now.seat.me c.args.pass.now.going c.args.word c.args.operand c.args.generation n.0 n.1 n.2 n.3
 
 pub add_wanted-requires-clause-inside : goal.add_wanted-requires-clause-inside
 add_wanted-requires-clause-inside c = let n = c.requires.names in let h = pin_below (key c.args.table.now) n.0 c.args.word n.1.inside n.1.word_is in let w = c.args.table.now.counted in let k = c.args.table.now.shape_is in grind (arith, h, w, k)

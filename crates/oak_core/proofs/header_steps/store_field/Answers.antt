@@ -1,10 +1,10 @@
 use Rattle.std.proofs.Common.{arith}
-use Rattle.oak_core.specs.Passes.{key, call_of}
+use Rattle.oak_core.specs.Passes.{key, opened_at, call_of}
 use Rattle.oak_core.proofs.FieldNames.{field_below, allows_field}
 use Rattle.oak_core.proofs.header_steps.store_field.Goals as goal
 
 pub store_said-requires-clause-rule : goal.store_said-requires-clause-rule
-store_said-requires-clause-rule c = let n = c.requires.names in allows_field (key c.args.table.now) (call_of c.args.pass.now) _ c.args.pass.now.seat.id c.args.pass.now.seat.me c.args.pass.now.going c.args.word c.args.value n.0 n.1 n.2 n.3
+store_said-requires-clause-rule c = let n = c.requires.names in allows_field (key c.args.table.now) (opened_at c.args.table.now) (call_of c.args.pass.now) _ c.args.pass.now.seat.id c.args.pass.now.seat.me c.args.pass.now.going c.args.word c.args.value n.0 n.1 n.2 n.3
 
 pub store_said-requires-clause-inside : goal.store_said-requires-clause-inside
 store_said-requires-clause-inside c = let n = c.requires.names in let h = field_below (key c.args.table.now) n.0 n.1 c.args.word n.2 in let w = c.args.table.now.counted in let k = c.args.table.now.shape_is in grind (arith, h, w, k)

@@ -1,10 +1,10 @@
 use Rattle.std.proofs.Common.{arith}
-use Rattle.oak_core.specs.Passes.{key, call_of}
+use Rattle.oak_core.specs.Passes.{key, opened_at, call_of}
 use Rattle.oak_core.proofs.ArenaNames.{word_below, allows_store}
 use Rattle.oak_core.proofs.steps.store_word.Goals as goal
 
 pub store_said-requires-clause-rule : goal.store_said-requires-clause-rule
-store_said-requires-clause-rule c = let n = c.requires.names in allows_store (key c.args.table.now) (call_of c.args.pass.now) _ c.args.pass.now.seat.id c.args.pass.now.seat.me c.args.pass.now.going c.args.word c.args.value n.0 n.1 n.2 n.3 n.4 n.5 (let r = c.ranges.value in omega arith)
+store_said-requires-clause-rule c = let n = c.requires.names in allows_store (key c.args.table.now) (opened_at c.args.table.now) (call_of c.args.pass.now) _ c.args.pass.now.seat.id c.args.pass.now.seat.me c.args.pass.now.going c.args.word c.args.value n.0 n.1 n.2 n.3 n.4 n.5 (let r = c.ranges.value in omega arith)
 
 pub store_said-requires-clause-inside : goal.store_said-requires-clause-inside
 store_said-requires-clause-inside c = let n = c.requires.names in let h = word_below (key c.args.table.now) n.1 n.2 n.3 c.args.word n.4 in let w = c.args.table.now.counted in let k = c.args.table.now.shape_is in grind (arith, h, w, k)

@@ -8,12 +8,12 @@ use Rattle.oak_core.proofs.table.OakTable.close.Goals as goal
 use Rattle.oak_core.proofs.KnownHere.{places_at_end, PlacesKnown}
 
 pub returns-clause-ends : goal.returns-clause-ends
-returns-clause-ends c = let f = c.close_with.ensures.values.2 in ends (key c.args.self) (table_of f.0) f.1.0 c.args.pass.seat.id (state c.args.pass) f.1.1 c.requires.alone _ f.2
+returns-clause-ends c = let f = c.close_with.ensures.values.2 in ends (key c.args.self) (table_of f.0) f.1.0.rule c.args.pass.seat.id (state c.args.pass) f.1.1 c.requires.alone _ f.2
 
 pub returns-clause-noted : goal.returns-clause-noted
 returns-clause-noted c = let f = c.close_with.ensures.values.2 in let same : state c.args.pass ≡ state c.of-last.result.value = search rules in
-    subst (FullsFound c.args.self.shape) same (subst (λ (z : Sizes). FullsFound z (state c.args.pass)) (sym c.args.self.shape_is) (all_found (key c.args.self) (table_of f.0) f.1.0 c.args.pass.seat.id (state c.args.pass) f.1.1 c.args.pass.going))
+    subst (FullsFound c.args.self.shape) same (subst (λ (z : Sizes). FullsFound z (state c.args.pass)) (sym c.args.self.shape_is) (all_found (key c.args.self) (table_of f.0) f.1.0.rule c.args.pass.seat.id (state c.args.pass) f.1.1 c.args.pass.going))
 
 pub returns-clause-places : goal.returns-clause-places
 returns-clause-places c = let f = c.close_with.ensures.values.2 in let same : state c.args.pass ≡ state c.of-last.result.value = search rules in
-    subst PlacesKnown same (places_at_end (key c.args.self) _ (state c.args.pass) (ends (key c.args.self) (table_of f.0) f.1.0 c.args.pass.seat.id (state c.args.pass) f.1.1 c.requires.alone _ f.2))
+    subst PlacesKnown same (places_at_end (key c.args.self) _ (state c.args.pass) (ends (key c.args.self) (table_of f.0) f.1.0.rule c.args.pass.seat.id (state c.args.pass) f.1.1 c.requires.alone _ f.2))

@@ -1,5 +1,5 @@
 use Rattle.std.proofs.Common.{rules}
-use Rattle.oak_core.specs.Passes.{key, state}
+use Rattle.oak_core.specs.Passes.{key, opened_at, state}
 use Rattle.oak_core.proofs.Allowed.{joins}
 use Rattle.oak_core.proofs.Splits.{sees_longer}
 use Rattle.oak_core.proofs.table.Pass.join.Goals as goal
@@ -10,7 +10,7 @@ join_seat-requires c = (
   search rules,
   search rules,
   search rules,
-  joins (key c.args.table.now) c.args.self.now.seat.id c.args.self.now.seat.me.0 c.args.other.seat.id c.args.other.seat.me.0 c.args.self.now.going (record { idle = c.requires.idle.1; going = c.args.other.going }),
+  joins (key c.args.table.now) (opened_at c.args.table.now) c.args.self.now.seat.id c.args.self.now.seat.me.0 c.args.other.seat.id c.args.other.seat.me.0 c.args.self.now.going (record { idle = c.requires.idle.1; going = c.args.other.going }),
 )
 
 pub returns-clause-seen : goal.returns-clause-seen
