@@ -31,6 +31,7 @@ pub mod DroppedEntries
 pub mod DroppedSums
 pub mod CountLoads
 pub mod PastCounts
+pub mod GainedEntries
 pub mod Publish
 pub mod StoredRooms
 pub mod ValueWords

@@ -1,5 +1,4 @@
--- That no stamp, floor or base is above the number of all writes, behind the steps on entries: one is published, with the base as its floor; a fresh header is set, or a locked one written; and an entry is unlinked.
-use Rattle.std.specs.Prelude.{◌^◌}
+-- That no stamp, floor or base is above the number of all writes, behind the steps on entries: a room gains one, with the base as its floor; a fresh header is set, or a locked one written; and an entry is unlinked.
 use Rattle.std.proofs.Common.{◌≡◌, ◌≢◌, ℕ, ◌+◌, ◌-◌, ◌<◌, ◌≤◌, List, [], ◌∷◌, ◌++◌, map, ap, arith}
 use Rattle.oak_model.specs.Counts.{one_at, total}
 use Rattle.oak_model.specs.Limits.{Sizes}
@@ -7,15 +6,14 @@ use Rattle.oak_model.proofs.Changes.{Change}
 use Rattle.arena_core.specs.Place.{content}
 use Rattle.chunk_core.specs.CoverRule.{CoversPartition}
 use Rattle.chunk_core.specs.CoverSums.{weight, each}
-use Rattle.chunk_core.specs.Covers.{Cover, span_in, key_at}
-use Rattle.chunk_core.specs.LinkedEntries.{linked, entries_in}
+use Rattle.chunk_core.specs.Covers.{Cover, key_at}
+use Rattle.chunk_core.specs.LinkedEntries.{linked}
 use Rattle.chunk_core.specs.RoomStep.{put_room}
-use Rattle.chunk_core.specs.Rooms.{at_value, at_count}
-use Rattle.chunk_core.specs.Spans.{within}
+use Rattle.chunk_core.specs.Rooms.{RoomMemory, at_value}
 use Rattle.chunk_core.specs.ValueWord.{names_header}
 use Rattle.chunk_core.specs.declared.holds.RoomHolds.{RoomHolds}
 use Rattle.chunk_core.proofs.CoverLaws.{moves}
-use Rattle.chunk_core.proofs.Publish.{floor_low as base_low, more_all, more_span}
+use Rattle.chunk_core.proofs.GainedEntries.{GainsEntry, IsNewEntry, base_low, more_all, more_span}
 use Rattle.chunk_core.proofs.RangeLaws.{base_of_room}
 use Rattle.chunk_core.proofs.ValueLaws.{value_all, span_all}
 use Rattle.oak_core.specs.declared.states.KeyedWrite.{KeyedWrite}
@@ -52,20 +50,19 @@ module _ (z : Sizes) (m : Memory) (is_key_word : ℕ → ℕ) (vs vs' : List Pas
     bases_unlinked low le made same = bases_kept z m (record m { rooms = put_room m.rooms (at_value r i) x }) vs vs' bases made same
         (let v = values (total made_by vs) in let f = floor_low x low in omega arith) (let s = spans (total made_by vs) in omega arith)
 
-  -- the entry past the count is published
-  module _ (room : entries_in (m.rooms.count r) + 1 < 2 ^ 16) (inside : within (span_in m.rooms r) (key_at (content m.arena.bytes) (m.rooms.key r (entries_in (m.rooms.count r)))) ≡ 1) (is_key : is_key_word (m.rooms.key r (entries_in (m.rooms.count r))) ≡ 1)
-      (new : (i : ℕ) → 0 < total (λ j. one_at j i) (linked m.rooms r) → key_at (content m.arena.bytes) (m.rooms.key r i) ≢ key_at (content m.arena.bytes) (m.rooms.key r (entries_in (m.rooms.count r)))) (floor : m.rooms.value r (entries_in (m.rooms.count r)) ≡ m.rooms.base r) where
-    pub bases_published : total made_by vs' ≡ total made_by vs → ((k : ℕ) → history_now vs' k ≡ history_now vs k) → BasesBound z (record m { rooms = put_room m.rooms (at_count r) (m.rooms.count r + 1) }) vs'
-    bases_published made same = bases_kept z m (record m { rooms = put_room m.rooms (at_count r) (m.rooms.count r + 1) }) vs vs' bases made same
-        (let a = more_all z m.rooms bytes is_key_word (map rooms_held vs) (map rooms_held vs') gone fresh parts c moving r lr cover room inside is_key new (floor_over (total made_by vs)) in let f = floor_low (m.rooms.base r) low in let e = ap floor_in floor in
-        let b = base_of_room z m.rooms bytes (map rooms_held vs) is_key_word parts r k lr cover inside in let l = base_le z m is_key_word vs parts bases k in omega arith)
-        (let s = more_span z m.rooms bytes is_key_word (map rooms_held vs) (map rooms_held vs') gone fresh parts c moving r lr cover room inside is_key new (λ s. s.base - total made_by vs) in omega arith)
+  -- the room gains an entry, whose floor is the base
+  module _ (rm : RoomMemory) (n : ℕ) (gains : GainsEntry m.rooms rm (content m.arena.bytes) r n) (entry : IsNewEntry is_key_word m.rooms (content m.arena.bytes) r n) (floor : m.rooms.value r n ≡ m.rooms.base r) where
+    pub bases_gained : total made_by vs' ≡ total made_by vs → ((k : ℕ) → history_now vs' k ≡ history_now vs k) → BasesBound z (record m { rooms = rm }) vs'
+    bases_gained made same = bases_kept z m (record m { rooms = rm }) vs vs' bases made same
+        (let a = more_all z m.rooms rm bytes is_key_word (map rooms_held vs) (map rooms_held vs') gone fresh parts c moving r n lr cover gains entry (floor_over (total made_by vs)) in let f = floor_low (m.rooms.base r) low in let e = ap floor_in floor in
+        let b = base_of_room z m.rooms bytes (map rooms_held vs) is_key_word parts r k lr cover entry.inside in let l = base_le z m is_key_word vs parts bases k in omega arith)
+        (let s = more_span z m.rooms rm bytes is_key_word (map rooms_held vs) (map rooms_held vs') gone fresh parts c moving r n lr cover gains entry (λ s. s.base - total made_by vs) in omega arith)
       where
         k : ℕ
-        k = key_at (content m.arena.bytes) (m.rooms.key r (entries_in (m.rooms.count r)))
+        k = key_at (content m.arena.bytes) (m.rooms.key r n)
 
         low : names_header (m.rooms.base r) ≡ 0
-        low = base_low z m.rooms bytes is_key_word (map rooms_held vs) (map rooms_held vs') gone fresh parts c moving r lr cover room inside is_key new
+        low = base_low z m.rooms rm bytes is_key_word (map rooms_held vs) (map rooms_held vs') gone fresh parts c moving r n lr cover gains entry
 
 -- a write of a lock's holder, which leaves all that is added up over covers
 pub bases_locked : (z : Sizes) (m m' : Memory) (vs vs' : List PassState) → BasesBound z m vs → total made_by vs' ≡ total made_by vs + 1 → (k : ℕ) (w : KeyedWrite) → history_now vs' k ≡ history_now vs k ++ w ∷ [] → ((j : ℕ) → j ≢ k → history_now vs' j ≡ history_now vs j)

@@ -23,7 +23,8 @@ use Rattle.chunk_core.specs.Rooms.{at_count, RoomMemory, read_room, same_room_sp
 use Rattle.chunk_core.specs.RoomsAfter.{pin_with, counted_more}
 use Rattle.chunk_core.proofs.CoverLaws.{moves}
 use Rattle.chunk_core.proofs.KeptLatches.{kept_published}
-use Rattle.chunk_core.proofs.Publish.{more_all, more_partition, publish_rooms}
+use Rattle.chunk_core.proofs.GainedEntries.{GainsEntry, more_all, more_partition}
+use Rattle.chunk_core.proofs.Publish.{counted_gains, publish_rooms}
 use Rattle.oak_core.specs.declared.states.PassState.{PassState}
 use Rattle.oak_core.specs.EntryOwners.{all_others, is_key_word}
 use Rattle.oak_core.specs.Finding.{finding}
@@ -38,7 +39,7 @@ use Rattle.oak_core.proofs.KeepsRoomPins.{at_rooms}
 use Rattle.oak_core.proofs.KeptInArena.{fewer}
 use Rattle.oak_core.proofs.KeyPlaces.{key_class}
 use Rattle.oak_core.proofs.KeptWords.{times_in_rooms, unkept_by_all, parts_put, still_true, kept_with}
-use Rattle.oak_core.proofs.PublishFacts.{pin_stands, same_room, more_is, key_word, value_word, base_is, few_there, room_left, once_held, is_key_there, inside_there, new_there}
+use Rattle.oak_core.proofs.PublishFacts.{pin_stands, same_room, more_is, key_word, value_word, base_is, few_there, room_left, once_held, new_entry}
 use Rattle.oak_core.proofs.RoomBundles.{RoomBundles}
 use Rattle.chunk_core.specs.Spans.{Span}
 use Rattle.chunk_core.specs.KeptRooms.{kept_of_rooms}
@@ -51,7 +52,8 @@ use Rattle.oak_core.specs.Known.{known}
 use Rattle.oak_core.specs.Owners.{HeadersAreHeld}
 use Rattle.oak_core.proofs.Keeps.{met_only, elsewhere_rule}
 use Rattle.oak_core.proofs.HeaderStanding.{number_small}
-use Rattle.oak_core.proofs.PublishKeys.{publish_bundles}
+use Rattle.oak_core.proofs.GainedKeys.{gain_bundles}
+use Rattle.oak_core.proofs.PublishLessons.{published_pins}
 use Rattle.oak_core.proofs.KeyBundles.{KeyBundles, keys_now}
 use Rattle.oak_core.proofs.CallersKept.{without_hand}
 
@@ -100,14 +102,21 @@ module _ (z : Sizes) (s : TableState) (seat : ℕ) (v : PassState) (r : Rule z s
   unfolding total
   still_moving F = refl
 
+  -- the entry past the count
+  abbrev number : ℕ
+  number = entries_in (m.rooms.count may.rooms.pinned.room)
+
+  gains : GainsEntry m.rooms m'.rooms bytes room number
+  gains = counted_gains m.rooms bytes room (room_left z s seat v r here k x may)
+
   -- one entry more is added up
   more : (g : Span → Entry → ℕ) → sum_of m'.rooms hs' (each g) ≡ sum_of m.rooms hs (each g) + g (span_in m.rooms room) (entry_at m.rooms bytes room (entries_in (m.rooms.count room)))
-  more g = more_all z m.rooms bytes is_key_word hs hs' (v.rooms ∷ []) (held ∷ []) r.covers (stepped hs seat v.rooms held own) still_moving room holds_room.inside holds_room.cover (room_left z s seat v r here k x may) (inside_there z s seat v r here k x may) (is_key_there z s seat v r here k x may) (new_there z s seat v r here k x may) g
+  more g = more_all z m.rooms m'.rooms bytes is_key_word hs hs' (v.rooms ∷ []) (held ∷ []) r.covers (stepped hs seat v.rooms held own) still_moving room number holds_room.inside holds_room.cover gains (new_entry z s seat v r here k x may) g
 
   bundles : RoomBundles z m'.rooms m.arena.bytes hs'
   bundles = record {
     rooms = publish_rooms z m.rooms bytes hs r.rooms seat v.rooms own may.rooms.pinned may.rooms.has.pin.is may.rooms.has.pin.good may.rooms.latch may.rooms.has.is (same_room z s seat v r here k x may) (few_there z s seat v r here k x may) (room_left z s seat v r here k x may);
-    covers = more_partition z m.rooms bytes is_key_word hs hs' (v.rooms ∷ []) (held ∷ []) r.covers (stepped hs seat v.rooms held own) still_moving room holds_room.inside holds_room.cover (room_left z s seat v r here k x may) (inside_there z s seat v r here k x may) (is_key_there z s seat v r here k x may) (new_there z s seat v r here k x may);
+    covers = more_partition z m.rooms m'.rooms bytes is_key_word hs hs' (v.rooms ∷ []) (held ∷ []) r.covers (stepped hs seat v.rooms held own) still_moving room number holds_room.inside holds_room.cover gains (new_entry z s seat v r here k x may);
     kept = subst (KeptNumbersStand same_room_spot (read_room m'.rooms)) (sym (map_set kept_of_rooms hs seat held))
         (subst (λ (t : ℕ). KeptNumbersStand same_room_spot (read_room (put_room m.rooms (at_count t) count)) (set (map kept_of_rooms hs) seat (kept_of_rooms (record v.rooms { latch = Some (latched_at m.rooms t count) })))) (same_room z s seat v r here k x may)
         (kept_published z m.rooms bytes hs r.rooms r.kept_in_rooms seat v.rooms own may.rooms.latch may.rooms.has.is (subst (λ (t : ℕ). weight (m.rooms.pin t) ≡ 1) (sym (same_room z s seat v r here k x may)) holds_room.cover) count));
@@ -142,9 +151,10 @@ module _ (z : Sizes) (s : TableState) (seat : ℕ) (v : PassState) (r : Rule z s
 
   -- the key of the entry had none
   keys : (u : PassState) → u.rooms ≡ record v.rooms { latch = Some (latched_at m.rooms room count); pin = counted_more m.rooms bytes count (Some may.rooms.pinned) } → u.headers ≡ v.headers → u.knowledge ≡ v.knowledge → without_hand u.numbers ≡ without_hand v.numbers → KeyBundles z m' (set s.states seat u)
-  keys u rooms headers knowledge numbers = publish_bundles z m is_key_word s.states r.covers (keys_now z s r) seat v u here may.rooms.pinned may.rooms.has.pin.is holds_room (subst IsSome (sym may.rooms.counted) refl)
-      (ap (λ (a : RoomHolds). a.pin) rooms ∙ ap (counted_more m.rooms bytes count) (sym may.rooms.has.pin.is)) (ap (λ (a : RoomHolds). a.moving) rooms) headers knowledge numbers
-      (room_left z s seat v r here k x may) (inside_there z s seat v r here k x may) (is_key_there z s seat v r here k x may) (new_there z s seat v r here k x may) (value_word z s seat v r here k x may ∙ sym (base_is z s seat v r here k x may))
+  keys u rooms headers knowledge numbers = gain_bundles z m is_key_word s.states r.covers (keys_now z s r) seat v u here room number holds_room.inside holds_room.cover m'.rooms gains (new_entry z s seat v r here k x may) (value_word z s seat v r here k x may ∙ sym (base_is z s seat v r here k x may))
+      (ap (λ (a : RoomHolds). a.moving) rooms) headers knowledge numbers
+      (published_pins z m s.states (keys_now z s r).heard seat v u here may.rooms.pinned may.rooms.has.pin.is holds_room (subst IsSome (sym may.rooms.counted) refl)
+      (ap (λ (a : RoomHolds). a.pin) rooms ∙ ap (counted_more m.rooms bytes count) (sym may.rooms.has.pin.is)) (ap (λ (a : HeaderHolds). a.pin) headers) knowledge (room_left z s seat v r here k x may))
 
   -- what stands behind the step, where the count of the room k' becomes x', the pass had this pin, and the key's block is that of the word given
   record Published (k' x' : ℕ) (o : Option PinnedRoom) (word' : ℕ) : Type 0 where

@@ -75,7 +75,8 @@ pub mod KnownHere
 pub mod TaughtReads
 pub mod CountLessons
 pub mod PublishLessons
-pub mod PublishKeys
+pub mod GainedLessons
+pub mod GainedKeys
 pub mod Found
 pub mod Growing
 pub mod KeptWords

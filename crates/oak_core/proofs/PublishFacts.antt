@@ -24,6 +24,7 @@ use Rattle.chunk_core.specs.Rooms.{read_room}
 use Rattle.chunk_core.specs.Spans.{within}
 use Rattle.chunk_core.proofs.CountLoads.{span_same}
 use Rattle.chunk_core.proofs.EntryNumbers.{number_below}
+use Rattle.chunk_core.proofs.GainedEntries.{IsNewEntry}
 use Rattle.oak_core.specs.declared.states.PassState.{PassState}
 use Rattle.oak_core.specs.EntryOwners.{all_others, is_key_word}
 use Rattle.oak_core.specs.Memory.{Memory, memory}
@@ -99,10 +100,10 @@ module _ (z : Sizes) (s : TableState) (seat : ℕ) (v : PassState) (r : Rule z s
   pub key_is : key_at (content m.arena.bytes) (m.rooms.key may.rooms.pinned.room (entries_in (m.rooms.count may.rooms.pinned.room))) ≡ key_in may.rooms.latch.entry.word may.words
   key_is = ap (key_at bytes) key_word ∙ ap (key_in latch.entry.word) words_there
 
-  pub is_key_there : is_key_word (m.rooms.key may.rooms.pinned.room (entries_in (m.rooms.count may.rooms.pinned.room))) ≡ 1
+  is_key_there : is_key_word (m.rooms.key may.rooms.pinned.room (entries_in (m.rooms.count may.rooms.pinned.room))) ≡ 1
   is_key_there = ap is_key_word key_word ∙ may.rooms.is_key
 
-  pub inside_there : within (span_in m.rooms may.rooms.pinned.room) (key_at (content m.arena.bytes) (m.rooms.key may.rooms.pinned.room (entries_in (m.rooms.count may.rooms.pinned.room)))) ≡ 1
+  inside_there : within (span_in m.rooms may.rooms.pinned.room) (key_at (content m.arena.bytes) (m.rooms.key may.rooms.pinned.room (entries_in (m.rooms.count may.rooms.pinned.room)))) ≡ 1
   inside_there = (λ i. within (span_same z m.rooms bytes pinned pin_stands i) (key_is i)) ∙ may.rooms.inside
 
   -- the entries below the count are those that the pass found
@@ -111,5 +112,9 @@ module _ (z : Sizes) (s : TableState) (seat : ℕ) (v : PassState) (r : Rule z s
       let stands = each_at (EntryStands (linked m.rooms pinned.room) (m.rooms.key pinned.room) bytes) pinned.entries pin_stands.entries i e.0 e.1 in
       (e.0, e.1, (λ t. key_at bytes (m.rooms.key pinned.room (sym (c.1 i e.0 e.1) t))) ∙ (ap (key_at bytes) stands.word ∙ ap (key_in e.0.word) stands.words))
 
-  pub new_there : (i : ℕ) → 0 < total (λ j. one_at j i) (linked m.rooms may.rooms.pinned.room) → key_at (content m.arena.bytes) (m.rooms.key may.rooms.pinned.room i) ≢ key_at (content m.arena.bytes) (m.rooms.key may.rooms.pinned.room (entries_in (m.rooms.count may.rooms.pinned.room)))
+  new_there : (i : ℕ) → 0 < total (λ j. one_at j i) (linked m.rooms may.rooms.pinned.room) → key_at (content m.arena.bytes) (m.rooms.key may.rooms.pinned.room i) ≢ key_at (content m.arena.bytes) (m.rooms.key may.rooms.pinned.room (entries_in (m.rooms.count may.rooms.pinned.room)))
   new_there i has same = let e = found_there i (number_below n i has) in each_at (λ (e : FoundEntry). found_key e ≢ key_in latch.entry.word may.words) pinned.entries may.rooms.apart i e.0 e.1 (sym e.2 ∙ (same ∙ key_is))
+
+  -- it may be linked
+  pub new_entry : IsNewEntry is_key_word m.rooms (content m.arena.bytes) may.rooms.pinned.room (entries_in (m.rooms.count may.rooms.pinned.room))
+  new_entry = record { is_key = is_key_there; inside = inside_there; new = new_there }

@@ -1,11 +1,10 @@
--- An entry that is published keeps the points on keys, callers and bounds: its key had none, and gets the base as its floor.
-use Rattle.std.proofs.Common.{◌≡◌, ◌≢◌, ℕ, ◌+◌, ◌^◌, ◌<◌, ◌≤◌, List, [], ◌∷◌, map, set, sym, refl, ap, ◌∙◌, subst, arith, Some}
-use Rattle.std.specs.Prelude.{IsSome}
+-- A room that gains a linked entry keeps the points on keys, callers and bounds: its key had none, and gets the base as its floor.
+use Rattle.std.proofs.Common.{◌≡◌, ◌≢◌, ℕ, ◌+◌, ◌<◌, ◌≤◌, List, [], ◌∷◌, map, set, sym, refl, ap, ◌∙◌, subst, arith}
 use mathlib.Core.Logic.{dite}
 use mathlib.Core.Option.{some}
 use native.Mathlib.Decide.{ℕ_discrete}
 use lib.ListN.{get_elem?}
-use Rattle.oak_model.specs.Counts.{one_at, total, Each, Every}
+use Rattle.oak_model.specs.Counts.{total, Each, Every}
 use Rattle.oak_model.specs.KeyNumber.{key_number}
 use Rattle.oak_model.specs.Limits.{Sizes}
 use Rattle.oak_model.proofs.Lists.{each_map, map_set_same}
@@ -17,16 +16,11 @@ use Rattle.header_core.specs.declared.holds.HeldAs.TheVariants.{Owned, Fresh, Lo
 use Rattle.header_core.specs.declared.holds.HeldHeader.{HeldHeader}
 use Rattle.header_core.specs.declared.states.TheConstants.{LIVE}
 use Rattle.chunk_core.specs.CoverRule.{CoversPartition}
-use Rattle.chunk_core.specs.CoverSums.{each, naming}
-use Rattle.chunk_core.specs.Covers.{span_in, key_at}
-use Rattle.chunk_core.specs.LinkedEntries.{linked, entries_in}
-use Rattle.chunk_core.specs.PinnedRooms.{RoomPinHolds}
-use Rattle.chunk_core.specs.RoomStep.{put_room}
-use Rattle.chunk_core.specs.Rooms.{RoomMemory, at_count}
-use Rattle.chunk_core.specs.RoomsAfter.{counted_more}
-use Rattle.chunk_core.specs.Spans.{within}
+use Rattle.chunk_core.specs.CoverSums.{each, naming, weight}
+use Rattle.chunk_core.specs.Covers.{key_at}
+use Rattle.chunk_core.specs.Rooms.{RoomMemory}
 use Rattle.chunk_core.specs.ValueWord.{names_header}
-use Rattle.chunk_core.specs.declared.holds.PinnedRoom.{PinnedRoom}
+use Rattle.chunk_core.proofs.GainedEntries.{GainsEntry, IsNewEntry}
 use Rattle.oak_core.specs.declared.states.KeyedWrite.{KeyedWrite}
 use Rattle.oak_core.specs.declared.states.Knowledge.{Knowledge}
 use Rattle.oak_core.specs.declared.states.PassState.{PassState}
@@ -35,13 +29,14 @@ use Rattle.oak_core.specs.KeyHistories.{IsKeyHistory, IsRemovedAt, state_behind,
 use Rattle.oak_core.specs.KeyReads.{sum_now, word_now, base_now, history_now, home_of, shown_by}
 use Rattle.oak_core.specs.KeyRule.{KeysStand, LoadedStand, OverIsRemoved}
 use Rattle.oak_core.specs.KeyStates.{KeyStands, HoldStands, unnamed}
+use Rattle.oak_core.specs.Lessons.{PinsKnow}
 use Rattle.oak_core.specs.Memory.{Memory}
 use Rattle.oak_core.specs.PassState.{headers_held, rooms_held, knowledge_of, history}
-use Rattle.oak_core.proofs.BoundSteps.{bases_published}
+use Rattle.oak_core.proofs.BoundSteps.{bases_gained}
 use Rattle.oak_core.proofs.CallersKept.{without_hand, callers_kept, made_kept, made_same}
 use Rattle.oak_core.proofs.KeyBundles.{KeyBundles, opened_kept}
 use Rattle.oak_core.proofs.KeyFrames.{stands_same}
-use Rattle.oak_core.proofs.PublishLessons.{change, still, published_none, published_floor, published_other, published_base, published_names, published_low, published_above, publish_heard}
+use Rattle.oak_core.proofs.GainedLessons.{change, still, gained_none, gained_floor, gained_other, gained_base, gained_names, gained_low, gained_above, gain_heard}
 
 -- the words of the rooms become others, by which the key k gets an entry, with a floor that is not below the base
 module _ (z : Sizes) (m : Memory) (rm : RoomMemory) (vs vs' : List PassState) (keys : KeysStand z m vs) (heads : map headers_held vs' ≡ map headers_held vs) (knows : map knowledge_of vs' ≡ map knowledge_of vs)
@@ -88,18 +83,12 @@ module _ (z : Sizes) (m : Memory) (rm : RoomMemory) (vs vs' : List PassState) (k
     loaded = subst (λ (l : List Knowledge). Every (LoadedStand (λ j. history j l)) l) (sym knows) keys.loaded;
   }
 
--- The pass of the seat has a good pin on the room, under which it counted the entries. The entry past the count is published.
+-- The room gains an entry, whose floor is the base.
 module _ (z : Sizes) (m : Memory) (is_key_word : ℕ → ℕ) (vs : List PassState) (parts : CoversPartition z m.rooms (content m.arena.bytes) is_key_word (map rooms_held vs)) (b : KeyBundles z m vs) (seat : ℕ) (v u : PassState) (here : get_elem? vs seat ≡ some v)
-    (p : PinnedRoom) (is : v.rooms.pin ≡ Some p) (holds : RoomPinHolds z m.rooms (content m.arena.bytes) p) (some_count : IsSome p.count)
-    (pin : u.rooms.pin ≡ counted_more m.rooms (content m.arena.bytes) (m.rooms.count p.room + 1) v.rooms.pin) (moving : u.rooms.moving ≡ v.rooms.moving) (headers : u.headers ≡ v.headers) (knowledge : u.knowledge ≡ v.knowledge) (numbers : without_hand u.numbers ≡ without_hand v.numbers)
-    (room : entries_in (m.rooms.count p.room) + 1 < 2 ^ 16) (inside : within (span_in m.rooms p.room) (key_at (content m.arena.bytes) (m.rooms.key p.room (entries_in (m.rooms.count p.room)))) ≡ 1) (is_key : is_key_word (m.rooms.key p.room (entries_in (m.rooms.count p.room))) ≡ 1)
-    (new : (i : ℕ) → 0 < total (λ j. one_at j i) (linked m.rooms p.room) → key_at (content m.arena.bytes) (m.rooms.key p.room i) ≢ key_at (content m.arena.bytes) (m.rooms.key p.room (entries_in (m.rooms.count p.room))))
-    (floor : m.rooms.value p.room (entries_in (m.rooms.count p.room)) ≡ m.rooms.base p.room) where
-  abbrev counted : RoomMemory
-  counted = put_room m.rooms (at_count p.room) (m.rooms.count p.room + 1)
-
+    (r n : ℕ) (lr : r < z.chunks) (cover : weight (m.rooms.pin r) ≡ 1) (rm : RoomMemory) (gains : GainsEntry m.rooms rm (content m.arena.bytes) r n) (entry : IsNewEntry is_key_word m.rooms (content m.arena.bytes) r n) (floor : m.rooms.value r n ≡ m.rooms.base r)
+    (moving : u.rooms.moving ≡ v.rooms.moving) (headers : u.headers ≡ v.headers) (knowledge : u.knowledge ≡ v.knowledge) (numbers : without_hand u.numbers ≡ without_hand v.numbers) where
   abbrev after : Memory
-  after = record m { rooms = counted }
+  after = record m { rooms = rm }
 
   abbrev states : List PassState
   states = set vs seat u
@@ -110,28 +99,25 @@ module _ (z : Sizes) (m : Memory) (is_key_word : ℕ → ℕ) (vs : List PassSta
   mine : u.knowledge.mine ≡ v.knowledge.mine
   mine = ap (λ (q : Knowledge). q.mine) knowledge
 
-  header : u.headers.pin ≡ v.headers.pin
-  header = ap (λ (a : HeaderHolds). a.pin) headers
-
   history_same : (k : ℕ) → history_now states k ≡ history_now vs k
   history_same k = ap (history k) knows_same
 
-  publish_keys : KeysStand z after states
-  publish_keys = floored_keys z m counted vs states b.keys (map_set_same headers_held vs seat v u here headers) knows_same (key_at (content m.arena.bytes) (m.rooms.key p.room (entries_in (m.rooms.count p.room)))) (m.rooms.base p.room)
-      (published_none z m after is_key_word vs parts b.heard seat v u here p is holds some_count refl refl pin moving header knowledge room inside is_key new floor)
-      (published_floor z m after is_key_word vs parts b.heard seat v u here p is holds some_count refl refl pin moving header knowledge room inside is_key new floor)
-      (published_low z m after is_key_word vs parts b.heard seat v u here p is holds some_count refl refl pin moving header knowledge room inside is_key new floor)
-      (published_above z m after is_key_word vs parts b.heard seat v u here p is holds some_count refl refl pin moving header knowledge room inside is_key new floor)
-      (published_other z m after is_key_word vs parts b.heard seat v u here p is holds some_count refl refl pin moving header knowledge room inside is_key new floor)
-      (published_base z m after is_key_word vs parts b.heard seat v u here p is holds some_count refl refl pin moving header knowledge room inside is_key new floor)
-      (published_names z m after is_key_word vs parts b.heard seat v u here p is holds some_count refl refl pin moving header knowledge room inside is_key new floor)
+  gain_keys : KeysStand z after states
+  gain_keys = floored_keys z m rm vs states b.keys (map_set_same headers_held vs seat v u here headers) knows_same (key_at (content m.arena.bytes) (m.rooms.key r n)) (m.rooms.base r)
+      (gained_none z m after is_key_word vs parts b.heard seat v u here r n lr cover refl gains entry floor moving knowledge)
+      (gained_floor z m after is_key_word vs parts b.heard seat v u here r n lr cover refl gains entry floor moving knowledge)
+      (gained_low z m after is_key_word vs parts b.heard seat v u here r n lr cover refl gains entry floor moving knowledge)
+      (gained_above z m after is_key_word vs parts b.heard seat v u here r n lr cover refl gains entry floor moving knowledge)
+      (gained_other z m after is_key_word vs parts b.heard seat v u here r n lr cover refl gains entry floor moving knowledge)
+      (gained_base z m after is_key_word vs parts b.heard seat v u here r n lr cover refl gains entry floor moving knowledge)
+      (gained_names z m after is_key_word vs parts b.heard seat v u here r n lr cover refl gains entry floor moving knowledge)
 
-  pub publish_bundles : KeyBundles z (record m { rooms = put_room m.rooms (at_count p.room) (m.rooms.count p.room + 1) }) (set vs seat u)
-  publish_bundles = record {
-    keys = publish_keys;
+  pub gain_bundles : PinsKnow u → KeyBundles z (record m { rooms = rm }) (set vs seat u)
+  gain_bundles pins = record {
+    keys = gain_keys;
     callers = callers_kept vs seat v u here numbers mine b.callers history_same;
-    bounds = bases_published z m is_key_word vs states parts b.bounds (v.rooms ∷ []) (u.rooms ∷ []) (change z m after is_key_word vs parts b.heard seat v u here p is holds some_count refl refl pin moving header knowledge room inside is_key new floor)
-        (still z m after is_key_word vs parts b.heard seat v u here p is holds some_count refl refl pin moving header knowledge room inside is_key new floor) p.room holds.inside holds.cover room inside is_key new floor (made_kept vs seat v u here numbers mine) history_same;
+    bounds = bases_gained z m is_key_word vs states parts b.bounds (v.rooms ∷ []) (u.rooms ∷ []) (change z m after is_key_word vs parts b.heard seat v u here r n lr cover refl gains entry floor moving knowledge)
+        (still z m after is_key_word vs parts b.heard seat v u here r n lr cover refl gains entry floor moving knowledge) r lr cover rm n gains entry floor (made_kept vs seat v u here numbers mine) history_same;
     opened = opened_kept z m after vs states record { dead = λ h e. e; generations = λ h. refl } (λ none. let s = made_same vs seat v u here numbers mine removes in omega arith) b.opened;
-    heard = publish_heard z m after is_key_word vs parts b.heard seat v u here p is holds some_count refl refl pin moving header knowledge room inside is_key new floor;
+    heard = gain_heard z m after is_key_word vs parts b.heard seat v u here r n lr cover refl gains entry floor moving knowledge pins;
   }
