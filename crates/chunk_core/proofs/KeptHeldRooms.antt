@@ -1,4 +1,4 @@
--- The numbers that passes keep of rooms, behind a step by which one freezes a room or comes to hold it.
+-- The numbers that passes keep of rooms, behind a step by which one freezes a room, opens it again, or comes to hold it.
 use Rattle.std.proofs.Common.{◌≡◌, ℕ, ◌+◌, ◌*◌, ◌≤◌, List, [], ◌∷◌, ◌++◌, map, set, cond, refl, sym, ap, ◌∙◌, subst, inr, arith, Option, Some, None}
 use mathlib.Core.Logic.{dite}
 use mathlib.Core.Option.{some}
@@ -64,6 +64,14 @@ module _ (z : Sizes) (m : RoomMemory) (content : ℕ → List ℕ) (hs : List Ro
   pub freeze_kept : KeptNumbersStand same_room_spot (read_room (put_room m (at_room_pin r) x)) (map kept_of_rooms (set hs seat (record a { held = record { room = r; held_as = Frozen } ∷ a.held })))
   unfolding kept_of_rooms_held
   freeze_kept = subst (KeptNumbersStand same_room_spot (read_room m')) (sym (map_set_same kept_of_rooms hs seat a (record a { held = record { room = r; held_as = Frozen } ∷ a.held }) here refl)) pin_put
+
+  -- a pass that opens a room again that it froze kept nothing of it
+  pub thaw_kept : state_of (m.pin r) ≡ FROZEN → KeptNumbersStand same_room_spot (read_room (put_room m (at_room_pin r) x)) (map kept_of_rooms (set hs seat (record a { held = without_room r a.held })))
+  thaw_kept frozen = subst (KeptNumbersStand same_room_spot (read_room m')) (sym (map_set_same kept_of_rooms hs seat a (record a { held = without_room r a.held }) here
+      (ap (λ (ws : List (KeptWord RoomSpot)). kept_of_latch a.latch ++ (kept_of_claim a.claim ++ ws)) (without_kept r a.held unheld)))) pin_put
+    where
+      unheld : in_room_state r HELD a ≡ 0
+      unheld = let t = total_at (in_room_state r HELD) hs seat a here in let h = rule.held r HELD (inr refl) in let o = one_at-other (state_of (m.pin r)) HELD (λ e. absurd (omega arith)) in omega arith
 
   -- the room has no pin, and no pass holds it
   module _ (unpinned : count_of (m.pin r) ≡ 0) (unheld : one_at (state_of (m.pin r)) HELD ≡ 0) where

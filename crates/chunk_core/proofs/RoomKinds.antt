@@ -1,4 +1,4 @@
--- The points on rooms and covers after a room is frozen, held, or claimed.
+-- The points on rooms and covers after a room is frozen, opened again, claimed, or held.
 use Rattle.std.proofs.Common.{◌≡◌, ℕ, ◌*◌, ◌<◌, List, [], ◌∷◌, map, set, refl, sym, ap, ◌∙◌, inl, inr, arith}
 use mathlib.Core.Option.{some}
 use lib.ListN.{get_elem?}
@@ -65,6 +65,27 @@ module _ (z : Sizes) (m : RoomMemory) (content : ℕ → List ℕ) (is_key_word 
 
     pub freeze_partition : CoversPartition z (put_room m (at_room_pin r) x) content is_key_word (set hs seat (record a { held = record { room = r; held_as = Frozen } ∷ a.held }))
     freeze_partition = partition_same z m (put_room m (at_room_pin r) x) content content is_key_word hs (set hs seat (record a { held = record { room = r; held_as = Frozen } ∷ a.held })) freeze_covers parts
+
+  -- a room that the pass has frozen becomes open again
+  module _ (mine : in_room_state r FROZEN a ≡ 1) (now : state_of x ≡ OPEN) (count : count_of x ≡ count_of (m.pin r)) where
+    is_frozen : state_of (m.pin r) ≡ FROZEN
+    is_frozen = is_so z m content hs rule seat a here r FROZEN (inl refl) (omega arith)
+
+    pub thaw_rooms : RoomsStand z (put_room m (at_room_pin r) x) content (set hs seat (record a { held = without_room r a.held }))
+    thaw_rooms = restated z m content hs rule seat a here r x count generation (omega arith) (without_room r a.held) a.moving
+        (λ s is. let w = without_here r s a.held in let o = rows_are z m content hs rule seat a here r FROZEN (inl refl) (omega arith) s is in let n = open_none x s now is in omega arith)
+        (λ j s ne. without_else r j s a.held ne)
+        (λ _. rule.ordered r (weight_frozen (m.pin r) is_frozen)) (λ _. inl (weight_open x now)) (rule.carried seat a here)
+        (each_without (λ (h : HeldRoom). IsWholeHeld z h.held_as) r a.held (rule.passes seat a here).whole)
+
+    pub thaw_covers : (F : Cover → ℕ) → all_of z (put_room m (at_room_pin r) x) content (set hs seat (record a { held = without_room r a.held })) F ≡ all_of z m content hs F
+    thaw_covers = weight_covers z m content hs seat a (record a { held = without_room r a.held }) here refl r x (weight_open x now ∙ sym (weight_frozen (m.pin r) is_frozen))
+
+    pub thaw_owners : (names_it : ℕ → ℕ) → owners_in_rooms z (put_room m (at_room_pin r) x) content (set hs seat (record a { held = without_room r a.held })) names_it ≡ owners_in_rooms z m content hs names_it
+    thaw_owners = weight_owners z m content hs seat a (record a { held = without_room r a.held }) here refl r x (weight_open x now ∙ sym (weight_frozen (m.pin r) is_frozen))
+
+    pub thaw_partition : CoversPartition z (put_room m (at_room_pin r) x) content is_key_word (set hs seat (record a { held = without_room r a.held }))
+    thaw_partition = partition_same z m (put_room m (at_room_pin r) x) content content is_key_word hs (set hs seat (record a { held = without_room r a.held })) thaw_covers parts
 
   -- a free room becomes held
   module _ (was : state_of (m.pin r) ≡ FREE) (now : state_of x ≡ HELD) (count : count_of x ≡ count_of (m.pin r)) where

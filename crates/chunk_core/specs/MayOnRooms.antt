@@ -21,8 +21,7 @@ use Rattle.chunk_core.specs.Spans.{within}
 use Rattle.chunk_core.specs.LinkedEntries.{entries_in, prefix_in}
 use Rattle.chunk_core.specs.PinnedRooms.{IsGoodRoom, span_of, found_key}
 use Rattle.chunk_core.specs.RoomRule.{AreBounds, room_pins, latches_on, in_room_state}
-use Rattle.chunk_core.specs.RoomStep.{RoomStep, pin_room, unpin_room, latch_room, store_entry, publish_entry, unlatch_room, set_value, unlink_entry, freeze_room, hold_room, claim_room, store_room, open_room, retire_room}
-use Rattle.chunk_core.specs.ChainedRooms.{IsChained}
+use Rattle.chunk_core.specs.RoomStep.{RoomStep, pin_room, unpin_room, latch_room, store_entry, publish_entry, unlatch_room, set_value, unlink_entry, freeze_room, thaw_room, hold_room, claim_room, store_room, open_room, retire_room}
 use Rattle.chunk_core.specs.RoomCopies.{copy_of, entries_held, word_held}
 use Rattle.chunk_core.specs.MovingRanges.{takes, upper_of, ranges_without, range_of, is_below}
 
@@ -107,6 +106,7 @@ MayRoom z (unlatch_room r) a = latches_on r a ≡ 1
 MayRoom z (set_value r i old new kind) a = (p : PinnedRoom) × (e : FoundEntry) × FindsEntry r i a p e × (names_header old ≡ 0) × (names_header new ≡ 1)
 MayRoom z (unlink_entry r i x) a = (p : PinnedRoom) × (e : FoundEntry) × FindsEntry r i a p e
 MayRoom z (freeze_room r old) a = state_of old ≡ OPEN
+MayRoom z (thaw_room r) a = in_room_state r FROZEN a ≡ 1
 MayRoom z (hold_room r old) a = HasNoPin FROZEN old × (in_room_state r FROZEN a ≡ 1)
 MayRoom z (claim_room r old) a = HasNoPin FREE old
 MayRoom z (store_room p x) a = (in_room_state (room_at p) HELD a ≡ 1) × IsRoomWord p x × (x < 2 ^ 64)

@@ -3,7 +3,7 @@ use Rattle.std.specs.Prelude.{ℕ, ◌+◌, ◌-◌, ◌*◌, ◌%◌, ◌^◌, 
 use prog.Atomic.{either}
 use Rattle.pin_word.specs.PinWord.{STATE}
 use Rattle.oak_model.specs.declared.writes.Kind.{Kind}
-use Rattle.chunk_core.specs.declared.states.TheConstants.{OPEN, HELD}
+use Rattle.chunk_core.specs.declared.states.TheConstants.{OPEN, FROZEN, HELD}
 use Rattle.chunk_core.specs.Rooms.{RoomMemory, RoomSpot, at_room_pin, at_count, at_latch, at_key, at_value, at_next, same_room_spot, read_room, rooms_of}
 
 -- the words of an entry
@@ -38,6 +38,8 @@ pub data RoomStep : Type 0 where
   unlink_entry : (r i x : ℕ) → RoomStep
   -- an open room, whose word is the second number, becomes frozen
   freeze_room : (r old : ℕ) → RoomStep
+  -- a room that the pass has frozen, and does not hold, becomes open again
+  thaw_room : ℕ → RoomStep
   -- a frozen room without a pin, whose word is the second number, becomes held, and its range moves with the pass
   hold_room : (r old : ℕ) → RoomStep
   -- a free room without a pin, whose word is the second number, becomes held
@@ -60,6 +62,7 @@ room_spot (unlatch_room r) = at_latch r
 room_spot (set_value r i old new kind) = at_value r i
 room_spot (unlink_entry r i x) = at_value r i
 room_spot (freeze_room r old) = at_room_pin r
+room_spot (thaw_room r) = at_room_pin r
 room_spot (hold_room r old) = at_room_pin r
 room_spot (claim_room r old) = at_room_pin r
 room_spot (store_room p x) = p
@@ -77,6 +80,7 @@ room_effect (unlatch_room r) n = 0
 room_effect (set_value r i old new kind) n = either (n == old) new n
 room_effect (unlink_entry r i x) n = x
 room_effect (freeze_room r old) n = either (n == old) (old + STATE) n
+room_effect (thaw_room r) n = (n + (2 ^ 64 - (FROZEN - OPEN) * STATE)) % 2 ^ 64
 room_effect (hold_room r old) n = either (n == old) (old + STATE) n
 room_effect (claim_room r old) n = either (n == old) (old + HELD * STATE) n
 room_effect (store_room p x) n = x

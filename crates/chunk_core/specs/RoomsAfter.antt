@@ -7,7 +7,7 @@ use Rattle.chunk_core.specs.declared.holds.PinnedRoom.{PinnedRoom}
 use Rattle.chunk_core.specs.declared.holds.RoomHeldAs.TheVariants.{Frozen, Held}
 use Rattle.chunk_core.specs.declared.holds.RoomHolds.{RoomHolds}
 use Rattle.chunk_core.specs.Rooms.{RoomMemory}
-use Rattle.chunk_core.specs.RoomStep.{RoomStep, pin_room, unpin_room, latch_room, store_entry, publish_entry, unlatch_room, set_value, unlink_entry, freeze_room, hold_room, claim_room, store_room, open_room, retire_room}
+use Rattle.chunk_core.specs.RoomStep.{RoomStep, pin_room, unpin_room, latch_room, store_entry, publish_entry, unlatch_room, set_value, unlink_entry, freeze_room, thaw_room, hold_room, claim_room, store_room, open_room, retire_room}
 use Rattle.chunk_core.specs.RoomReads.{pinned_at, found_below, latched_at, copy_at, moving_at}
 use Rattle.chunk_core.specs.RoomCopies.{latch_with, rooms_with, without_room, copy_of}
 use Rattle.chunk_core.specs.MovingRanges.{word_dropped, ranges_with, ranges_opened, ranges_joined}
@@ -37,6 +37,7 @@ rooms_after z m content (unlatch_room r) a = record a { latch = None }
 rooms_after z m content (set_value r i old new kind) a = a
 rooms_after z m content (unlink_entry r i x) a = a
 rooms_after z m content (freeze_room r old) a = record a { held = cond (m.pin r == old) (record { room = r; held_as = Frozen } ∷ a.held) a.held }
+rooms_after z m content (thaw_room r) a = record a { held = without_room r a.held }
 rooms_after z m content (hold_room r old) a = record a {
   held = cond (m.pin r == old) (record { room = r; held_as = Held (copy_at z m r) } ∷ without_room r a.held) a.held;
   moving = cond (m.pin r == old) (moving_at m content r ∷ a.moving) a.moving;

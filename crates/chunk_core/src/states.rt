@@ -7,7 +7,7 @@ pub const FREE: u8 = 0;
 /// Covers its range, and may be pinned.
 pub const OPEN: u8 = 1;
 
-/// Covers its range; its freezer waits until no pin stands.
+/// Covers its range; its freezer waits until no pin stands, or opens it again.
 pub const FROZEN: u8 = 2;
 
 /// One pass has it alone.

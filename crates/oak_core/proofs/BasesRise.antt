@@ -13,7 +13,7 @@ use Rattle.chunk_core.specs.Covers.{cover_at}
 use Rattle.chunk_core.specs.CoverSums.{base_for, base_of}
 use Rattle.chunk_core.specs.RoomHolds.{no_rooms}
 use Rattle.chunk_core.specs.RoomsAfter.{rooms_after}
-use Rattle.chunk_core.specs.RoomStep.{RoomStep, pin_room, unpin_room, latch_room, store_entry, publish_entry, unlatch_room, set_value, unlink_entry, freeze_room, hold_room, claim_room, store_room, open_room, retire_room, put_room, room_effect, room_spot}
+use Rattle.chunk_core.specs.RoomStep.{RoomStep, pin_room, unpin_room, latch_room, store_entry, publish_entry, unlatch_room, set_value, unlink_entry, freeze_room, thaw_room, hold_room, claim_room, store_room, open_room, retire_room, put_room, room_effect, room_spot}
 use Rattle.chunk_core.specs.Rooms.{IsInRooms}
 use Rattle.chunk_core.proofs.CoverLaws.{all_still, covers_still, moves}
 use Rattle.oak_core.specs.declared.states.PassState.{PassState}
@@ -78,6 +78,7 @@ module _ (z : Sizes) (s : TableState) (seat : ℕ) (v : PassState) (r : Rule z s
     room_inside (set_value j i old new kind) may = may.inside
     room_inside (unlink_entry j i x) may = may.inside
     room_inside (freeze_room j old) may = may.inside
+    room_inside (thaw_room j) may = may.inside
     room_inside (hold_room j old) may = may.inside
     room_inside (claim_room j old) may = may.inside
     room_inside (store_room p x) may = may.inside

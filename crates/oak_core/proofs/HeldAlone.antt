@@ -16,7 +16,7 @@ use Rattle.chunk_core.specs.RoomCopies.{without_room}
 use Rattle.chunk_core.specs.RoomReads.{copy_at}
 use Rattle.chunk_core.specs.RoomRule.{in_room_state}
 use Rattle.chunk_core.specs.RoomsAfter.{rooms_after}
-use Rattle.chunk_core.specs.RoomStep.{RoomStep, pin_room, unpin_room, latch_room, store_entry, publish_entry, unlatch_room, set_value, unlink_entry, freeze_room, hold_room, claim_room, store_room, open_room, retire_room}
+use Rattle.chunk_core.specs.RoomStep.{RoomStep, pin_room, unpin_room, latch_room, store_entry, publish_entry, unlatch_room, set_value, unlink_entry, freeze_room, thaw_room, hold_room, claim_room, store_room, open_room, retire_room}
 use Rattle.chunk_core.proofs.HeldRooms.{room_rows, row_else, without_else, without_here}
 use Rattle.chunk_core.proofs.StoredRooms.{rows_with}
 use Rattle.oak_core.specs.declared.states.PassState.{PassState}
@@ -73,6 +73,7 @@ module _ (z : Sizes) (s : TableState) (v : PassState) (r : ℕ) where
   room_more call (set_value k i old new kind) may = still v.rooms.held refl
   room_more call (unlink_entry k i x) may = still v.rooms.held refl
   room_more call (freeze_room k old) may = decided (m.rooms.pin k) old (λ t. NoMore (cond t (record { room = k; held_as = Frozen } ∷ v.rooms.held) v.rooms.held)) (λ _. let e = frozen_more k r v.rooms.held in inl (omega arith)) (λ _. still v.rooms.held refl)
+  room_more call (thaw_room k) may = inl (fewer k r v.rooms.held)
   room_more call (hold_room k old) may = taken k old may.rooms.0.count (record { room = k; held_as = Held (copy_at z m.rooms k) } ∷ without_room k v.rooms.held)
       (λ ne. row_else k r HELD (record { room = k; held_as = Held (copy_at z m.rooms k) }) (without_room k v.rooms.held) refl ne ∙ without_else k r HELD v.rooms.held ne)
   room_more call (claim_room k old) may = taken k old may.rooms.count (record { room = k; held_as = Held (copy_at z m.rooms k) } ∷ v.rooms.held) (λ ne. row_else k r HELD (record { room = k; held_as = Held (copy_at z m.rooms k) }) v.rooms.held refl ne)

@@ -3,12 +3,13 @@ use Rattle.std.proofs.Common.{◌≡◌, ℕ, false}
 use mathlib.Core.Option.{some}
 use lib.ListN.{get_elem?}
 use Rattle.oak_model.specs.Limits.{Sizes}
-use Rattle.chunk_core.specs.RoomStep.{RoomStep, pin_room, unpin_room, latch_room, store_entry, publish_entry, unlatch_room, set_value, unlink_entry, freeze_room, hold_room, claim_room, store_room, open_room, retire_room}
+use Rattle.chunk_core.specs.RoomStep.{RoomStep, pin_room, unpin_room, latch_room, store_entry, publish_entry, unlatch_room, set_value, unlink_entry, freeze_room, thaw_room, hold_room, claim_room, store_room, open_room, retire_room}
 use Rattle.oak_core.specs.declared.states.PassState.{PassState}
 use Rattle.oak_core.specs.Rule.{Rule}
 use Rattle.oak_core.specs.Step.{on_rooms, MayOnRooms, table_after}
 use Rattle.oak_core.specs.TableState.{TableState}
 use Rattle.oak_core.proofs.KeepsFreezes.{freeze_keeps, claim_keeps}
+use Rattle.oak_core.proofs.KeepsThaws.{thaw_keeps}
 use Rattle.oak_core.proofs.KeepsHolds.{hold_keeps}
 use Rattle.oak_core.proofs.KeepsOpens.{open_keeps}
 use Rattle.oak_core.proofs.KeepsRetires.{retire_keeps}
@@ -29,6 +30,7 @@ room_keeps z s call seat v r here going (unlatch_room k) may = unlatch_keeps z s
 room_keeps z s call seat v r here going (set_value k i old new kind) may = set_keeps z s seat v r here call going k i old new kind may
 room_keeps z s call seat v r here going (unlink_entry k i x) may = unlink_keeps z s seat v r here call going k i x may
 room_keeps z s call seat v r here going (freeze_room k old) may = freeze_keeps z s seat v r here call going k old may
+room_keeps z s call seat v r here going (thaw_room k) may = thaw_keeps z s seat v r here call going k may
 room_keeps z s call seat v r here going (hold_room k old) may = hold_keeps z s seat v r here call going k old may
 room_keeps z s call seat v r here going (claim_room k old) may = claim_keeps z s seat v r here call going k old may
 room_keeps z s call seat v r here going (store_room p x) may = store_room_keeps z s seat v r here call going p x may

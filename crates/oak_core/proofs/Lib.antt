@@ -135,6 +135,7 @@ pub mod KeepsLatches
 pub mod KeepsRoomPins
 pub mod PinExchanges
 mod KeepsFreezes
+mod KeepsThaws
 mod KeepsHolds
 mod BlocksDropped
 mod StoresBehind
@@ -157,6 +158,7 @@ pub mod ArenaNames
 pub mod ArenaPlaces
 pub mod HeaderNames
 pub mod RoomNames
+mod ThawedRooms
 pub mod RebalanceNames
 pub mod ReopenedRoom
 pub mod ReopenedSteps

@@ -4,16 +4,18 @@ use prog.Atomic.{either}
 use Rattle.atomic_table.specs.Table.{Me, Allows}
 use Rattle.pin_word.specs.PinWord.{STATE}
 use Rattle.oak_model.specs.Limits.{Sizes}
-use Rattle.chunk_core.specs.declared.states.TheConstants.{OPEN, HELD}
+use Rattle.chunk_core.specs.declared.states.TheConstants.{OPEN, FROZEN, HELD}
 use Rattle.chunk_core.specs.Rooms.{RoomSpot, at_room_pin}
-use Rattle.chunk_core.specs.RoomStep.{freeze_room, hold_room, claim_room, store_room, open_room, retire_room}
+use Rattle.chunk_core.specs.RoomStep.{freeze_room, thaw_room, hold_room, claim_room, store_room, open_room, retire_room}
 use Rattle.oak_core.specs.declared.states.PassState.{PassState}
 use Rattle.oak_core.specs.Memory.{Spot, in_rooms, word_count}
 use Rattle.oak_core.specs.RoomCalls.{NamesRoomPin, NamesRoomWord, FreezesRoom, HoldsRoomWord, ClaimsRoom, StoresRoom, OpensRoom, RetiresRoom}
 use Rattle.oak_core.specs.Running.{Holds, KeepsSeat}
 use Rattle.oak_core.specs.Step.{on_rooms, MayOnRooms}
+use Rattle.oak_core.specs.Thawing.{ThawsRoom}
 use Rattle.oak_core.proofs.Allowed.{allows_at}
 use Rattle.oak_core.proofs.RoomNames.{one_room}
+use Rattle.oak_core.proofs.ThawedRooms.{thaws}
 use Rattle.oak_core.proofs.Words.{index_below, index_apart}
 
 -- the word of the rooms in a spot
@@ -38,6 +40,12 @@ module _ (z : Sizes) (start call : ℕ) (slots id : ℕ) (me : Me (Unit {0}) Pas
   allows_freeze word old new r names e may = allows_at z start call slots id me going (on_rooms (freeze_room r old)) (λ n w. (k : ℕ) → NamesRoomPin z k word → FreezesRoom z call k old me.0 n w) word (λ n. either (n == old) new n)
       (sym names.word_is) (λ i n. either (n == old) (sym e i) n) may
       (λ n w told k named. subst (λ (j : ℕ). FreezesRoom z call j old me.0 n w) (one_room z r k word names named) told)
+
+  pub allows_thaw : (word operand r : ℕ) → NamesRoomPin z r word → operand ≡ (FROZEN - OPEN) * STATE → MayOnRooms z call (thaw_room r) me.0
+      → Allows (Holds z) slots id me word (λ n. (n + (2 ^ 64 - operand)) % 2 ^ 64) (λ n m. ((k : ℕ) → NamesRoomPin z k word → ThawsRoom z call k me.0 n m.0) × KeepsSeat me m)
+  allows_thaw word operand r names e may = allows_at z call slots id me going (on_rooms (thaw_room r)) (λ n w. (k : ℕ) → NamesRoomPin z k word → ThawsRoom z call k me.0 n w) word (λ n. (n + (2 ^ 64 - operand)) % 2 ^ 64)
+      (sym names.word_is) (λ i n. (n + (2 ^ 64 - sym e i)) % 2 ^ 64) may
+      (λ n w told k named. subst (λ (j : ℕ). ThawsRoom z call j me.0 n w) (one_room z r k word names named) (thaws z call r me.0 n w told))
 
   pub allows_hold : (word old new r : ℕ) → NamesRoomPin z r word → new ≡ old + STATE → MayOnRooms z call (hold_room r old) me.0
       → Allows (Holds z start) slots id me word (λ n. either (n == old) new n) (λ n m. ((k : ℕ) → NamesRoomPin z k word → HoldsRoomWord z call k old me.0 n m.0) × KeepsSeat me m)

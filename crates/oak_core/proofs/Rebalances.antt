@@ -7,7 +7,7 @@ use Rattle.oak_model.specs.Limits.{Sizes}
 use Rattle.oak_model.proofs.Lists.{map_set_same, set_there}
 use Rattle.chunk_core.specs.declared.states.TheConstants.{HELD}
 use Rattle.chunk_core.specs.RoomReads.{pinned_at}
-use Rattle.chunk_core.specs.RoomStep.{RoomStep, pin_room, unpin_room, latch_room, store_entry, publish_entry, unlatch_room, set_value, unlink_entry, freeze_room, hold_room, claim_room, store_room, open_room, retire_room}
+use Rattle.chunk_core.specs.RoomStep.{RoomStep, pin_room, unpin_room, latch_room, store_entry, publish_entry, unlatch_room, set_value, unlink_entry, freeze_room, thaw_room, hold_room, claim_room, store_room, open_room, retire_room}
 use Rattle.oak_core.specs.declared.states.Knowledge.{Knowledge}
 use Rattle.oak_core.specs.declared.states.PassState.{PassState}
 use Rattle.oak_core.specs.KeyHistories.{state_behind}
@@ -22,6 +22,7 @@ use Rattle.oak_core.specs.TableState.{TableState}
 -- the pass knows what it did
 knows_same : (call : ℕ) (x : RoomStep) → IsRebalance x → (m : Memory) (qs : List Knowledge) (v : PassState) → knows_by_room call x m qs v ≡ v.knowledge
 knows_same call (freeze_room k old) is m qs v = refl
+knows_same call (thaw_room k) is m qs v = refl
 knows_same call (hold_room k old) is m qs v = refl
 knows_same call (claim_room k old) is m qs v = refl
 knows_same call (store_room p x) is m qs v = refl

@@ -9,7 +9,7 @@ use lib.ListN.{get_elem?}
 use Rattle.oak_model.specs.Counts.{Each}
 use Rattle.oak_model.specs.Limits.{Sizes}
 use Rattle.oak_model.proofs.Lists.{at_longer, set_else, set_there}
-use Rattle.chunk_core.specs.RoomStep.{RoomStep, pin_room, unpin_room, latch_room, store_entry, publish_entry, unlatch_room, set_value, unlink_entry, freeze_room, hold_room, claim_room, store_room, open_room, retire_room}
+use Rattle.chunk_core.specs.RoomStep.{RoomStep, pin_room, unpin_room, latch_room, store_entry, publish_entry, unlatch_room, set_value, unlink_entry, freeze_room, thaw_room, hold_room, claim_room, store_room, open_room, retire_room}
 use Rattle.oak_core.specs.declared.states.PassState.{PassState}
 use Rattle.oak_core.specs.declared.states.Rebalanced.{Rebalanced}
 use Rattle.oak_core.specs.PassState.{both_state, left_state, right_state, spent_state}
@@ -35,6 +35,7 @@ room_kept false v = omega arith
 -- of a step of a rebalance it is how many findings were met before it
 pub room_kept_by : (x : RoomStep) (v : PassState) → IsRebalance x → (rebalances_by x v).steps ≡ v.findings.rebalances.steps ++ length v.findings.met ∷ []
 room_kept_by (freeze_room r old) v is = refl
+room_kept_by (thaw_room r) v is = refl
 room_kept_by (hold_room r old) v is = refl
 room_kept_by (claim_room r old) v is = refl
 room_kept_by (store_room p x) v is = refl

@@ -1,10 +1,10 @@
 -- No base falls by a step on a word of a room.
-use Rattle.std.proofs.Common.{◌≡◌, ℕ, ◌+◌, ◌-◌, ◌*◌, ◌%◌, ◌^◌, ◌<◌, ◌≤◌, ◌==◌, cond, false, List, [], ◌∷◌, map, set, refl, sym, ap, ◌∙◌, subst, inr, arith}
+use Rattle.std.proofs.Common.{◌≡◌, ℕ, ◌+◌, ◌-◌, ◌*◌, ◌%◌, ◌^◌, ◌<◌, ◌≤◌, ◌==◌, cond, false, List, [], ◌∷◌, map, set, refl, sym, ap, ◌∙◌, subst, inl, inr, arith}
 use prog.Atomic.{either}
 use mathlib.Core.Option.{some}
 use lib.ListN.{get_elem?}
 use Rattle.pin_word.specs.PinWord.{STATE, state_of, generation_of, count_of}
-use Rattle.pin_word.proofs.StepLaws.{pin_up, pin_down, state_set}
+use Rattle.pin_word.proofs.StepLaws.{pin_up, pin_down, state_back, state_set}
 use Rattle.oak_model.specs.Counts.{one_at, total}
 use Rattle.oak_model.specs.Limits.{Sizes}
 use Rattle.oak_model.proofs.Changes.{stepped}
@@ -21,12 +21,12 @@ use Rattle.chunk_core.specs.RoomCopies.{without_room}
 use Rattle.chunk_core.specs.RoomReads.{copy_at, moving_at}
 use Rattle.chunk_core.specs.RoomRule.{room_pins}
 use Rattle.chunk_core.specs.RoomsAfter.{rooms_after}
-use Rattle.chunk_core.specs.RoomStep.{EntryField, of_key, of_value, of_next, RoomStep, pin_room, unpin_room, latch_room, store_entry, publish_entry, unlatch_room, set_value, unlink_entry, freeze_room, hold_room, claim_room, store_room, open_room, retire_room, put_room, room_effect, room_spot}
+use Rattle.chunk_core.specs.RoomStep.{EntryField, of_key, of_value, of_next, RoomStep, pin_room, unpin_room, latch_room, store_entry, publish_entry, unlatch_room, set_value, unlink_entry, freeze_room, thaw_room, hold_room, claim_room, store_room, open_room, retire_room, put_room, room_effect, room_spot}
 use Rattle.chunk_core.specs.Rooms.{RoomMemory, RoomSpot, at_room_pin, at_count, at_latch, at_key, at_value, at_next, read_room, room_at}
 use Rattle.chunk_core.proofs.CoverLaws.{all_still}
 use Rattle.chunk_core.proofs.DroppedEntries.{ranges_base}
 use Rattle.chunk_core.proofs.Ranges.{base_more}
-use Rattle.chunk_core.proofs.RoomKinds.{hold_covers, weight_covers}
+use Rattle.chunk_core.proofs.RoomKinds.{hold_covers, thaw_covers, weight_covers}
 use Rattle.chunk_core.proofs.RoomStores.{store_step}
 use Rattle.chunk_core.proofs.StoredRooms.{pin_still}
 use Rattle.chunk_core.proofs.Weights.{is_so, weight_free, weight_frozen, weight_held, weight_open}
@@ -94,6 +94,10 @@ module _ (z : Sizes) (s : TableState) (seat : ℕ) (v : PassState) (r : Rule z s
       (λ e. let u = (state_set old (omega arith)).1 in weighed j (old + STATE) (record v.rooms { held = record { room = j; held_as = Frozen } ∷ v.rooms.held }) refl (weight_frozen (old + STATE) (omega arith) ∙ sym (weight_open (m.pin j) (ap state_of e ∙ opened))))
       (λ _. weighed j (m.pin j) v.rooms refl refl)
 
+  thaw_rises : (j : ℕ) → MayOnRoom z (thaw_room j) v → Rises (put_room m (at_room_pin j) (room_effect (thaw_room j) (m.pin j))) (rooms_after z m bytes (thaw_room j) v.rooms)
+  thaw_rises j may = let mine = may.rooms in let frozen = is_so z m bytes hs r.rooms seat v.rooms own j FROZEN (inl refl) (omega arith) in let d = state_back (m.pin j) (FROZEN - OPEN) (omega arith) (small_pin j) in let x : ℕ = room_effect (thaw_room j) (m.pin j) in
+      level (put_room m (at_room_pin j) x) (rooms_after z m bytes (thaw_room j) v.rooms) (thaw_covers z m bytes is_key_word hs r.rooms r.covers seat v.rooms own j x d.2 mine (omega arith) d.0)
+
   claim_rises : (j old : ℕ) → MayOnRoom z (claim_room j old) v → Rises (put_room m (at_room_pin j) (room_effect (claim_room j old) (m.pin j))) (rooms_after z m bytes (claim_room j old) v.rooms)
   claim_rises j old may = decided (m.pin j) old (λ t. Rises (put_room m (at_room_pin j) (either t (old + HELD * STATE) (m.pin j))) (record v.rooms { held = cond t (record { room = j; held_as = Held (copy_at z m j) } ∷ v.rooms.held) v.rooms.held }))
       (λ e. let free = may.rooms.state in let p = small_pin j in weighed j (old + HELD * STATE) (record v.rooms { held = record { room = j; held_as = Held (copy_at z m j) } ∷ v.rooms.held }) refl (weight_held (old + HELD * STATE) (claimed old free (omega arith)).1 ∙ sym (weight_free (m.pin j) (ap state_of e ∙ free))))
@@ -137,6 +141,7 @@ module _ (z : Sizes) (s : TableState) (seat : ℕ) (v : PassState) (r : Rule z s
     room_rises (set_value j i old new kind) may = quiet (at_value j i) (room_effect (set_value j i old new kind) (m.value j i)) v.rooms refl (λ k n. refl)
     room_rises (unlink_entry j i x) may = quiet (at_value j i) x v.rooms refl (λ k n. refl)
     room_rises (freeze_room j old) may = freeze_rises j old may.rooms
+    room_rises (thaw_room j) may = thaw_rises j may
     room_rises (hold_room j old) may = hold_rises j old may
     room_rises (claim_room j old) may = claim_rises j old may
     room_rises (store_room p x) may = store_rises p x may

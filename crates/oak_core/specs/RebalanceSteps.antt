@@ -1,12 +1,13 @@
 -- Which steps are those of a rebalance, and what a pass keeps of them: as each of them, done or tried in vain, is kept, a call that leaves the list as it was made none.
 use Rattle.std.specs.Prelude.{◌≡◌, cond, Bool, true, false, [], ◌∷◌, ◌++◌, length}
-use Rattle.chunk_core.specs.RoomStep.{RoomStep, freeze_room, hold_room, claim_room, store_room, open_room, retire_room}
+use Rattle.chunk_core.specs.RoomStep.{RoomStep, freeze_room, thaw_room, hold_room, claim_room, store_room, open_room, retire_room}
 use Rattle.oak_core.specs.declared.states.PassState.{PassState}
 use Rattle.oak_core.specs.declared.states.Rebalanced.{Rebalanced}
 
--- the step is one of a rebalance: it freezes, holds or claims a room, stores to one that is held, or opens or retires it
+-- the step is one of a rebalance: it freezes a room, opens it again, holds or claims one, stores to one that is held, or opens or retires it
 abbrev pub is_rebalance : RoomStep → Bool
 is_rebalance (freeze_room r old) = true
+is_rebalance (thaw_room r) = true
 is_rebalance (hold_room r old) = true
 is_rebalance (claim_room r old) = true
 is_rebalance (store_room p x) = true

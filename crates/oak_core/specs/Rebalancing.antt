@@ -7,7 +7,7 @@ use Rattle.oak_model.specs.Limits.{Sizes}
 use Rattle.chunk_core.specs.declared.holds.PinnedRoom.{PinnedRoom}
 use Rattle.chunk_core.specs.declared.states.TheConstants.{HELD}
 use Rattle.chunk_core.specs.PinnedRooms.{IsGoodRoom}
-use Rattle.chunk_core.specs.RoomStep.{RoomStep, freeze_room, hold_room, claim_room, store_room, open_room, retire_room}
+use Rattle.chunk_core.specs.RoomStep.{RoomStep, freeze_room, thaw_room, hold_room, claim_room, store_room, open_room, retire_room}
 use Rattle.oak_core.specs.declared.states.PassState.{PassState}
 use Rattle.oak_core.specs.KeyHistories.{state_behind}
 use Rattle.oak_core.specs.KeyReads.{base_now, history_now, word_now}
@@ -19,6 +19,7 @@ use Rattle.oak_core.specs.TableState.{TableState}
 -- the kinds of step that a rebalance makes on rooms, beside pins
 abbrev pub IsRebalance : RoomStep → Type 0
 IsRebalance (freeze_room r old) = Unit {0}
+IsRebalance (thaw_room r) = Unit {0}
 IsRebalance (hold_room r old) = Unit {0}
 IsRebalance (claim_room r old) = Unit {0}
 IsRebalance (store_room p x) = Unit {0}

@@ -1,11 +1,12 @@
 //! The steps on the words of the rooms, which callers find in [`crate::steps`].
 ghost use Rattle.std.specs.Prelude.{◌≡◌, ℕ, ◌+◌, ◌-◌, ◌*◌};
 ghost use Rattle.pin_word.specs.PinWord.{STATE};
-ghost use Rattle.chunk_core.specs.declared.states.TheConstants.{OPEN, HELD};
+ghost use Rattle.chunk_core.specs.declared.states.TheConstants.{OPEN, FROZEN, HELD};
 ghost use Rattle.chunk_core.specs.Rooms.{RoomSpot};
-ghost use Rattle.chunk_core.specs.RoomStep.{EntryField, of_value, pin_room, unpin_room, latch_room, store_entry, publish_entry, unlatch_room, set_value, unlink_entry, freeze_room, hold_room, claim_room, store_room, open_room, retire_room};
+ghost use Rattle.chunk_core.specs.RoomStep.{EntryField, of_value, pin_room, unpin_room, latch_room, store_entry, publish_entry, unlatch_room, set_value, unlink_entry, freeze_room, thaw_room, hold_room, claim_room, store_room, open_room, retire_room};
 ghost use Rattle.oak_core.specs.RoomCalls.{NamesRoomPin, NamesLatch, NamesEntryWord, NamesCount, NamesRoomWord, PinsRoomWord, UnpinsRoomWord, TakesLatch, StoresEntry, PublishesEntry, GivesLatch, SetsValueWord, UnlinksEntryWord, FreezesRoom, HoldsRoomWord, ClaimsRoom, StoresRoom, OpensRoom, RetiresRoom};
 ghost use Rattle.oak_core.specs.Step.{MayOnRooms};
+ghost use Rattle.oak_core.specs.Thawing.{ThawsRoom};
 ghost use Rattle.oak_core.specs.Passes.{IsPassOf, Stays, TriesStay, state, key, call_of, tries};
 ghost use Rattle.oak_core.specs.Tries.{raised};
 
@@ -126,6 +127,20 @@ pub fn freeze(table: &OakTable, pass: &mut Pass, word: u32, old: u64, new: u64) 
 {
     let open_word = word as usize;
     exchange_said::<Brand>(table, pass, open_word, old, new)
+}
+
+/// Opens a room again that the pass has frozen and does not hold, whatever pins stand on it: `word` is
+/// the room's pin word, and `operand` what lies between the states frozen and open. The word keeps its
+/// count. The pass has the room no more; its range never moved, so no key changes, and the pins that were
+/// good are good still.
+pub fn thaw_room(table: &OakTable, pass: &mut Pass, word: u32, operand: u64) -> u64
+    requires own { IsPassOf table.now pass.old }
+    requires names { (r : ℕ) × NamesRoomPin (key table.now) r word × (operand ≡ (FROZEN - OPEN) * STATE) × MayOnRooms (key table.now) (call_of pass.old) (thaw_room r) (state pass.old) }
+    ensures own { Stays pass.old pass.new }
+    ensures told { (r : ℕ) → NamesRoomPin (key table.now) r word → ThawsRoom (key table.now) (call_of pass.old) r (state pass.old) result (state pass.new) }
+{
+    let thawed_word = word as usize;
+    sub_said::<Brand>(table, pass, thawed_word, operand)
 }
 
 /// Comes to hold a room alone that the pass has frozen, and on which no pin stands any more, where its

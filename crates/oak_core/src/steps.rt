@@ -14,7 +14,7 @@ pub use crate::header_steps::{
 };
 pub use crate::room_steps::{
     claim_room, freeze, hold_room, latch, open_room, pin_room, publish_entry, retire_room,
-    set_value, store_entry, store_room, unlatch, unlink, unpin_room,
+    set_value, store_entry, store_room, thaw_room, unlatch, unlink, unpin_room,
 };
 use crate::table::{OakTable, Pass};
 use std::marker::Brand;
