@@ -220,3 +220,4 @@ pub mod RoomPins
 pub mod GapReach
 pub mod GapKeys
 pub mod LinkLessons
+pub mod LinkReads

@@ -25,7 +25,7 @@ use Rattle.oak_core.specs.declared.states.Taught.TheVariants.{OfGap}
 use Rattle.oak_core.specs.KeyHistories.{writes_of, state_behind, before}
 use Rattle.oak_core.specs.KeyReads.{sum_now, history_now, level_now}
 use Rattle.oak_core.specs.KeyRule.{StatesAgree, HistoriesAreLegal}
-use Rattle.oak_core.specs.KnownPlaces.{ReadAt}
+use Rattle.oak_core.specs.KnownPlaces.{KnowsPlace, ReadAt}
 use Rattle.oak_core.specs.Learning.{reach_of, lesson_by, taught_by}
 use Rattle.oak_core.specs.Lessons.{IsAbsentBehind, KnowsAbsent, PinsKnow, HeardStands}
 use Rattle.oak_core.specs.LinkTeaching.{gap_at}
@@ -115,6 +115,6 @@ module _ (z : Sizes) (m : Memory) (is_key_word : ℕ → ℕ) (vs : List PassSta
       pub link_read : ReadAt k p.base None v u
       link_read = read_there.0
 
-      pub link_place : link_read.place ≡ length (seen_of k u.knowledge)
-      unfolding link_read read_there
-      link_place = read_there.1
+      -- which is the end of what is seen of it
+      pub link_known : KnowsPlace k p.base (length (seen_of k u.knowledge)) u.knowledge
+      link_known = subst (λ (n : ℕ). KnowsPlace k p.base n u.knowledge) read_there.1 read_there.0.known
