@@ -12,6 +12,8 @@
 # each kind. Printed are the nanoseconds of processor time of a get and of a pair, and the seconds of settling once, in
 # the fastest run, without the time of filling the map.
 #
+# Then 1,600 keys in that order stand in 668 chunks of four entries, and in twelve of @@, and the same is printed of these.
+#
 # The script puts 3,200 rising keys, one by one, where a chunk has four entries and there may be 1,024 chunks, the most
 # that there can be. It is run once by bin/oakmap, which proves and builds the program first where it was not yet. Printed
 # are the seconds of the run, reading and printing among them, how many puts were refused, and the chunks in use.
@@ -21,6 +23,8 @@ reads=$number
 
 RUNS=7
 ENTRIES=4
+MANY_ENTRIES=@@
+entries=$ENTRIES
 SETTLINGS=50
 RISING_KEYS=3200
 
@@ -29,7 +33,7 @@ RISING_KEYS=3200
 fewest_seconds() {
     local keys=$1 rounds=$2 work=$3 pairs=$4 chunks=$5 TIMEFORMAT='%U %S' run
     for ((run = 0; run < RUNS; run++)); do
-        { time "$home/crates/scan_rounds/out/scan_rounds" "$keys" "$rounds" "$work" "$ENTRIES" >"$room/said"; } 2>&1 ||
+        { time "$home/crates/scan_rounds/out/scan_rounds" "$keys" "$rounds" "$work" "$entries" >"$room/said"; } 2>&1 ||
             fail "a run failed"
         grep -qx "$keys keys" "$room/said" || fail "not all keys were new"
         grep -qx "$pairs pairs, sum $((pairs * (keys - 1) / 2))" "$room/said" || fail "other values were read"
@@ -76,6 +80,12 @@ time_chunks 3 1
 time_chunks 139 50
 time_chunks 577 200
 time_chunks 1965 800
+
+echo "1600 keys:"
+time_chunks 1600 668
+entries=$MANY_ENTRIES
+time_chunks 1600 12
+entries=$ENTRIES
 
 write_rising >"$room/script"
 TIMEFORMAT=%R
