@@ -68,7 +68,7 @@ module _ (z : Sizes) (s : TableState) (seat : ℕ) (v : PassState) (r : Rule z s
       (λ i. (sym (memory_set z s.words p y r.words.counted inside) i, sym (map_set rooms_held s.states seat w) i)) (rise k)
 
   module _ (call : ℕ) (going : v.numbers.spent ≡ false) where
-    room_inside : (x : RoomStep) → MayOnRooms z call x v → IsInRooms z (room_spot x)
+    pub room_inside : (x : RoomStep) → MayOnRooms z call x v → IsInRooms z (room_spot x)
     room_inside (pin_room j) may = may.inside
     room_inside (unpin_room j) may = may.inside
     room_inside (latch_room j) may = may.inside

@@ -153,6 +153,9 @@ mod RebalancesKept
 mod HeldAlone
 mod RoomBases
 mod BasesRise
+pub mod GenerationsStay
+pub mod MadeMore
+pub mod SinceOpening
 pub mod Allowed
 pub mod ArenaNames
 pub mod ArenaPlaces

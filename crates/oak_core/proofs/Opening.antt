@@ -135,7 +135,7 @@ module _ (z : Sizes) (g : ℕ) where
       behind_pin h = let from = rooms_from z p in let r = index-rooms z in
           let apart : index z (in_rooms p) ≢ index z (in_rooms (at_room_pin 0)) = λ e. ne (ap room_of (index_apart z (in_rooms p) (in_rooms (at_room_pin 0)) h (let h0 = h.0 in (omega arith, omega arith)) e)) in omega arith
 
-  opened : 0 < z.chunks → IsOpened z g (opening_words z g)
+  pub opened : 0 < z.chunks → IsOpened z g (opening_words z g)
   opened some_room = record {
     given = stands at_given tt ∙ ap (opening_number z g) (first_word z);
     bits = λ c i. arena_zero z g (at_bits c i);
@@ -206,4 +206,4 @@ pub opened_at : (z k : Sizes) (g : ℕ) → IsInLimits z → k ≡ z → IsOpene
 opened_at z k g is e = subst (λ (j : Sizes). IsOpened j g (opening j g).words) (sym e) (opened z g is.chunks_least)
 
 pub opens_at : (z : Sizes) (g : ℕ) → IsInLimits z → g < LAST_GENERATION → (ws : List ℕ) → ws ≡ opening_words z g → (Rule z record { words = ws; states = first_state z g ∷ [] }) × IsReached z g record { words = ws; states = first_state z g ∷ [] }
-opens_at z g is early ws e = subst (λ (l : List ℕ). (Rule z record { words = l; states = first_state z g ∷ [] }) × IsReached z g record { words = l; states = first_state z g ∷ [] }) (sym e) (opening_rule z g is early, reached_first z g)
+opens_at z g is early ws e = subst (λ (l : List ℕ). (Rule z record { words = l; states = first_state z g ∷ [] }) × IsReached z g record { words = l; states = first_state z g ∷ [] }) (sym e) (opening_rule z g is early, reached_first z g early)

@@ -60,7 +60,7 @@ module _ (z : Sizes) (g : ℕ) (words : List ℕ) (some_room : 0 < z.chunks) (ea
   none_of_caller i k = ap (of_caller i) (no_history k)
 
   -- each header is free
-  free_header : (h : ℕ) → h < z.headers → (state_of (m.headers.pin h) ≡ FREE) × (generation_of (m.headers.pin h) ≡ g)
+  pub free_header : (h : ℕ) → h < z.headers → (state_of (m.headers.pin h) ≡ FREE) × (generation_of (m.headers.pin h) ≡ g)
   free_header h inside = (ap state_of (open_words.headers h inside) ∙ state_of-packed g FREE 0 (omega arith) (omega arith), ap generation_of (open_words.headers h inside) ∙ generation_of-packed g FREE 0 (omega arith) (omega arith))
 
   no_block : (h : ℕ) → stocked (state_of (m.headers.pin h)) ≡ 0

@@ -1,6 +1,8 @@
 -- What contracts see of a closed table.
-use Rattle.std.specs.Prelude.{ℕ, ◌==◌, cond, List, [], ◌∷◌, ◌++◌, map}
+use Rattle.std.specs.Prelude.{◌≡◌, ℕ, ◌==◌, cond, List, [], ◌∷◌, ◌++◌, map}
 use Rattle.std.specs.Slots.{slots_items}
+use mathlib.Core.Option.{some}
+use lib.ListN.{get_elem?}
 use Rattle.oak_model.specs.Counts.{Each}
 use Rattle.oak_model.specs.Limits.{Sizes}
 use Rattle.oak_model.specs.Key.{is_key}
@@ -14,8 +16,11 @@ use Rattle.oak_core.specs.declared.states.Full.{Full}
 use Rattle.oak_core.specs.declared.states.Joined.{Joined}
 use Rattle.oak_core.specs.declared.states.KeyedWrite.{KeyedWrite}
 use Rattle.oak_core.specs.declared.states.PassState.{PassState}
+use Rattle.oak_core.specs.Bounds.{UntilRemoved}
 use Rattle.oak_core.specs.Lack.{Lacked}
+use Rattle.oak_core.specs.Memory.{memory}
 use Rattle.oak_core.specs.PassState.{seen_of, no_findings, joined_from}
+use Rattle.oak_core.specs.Running.{IsReached}
 
 abbrev pub closed_key : Closed → Sizes
 closed_key c = c.shape
@@ -63,3 +68,14 @@ closed_fulls c = fulls_of (all_passes (closed_state c))
 -- each lacked what it names, by what its pass found in it
 abbrev pub FullsLacked : Closed → Type 0
 FullsLacked c = Each (λ (f : FullCall). Lacked (closed_key c) f.call f.lack (closed_findings c f.pass)) (closed_fulls c)
+
+-- the closed words and the last pass stand at the end of a schedule from the opening at the generation g
+pub record EndsFrom (g : ℕ) (c : Closed) : Type 0 where
+  pub states : List PassState
+  pub seat : ℕ
+  pub here : get_elem? states seat ≡ some (closed_state c)
+  pub reached : IsReached (closed_key c) g record { words = closed_words c; states = states }
+
+-- where no pass removed anything, each header is at the generation g still, and not dead
+abbrev pub IsUnworn : ℕ → Closed → Type 0
+IsUnworn g c = UntilRemoved (closed_key c) g (memory (closed_key c) (closed_words c)) (closed_state c ∷ [])

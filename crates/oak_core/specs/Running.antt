@@ -1,7 +1,8 @@
 -- The rule of the running table is the rule of the definitions, and each of its states is the end of a schedule from the one that it was opened in.
-use Rattle.std.specs.Prelude.{◌≡◌, ℕ, List}
+use Rattle.std.specs.Prelude.{◌≡◌, ℕ, ◌<◌, List}
 use Rattle.atomic_table.specs.Table.{State, Me}
 use Rattle.oak_model.specs.Limits.{Sizes}
+use Rattle.header_core.specs.declared.states.TheConstants.{LAST_GENERATION}
 use Rattle.oak_core.specs.declared.states.PassState.{PassState}
 use Rattle.oak_core.specs.TableState.{TableState}
 use Rattle.oak_core.specs.Rule.{Rule}
@@ -10,8 +11,9 @@ use Rattle.oak_core.specs.Schedule.{Event, IsSchedule, opening}
 abbrev pub table_of : State (Unit {0}) PassState → TableState
 table_of s = record { words = s.words; states = s.views }
 
--- a table that was opened at the generation g came to this state by these events
+-- a table that was opened at the generation g, which is not the last one, came to this state by these events
 pub record IsReached (z : Sizes) (g : ℕ) (s : TableState) : Type 0 where
+  pub early : g < LAST_GENERATION
   pub events : List Event
   pub schedule : IsSchedule z (opening z g) events s
 

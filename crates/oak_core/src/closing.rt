@@ -31,14 +31,15 @@ impl Drop for Closed {
 
 impl OakTable {
     ghost use Rattle.oak_core.specs.PassState.{HoldsNothing, IsAlone};
-    ghost use Rattle.oak_core.specs.Passes.{IsPassOf, state, key};
-    ghost use Rattle.oak_core.specs.Closing.{closed_key, closed_state, closed_words, FullsLacked};
+    ghost use Rattle.oak_core.specs.Passes.{IsPassOf, state, key, opened_at};
+    ghost use Rattle.oak_core.specs.Closing.{closed_key, closed_state, closed_words, EndsFrom, FullsLacked, IsUnworn};
     ghost use Rattle.oak_core.specs.KnownPlaces.{PlacesStand};
     ghost use Rattle.oak_core.specs.Splitting.{Ends};
 
     /// Closes the table with its last pass: every other was joined into it, or into one that was. What
     /// the pass knows to be the place of a number among a key's writes is its place in the closed
-    /// history.
+    /// history. The closed table is the end of a schedule from its opening, and where nothing was removed each
+    /// header is at the generation of the opening still.
     pub fn close(self, pass: Pass) -> Closed
         requires own { IsPassOf self pass }
         requires alone { IsAlone (state pass) }
@@ -48,6 +49,8 @@ impl OakTable {
         ensures ends { Ends (key self) (closed_words result) (state pass) }
         ensures noted { FullsLacked result }
         ensures places { PlacesStand result }
+        ensures reached { EndsFrom (opened_at self) result }
+        ensures unworn { IsUnworn (opened_at self) result }
     {
         let OakTable {
             table,

@@ -7,6 +7,7 @@ ghost use Rattle.oak_model.specs.Limits.{Sizes, IsInLimits};
 ghost use Rattle.chunk_core.specs.declared.states.TheConstants.{HELD};
 ghost use Rattle.chunk_core.specs.RoomStep.{RoomStep, claim_room, pin_room};
 ghost use Rattle.oak_core.specs.declared.states.PassState.{PassState};
+ghost use Rattle.oak_core.specs.Bounds.{UntilRemoved};
 ghost use Rattle.oak_core.specs.Memory.{memory};
 ghost use Rattle.oak_core.specs.RebalanceSteps.{KeepsRooms};
 ghost use Rattle.oak_core.specs.TableState.{TableState};
@@ -17,13 +18,15 @@ ghost use Rattle.oak_core.specs.Step.{on_rooms, Told};
 
 /// A law: the rule holds at every moment of every schedule. Each moment is the end of a schedule, that
 /// of the events so far. It speaks of every shape and of every opening generation below the last one,
-/// and of the schedules from any state that meets the rule.
+/// and of the schedules from any state that meets the rule. While nothing was removed, each header is at the
+/// opening generation, and not dead.
 ///
 /// Where the rule holds, a step of a rebalance changes no key's history, and so no key's state; a room
 /// comes to be held only by a step that finds no pin on it; a pin that finds it held is a dud; and the
 /// base of a key without an entry does not fall.
 pub fn every_schedule()
     ensures from_the_opening { (z : Sizes) → IsInLimits z → (g : ℕ) → g < 2 ^ 32 - 1 → (events : List Event) (s : TableState) → IsSchedule z (opening z g) events s → Rule z s }
+    ensures opened { (z : Sizes) → IsInLimits z → (g : ℕ) → g < 2 ^ 32 - 1 → (events : List Event) (s : TableState) → IsSchedule z (opening z g) events s → UntilRemoved z g (memory z s.words) s.states }
     ensures from_any_state { (z : Sizes) (s t : TableState) → Rule z s → (events : List Event) → IsSchedule z s events t → Rule z t }
     ensures rebalances { (z : Sizes) (s t : TableState) (seat call : ℕ) (x : RoomStep) → IsRebalance x → Goes z (steps seat call (on_rooms x)) s t → KeepsKeys s t }
     ensures held { (z : Sizes) (s t : TableState) → Rule z s → (e : Event) → Goes z e s t → HoldsNoPin z s t }

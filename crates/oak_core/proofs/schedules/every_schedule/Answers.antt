@@ -5,6 +5,7 @@ use Rattle.oak_core.proofs.EachEvent.{schedule_keeps}
 use Rattle.oak_core.proofs.HeldAlone.{held_alone}
 use Rattle.oak_core.proofs.Opening.{opening_rule}
 use Rattle.oak_core.proofs.Rebalances.{rebalance_keys, held_dud}
+use Rattle.oak_core.proofs.SinceOpening.{at_opening}
 use Rattle.oak_core.proofs.schedules.every_schedule.Goals as goal
 
 pub returns-clause-from_any_state : goal.returns-clause-from_any_state
@@ -12,6 +13,9 @@ returns-clause-from_any_state c z s t rule events run = schedule_keeps z events 
 
 pub returns-clause-from_the_opening : goal.returns-clause-from_the_opening
 returns-clause-from_the_opening c z is g lt events s run = schedule_keeps z events (opening z g) s run (opening_rule z g is (omega arith))
+
+pub returns-clause-opened : goal.returns-clause-opened
+returns-clause-opened c z is g lt events s run = at_opening z is g (omega arith) events s run
 
 pub returns-clause-rebalances : goal.returns-clause-rebalances
 returns-clause-rebalances c z s t seat call x is g = rebalance_keys z s t seat call x is g
