@@ -12,7 +12,7 @@
 # each kind. Printed are the nanoseconds of processor time of a get and of a pair, and the seconds of settling once, in
 # the fastest run, without the time of filling the map.
 #
-# Then 1,600 keys in that order stand in 668 chunks of four entries, and in twelve of @@, and the same is printed of these.
+# Then 1,600 keys in that order stand in 668 chunks of four entries, and in 16 of 160, and the same is printed of these.
 #
 # The script puts 3,200 rising keys, one by one, where a chunk has four entries and there may be 1,024 chunks, the most
 # that there can be. It is run once by bin/oakmap, which proves and builds the program first where it was not yet. Printed
@@ -23,7 +23,7 @@ reads=$number
 
 RUNS=7
 ENTRIES=4
-MANY_ENTRIES=@@
+MANY_ENTRIES=160
 entries=$ENTRIES
 SETTLINGS=50
 RISING_KEYS=3200
@@ -84,7 +84,7 @@ time_chunks 1965 800
 echo "1600 keys:"
 time_chunks 1600 668
 entries=$MANY_ENTRIES
-time_chunks 1600 12
+time_chunks 1600 16
 entries=$ENTRIES
 
 write_rising >"$room/script"
