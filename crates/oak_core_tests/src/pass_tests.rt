@@ -7,6 +7,7 @@ ghost use Rattle.oak_core.specs.Splitting.{LooksAtGiven};
 
 use chunk_core::OPEN;
 use chunk_index::{IndexReader, IndexWriter};
+use header_core::LAST_GENERATION;
 use oak_core::steps::{pin_room, unpin_room};
 use oak_core::{OakTable, Pass, SortSlot, SplitFault, Writing, load};
 use oak_model::{BadShape, Shape, ShapeField, Usage};
@@ -76,6 +77,26 @@ fn a_shape_of_two_passes(rt: HostRuntime) -> Result<(), Fail> {
         chunks: 1,
     };
     assert!(rt; closed.usage() == unused);
+    Ok(())
+}
+
+/// Takes a pass of number 0.
+fn has_number_zero(_first: &Pass)
+    requires { (state _first.now).numbers.number ≡ 0 }
+{}
+
+#[test]
+fn a_table_with_old_headers(rt: HostRuntime) -> Result<(), Fail> {
+    let shape = Shape::make(1, 1, 4, 1, [8, 0, 0, 0])?;
+    let (table, pass) = OakTable::create_aged(rt.alloc(), &shape, LAST_GENERATION - 1)?;
+    has_number_zero(&pass);
+    let unused = Usage {
+        blocks: [0, 0, 0, 0],
+        headers: 0,
+        chunks: 1,
+    };
+    let used = table.close(pass).usage();
+    assert!(rt; used == unused);
     Ok(())
 }
 

@@ -1,11 +1,12 @@
 //! The map and its passes: made, given their calls, split, joined, and at last closed.
 ghost use Rattle.std.specs.Prelude.{◌≡◌, ℕ, ◌<◌, IfOk, IfErr, Err, List};
 ghost use Rattle.std.specs.Borrow.{Lends, sem};
+ghost use Rattle.header_core.specs.declared.states.TheConstants.{LAST_GENERATION};
 ghost use Rattle.oak_core.specs.AloneWords.{LeavesWords};
-ghost use Rattle.oak_core.specs.Closing.{closed_key, closed_state, closed_words, FullsLacked};
+ghost use Rattle.oak_core.specs.Closing.{closed_key, closed_state, closed_words, EndsFrom, FullsLacked, IsUnworn};
 ghost use Rattle.oak_core.specs.KnownPlaces.{PlacesStand};
 ghost use Rattle.oak_core.specs.Opening.{IsOpened, first_state};
-ghost use Rattle.oak_core.specs.Passes.{SearchesStay, Stays, Turns, tries};
+ghost use Rattle.oak_core.specs.Passes.{SearchesStay, Stays, Turns, opened_at, tries};
 ghost use Rattle.oak_core.specs.PassState.{IsAlone, both_state};
 ghost use Rattle.oak_core.specs.Schedule.{opening};
 ghost use Rattle.oak_core.specs.Splitting.{Ends, FindsAllGiven, GivesWords, LeavesSame, LooksAtGiven, SeesLonger, SplitsOff};
@@ -13,7 +14,7 @@ ghost use Rattle.oak_core.specs.declared.passes.SplitFault.TheVariants as SplitF
 ghost use Rattle.rebalance.specs.LoneCalls.{IsSettled};
 ghost use Rattle.oak_map.specs.Closings.{UsesJustMap};
 ghost use Rattle.oak_core.specs.contracts.table.Pass as table_pass;
-ghost use Rattle.oak_map.specs.Maps.{IsReady, call_of, pass_of, sizes, state};
+ghost use Rattle.oak_map.specs.Maps.{IsReady, call_of, pass_of, sizes, state, table_of};
 ghost use Rattle.oak_map.specs.Rests.{with_pass};
 ghost use Rattle.oak_map.specs.contracts.map.MapPass.{the_row};
 
@@ -68,13 +69,35 @@ impl<R: Wait + Drop + Send> OakMap<R> {
     where
         R: Clone + AllocGlobal,
         ensures key { IfOk result (λ t. sizes t.0 ≡ shape.now) }
+        ensures generation { IfOk result (λ t. opened_at (table_of t.0) ≡ 0) }
         ensures ready { IfOk result (λ t. IsReady t.0 t.1) }
         ensures first { IfOk result (λ t. (state t.1 ≡ first_state (sizes t.0) 0) × (call_of t.1 ≡ 0)) }
         ensures words { IfOk result (λ t. LeavesWords (opening (sizes t.0) 0).words (state t.1)) }
         ensures opened { IfOk result (λ t. IsOpened (sizes t.0) 0 (opening (sizes t.0) 0).words) }
     {
+        OakMap::create_aged(rt, shape, 0)
+    }
+
+    /// A map as [`OakMap::create`] makes it, but for the headers of its table: each is free at this generation, which
+    /// is not the last one. Each removal takes its key's header to the next generation, and at the last one the header
+    /// is retired.
+    pub fn create_aged(
+        rt: &R,
+        shape: &Shape,
+        generation: u32,
+    ) -> Result<(OakMap<R>, MapPass), OutOfMemory>
+    where
+        R: Clone + AllocGlobal,
+        requires early { generation < LAST_GENERATION }
+        ensures key { IfOk result (λ t. sizes t.0 ≡ shape.now) }
+        ensures generation { IfOk result (λ t. opened_at (table_of t.0) ≡ generation) }
+        ensures ready { IfOk result (λ t. IsReady t.0 t.1) }
+        ensures first { IfOk result (λ t. (state t.1 ≡ first_state (sizes t.0) generation) × (call_of t.1 ≡ 0)) }
+        ensures words { IfOk result (λ t. LeavesWords (opening (sizes t.0) generation).words (state t.1)) }
+        ensures opened { IfOk result (λ t. IsOpened (sizes t.0) generation (opening (sizes t.0) generation).words) }
+    {
         let index = ChunkIndex::create(rt, shape.chunks, shape.passes)?;
-        let (table, mut pass) = OakTable::create(rt.alloc(), shape)?;
+        let (table, mut pass) = OakTable::create_aged(rt.alloc(), shape, generation)?;
         pass.set_reader(index.reader(rt));
         Ok((OakMap { table, index }, MapPass { pass }))
     }
@@ -124,7 +147,8 @@ impl<R: Wait + Drop + Send> OakMap<R> {
 
     /// Closes the map with its last pass: every other was joined into it, or into one that was. What the
     /// pass knows to be the place of a number among a key's writes is its place in the closed history. Where
-    /// the pass left the map settled, just the keys and values of the map are in use.
+    /// the pass left the map settled, just the keys and values of the map are in use. Where nothing was removed each
+    /// header is at the generation of the opening still.
     pub fn close(self, pass: MapPass) -> Closed
         requires ready { IsReady self pass }
         requires alone { IsAlone (state pass) }
@@ -133,6 +157,8 @@ impl<R: Wait + Drop + Send> OakMap<R> {
         ensures ends { Ends (sizes self) (closed_words result) (state pass) }
         ensures noted { FullsLacked result }
         ensures places { PlacesStand result }
+        ensures reached { EndsFrom (opened_at (table_of self)) result }
+        ensures unworn { IsUnworn (opened_at (table_of self)) result }
         ensures settled { (words : List ℕ) → LeavesWords words (state pass) → IsSettled (sizes self) words → UsesJustMap result }
     {
         let OakMap { table, index: _ } = self;
