@@ -42,8 +42,8 @@ module _ (z : Sizes) (start call : ℕ) (slots id : ℕ) (me : Me (Unit {0}) Pas
       (λ n w told k named. subst (λ (j : ℕ). FreezesRoom z call j old me.0 n w) (one_room z r k word names named) told)
 
   pub allows_thaw : (word operand r : ℕ) → NamesRoomPin z r word → operand ≡ (FROZEN - OPEN) * STATE → MayOnRooms z call (thaw_room r) me.0
-      → Allows (Holds z) slots id me word (λ n. (n + (2 ^ 64 - operand)) % 2 ^ 64) (λ n m. ((k : ℕ) → NamesRoomPin z k word → ThawsRoom z call k me.0 n m.0) × KeepsSeat me m)
-  allows_thaw word operand r names e may = allows_at z call slots id me going (on_rooms (thaw_room r)) (λ n w. (k : ℕ) → NamesRoomPin z k word → ThawsRoom z call k me.0 n w) word (λ n. (n + (2 ^ 64 - operand)) % 2 ^ 64)
+      → Allows (Holds z start) slots id me word (λ n. (n + (2 ^ 64 - operand)) % 2 ^ 64) (λ n m. ((k : ℕ) → NamesRoomPin z k word → ThawsRoom z call k me.0 n m.0) × KeepsSeat me m)
+  allows_thaw word operand r names e may = allows_at z start call slots id me going (on_rooms (thaw_room r)) (λ n w. (k : ℕ) → NamesRoomPin z k word → ThawsRoom z call k me.0 n w) word (λ n. (n + (2 ^ 64 - operand)) % 2 ^ 64)
       (sym names.word_is) (λ i n. (n + (2 ^ 64 - sym e i)) % 2 ^ 64) may
       (λ n w told k named. subst (λ (j : ℕ). ThawsRoom z call j me.0 n w) (one_room z r k word names named) (thaws z call r me.0 n w told))
 

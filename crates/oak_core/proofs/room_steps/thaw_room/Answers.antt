@@ -1,11 +1,11 @@
 use Rattle.std.proofs.Common.{arith}
-use Rattle.oak_core.specs.Passes.{key, call_of}
+use Rattle.oak_core.specs.Passes.{key, opened_at, call_of}
 use Rattle.oak_core.proofs.RebalanceNames.{allows_thaw}
 use Rattle.oak_core.proofs.RoomNames.{room_pin_below}
 use Rattle.oak_core.proofs.room_steps.thaw_room.Goals as goal
 
 pub sub_said-requires-clause-rule : goal.sub_said-requires-clause-rule
-sub_said-requires-clause-rule c = let n = c.requires.names in allows_thaw (key c.args.table.now) (call_of c.args.pass.now) _ c.args.pass.now.seat.id c.args.pass.now.seat.me c.args.pass.now.going c.args.word c.args.operand n.0 n.1 n.2 n.3
+sub_said-requires-clause-rule c = let n = c.requires.names in allows_thaw (key c.args.table.now) (opened_at c.args.table.now) (call_of c.args.pass.now) _ c.args.pass.now.seat.id c.args.pass.now.seat.me c.args.pass.now.going c.args.word c.args.operand n.0 n.1 n.2 n.3
 
 pub sub_said-requires-clause-inside : goal.sub_said-requires-clause-inside
 sub_said-requires-clause-inside c = let n = c.requires.names in let h = room_pin_below (key c.args.table.now) n.0 c.args.word n.1 in let w = c.args.table.now.counted in let k = c.args.table.now.shape_is in grind (arith, h, w, k)
