@@ -65,7 +65,7 @@ fn copies_of<R: Wait + Drop + Send>(
 }
 
 /// Copies the value of a view's life, and tells its stamp and its length.
-fn looks_of<R: Wait + Drop + Send>(
+pub(crate) fn looks_of<R: Wait + Drop + Send>(
     rt: &R,
     map: &OakMap<R>,
     pass: &mut Pass,

@@ -28,6 +28,8 @@ mod test_calls;
 mod tests;
 #[cfg(test)]
 mod thread_tests;
+#[cfg(test)]
+mod worn_tests;
 
 pub use lending::{Lent, Looked, get_of, look_of, scan_of};
 pub use map::{MapPass, OakMap};

@@ -1,6 +1,7 @@
 //! Runs of the program in memory: what the tests share.
 ghost use Rattle.std.specs.Prelude.{◌≡◌, ◌<◌, ◌^◌, IfOk, length};
 ghost use Rattle.std.specs.List.{AllByRecursion};
+ghost use Rattle.oak_core.specs.Closing.{FullsLacked};
 ghost use Rattle.oak_script.specs.declared.limits.TheConstants.{GREATEST_THREADS};
 ghost use Rattle.oak_script.specs.Grammar.{IsScript};
 
@@ -9,6 +10,7 @@ mod counting;
 mod gates;
 mod lent;
 mod pieces;
+mod refusals;
 mod small_shapes;
 mod statuses;
 mod threads;
@@ -79,7 +81,9 @@ fn run_of<R: Threads + Wait + Clone + Drop + Send + Sync + AllocGlobal, G: Gate>
     rt: &R,
     text: &str,
     gate: &G,
-) -> Result<(Ran, Vec<u8>), Fail> {
+) -> Result<(Ran, Vec<u8>), Fail>
+    ensures causes { IfOk result (λ r. FullsLacked r.0.closed) }
+{
     let alloc = rt.alloc();
     let script = script_of(alloc, text)?;
     let ran = run_script(rt, &script, gate, recipes_of(alloc)?)?;

@@ -4,7 +4,7 @@ use super::expect;
 use std::test::Fail;
 
 /// A script without its first line and its last, and the text of its run; with a slash for a line's end.
-const ROWS: [(&str, &str); 6] = [
+const ROWS: [(&str, &str); 7] = [
     // A removed key's entry is dropped for want of entries, and its writes still count.
     (
         "shape 4 4 16 16 0 0 0/thread/put 6b 01/remove 6b/put 61 00/put 62 00/put 63 00/put 64 00/\
@@ -43,6 +43,12 @@ const ROWS: [(&str, &str); 6] = [
         "shape 4 4 1 8 0 0 0/thread/put 61 01/put 62 02/put 61 03",
         "t1.1 new @1/t1.2 full header/t1.3 over @2/map 1/61 03/arena/b16 2 8/b64 0 0/b256 0 0/\
          b1024 0 0/headers 1 1/chunks 1 4",
+    ),
+    // There is no block.
+    (
+        "shape 1 4 1 0 0 0 0/thread/put 61 01/get 61",
+        "t1.1 full b16/t1.2 none @0/map 0/arena/b16 0 0/b64 0 0/b256 0 0/b1024 0 0/headers 0 1/\
+         chunks 1 1",
     ),
     // Two chunks are merged at the end.
     (
