@@ -11,7 +11,7 @@ use Rattle.oak_model.proofs.Counting.{total_append, total_set, total_snoc}
 use Rattle.header_core.specs.HeaderStep.{HeaderStep, claim_header, store_place, store_stamp, change_place, open_header, pin_header, unpin_header, release_header, lock_header, unlock_header, mark_dead, take_back}
 use Rattle.header_core.specs.declared.holds.HeldHeader.{HeldHeader}
 use Rattle.chunk_core.specs.declared.holds.PinnedRoom.{PinnedRoom}
-use Rattle.chunk_core.specs.RoomStep.{RoomStep, pin_room, unpin_room, latch_room, store_entry, publish_entry, unlatch_room, set_value, unlink_entry, freeze_room, hold_room, claim_room, store_room, open_room, retire_room}
+use Rattle.chunk_core.specs.RoomStep.{RoomStep, pin_room, unpin_room, latch_room, store_entry, publish_entry, unlatch_room, set_value, unlink_entry, freeze_room, thaw_room, hold_room, claim_room, store_room, open_room, retire_room}
 use Rattle.arena_core.specs.Place.{content}
 use Rattle.oak_core.specs.declared.states.Joined.{Joined}
 use Rattle.oak_core.specs.declared.states.KeyedWrite.{KeyedWrite}
@@ -94,6 +94,7 @@ room_made call m qs v (unlatch_room k) f = omega arith
 room_made call m qs v (set_value k i old new kind) f = value_made _ v.numbers.number call kind (pinned_key k i v.rooms.pin) (held_header _ v.headers.held) qs v.knowledge f
 room_made call m qs v (unlink_entry k i x) f = omega arith
 room_made call m qs v (freeze_room k old) f = omega arith
+room_made call m qs v (thaw_room k) f = omega arith
 room_made call m qs v (hold_room k old) f = omega arith
 room_made call m qs v (claim_room k old) f = omega arith
 room_made call m qs v (store_room p x) f = omega arith
