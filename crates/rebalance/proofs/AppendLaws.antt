@@ -8,7 +8,8 @@ use Rattle.chunk_core.specs.Rooms.{RoomMemory, at_base, at_count}
 use Rattle.oak_core.specs.declared.sorting.SortSlot.{SortSlot}
 use Rattle.rebalance.specs.Filled.{StoresSlots, IsLinked, Appends, KeepsCounts, next_of, first_of, count_of, link_to}
 use Rattle.rebalance.specs.HeldRooms.{spot}
-use Rattle.rebalance.proofs.FillLaws.{at_one, at_room, more_entries}
+use Rattle.rebalance.proofs.FillLaws.{more_entries}
+use Rattle.rebalance.proofs.StoredWords.{at_one, at_room}
 
 -- links and first links by numbers
 

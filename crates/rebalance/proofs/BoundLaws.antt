@@ -3,7 +3,7 @@ use Rattle.std.proofs.Common.{◌≡◌, ◌≢◌, ℕ, suc, ◌+◌, ◌<◌, 
 use Rattle.chunk_core.specs.RoomStep.{put_room}
 use Rattle.chunk_core.specs.Rooms.{RoomMemory, at_low, at_high}
 use Rattle.rebalance.specs.Bounds.{Sets, KeepsButBounds, bound_word}
-use Rattle.rebalance.proofs.FillLaws.{at_one}
+use Rattle.rebalance.proofs.StoredWords.{at_one}
 
 -- no word was stored yet
 pub sets_none : (r : ℕ) (g : ℕ → ℕ) (a : ℕ → ℕ → ℕ) → Sets r 0 g a a

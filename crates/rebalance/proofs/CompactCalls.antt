@@ -23,7 +23,8 @@ use Rattle.oak_core.proofs.CallSteps.{step_since, step_until}
 use Rattle.oak_core.proofs.FullClaims.{claims_none}
 use Rattle.rebalance.specs.Calls.{ComesToHold, Compacts, Leaves, OpensWith, SweepsKey}
 use Rattle.rebalance.specs.Copies.{copy_span}
-use Rattle.rebalance.specs.Chunks.{AllValued, CompactsFront, HoldsFor, OpensFront, WorksBeside}
+use Rattle.rebalance.specs.Chunks.{CompactsFront, HoldsFor, OpensFront, WorksBeside}
+use Rattle.rebalance.specs.HeldRooms.{AllValued}
 use Rattle.rebalance.specs.HeldTables.{Apart, HoldsOnlyRooms, IsHeldRow}
 use Rattle.rebalance.proofs.ChunkLaws.{works_both, works_of_rooms}
 use Rattle.rebalance.proofs.LoneChunks.{step_apart}

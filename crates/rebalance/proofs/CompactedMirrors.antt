@@ -29,7 +29,7 @@ use Rattle.rebalance.proofs.FilledCopies.{copied_sum, filled_many, filled_prefix
 use Rattle.rebalance.proofs.MirroredEntries.{drops, kept_left, all_valued}
 
 -- A room that was filled with the entries of a range mirrors it.
-pub filled_mirrors : (z : Sizes) (m : RoomMemory) (r : ℕ) (xs : List SortSlot) (base : ℕ) (g : MovingRange) (keys : ℕ → List ℕ) → z.entries ≤ GREATEST_ENTRIES → IsFilled r xs base m → length xs ≤ z.entries → base ≡ g.base → BoundsAre m r g → SlotsHave keys xs g → Mirrors z (copy_at z m r) g
+pub filled_mirrors : (z : Sizes) (m : RoomMemory) (r : ℕ) (xs : List SortSlot) (base : ℕ) (g : MovingRange) (keys : ℕ → List ℕ) → z.entries ≤ GREATEST_ENTRIES → IsFilled z.entries r xs base m → length xs ≤ z.entries → base ≡ g.base → BoundsAre m r g → SlotsHave keys xs g → Mirrors z (copy_at z m r) g
 filled_mirrors z m r xs base g keys limit filled few base_is bounds slots = let many = filled_many z m r xs base filled few limit in let prefix = filled_prefix z m r xs base filled few limit in record {
   base = filled.base_is ∙ base_is;
   low = bounds.low;
@@ -92,7 +92,7 @@ module _ (z : Sizes) (m : RoomMemory) (r : ℕ) (g : MovingRange) (mirrors : Mir
         bounds_still m m1 r g (dropped_range (dropped (in_use m r)) g) (bounds_of z m r g mirrors) (ap (λ (f : ℕ → ℕ → ℕ). f r) gone.low) (ap (λ (f : ℕ → ℕ → ℕ). f r) gone.high) (ap (λ (f : ℕ → ℕ). f r) gone.latch) d.low d.high
 
     -- the room is filled with them, in the order of their keys
-    pub compacted_mirrors : (base n : ℕ) (m1 m2 : RoomMemory) → z.entries ≤ GREATEST_ENTRIES → KeysRise keys xs → base ≡ greatest (m.base r) (dropped (in_use m r)) → DropsKeys r n m m1 → Fills r xs base m1 m2 → Mirrors z (copy_at z m2 r) (dropped_range (dropped (in_use m r)) g)
+    pub compacted_mirrors : (base n : ℕ) (m1 m2 : RoomMemory) → z.entries ≤ GREATEST_ENTRIES → KeysRise keys xs → base ≡ greatest (m.base r) (dropped (in_use m r)) → DropsKeys r n m m1 → Fills z.entries r xs base m1 m2 → Mirrors z (copy_at z m2 r) (dropped_range (dropped (in_use m r)) g)
     compacted_mirrors base n m1 m2 limit rise base_is gone fills = let g1 : MovingRange = dropped_range (dropped (in_use m r)) g in let b = fills.bounds_kept in
         filled_mirrors z m2 r xs base g1 keys limit fills.filled slots_few (read_base base base_is)
         (bounds_still m1 m2 r g1 g1 (read_bounds n m1 gone) (ap (λ (f : ℕ → ℕ → ℕ). f r) b.low) (ap (λ (f : ℕ → ℕ → ℕ). f r) b.high) (ap (λ (f : ℕ → ℕ). f r) b.latch) refl refl) (slots_have rise)

@@ -1,5 +1,5 @@
 -- One slot more was stored, and then the counts.
-use Rattle.std.proofs.Common.{◌≡◌, ◌≢◌, ℕ, zero, suc, ◌+◌, ◌<◌, ◌≤◌, ◌==◌, ◌&&◌, ◌⊎◌, inl, inr, Bool, cond, List, [], ◌∷◌, ◌++◌, map, length, get_or, drop, sym, ◌∙◌, ap, refl, subst, arith, eq-eqb, ne_eqb}
+use Rattle.std.proofs.Common.{◌≡◌, ◌≢◌, ℕ, zero, suc, ◌+◌, ◌-◌, ◌<◌, ◌≤◌, ◌⊎◌, inl, inr, List, [], ◌∷◌, ◌++◌, map, length, get_or, drop, sym, ◌∙◌, ap, refl, subst, arith}
 use Rattle.std.proofs.lemmas.List.{length-map, get_or-map, get_or-take, get_or-drop, length-take-le, length-drop}
 use mathlib.Core.Logic.{dite}
 use native.Mathlib.Decide.{ℕ_discrete}
@@ -10,20 +10,10 @@ use Rattle.chunk_core.specs.Rooms.{RoomMemory, at_base, at_first, at_count}
 use Rattle.oak_core.specs.declared.sorting.SortSlot.{SortSlot}
 use Rattle.rebalance.specs.declared.entries.Entry.{Entry}
 use Rattle.rebalance.specs.Entries.{entries}
-use Rattle.rebalance.specs.Filled.{AreAt, KeepsBelow, KeepsEntries, StoresSlots, Fills, FillsBoth, slots_from, write_slot, next_of, first_of, count_of}
+use Rattle.rebalance.specs.Filled.{AreAt, ClearsEntries, KeepsBelow, KeepsEntries, StoresSlots, Fills, FillsBoth, slots_from, write_slot, next_of, first_of, count_of}
 use Rattle.rebalance.specs.Slots.{entry_of}
-
--- what stands at j of q after a store at i of r
-pub at_one : (j i q r x y : ℕ) (P : ℕ → Type 0) → (j ≡ i → q ≡ r → P x) → ((j ≢ i) ⊎ (q ≢ r) → P y) → P (cond ((j == i) && (q == r)) x y)
-at_one j i q r x y P here else = dite (ℕ_discrete j i)
-    (λ a. dite (ℕ_discrete q r)
-    (λ b. subst (λ (t : Bool). P (cond t x y)) (sym ((λ k. eq-eqb j i a k && eq-eqb q r b k))) (here a b))
-    (λ b. subst (λ (t : Bool). P (cond t x y)) (sym ((λ k. eq-eqb j i a k && ne_eqb q r b k))) (else (inr b))))
-    (λ a. subst (λ (t : Bool). P (cond t x y)) (sym (λ k. ne_eqb j i a k && (q == r))) (else (inl a)))
-
--- and of a word that a room has once
-pub at_room : (q r x y : ℕ) (P : ℕ → Type 0) → (q ≡ r → P x) → (q ≢ r → P y) → P (cond (q == r) x y)
-at_room q r x y P here else = dite (ℕ_discrete q r) (λ b. subst (λ (t : Bool). P (cond t x y)) (sym (eq-eqb q r b)) (here b)) (λ b. subst (λ (t : Bool). P (cond t x y)) (sym (ne_eqb q r b)) (else b))
+use Rattle.rebalance.proofs.ClearLaws.{cleared_rest}
+use Rattle.rebalance.proofs.StoredWords.{at_one, at_room}
 
 -- how many slots a part has, and which
 
@@ -106,43 +96,60 @@ module _ (r start n : ℕ) (slots : List SortSlot) (m m' : RoomMemory) (h : Stor
       ∙ (λ t. rows_same 0 start (row m' r) (row m r) (λ k l. let z : 0 + k ≡ k = omega arith in ap (row m' r) z ∙ ((λ u. record { place = h.below.key k l u; value = h.below.value k l u }) ∙ sym (ap (row m r) z))) t
       ++ (ap (λ (k : ℕ). rows k (length slots) (row m' r)) (let z : 0 + start ≡ start = omega arith in z) ∙ stored_entries) t)
 
--- base, first link and count were stored
-filled_here : (r base : ℕ) (slots : List SortSlot) (before m : RoomMemory) → StoresSlots r 0 slots (0 + length slots) (length slots) before m
-    → Fills r slots base before (put_room (put_room (put_room m (at_base r) base) (at_first r) (first_of (length slots))) (at_count r) (count_of (length slots)))
-unfolding rows
-filled_here r base slots before m h = let n : ℕ = length slots in let zero_more : 0 + n ≡ n = omega arith in let k = h.entries_kept in record {
-  filled = record {
-    is = ap (entries m r) (sym zero_more) ∙ more_entries r 0 n slots before m h;
-    linked = λ j l. let z : 0 + j ≡ j = omega arith in let e : m.next r (0 + j) ≡ next_of (0 + j) (0 + n) = (h.are j (record { words = []; length = 0; key = 0; value = 0 }) l).2 in
-        subst (λ (i : ℕ). m.next r i ≡ next_of i n) z (e ∙ ap (next_of (0 + j)) zero_more);
-    count = at_room r r (count_of n) (m.count r) (λ v. v ≡ count_of n) (λ _. refl) (λ o. absurd (o refl));
-    first = at_room r r (first_of n) (m.first r) (λ v. v ≡ first_of n) (λ _. refl) (λ o. absurd (o refl));
-    base_is = at_room r r base (m.base r) (λ v. v ≡ base) (λ _. refl) (λ o. absurd (o refl));
-  };
-  entries_kept = record { key = λ q j f. k.key q j (λ s. subst (λ (i : ℕ). i ≤ j) (sym zero_more) (f s)); value = λ q j f. k.value q j (λ s. subst (λ (i : ℕ). i ≤ j) (sym zero_more) (f s)); next = λ q j f. k.next q j (λ s. subst (λ (i : ℕ). i ≤ j) (sym zero_more) (f s)) };
-  counts_kept = record {
-    base = λ q o. at_room q r base (m.base q) (λ v. v ≡ before.base q) (λ e. absurd (o e)) (λ _. ap (λ (f : ℕ → ℕ). f q) h.base);
-    count = λ q o. at_room q r (count_of n) (m.count q) (λ v. v ≡ before.count q) (λ e. absurd (o e)) (λ _. ap (λ (f : ℕ → ℕ). f q) h.count);
-    first = λ q o. at_room q r (first_of n) (m.first q) (λ v. v ≡ before.first q) (λ e. absurd (o e)) (λ _. ap (λ (f : ℕ → ℕ). f q) h.first);
-  };
-  bounds_kept = record { pin = h.bounds_kept.pin; latch = h.bounds_kept.latch; low = h.bounds_kept.low; high = h.bounds_kept.high };
-}
+-- The entries behind the slots were cleared, the slots were stored, and then base, first link and count.
+module _ (e r base : ℕ) (slots : List SortSlot) (before bare m : RoomMemory) (few : length slots ≤ e) (c : ClearsEntries r (length slots) (e - length slots) before bare) (h : StoresSlots r 0 slots (0 + length slots) (length slots) bare m) where
+  -- what is behind the slots is as it was cleared
+  behind : (q j : ℕ) → (q ≡ r → length slots ≤ j) → q ≡ r → 0 + length slots ≤ j
+  behind q j f s = let l = f s in omega arith
+
+  -- and what is behind all entries as it was before
+  past : (q j : ℕ) → (q ≡ r → e ≤ j) → q ≡ r → (j < length slots) ⊎ (length slots + (e - length slots) ≤ j)
+  past q j f s = inr (let l = f s in omega arith)
+
+  far : (q j : ℕ) → (q ≡ r → e ≤ j) → q ≡ r → length slots ≤ j
+  far q j f s = let l = f s in omega arith
+
+  filled_here : Fills e r slots base before (put_room (put_room (put_room m (at_base r) base) (at_first r) (first_of (length slots))) (at_count r) (count_of (length slots)))
+  unfolding rows
+  filled_here = let n : ℕ = length slots in let zero_more : 0 + n ≡ n = omega arith in let k = h.entries_kept in let b = h.bounds_kept in let d = c.bounds_kept in record {
+    filled = record {
+      is = ap (entries m r) (sym zero_more) ∙ more_entries r 0 n slots bare m h;
+      linked = λ j l. let z : 0 + j ≡ j = omega arith in let e : m.next r (0 + j) ≡ next_of (0 + j) (0 + n) = (h.are j (record { words = []; length = 0; key = 0; value = 0 }) l).2 in
+          subst (λ (i : ℕ). m.next r i ≡ next_of i n) z (e ∙ ap (next_of (0 + j)) zero_more);
+      count = at_room r r (count_of n) (m.count r) (λ v. v ≡ count_of n) (λ _. refl) (λ o. absurd (o refl));
+      first = at_room r r (first_of n) (m.first r) (λ v. v ≡ first_of n) (λ _. refl) (λ o. absurd (o refl));
+      base_is = at_room r r base (m.base r) (λ v. v ≡ base) (λ _. refl) (λ o. absurd (o refl));
+      rest = λ j le l. let a = cleared_rest r n before e bare few c j le l in (k.key r j (behind r j (λ _. le)) ∙ a.0, k.value r j (behind r j (λ _. le)) ∙ a.1);
+    };
+    entries_kept = record {
+      key = λ q j f. k.key q j (behind q j (far q j f)) ∙ c.key q j (past q j f);
+      value = λ q j f. k.value q j (behind q j (far q j f)) ∙ c.value q j (past q j f);
+      next = λ q j f. k.next q j (behind q j (far q j f)) ∙ ap (λ (g : ℕ → ℕ → ℕ). g q j) c.next;
+    };
+    counts_kept = record {
+      base = λ q o. at_room q r base (m.base q) (λ v. v ≡ before.base q) (λ e. absurd (o e)) (λ _. ap (λ (f : ℕ → ℕ). f q) (h.base ∙ c.base));
+      count = λ q o. at_room q r (count_of n) (m.count q) (λ v. v ≡ before.count q) (λ e. absurd (o e)) (λ _. ap (λ (f : ℕ → ℕ). f q) (h.count ∙ c.count));
+      first = λ q o. at_room q r (first_of n) (m.first q) (λ v. v ≡ before.first q) (λ e. absurd (o e)) (λ _. ap (λ (f : ℕ → ℕ). f q) (h.first ∙ c.first));
+    };
+    bounds_kept = record { pin = b.pin ∙ d.pin; latch = b.latch ∙ d.latch; low = b.low ∙ d.low; high = b.high ∙ d.high };
+  }
 
 -- the same for a number of slots
-pub fills : (r n base : ℕ) (slots : List SortSlot) (before m : RoomMemory) → length slots ≡ n → StoresSlots r 0 slots (0 + n) n before m
-    → Fills r slots base before (put_room (put_room (put_room m (at_base r) base) (at_first r) (first_of n)) (at_count r) (count_of n))
-fills r n base slots before m e = subst (λ (k : ℕ). StoresSlots r 0 slots (0 + k) k before m → Fills r slots base before (put_room (put_room (put_room m (at_base r) base) (at_first r) (first_of k)) (at_count r) (count_of k))) e
-    (filled_here r base slots before m)
+pub fills : (e r n base : ℕ) (slots : List SortSlot) (before bare m : RoomMemory) → length slots ≡ n → n ≤ e → ClearsEntries r n (e - n) before bare → StoresSlots r 0 slots (0 + n) n bare m
+    → Fills e r slots base before (put_room (put_room (put_room m (at_base r) base) (at_first r) (first_of n)) (at_count r) (count_of n))
+fills e r n base slots before bare m is = subst (λ (k : ℕ). k ≤ e → ClearsEntries r k (e - k) before bare → StoresSlots r 0 slots (0 + k) k bare m → Fills e r slots base before (put_room (put_room (put_room m (at_base r) base) (at_first r) (first_of k)) (at_count r) (count_of k))) is
+    (filled_here e r base slots before bare m)
 
 -- one room was filled, and then another
-pub fills_both : (low high : ℕ) (a b : List SortSlot) (base : ℕ) (m n o : RoomMemory) → low ≢ high → Fills low a base m n → Fills high b base n o → FillsBoth low high a b base m o
-fills_both low high a b base m n o apart f h = let k = h.entries_kept in let e = f.entries_kept in let kc = h.counts_kept in let ec = f.counts_kept in let x = f.filled in let away : (j : ℕ) → low ≡ high → length b ≤ j = λ j s. absurd (apart s) in record {
+pub fills_both : (all low high : ℕ) (a b : List SortSlot) (base : ℕ) (m n o : RoomMemory) → low ≢ high → Fills all low a base m n → Fills all high b base n o → FillsBoth all low high a b base m o
+fills_both all low high a b base m n o apart f h = let k = h.entries_kept in let e = f.entries_kept in let kc = h.counts_kept in let ec = f.counts_kept in let x = f.filled in let away : (j : ℕ) → low ≡ high → all ≤ j = λ j s. absurd (apart s) in record {
   low_filled = record {
     is = rows_same 0 (length a) (row o low) (row n low) (λ i _ t. record { place = k.key low (0 + i) (away (0 + i)) t; value = k.value low (0 + i) (away (0 + i)) t }) ∙ x.is;
     linked = λ j l. k.next low j (away j) ∙ x.linked j l;
     count = kc.count low apart ∙ x.count;
     first = kc.first low apart ∙ x.first;
     base_is = kc.base low apart ∙ x.base_is;
+    rest = λ j le l. let q = x.rest j le l in (k.key low j (away j) ∙ q.0, k.value low j (away j) ∙ q.1);
   };
   high_filled = h.filled;
   bounds_kept = record { pin = h.bounds_kept.pin ∙ f.bounds_kept.pin; latch = h.bounds_kept.latch ∙ f.bounds_kept.latch; low = h.bounds_kept.low ∙ f.bounds_kept.low; high = h.bounds_kept.high ∙ f.bounds_kept.high };

@@ -84,7 +84,7 @@ module _ (z : Sizes) (m : RoomMemory) (r : ℕ) where
       get_or-map (λ (e : EntryWords). e.word) (rows 0 z.entries (words_at m r)) i d 0 (omega arith) ∙ (ap (λ (e : EntryWords). e.word) (rows_at 0 z.entries i (words_at m r) d l) ∙ ap (m.key r) (let q : 0 + i ≡ i = omega arith in q))
 
   -- the room was filled with slots
-  module _ (xs : List SortSlot) (base : ℕ) (filled : IsFilled r xs base m) (few : length xs ≤ z.entries) (limit : z.entries ≤ GREATEST_ENTRIES) where
+  module _ (xs : List SortSlot) (base : ℕ) (filled : IsFilled z.entries r xs base m) (few : length xs ≤ z.entries) (limit : z.entries ≤ GREATEST_ENTRIES) where
     -- it has as many entries
     pub filled_many : entries_in (m.count r) ≡ length xs
     filled_many = ap entries_in filled.count ∙ count_entries (length xs) (omega arith)

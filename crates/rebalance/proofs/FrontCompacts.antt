@@ -24,10 +24,11 @@ use Rattle.oak_core.specs.declared.states.PassState.{PassState}
 use Rattle.rebalance.specs.declared.entries.Entry.{Entry}
 use Rattle.rebalance.specs.declared.reading.Read.{Read}
 use Rattle.rebalance.specs.Copies.{entries_of, values_in}
-use Rattle.rebalance.specs.Chunks.{HoldsFront, IsRewritten, AllValued, keys_in}
+use Rattle.rebalance.specs.Chunks.{HoldsFront, IsRewritten, keys_in}
 use Rattle.rebalance.specs.Compacted.{IsCompacted, ReadsSorted, in_use}
 use Rattle.rebalance.specs.DroppedRange.{dropped_range, range_with, sum_of}
 use Rattle.rebalance.specs.Entries.{dropped, kept, has_value, greatest}
+use Rattle.rebalance.specs.HeldRooms.{AllValued}
 use Rattle.rebalance.specs.Mirrors.{Mirrors, held_memory}
 use Rattle.rebalance.specs.SlotRanges.{SlotsHave}
 use Rattle.rebalance.specs.Slots.{entry_of}
@@ -37,15 +38,15 @@ use Rattle.rebalance.proofs.FilledCopies.{copied_entries, copied_sum, filled_man
 use Rattle.rebalance.proofs.FrontRooms.{front_differ, front_keys, front_mirrors, front_stands, front_words}
 
 -- an entry with a value goes with no key word
-none_dropped : (word : ℕ) (c : Carried) → names_header c.value ≡ 1 → is_dropped word c ≡ false
+pub none_dropped : (word : ℕ) (c : Carried) → names_header c.value ≡ 1 → is_dropped word c ≡ false
 none_dropped word c e = ap (λ (n : ℕ). (c.word == word) && (n == 0)) e ∙ test-cases (c.word == word) (λ b. (b && false) ≡ false) (λ _. refl) (λ _. refl)
 
 -- so none of a range does where each has one, and its base stays
-valued_kept : (word : ℕ) (cs : List Carried) → Each (λ (c : Carried). names_header c.value ≡ 1) cs → filter (λ c. not (is_dropped word c)) cs ≡ cs
+pub valued_kept : (word : ℕ) (cs : List Carried) → Each (λ (c : Carried). names_header c.value ≡ 1) cs → filter (λ c. not (is_dropped word c)) cs ≡ cs
 valued_kept word [] all = refl
 valued_kept word (c ∷ cs) all = (λ i. cond (not (none_dropped word c all.0 i)) (c ∷ valued_kept word cs all.1 i) (valued_kept word cs all.1 i))
 
-valued_base : (word base : ℕ) (cs : List Carried) → Each (λ (c : Carried). names_header c.value ≡ 1) cs → base_with word base cs ≡ base
+pub valued_base : (word base : ℕ) (cs : List Carried) → Each (λ (c : Carried). names_header c.value ≡ 1) cs → base_with word base cs ≡ base
 unfolding base_with
 valued_base word base [] all = refl
 valued_base word base (c ∷ cs) all = (λ i. cond (none_dropped word c all.0 i) (greater c.value (valued_base word base cs all.1 i)) (valued_base word base cs all.1 i))
@@ -98,7 +99,7 @@ module _ (z : Sizes) (limit : z.entries ≤ GREATEST_ENTRIES) (r : ℕ) (w : Roo
   words_entries : entries_of w ≡ in_use (held_memory v.rooms.held) r
   words_entries = ap entries_of (sym (front_words z r w g hs gs v f)) ∙ copied_entries z m r (front_mirrors z r w g hs gs v f).few
 
-  module _ (slots : List SortSlot) (x : Read) (read : ReadsSorted (keys_in v.rooms.moving) (held_memory v.rooms.held) r slots x) (m' : RoomMemory) (compacts : IsCompacted r (entries_in ((held_memory v.rooms.held).count r)) (take x.kept slots) x.base (held_memory v.rooms.held) m') where
+  module _ (slots : List SortSlot) (x : Read) (read : ReadsSorted (keys_in v.rooms.moving) (held_memory v.rooms.held) r slots x) (m' : RoomMemory) (compacts : IsCompacted z.entries r (entries_in ((held_memory v.rooms.held).count r)) (take x.kept slots) x.base (held_memory v.rooms.held) m') where
     abbrev xs : List SortSlot
     xs = take x.kept slots
 

@@ -16,6 +16,7 @@ use Rattle.chunk_core.specs.declared.holds.HeldRoom.{HeldRoom}
 use Rattle.chunk_core.specs.declared.holds.MovingRange.{MovingRange}
 use Rattle.chunk_core.specs.declared.holds.RoomCopy.{RoomCopy}
 use Rattle.chunk_core.specs.declared.states.TheConstants.{HELD}
+use Rattle.chunk_core.specs.ChainedRooms.{IsChained}
 use Rattle.chunk_core.specs.Covers.{span_in}
 use Rattle.chunk_core.specs.KeyWords.{low_bytes, high_bytes, low_number, high_number}
 use Rattle.chunk_core.specs.MayOnRooms.{MayOpenCopy}
@@ -89,9 +90,9 @@ module _ (z : Sizes) (r : ℕ) (w : RoomCopy) (g : MovingRange) (hs : List HeldR
       ∙ (λ i. record { low = low_number (bound_read w.low f.whole.low i); high = high_number (bound_read w.high f.whole.high i); base = w.base })
 
   -- it may be opened over all of its range
-  pub front_opens : MayOpenCopy z (copy_of r v.rooms.held) v.rooms.moving
-  front_opens = subst (λ (o : Option RoomCopy). MayOpenCopy z o v.rooms.moving) (sym front_copy) (subst (λ (l : List MovingRange). MayOpenCopy z (Some w) l) (sym f.moving)
-      (opens_whole z w g f.mirrors (range_stands z v f.moment 0 g (ap (λ (l : List MovingRange). get_elem? l 0) f.moving)) (g ∷ gs) 0 refl (λ j h at lt. absurd (omega arith))))
+  pub front_opens : IsChained z w → MayOpenCopy z (copy_of r v.rooms.held) v.rooms.moving
+  front_opens chained = subst (λ (o : Option RoomCopy). MayOpenCopy z o v.rooms.moving) (sym front_copy) (subst (λ (l : List MovingRange). MayOpenCopy z (Some w) l) (sym f.moving)
+      (opens_whole z w g f.mirrors (range_stands z v f.moment 0 g (ap (λ (l : List MovingRange). get_elem? l 0) f.moving)) (g ∷ gs) 0 refl (λ j h at lt. absurd (omega arith)) chained))
 
 -- ---- a look at its words
 

@@ -22,12 +22,13 @@ use Rattle.chunk_ops.specs.RoomPins.{HadMoment}
 use Rattle.rebalance.specs.declared.entries.Entry.{Entry}
 use Rattle.rebalance.specs.declared.reading.Read.{Read}
 use Rattle.rebalance.specs.Copies.{values_in}
-use Rattle.rebalance.specs.Chunks.{AllValued, CompactsFront, HoldsFront, ReadsFront, keys_in}
+use Rattle.rebalance.specs.Chunks.{CompactsFront, HoldsFront, ReadsFront, keys_in}
 use Rattle.rebalance.specs.Compacted.{ReadsSorted, in_use}
 use Rattle.rebalance.specs.DroppedRange.{sum_of}
 use Rattle.rebalance.specs.Dropping.{DropsKeys, dropped_ranges}
 use Rattle.rebalance.specs.Entries.{dropped, kept}
 use Rattle.rebalance.specs.Filled.{Fills}
+use Rattle.rebalance.specs.HeldRooms.{AllValued}
 use Rattle.rebalance.specs.HeldTables.{Apart, HoldsAlone, IsHeldRow, WorksOnRooms, works_none, works_both}
 use Rattle.rebalance.specs.Mirrors.{held_memory}
 use Rattle.rebalance.specs.Slots.{entry_of}
@@ -84,7 +85,7 @@ module _ (z : Sizes) (call r : ℕ) (w : RoomCopy) (g : MovingRange) (hs : List 
   read_alone = let a = front_alone z r w g hs gs v f in record { room = reads.works.copies r a.room; only = only_still z call v u reads.works a.only; begun = reads.works.moment a.begun }
 
   -- once it is filled with the slots, it was compacted
-  pub read_filled : Each AllValued gs → Each (IsHeldRow z) hs → Apart hs → (t : PassState) → WorksOnRooms z call u t → t.rooms.moving ≡ u.rooms.moving → Fills r (take x.kept slots) x.base (held_memory u.rooms.held) (held_memory t.rooms.held) → CompactsFront z call r x.dropped (take x.kept slots) w hs gs v t
+  pub read_filled : Each AllValued gs → Each (IsHeldRow z) hs → Apart hs → (t : PassState) → WorksOnRooms z call u t → t.rooms.moving ≡ u.rooms.moving → Fills z.entries r (take x.kept slots) x.base (held_memory u.rooms.held) (held_memory t.rooms.held) → CompactsFront z call r x.dropped (take x.kept slots) w hs gs v t
   read_filled others rows several t works ranges fills = front_compacts z call r w g hs gs v f others rows several t (works_both z call v u t reads.works works) slots x (ranges ∙ reads.ranges) reads.read (record { between = held_memory u.rooms.held; drops = reads.drops; fills = fills }) reads.named
 
   -- As many were kept as a room has entries.

@@ -17,12 +17,13 @@ use Rattle.oak_core.specs.declared.sorting.SortSlot.{SortSlot}
 use Rattle.oak_core.specs.declared.states.PassState.{PassState}
 use Rattle.chunk_ops.specs.RoomPins.{HadMoment}
 use Rattle.rebalance.specs.declared.reading.Read.{Read}
-use Rattle.rebalance.specs.Chunks.{AllValued, CompactsFront, HoldsFront, held_row, keys_in}
+use Rattle.rebalance.specs.Chunks.{CompactsFront, HoldsFront, held_row, keys_in}
 use Rattle.rebalance.specs.Compacted.{IsCompacted, ReadsSorted, in_use}
 use Rattle.rebalance.specs.DroppedRange.{dropped_range, range_with}
 use Rattle.rebalance.specs.Dropping.{dropped_ranges}
 use Rattle.rebalance.specs.Entries.{dropped}
 use Rattle.rebalance.specs.Filled.{IsFilled}
+use Rattle.rebalance.specs.HeldRooms.{AllValued}
 use Rattle.rebalance.specs.HeldTables.{Apart, HoldsOnlyRooms, IsHeldRow, RowsStay, WorksOnRooms, key_of_entry, with_word}
 use Rattle.rebalance.specs.Mirrors.{held_memory}
 use Rattle.rebalance.specs.SlotRanges.{SlotsHave}
@@ -41,8 +42,8 @@ pub only_still : (z : Sizes) (call : ℕ) (v u : PassState) → WorksOnRooms z c
 only_still z call v u w o = record { blocks = w.blocks ∙ o.blocks; headers = w.headers ∙ o.headers; pin = w.pin ∙ o.pin; latch = w.latch ∙ o.latch; claim = w.claim ∙ o.claim }
 
 -- a compaction of one room leaves the words of the others
-pub compacted_else : (z : Sizes) (r n : ℕ) (xs : List SortSlot) (base : ℕ) (m m' : RoomMemory) → IsCompacted r n xs base m m' → (q : ℕ) → q ≢ r → SameWords z q m m'
-compacted_else z r n xs base m m' c q ne = let d = c.drops in let f = c.fills in record {
+pub compacted_else : (z : Sizes) (e r n : ℕ) (xs : List SortSlot) (base : ℕ) (m m' : RoomMemory) → IsCompacted e r n xs base m m' → (q : ℕ) → q ≢ r → SameWords z q m m'
+compacted_else z e r n xs base m m' c q ne = let d = c.drops in let f = c.fills in record {
   base = f.counts_kept.base q ne ∙ ap (λ (g : ℕ → ℕ). g q) d.base;
   count = f.counts_kept.count q ne ∙ ap (λ (g : ℕ → ℕ). g q) d.count;
   latch = ap (λ (g : ℕ → ℕ). g q) (f.bounds_kept.latch ∙ d.latch);
@@ -67,7 +68,7 @@ dropped_origin (e ∷ es) g = dropped_origin es (range_with e.place g) ∙ test-
 
 module _ (z : Sizes) (call r : ℕ) (w : RoomCopy) (g : MovingRange) (hs : List HeldRoom) (gs : List MovingRange) (v : PassState) (f : HoldsFront z r w g hs gs v) (others : Each AllValued gs) (rows : Each (IsHeldRow z) hs) (several : Apart hs)
     (u : PassState) (works : WorksOnRooms z call v u) (slots : List SortSlot) (x : Read) (ranges : u.rooms.moving ≡ dropped_ranges (dropped (in_use (held_memory v.rooms.held) r)) v.rooms.moving) (read : ReadsSorted (keys_in v.rooms.moving) (held_memory v.rooms.held) r slots x)
-    (compacts : IsCompacted r (entries_in ((held_memory v.rooms.held).count r)) (take x.kept slots) x.base (held_memory v.rooms.held) (held_memory u.rooms.held)) where
+    (compacts : IsCompacted z.entries r (entries_in ((held_memory v.rooms.held).count r)) (take x.kept slots) x.base (held_memory v.rooms.held) (held_memory u.rooms.held)) where
   abbrev limit : z.entries ≤ GREATEST_ENTRIES
   limit = entries_limited z v f.moment
 
@@ -79,7 +80,7 @@ module _ (z : Sizes) (call r : ℕ) (w : RoomCopy) (g : MovingRange) (hs : List 
 
   now_rows : (u.rooms.held ≡ held_row r (copy_at z (held_memory u.rooms.held) r) ∷ hs) × IsWholeCopy z (copy_at z (held_memory u.rooms.held) r)
   now_rows = rows_are z r w hs u.rooms.held f.whole rows f.apart several (subst (λ (vs : List HeldRoom). RowsStay z vs u.rooms.held) f.held works.rows)
-      (λ q ne _. subst (λ (vs : List HeldRoom). SameWords z q (held_memory vs) (held_memory u.rooms.held)) f.held (compacted_else z r (entries_in ((held_memory v.rooms.held).count r)) (take x.kept slots) x.base (held_memory v.rooms.held) (held_memory u.rooms.held) compacts q ne))
+      (λ q ne _. subst (λ (vs : List HeldRoom). SameWords z q (held_memory vs) (held_memory u.rooms.held)) f.held (compacted_else z z.entries r (entries_in ((held_memory v.rooms.held).count r)) (take x.kept slots) x.base (held_memory v.rooms.held) (held_memory u.rooms.held) compacts q ne))
 
   now_front : HoldsFront z r words range hs gs u
   now_front = record {
@@ -104,6 +105,6 @@ module _ (z : Sizes) (call r : ℕ) (w : RoomCopy) (g : MovingRange) (hs : List 
     kept_is = kept_values z limit r w g hs gs v f slots x read (held_memory u.rooms.held) compacts;
     count_is = now_counted z limit r w g hs gs v f slots x read (held_memory u.rooms.held) compacts;
     has = subst (λ (cs : List Carried). SlotsHave (λ k. key_of_entry (with_word k cs)) (take x.kept slots) range) (sym works.carried) (still_has z limit r w g hs gs v f slots x read (held_memory u.rooms.held) compacts);
-    filled = subst (λ (b : ℕ). IsFilled r (take x.kept slots) b (held_memory u.rooms.held)) (sym compacts.fills.filled.base_is) compacts.fills.filled;
+    filled = subst (λ (b : ℕ). IsFilled z.entries r (take x.kept slots) b (held_memory u.rooms.held)) (sym compacts.fills.filled.base_is) compacts.fills.filled;
     named = named;
   }

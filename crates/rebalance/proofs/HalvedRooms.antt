@@ -86,7 +86,7 @@ two_apart r q w c ne = (let o = one_at-other r q ne in omega arith, (refl, tt))
 -- ---- the halves are stored
 
 module _ (z : Sizes) (call r q : ℕ) (w c : RoomCopy) (g : MovingRange) (v : PassState) (h : HoldsPair z r q w c g v) (slots : List SortSlot) (x : Read) (all : HasWhole z r slots x v) (u : PassState) (works : WorksOnRooms z call v u) (moving : u.rooms.moving ≡ v.rooms.moving)
-    (splits : Splits r q (take (x.kept / 2) slots) (slots_from (x.kept / 2) (x.kept - x.kept / 2) slots) (key_of (slice_index_or slots (x.kept / 2) no_slot)) x.base (held_memory v.rooms.held) (held_memory u.rooms.held)) where
+    (splits : Splits z.entries r q (take (x.kept / 2) slots) (slots_from (x.kept / 2) (x.kept - x.kept / 2) slots) (key_of (slice_index_or slots (x.kept / 2) no_slot)) x.base (held_memory v.rooms.held) (held_memory u.rooms.held)) where
   abbrev m : RoomMemory
   m = held_memory v.rooms.held
 
@@ -105,8 +105,8 @@ module _ (z : Sizes) (call r q : ℕ) (w c : RoomCopy) (g : MovingRange) (v : Pa
   abbrev high_copy : RoomCopy
   high_copy = copy_at z (held_memory u.rooms.held) q
 
-  parted : Splits r q (take half xs) (drop half xs) (key_of (slice_index_or slots half no_slot)) x.base m m'
-  parted = splits_front r q slots half x.kept (key_of (slice_index_or slots half no_slot)) x.base m m' (let f = half_fewer z r q w c g v h slots x all in omega arith) splits
+  parted : Splits z.entries r q (take half xs) (drop half xs) (key_of (slice_index_or slots half no_slot)) x.base m m'
+  parted = splits_front z.entries r q slots half x.kept (key_of (slice_index_or slots half no_slot)) x.base m m' (let f = half_fewer z r q w c g v h slots x all in omega arith) splits
 
   some_high : half < length xs
   some_high = let l = whole_long z r q w c g v h slots x all in let f = half_fewer z r q w c g v h slots x all in omega arith

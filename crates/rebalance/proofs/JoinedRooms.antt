@@ -27,7 +27,7 @@ use Rattle.rebalance.specs.declared.merging.Taken.{Taken}
 use Rattle.rebalance.specs.Bounds.{KeepsButBounds, Sets}
 use Rattle.rebalance.specs.Chunks.{held_row, keys_in}
 use Rattle.rebalance.specs.Entries.{entries}
-use Rattle.rebalance.specs.Filled.{Appends, IsFilled, IsLinked}
+use Rattle.rebalance.specs.Filled.{Appends, AreBare, IsFilled, IsLinked}
 use Rattle.rebalance.specs.HeldTables.{HoldsAlone, HoldsOnlyRooms, RowsStay, WorksOnRooms}
 use Rattle.rebalance.specs.Holding.{Retires}
 use Rattle.rebalance.specs.Merging.{HoldsPair, JoinsPair}
@@ -36,6 +36,7 @@ use Rattle.rebalance.specs.SlotRanges.{BoundsAre}
 use Rattle.rebalance.specs.Slots.{entry_of}
 use Rattle.rebalance.proofs.ChunkLaws.{without_first, works_both, works_of_rooms, works_of_stands}
 use Rattle.rebalance.proofs.CompactedMirrors.{bounds_of}
+use Rattle.rebalance.proofs.FilledChains.{filled_chained}
 use Rattle.rebalance.proofs.FilledCopies.{filled_many, filled_prefix}
 use Rattle.rebalance.proofs.FrontRewrites.{entries_limited, only_still}
 use Rattle.rebalance.proofs.FrontRooms.{front_mirrors}
@@ -124,6 +125,9 @@ module _ (z : Sizes) (low up : Taken) (slots : List SortSlot) (v : PassState) (p
     own_still : entries m low.room (length p.own) ≡ map entry_of p.own
     own_still = entries_still (held_memory v.rooms.held) m low.room (length p.own) (λ j. ap (λ (f : ℕ → ℕ → ℕ). f low.room j) rest.key) (λ j. ap (λ (f : ℕ → ℕ → ℕ). f low.room j) rest.value) ∙ p.own_filled.is
 
+    own_bare : AreBare z.entries low.room (length p.own) m
+    own_bare j le l = let b = p.own_filled.rest j le l in (ap (λ (f : ℕ → ℕ → ℕ). f low.room j) rest.key ∙ b.0, ap (λ (f : ℕ → ℕ → ℕ). f low.room j) rest.value ∙ b.1)
+
     lower_mirrors : Mirrors z (copy_at z (held_memory v.rooms.held) low.room) p.below
     lower_mirrors = subst (λ (x : RoomCopy). Mirrors z x p.below) (sym (held_copy z low.room p.lower v.rooms.held lower_copy p.whole)) p.mirrors
 
@@ -141,7 +145,7 @@ module _ (z : Sizes) (low up : Taken) (slots : List SortSlot) (v : PassState) (p
     greater_base = let a = p.lower_base in let b = p.upper_base in let c = p.mirrors.base in let d = p.front.mirrors.base in greater-cases p.above.base p.below.base (λ (t : ℕ). base ≡ t) (λ l. omega arith) (λ l. omega arith)
 
     joined_mirrors : Mirrors z (copy_at z (held_memory n.rooms.held) low.room) (joined_by p.above p.below)
-    joined_mirrors = merged z (entries_limited z v p.front.moment) m (held_memory n.rooms.held) low.room (keys_in v.rooms.moving) p.own slots p.above p.below base above_stands below_stands p.neighbours p.own_has p.has own_still appends few greater_base bounds
+    joined_mirrors = merged z (entries_limited z v p.front.moment) m (held_memory n.rooms.held) low.room (keys_in v.rooms.moving) p.own slots p.above p.below base above_stands below_stands p.neighbours p.own_has p.has own_still own_bare appends few greater_base bounds
 
     rows_now : n.rooms.held ≡ held_row up.room (copy_at z (held_memory n.rooms.held) up.room) ∷ held_row low.room (copy_at z (held_memory n.rooms.held) low.room) ∷ []
     unfolding total
@@ -164,8 +168,8 @@ module _ (z : Sizes) (low up : Taken) (slots : List SortSlot) (v : PassState) (p
       claim = ap (λ (a : RoomHolds). a.claim) retires.rooms ∙ o.claim;
     }
 
-    joined_filled : IsFilled low.room (p.own ++ slots) base (held_memory n.rooms.held)
-    joined_filled = appended_filled low.room p.own slots base m (held_memory n.rooms.held) own_still appends
+    joined_filled : IsFilled z.entries low.room (p.own ++ slots) base (held_memory n.rooms.held)
+    joined_filled = appended_filled z.entries low.room p.own slots base m (held_memory n.rooms.held) own_still own_bare appends
 
     pub pair_joins : JoinsPair z call low up p.below p.above v u
     unfolding total
@@ -189,5 +193,6 @@ module _ (z : Sizes) (low up : Taken) (slots : List SortSlot) (v : PassState) (p
         count = filled_many z (held_memory n.rooms.held) low.room (p.own ++ slots) base joined_filled (omega arith) limit ∙ (omega arith);
         prefix = filled_prefix z (held_memory n.rooms.held) low.room (p.own ++ slots) base joined_filled (omega arith) limit ∙ (omega arith);
       };
+      chained = filled_chained z (held_memory n.rooms.held) low.room (p.own ++ slots) base joined_filled (omega arith) limit;
       alone = frees_upper z low.room up.room p.lower p.upper v n u p.front.held works.words retires.alone;
     }

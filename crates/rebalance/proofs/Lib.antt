@@ -12,12 +12,15 @@ pub mod KeysDropped
 pub mod AppendLaws
 pub mod BoundLaws
 pub mod DropLaws
+pub mod StoredWords
+pub mod ClearLaws
 pub mod FillLaws
 pub mod ReadLaws
 pub mod SortLaws
 pub mod CompactedMirrors
 pub mod DroppedRange
 pub mod FilledCopies
+pub mod FilledChains
 pub mod HeldRoomFacts
 pub mod JoinedRanges
 pub mod MergedMirrors
@@ -57,6 +60,7 @@ mod SettledCalls
 pub mod SweptRooms
 pub mod FrontRooms
 pub mod FrontCompacts
+pub mod KeysCleared
 pub mod TakenRanges
 pub mod FrontRewrites
 pub mod ListedRows
@@ -68,6 +72,8 @@ pub mod ReopenedChunks
 pub mod WholeRooms
 pub mod LoneSteps
 pub mod HeldPairs
+pub mod ValuedRanges
+pub mod ChainedFronts
 mod LoneHalves
 pub mod HalvedRooms
 mod LoneSplits

@@ -24,7 +24,7 @@ use Rattle.oak_core.specs.declared.sorting.SortSlot.{SortSlot}
 use Rattle.rebalance.specs.declared.entries.Entry.{Entry}
 use Rattle.rebalance.specs.DroppedRange.{sum_of}
 use Rattle.rebalance.specs.Entries.{entries}
-use Rattle.rebalance.specs.Filled.{IsFilled, Appends, count_of, first_of, next_of}
+use Rattle.rebalance.specs.Filled.{AreBare, IsFilled, Appends, count_of, first_of, next_of}
 use Rattle.rebalance.specs.Mirrors.{Mirrors, RangeStands, range_span}
 use Rattle.rebalance.specs.SlotRanges.{SlotsHave, BoundsAre}
 use Rattle.rebalance.specs.Slots.{entry_of}
@@ -91,16 +91,17 @@ joined_bounds m n low high g h lower upper lows highs latch = let a = lower.fit 
 }
 
 -- Behind a room's own entries those of the slots were stored.
-pub appended_filled : (r : ℕ) (ys xs : List SortSlot) (base : ℕ) (m n : RoomMemory) → entries m r (length ys) ≡ map entry_of ys → Appends r (length ys) xs base m n → IsFilled r (ys ++ xs) base n
-appended_filled r ys xs base m n own a = let e : length ys + length xs ≡ length (ys ++ xs) = sym (length-append ys xs) in record {
+pub appended_filled : (e r : ℕ) (ys xs : List SortSlot) (base : ℕ) (m n : RoomMemory) → entries m r (length ys) ≡ map entry_of ys → AreBare e r (length ys) m → Appends r (length ys) xs base m n → IsFilled e r (ys ++ xs) base n
+appended_filled all r ys xs base m n own bare a = let e : length ys + length xs ≡ length (ys ++ xs) = sym (length-append ys xs) in record {
   is = ap (entries n r) (sym e) ∙ (a.is ∙ (ap (λ (es : List Entry). es ++ map entry_of xs) own ∙ sym (map-append entry_of ys xs)));
   linked = λ j l. a.linked.linked j (omega arith) ∙ ap (next_of j) e;
   count = a.count ∙ ap count_of e;
   first = a.linked.first ∙ ap first_of e;
   base_is = a.base_is;
+  rest = λ j le l. let b = bare j (omega arith) l in (a.entries_kept.key r j (λ _. omega arith) ∙ b.0, a.entries_kept.value r j (λ _. omega arith) ∙ b.1);
 }
 
 -- The lower room, with the slots of both ranges, their bounds and the greater base, mirrors them together.
 pub merged_mirrors : (z : Sizes) (n : RoomMemory) (r : ℕ) (keys : ℕ → List ℕ) (ys xs : List SortSlot) (g h : MovingRange) (base : ℕ) → z.entries ≤ GREATEST_ENTRIES → RangeStands g → RangeStands h → is_below g h ≡ true → SlotsHave keys ys h → SlotsHave keys xs g
-    → IsFilled r (ys ++ xs) base n → length ys + length xs ≤ z.entries → base ≡ greater g.base h.base → BoundsAre n r (joined_by g h) → Mirrors z (copy_at z n r) (joined_by g h)
+    → IsFilled z.entries r (ys ++ xs) base n → length ys + length xs ≤ z.entries → base ≡ greater g.base h.base → BoundsAre n r (joined_by g h) → Mirrors z (copy_at z n r) (joined_by g h)
 merged_mirrors z n r keys ys xs g h base limit stands_g stands_h below lower upper filled few base_is bounds = filled_mirrors z n r (ys ++ xs) base (joined_by g h) keys limit filled (let e = length-append ys xs in omega arith) base_is bounds (joined_slots keys ys xs g h stands_g stands_h below lower upper)

@@ -58,13 +58,14 @@ begins_there s t h ends begun inside apart = let l = begins_by t h inside in dit
     (λ ge. omega arith)
 
 -- a room whose words are as they were is filled still
-pub still_filled : (r : ℕ) (xs : List SortSlot) (base : ℕ) (hs ks : List HeldRoom) → copy_of r ks ≡ copy_of r hs → IsFilled r xs base (held_memory hs) → IsFilled r xs base (held_memory ks)
-still_filled r xs base hs ks e f = record {
+pub still_filled : (e r : ℕ) (xs : List SortSlot) (base : ℕ) (hs ks : List HeldRoom) → copy_of r ks ≡ copy_of r hs → IsFilled e r xs base (held_memory hs) → IsFilled e r xs base (held_memory ks)
+still_filled all r xs base hs ks e f = record {
   is = entries_still (held_memory hs) (held_memory ks) r (length xs) (λ j. ap (λ (o : Option RoomCopy). entry_words (copy_or o) j (λ x. x.word)) e) (λ j. ap (λ (o : Option RoomCopy). entry_words (copy_or o) j (λ x. x.value)) e) ∙ f.is;
   linked = λ j l. ap (λ (o : Option RoomCopy). entry_words (copy_or o) j (λ x. x.next)) e ∙ f.linked j l;
   count = ap (λ (o : Option RoomCopy). (copy_or o).count) e ∙ f.count;
   first = ap (λ (o : Option RoomCopy). (copy_or o).first) e ∙ f.first;
   base_is = ap (λ (o : Option RoomCopy). (copy_or o).base) e ∙ f.base_is;
+  rest = λ j le l. let b = f.rest j le l in (ap (λ (o : Option RoomCopy). entry_words (copy_or o) j (λ x. x.word)) e ∙ b.0, ap (λ (o : Option RoomCopy). entry_words (copy_or o) j (λ x. x.value)) e ∙ b.1);
 }
 
 module _ (z : Sizes) (call : ℕ) (key h : List ℕ) (low up : Taken) (ys xs : List SortSlot) (v a q b : PassState) (lower : TakesChunk z call key low ys v a) (front : HoldsFront z low.room lower.words lower.range [] [] q) (upper : TakesChunk z call h up xs q b) (end : high_bytes lower.words.high ≡ Some h) where
@@ -125,7 +126,7 @@ module _ (z : Sizes) (call : ℕ) (key h : List ℕ) (low up : Taken) (ys xs : L
     own = ys;
     own_many = lower.many;
     own_has = slots_still (keys_in a.rooms.moving) (keys_in b.rooms.moving) ys lower.range lower.has keys_same;
-    own_filled = still_filled low.room ys lower.words.base a.rooms.held b.rooms.held (lower_copy ∙ sym (front_copy z low.room lower.words lower.range v.rooms.held v.rooms.moving a lower.front)) lower.filled;
+    own_filled = still_filled z.entries low.room ys lower.words.base a.rooms.held b.rooms.held (lower_copy ∙ sym (front_copy z low.room lower.words lower.range v.rooms.held v.rooms.moving a lower.front)) lower.filled;
     many = upper.many;
     has = upper.has;
     named = upper.named;

@@ -11,6 +11,7 @@ use Rattle.oak_model.proofs.MemberLaws.{filter-cases}
 use Rattle.chunk_core.specs.declared.holds.Carried.{Carried}
 use Rattle.chunk_core.specs.declared.holds.MovingRange.{MovingRange}
 use Rattle.chunk_core.specs.declared.holds.RoomCopy.{RoomCopy}
+use Rattle.chunk_core.specs.ChainedRooms.{IsChained}
 use Rattle.chunk_core.specs.KeyWords.{low_number, high_number, high_from}
 use Rattle.chunk_core.specs.MayOnRooms.{MayOpenRoom}
 use Rattle.chunk_core.specs.MovingRanges.{takes, is_upper, upper_of, left_of, ranges_left, ranges_opened}
@@ -52,8 +53,8 @@ module _ (z : Sizes) (w : RoomCopy) (g : MovingRange) (mirrors : Mirrors z w g) 
         (λ c i. le-leb (low_number w.low) (carried_key c) (let e = low_same in let l = not_below g (carried_key c) i in omega arith)) stands.inside)
 
     -- It may be opened over the range, where that is the first of the pass's that it is one of.
-    pub opens_whole : (gs : List MovingRange) (i : ℕ) → get_elem? gs i ≡ some g → ((j : ℕ) (h : MovingRange) → get_elem? gs j ≡ some h → j < i → takes w h ≡ false) → MayOpenRoom z w gs
-    opens_whole gs i there first = record {
+    pub opens_whole : (gs : List MovingRange) (i : ℕ) → get_elem? gs i ≡ some g → ((j : ℕ) (h : MovingRange) → get_elem? gs j ≡ some h → j < i → takes w h ≡ false) → IsChained z w → MayOpenRoom z w gs
+    opens_whole gs i there first chained = record {
       place = i;
       range = g;
       there = there;
@@ -62,7 +63,7 @@ module _ (z : Sizes) (w : RoomCopy) (g : MovingRange) (mirrors : Mirrors z w g) 
       base = mirrors.base;
       latch = mirrors.latch;
       few = mirrors.few;
-      prefix = mirrors.prefix;
+      chained = chained;
       entries = λ f. mirrors.entries f ∙ ap (total (λ (c : Carried). f c.word c.value)) (sym all_upper);
       under = subst (λ (k : ℕ). within (range_span g) k ≡ 1) (sym low_same) stands.begun;
       key = λ other. absurd (other low_same);

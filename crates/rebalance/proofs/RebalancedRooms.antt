@@ -19,7 +19,7 @@ use Rattle.rebalance.specs.Compacted.{in_use, ReadsSorted, IsCompacted}
 use Rattle.rebalance.specs.DroppedRange.{dropped_range, WordsDiffer}
 use Rattle.rebalance.specs.Dropping.{DropsKeys}
 use Rattle.rebalance.specs.Entries.{entries, dropped}
-use Rattle.rebalance.specs.Filled.{Appends, slots_from}
+use Rattle.rebalance.specs.Filled.{AreBare, Appends, slots_from}
 use Rattle.rebalance.specs.Mirrors.{Mirrors, RangeStands}
 use Rattle.rebalance.specs.SlotRanges.{SlotsHave, BoundsAre}
 use Rattle.rebalance.specs.Slots.{key_of, entry_of}
@@ -43,12 +43,12 @@ module _ (z : Sizes) (limit : z.entries ≤ GREATEST_ENTRIES) (m : RoomMemory) (
   left_stands = dropped_stands (in_use m r) g stands differ (used_sum z m r g mirrors stands differ)
 
   -- once it is filled with them, it mirrors what is left
-  pub compacted : (n : ℕ) (m' : RoomMemory) → IsCompacted r n (take x.kept slots) x.base m m' → Mirrors z (copy_at z m' r) (dropped_range (dropped (in_use m r)) g)
+  pub compacted : (n : ℕ) (m' : RoomMemory) → IsCompacted z.entries r n (take x.kept slots) x.base m m' → Mirrors z (copy_at z m' r) (dropped_range (dropped (in_use m r)) g)
   compacted n m' c = compacted_mirrors z m r g mirrors stands differ keys have (take x.kept slots) reads.same x.base n c.between m' limit reads.rise reads.base c.drops c.fills
 
   -- It is split, where `high` is another room that the pass holds.
   module _ (n : ℕ) (m1 m2 m3 : RoomMemory) (gone : DropsKeys r n m m1) (low_same : m2.low r ≡ m1.low r) (high_same : m2.high r ≡ m1.high r) (latch_same : m2.latch r ≡ m1.latch r) (high h : ℕ) (free : m2.latch high ≡ 0) (some_low : 0 < h) (some_high : h < x.kept) (d : SortSlot)
-      (splits : Splits r high (take h slots) (slots_from h (x.kept - h) slots) (key_of (slice_index_or slots h d)) x.base m2 m3) where
+      (splits : Splits z.entries r high (take h slots) (slots_from h (x.kept - h) slots) (key_of (slice_index_or slots h d)) x.base m2 m3) where
     long : length (take x.kept slots) ≡ x.kept
     long = length-take-le x.kept slots reads.fits
 
@@ -61,8 +61,8 @@ module _ (z : Sizes) (limit : z.entries ≤ GREATEST_ENTRIES) (m : RoomMemory) (
     bounds : BoundsAre m2 r (dropped_range (dropped (in_use m r)) g)
     bounds = bounds_still m1 m2 r left left (read_bounds z m r g mirrors stands differ keys have (take x.kept slots) reads.same n m1 gone) low_same high_same latch_same refl refl
 
-    halves : Splits r high (take h (take x.kept slots)) (drop h (take x.kept slots)) (key_of (slice_index_or slots h d)) x.base m2 m3
-    halves = splits_front r high slots h x.kept (key_of (slice_index_or slots h d)) x.base m2 m3 (omega arith) splits
+    halves : Splits z.entries r high (take h (take x.kept slots)) (drop h (take x.kept slots)) (key_of (slice_index_or slots h d)) x.base m2 m3
+    halves = splits_front z.entries r high slots h x.kept (key_of (slice_index_or slots h d)) x.base m2 m3 (omega arith) splits
 
     -- The upper room may be opened, and then the lower one.
     pub split_opens : (gs : List MovingRange) (place : ℕ) → get_elem? gs place ≡ some (dropped_range (dropped (in_use m r)) g) → ((j : ℕ) (y : MovingRange) → get_elem? gs j ≡ some y → j < place → takes (copy_at z m3 high) y ≡ false)
@@ -74,7 +74,7 @@ module _ (z : Sizes) (limit : z.entries ≤ GREATEST_ENTRIES) (m : RoomMemory) (
 
 -- A room with the entries of the range h, behind which those of the range g just above it were stored, with the high bound of that and the greater base.
 pub merged : (z : Sizes) (limit : z.entries ≤ GREATEST_ENTRIES) (m m' : RoomMemory) (r : ℕ) (keys : ℕ → List ℕ) (ys xs : List SortSlot) (g h : MovingRange) (base : ℕ) → RangeStands g → RangeStands h → is_below g h ≡ true → SlotsHave keys ys h → SlotsHave keys xs g
-    → entries m r (length ys) ≡ map entry_of ys → Appends r (length ys) xs base m m' → length ys + length xs ≤ z.entries → base ≡ greater g.base h.base → BoundsAre m r (joined_by g h) → Mirrors z (copy_at z m' r) (joined_by g h)
-merged z limit m m' r keys ys xs g h base stands_g stands_h below lower upper own a few base_is bounds = let b = a.bounds_kept in
-    merged_mirrors z m' r keys ys xs g h base limit stands_g stands_h below lower upper (appended_filled r ys xs base m m' own a) few base_is
+    → entries m r (length ys) ≡ map entry_of ys → AreBare z.entries r (length ys) m → Appends r (length ys) xs base m m' → length ys + length xs ≤ z.entries → base ≡ greater g.base h.base → BoundsAre m r (joined_by g h) → Mirrors z (copy_at z m' r) (joined_by g h)
+merged z limit m m' r keys ys xs g h base stands_g stands_h below lower upper own bare a few base_is bounds = let b = a.bounds_kept in
+    merged_mirrors z m' r keys ys xs g h base limit stands_g stands_h below lower upper (appended_filled z.entries r ys xs base m m' own bare a) few base_is
     (bounds_still m m' r (joined_by g h) (joined_by g h) bounds (ap (λ (f : ℕ → ℕ → ℕ). f r) b.low) (ap (λ (f : ℕ → ℕ → ℕ). f r) b.high) (ap (λ (f : ℕ → ℕ). f r) b.latch) refl refl)

@@ -21,8 +21,8 @@ beside_dropped z r n m m' q d ne = copy_still z m m' q (ap (λ (f : ℕ → ℕ)
     (λ j. ap (λ (f : ℕ → ℕ → ℕ). f q j) d.low) (λ j. ap (λ (f : ℕ → ℕ → ℕ). f q j) d.high) (λ j. d.others q j (λ e. absurd (ne e))) (λ j. ap (λ (f : ℕ → ℕ → ℕ). f q j) d.value) (λ j. ap (λ (f : ℕ → ℕ → ℕ). f q j) d.next)
 
 -- another room was filled
-pub beside_filled : (z : Sizes) (r : ℕ) (xs : List SortSlot) (base : ℕ) (m m' : RoomMemory) (q : ℕ) → Fills r xs base m m' → q ≢ r → copy_at z m' q ≡ copy_at z m q
-beside_filled z r xs base m m' q f ne = let k = f.entries_kept in let c = f.counts_kept in let b = f.bounds_kept in
+pub beside_filled : (z : Sizes) (e r : ℕ) (xs : List SortSlot) (base : ℕ) (m m' : RoomMemory) (q : ℕ) → Fills e r xs base m m' → q ≢ r → copy_at z m' q ≡ copy_at z m q
+beside_filled z e r xs base m m' q f ne = let k = f.entries_kept in let c = f.counts_kept in let b = f.bounds_kept in
     copy_still z m m' q (c.base q ne) (c.count q ne) (ap (λ (f : ℕ → ℕ). f q) b.latch) (c.first q ne)
     (λ j. ap (λ (f : ℕ → ℕ → ℕ). f q j) b.low) (λ j. ap (λ (f : ℕ → ℕ → ℕ). f q j) b.high) (λ j. k.key q j (λ e. absurd (ne e))) (λ j. k.value q j (λ e. absurd (ne e))) (λ j. k.next q j (λ e. absurd (ne e)))
 

@@ -20,9 +20,10 @@ use Rattle.oak_core.proofs.AloneRuns.{Then, runs_then}
 use Rattle.oak_core.proofs.CallSteps.{met_both}
 use Rattle.rebalance.specs.declared.reading.Read.{Read}
 use Rattle.rebalance.specs.Calls.{FindsNoRoom, Halves, Loosens}
-use Rattle.rebalance.specs.Chunks.{AllValued, CompactsFront, HoldsFor, HoldsFront, OpensFront, ReadsFront, WorksBeside}
+use Rattle.rebalance.specs.Chunks.{CompactsFront, HoldsFor, HoldsFront, OpensFront, ReadsFront, WorksBeside}
 use Rattle.rebalance.specs.Filled.{Fills}
 use Rattle.rebalance.specs.Halving.{HasWhole, HoldsPair, OpensHalves}
+use Rattle.rebalance.specs.HeldRooms.{AllValued}
 use Rattle.rebalance.specs.HeldTables.{Apart, IsHeldRow, SeesValue, WorksOnRooms}
 use Rattle.rebalance.specs.Holding.{Claims, ClaimsOthers, FindsNoneFree, HasOnly}
 use Rattle.rebalance.specs.LoneWords.{LeavesBut, MovesWith, TakesRoom, held_by, no_room, runs_leave_both, runs_leave_none, stay_leaves}
@@ -47,7 +48,7 @@ module _ (z : Sizes) (call r : ℕ) (key : List ℕ) (w : RoomCopy) (g : MovingR
   long = length-take-le x.kept slots reads.read.fits
 
   -- it was filled
-  pub split_filled : (t : PassState) → WorksOnRooms z call u t → t.rooms.moving ≡ u.rooms.moving → Fills r (take x.kept slots) x.base (held_memory u.rooms.held) (held_memory t.rooms.held) → CompactsFront z call r x.dropped (take x.kept slots) w v0.rooms.held v0.rooms.moving v t
+  pub split_filled : (t : PassState) → WorksOnRooms z call u t → t.rooms.moving ≡ u.rooms.moving → Fills z.entries r (take x.kept slots) x.base (held_memory u.rooms.held) (held_memory t.rooms.held) → CompactsFront z call r x.dropped (take x.kept slots) w v0.rooms.held v0.rooms.moving v t
   split_filled t works ranges fills = let n = none_behind in read_filled z call r w g v0.rooms.held v0.rooms.moving v p.front u slots x reads n.0 n.1 n.2 t works ranges fills
 
   -- and opened again, with fewer entries than it may have
@@ -77,7 +78,7 @@ module _ (z : Sizes) (call r : ℕ) (key : List ℕ) (w : RoomCopy) (g : MovingR
       none_front = full_front z call r w g v0.rooms.held v0.rooms.moving v p.front u slots x reads full t rooms_same (none.only.blocks ∙ reads.works.blocks) (none.only.headers ∙ reads.works.headers) (none.moment (reads.works.moment p.front.moment))
 
       -- and was filled then
-      pub none_filled : (s : PassState) → WorksOnRooms z call t s → s.rooms.moving ≡ t.rooms.moving → Fills r (take x.kept slots) x.base (held_memory t.rooms.held) (held_memory s.rooms.held) → CompactsFront z call r 0 (take x.kept slots) w v0.rooms.held v0.rooms.moving t s
+      pub none_filled : (s : PassState) → WorksOnRooms z call t s → s.rooms.moving ≡ t.rooms.moving → Fills z.entries r (take x.kept slots) x.base (held_memory t.rooms.held) (held_memory s.rooms.held) → CompactsFront z call r 0 (take x.kept slots) w v0.rooms.held v0.rooms.moving t s
       none_filled s works ranges fills = let n = none_behind in subst (λ (d : ℕ). CompactsFront z call r d (take x.kept slots) w v0.rooms.held v0.rooms.moving t s) (full_dropped z call r w g v0.rooms.held v0.rooms.moving v p.front u slots x reads full)
           (read_filled z call r w g v0.rooms.held v0.rooms.moving t none_front t slots x (full_again z call r w g v0.rooms.held v0.rooms.moving v p.front u slots x reads full t rooms_same) n.0 n.1 n.2 s works ranges fills)
 

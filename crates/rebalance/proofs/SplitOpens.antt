@@ -37,6 +37,7 @@ use Rattle.rebalance.specs.Mirrors.{RangeStands, range_span, carried_key}
 use Rattle.rebalance.specs.SlotRanges.{SlotsHave, BoundsAre}
 use Rattle.rebalance.specs.Split.{Splits}
 use Rattle.rebalance.proofs.DroppedRange.{filter_has}
+use Rattle.rebalance.proofs.FilledChains.{filled_chained}
 use Rattle.rebalance.proofs.FilledCopies.{filled_many, filled_prefix, filled_sum, filled_rises}
 use Rattle.rebalance.proofs.MiddleBounds.{bound_stored, stored_long, middle_low_bytes, middle_high_bytes, middle_low_number}
 use Rattle.rebalance.proofs.LeastKey.{least_key}
@@ -62,13 +63,13 @@ left_there w (x ∷ xs) (suc i) g l at taken first left = let t = left_there w x
     before same no_one (suc j) lt = ap (λ (b : Bool). get_elem? (cond b (left_of w x ++ xs) (x ∷ ranges_left w xs)) (suc j)) no_one ∙ same j (omega arith)
 
 -- The first n of all slots, which are more, were split.
-pub splits_front : (low high : ℕ) (slots : List SortSlot) (h n : ℕ) (k : StoredKey) (base : ℕ) (m m' : RoomMemory) → h ≤ n → Splits low high (take h slots) (take (n - h) (drop h slots)) k base m m' → Splits low high (take h (take n slots)) (drop h (take n slots)) k base m m'
-splits_front low high slots h n k base m m' le s = subst (λ (p : List SortSlot × List SortSlot). Splits low high p.0 p.1 k base m m')
+pub splits_front : (e low high : ℕ) (slots : List SortSlot) (h n : ℕ) (k : StoredKey) (base : ℕ) (m m' : RoomMemory) → h ≤ n → Splits e low high (take h slots) (take (n - h) (drop h slots)) k base m m' → Splits e low high (take h (take n slots)) (drop h (take n slots)) k base m m'
+splits_front e low high slots h n k base m m' le s = subst (λ (p : List SortSlot × List SortSlot). Splits e low high p.0 p.1 k base m m')
     (λ t. (sym (take-take h n slots le) t, (sym (drop-take h (n - h) slots) ∙ ap (λ (j : ℕ). drop h (take j slots)) (let q : h + (n - h) ≡ n = omega arith in q)) t)) s
 
 -- Sorted slots with the entries of the range g of the room `low` were split at slot h, which has the key k.
 module _ (z : Sizes) (limit : z.entries ≤ GREATEST_ENTRIES) (m m' : RoomMemory) (low high : ℕ) (g : MovingRange) (stands : RangeStands g) (keys : ℕ → List ℕ) (xs : List SortSlot) (slots : SlotsHave keys xs g) (bounds : BoundsAre m low g) (free : m.latch high ≡ 0) (few : length xs ≤ z.entries)
-    (h : ℕ) (some_low : 0 < h) (some_high : h < length xs) (d : SortSlot) (k : StoredKey) (stored : IsStored k (keys (slice_index_or xs h d).key)) (base : ℕ) (base_is : base ≡ g.base) (splits : Splits low high (take h xs) (drop h xs) k base m m') where
+    (h : ℕ) (some_low : 0 < h) (some_high : h < length xs) (d : SortSlot) (k : StoredKey) (stored : IsStored k (keys (slice_index_or xs h d).key)) (base : ℕ) (base_is : base ≡ g.base) (splits : Splits z.entries low high (take h xs) (drop h xs) k base m m') where
   abbrev middle : ℕ
   middle = key_number (keys (slice_index_or xs h d).key)
 
@@ -157,7 +158,7 @@ module _ (z : Sizes) (limit : z.entries ≤ GREATEST_ENTRIES) (m m' : RoomMemory
       base = filled.base_is ∙ base_is;
       latch = ap (λ (f : ℕ → ℕ). f high) splits.latch ∙ free;
       few = let b = back_few in omega arith;
-      prefix = omega arith;
+      chained = filled_chained z m' high (drop h xs) base filled back_few limit;
       entries = λ f. filled_sum z m' high (drop h xs) base filled back_few limit f
           ∙ (sym (upper_sum keys xs g slots (low_number (rows 0 BOUND_WORDS (m'.low high))) h d (omega arith) below above f) ∙ sym (carried_over keys xs g slots (low_number (rows 0 BOUND_WORDS (m'.low high))) f));
       under = middle_inside;
@@ -181,7 +182,7 @@ module _ (z : Sizes) (limit : z.entries ≤ GREATEST_ENTRIES) (m m' : RoomMemory
           base = filled.base_is ∙ base_is;
           latch = ap (λ (f : ℕ → ℕ). f low) splits.latch ∙ bounds.latch;
           few = let b = front_few in omega arith;
-          prefix = omega arith;
+          chained = filled_chained z m' low (take h xs) base filled front_few limit;
           entries = λ f. filled_sum z m' low (take h xs) base filled front_few limit f
               ∙ (sym (lower_sum keys xs g slots (low_number (rows 0 BOUND_WORDS (m'.low high))) h d (omega arith) below above f)
               ∙ (sym (carried_under keys xs g slots (low_number (rows 0 BOUND_WORDS (m'.low high))) f) ∙ ap (sum_carried f) (sym all_upper)));

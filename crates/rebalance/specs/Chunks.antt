@@ -1,11 +1,10 @@
 -- A chunk that a pass holds alone, as the last one that it came to hold, and what the parts of a rebalance do to it.
 use Rattle.std.specs.Prelude.{◌≡◌, ℕ, ◌+◌, ◌*◌, ◌<◌, List, [], ◌∷◌, ◌++◌, length, take, None}
 use Rattle.pin_word.specs.PinWord.{state_of}
-use Rattle.oak_model.specs.Counts.{one_at, total, Begins, Each}
+use Rattle.oak_model.specs.Counts.{one_at, total, Begins}
 use Rattle.oak_model.specs.Key.{AreBytes, IsKey}
 use Rattle.oak_model.specs.KeyNumber.{key_number}
 use Rattle.oak_model.specs.Limits.{Sizes}
-use Rattle.chunk_core.specs.declared.holds.Carried.{Carried}
 use Rattle.chunk_core.specs.declared.holds.EntryWords.{EntryWords}
 use Rattle.chunk_core.specs.declared.holds.HeldRoom.{HeldRoom}
 use Rattle.chunk_core.specs.declared.holds.MovingRange.{MovingRange}
@@ -124,10 +123,6 @@ pub record OpensFront (z : Sizes) (call r : ℕ) (w : RoomCopy) (hs : List HeldR
   -- to a pass that is alone
   pub alone : Runs (MovesWith z r HELD OPEN w) v u
 
--- each carried entry has a value
-abbrev pub AllValued : MovingRange → Type 0
-AllValued g = Each (λ (c : Carried). names_header c.value ≡ 1) g.carried
-
 -- The words w became w', by which the entries that had a value are the sorted prefix, with nothing behind it, over the same range, with the greatest of the base and the dropped floors.
 pub record IsRewritten (w w' : RoomCopy) : Type 0 where
   pub low : w'.low ≡ w.low
@@ -151,7 +146,7 @@ pub record CompactsFront (z : Sizes) (call r dropped : ℕ) (slots : List SortSl
   pub kept_is : length slots ≡ values_in w
   pub count_is : entries_in w.count ≡ length slots + dropped
   pub has : SlotsHave (keys_in u.rooms.moving) slots range
-  pub filled : IsFilled r slots words.base (held_memory u.rooms.held)
+  pub filled : IsFilled z.entries r slots words.base (held_memory u.rooms.held)
   pub named : AllNamed slots
 
 -- The room was read: its entries with a value are in the first slots, in the order of their keys, and the others were dropped.

@@ -46,8 +46,8 @@ pub record ReadsSorted (keys : ℕ → List ℕ) (m : RoomMemory) (r : ℕ) (slo
   pub stored : (j : ℕ) (d : SortSlot) → j < x.kept → IsStored (key_of (slice_index_or slots j d)) (keys (slice_index_or slots j d).key)
   pub base : x.base ≡ greatest (m.base r) (dropped (in_use m r))
 
--- Of the first n entries of the room those without a value were dropped, and then it was filled with the slots.
-pub record IsCompacted (r n : ℕ) (slots : List SortSlot) (base : ℕ) (m m' : RoomMemory) : Type 0 where
+-- Of the first n of the e entries of the room those without a value were dropped, and then it was filled with the slots.
+pub record IsCompacted (e r n : ℕ) (slots : List SortSlot) (base : ℕ) (m m' : RoomMemory) : Type 0 where
   pub between : RoomMemory
   pub drops : DropsKeys r n m between
-  pub fills : Fills r slots base between m'
+  pub fills : Fills e r slots base between m'

@@ -1,5 +1,5 @@
 -- A held room in which slots were stored.
-use Rattle.std.specs.Prelude.{◌≡◌, ◌≢◌, ℕ, zero, suc, ◌+◌, ◌*◌, ◌^◌, ◌<◌, ◌≤◌, nat_lt, if◌then◌else◌, List, ◌++◌, map, length, take, drop}
+use Rattle.std.specs.Prelude.{◌≡◌, ◌≢◌, ℕ, zero, suc, ◌+◌, ◌*◌, ◌^◌, ◌<◌, ◌≤◌, ◌⊎◌, nat_lt, if◌then◌else◌, List, ◌++◌, map, length, take, drop}
 use Rattle.std.specs.List.{slice_index_or}
 use Rattle.chunk_core.specs.RoomStep.{put_room}
 use Rattle.chunk_core.specs.Rooms.{RoomMemory, at_key, at_value, at_next}
@@ -73,25 +73,30 @@ pub record StoresSlots (r start : ℕ) (slots : List SortSlot) (n i : ℕ) (m m'
   pub count : m'.count ≡ m.count
   pub first : m'.first ≡ m.first
 
--- room r has exactly the slots' entries, linked one behind the other and all in the sorted prefix, and this base
-pub record IsFilled (r : ℕ) (slots : List SortSlot) (base : ℕ) (m : RoomMemory) : Type 0 where
+-- of the e entries of the room those from n on have neither a key word nor a value word
+abbrev pub AreBare : ℕ → ℕ → ℕ → RoomMemory → Type 0
+AreBare e r n m = (j : ℕ) → n ≤ j → j < e → (m.key r j ≡ 0) × (m.value r j ≡ 0)
+
+-- room r, of e entries, has exactly the slots' entries, linked one behind the other and all in the sorted prefix, with nothing behind them, and this base
+pub record IsFilled (e r : ℕ) (slots : List SortSlot) (base : ℕ) (m : RoomMemory) : Type 0 where
   pub is : entries m r (length slots) ≡ map entry_of slots
   pub linked : (j : ℕ) → j < length slots → m.next r j ≡ next_of j (length slots)
   pub count : m.count r ≡ count_of (length slots)
   pub first : m.first r ≡ first_of (length slots)
   pub base_is : m.base r ≡ base
+  pub rest : AreBare e r (length slots) m
 
--- the room was filled with the slots, and nothing else was changed
-pub record Fills (r : ℕ) (slots : List SortSlot) (base : ℕ) (m m' : RoomMemory) : Type 0 where
-  pub filled : IsFilled r slots base m'
-  pub entries_kept : KeepsEntries r (length slots) m m'
+-- the room, of e entries, was filled with the slots, and nothing else was changed
+pub record Fills (e r : ℕ) (slots : List SortSlot) (base : ℕ) (m m' : RoomMemory) : Type 0 where
+  pub filled : IsFilled e r slots base m'
+  pub entries_kept : KeepsEntries r e m m'
   pub counts_kept : KeepsCounts r m m'
   pub bounds_kept : KeepsBounds m m'
 
 -- both rooms have exactly these slots' entries, and no other room was changed
-pub record FillsBoth (low high : ℕ) (below above : List SortSlot) (shared : ℕ) (m m' : RoomMemory) : Type 0 where
-  pub low_filled : IsFilled low below shared m'
-  pub high_filled : IsFilled high above shared m'
+pub record FillsBoth (e low high : ℕ) (below above : List SortSlot) (shared : ℕ) (m m' : RoomMemory) : Type 0 where
+  pub low_filled : IsFilled e low below shared m'
+  pub high_filled : IsFilled e high above shared m'
   pub bounds_kept : KeepsBounds m m'
   pub key : (q j : ℕ) → q ≢ low → q ≢ high → m'.key q j ≡ m.key q j
   pub value : (q j : ℕ) → q ≢ low → q ≢ high → m'.value q j ≡ m.value q j
@@ -99,6 +104,21 @@ pub record FillsBoth (low high : ℕ) (below above : List SortSlot) (shared : �
   pub base : (q : ℕ) → q ≢ low → q ≢ high → m'.base q ≡ m.base q
   pub count : (q : ℕ) → q ≢ low → q ≢ high → m'.count q ≡ m.count q
   pub first : (q : ℕ) → q ≢ low → q ≢ high → m'.first q ≡ m.first q
+
+-- the memory with neither a key word nor a value word at entry i
+abbrev pub bare_entry : RoomMemory → ℕ → ℕ → RoomMemory
+bare_entry m r i = put_room (put_room m (at_key r i) 0) (at_value r i) 0
+
+-- n entries of the room, from this one on, have neither a key word nor a value word, and nothing else was changed
+pub record ClearsEntries (r from n : ℕ) (m m' : RoomMemory) : Type 0 where
+  pub bare : (j : ℕ) → j < n → (m'.key r (from + j) ≡ 0) × (m'.value r (from + j) ≡ 0)
+  pub key : (q j : ℕ) → (q ≡ r → (j < from) ⊎ (from + n ≤ j)) → m'.key q j ≡ m.key q j
+  pub value : (q j : ℕ) → (q ≡ r → (j < from) ⊎ (from + n ≤ j)) → m'.value q j ≡ m.value q j
+  pub next : m'.next ≡ m.next
+  pub base : m'.base ≡ m.base
+  pub count : m'.count ≡ m.count
+  pub first : m'.first ≡ m.first
+  pub bounds_kept : KeepsBounds m m'
 
 -- the first n entries of the room are linked one behind the other
 pub record IsLinked (r n : ℕ) (m : RoomMemory) : Type 0 where

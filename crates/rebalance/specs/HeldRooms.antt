@@ -2,7 +2,7 @@
 use Rattle.std.specs.Prelude.{◌≡◌, ℕ, ◌<◌, List, length}
 use lib.ListN.{get_elem?}
 use mathlib.Core.Option.{some}
-use Rattle.oak_model.specs.Counts.{Has}
+use Rattle.oak_model.specs.Counts.{Each, Has}
 use Rattle.oak_model.specs.Key.{AreBytes, IsKey}
 use Rattle.arena_core.specs.Place.{length_in}
 use Rattle.chunk_core.specs.declared.holds.Carried.{Carried}
@@ -39,6 +39,10 @@ IsWithin e (Next i) = i < e
 abbrev pub IsPlain : RoomWord → ℕ → Type 0
 IsPlain (Key i) x = 0 < x
 IsPlain _ x = Unit {0}
+
+-- each carried entry has a value
+abbrev pub AllValued : MovingRange → Type 0
+AllValued g = Each (λ (c : Carried). names_header c.value ≡ 1) g.carried
 
 -- one of the ranges carries the entry
 pub record IsCarried (c : Carried) (gs : List MovingRange) : Type 0 where

@@ -8,6 +8,7 @@ use Rattle.oak_model.specs.Limits.{Sizes}
 use Rattle.chunk_core.specs.declared.holds.Carried.{Carried}
 use Rattle.chunk_core.specs.declared.holds.MovingRange.{MovingRange}
 use Rattle.chunk_core.specs.declared.holds.RoomCopy.{RoomCopy}
+use Rattle.chunk_core.specs.ChainedRooms.{IsChained}
 use Rattle.chunk_core.specs.KeyWords.{high_bytes}
 use Rattle.chunk_core.specs.LinkedEntries.{entries_in}
 use Rattle.chunk_core.specs.MovingRanges.{is_below, joined_by}
@@ -24,8 +25,9 @@ use Rattle.oak_core.specs.Step.{on_rooms}
 use Rattle.rebalance.specs.declared.merging.Taken.{Taken}
 use Rattle.rebalance.specs.Calls.{ComesToHold, IsSorted, StaysApart, SweepsKey}
 use Rattle.rebalance.specs.Copies.{copy_span, values_in}
-use Rattle.rebalance.specs.Chunks.{AllValued, HoldsFront, IsRewritten, WorksBeside, held_row, keys_in}
+use Rattle.rebalance.specs.Chunks.{HoldsFront, IsRewritten, WorksBeside, held_row, keys_in}
 use Rattle.rebalance.specs.Filled.{IsFilled}
+use Rattle.rebalance.specs.HeldRooms.{AllValued}
 use Rattle.rebalance.specs.HeldTables.{Apart, HoldsOnlyRooms, IsHeldRow}
 use Rattle.rebalance.specs.LoneWords.{FreesUpper, TakesRoom}
 use Rattle.rebalance.specs.Mirrors.{Mirrors, held_memory}
@@ -57,7 +59,7 @@ pub record TakesChunk (z : Sizes) (call : ℕ) (key : List ℕ) (t : Taken) (slo
   pub many : length slots ≡ t.kept
   pub base_is : t.base ≡ words.base
   pub has : SlotsHave (keys_in u.rooms.moving) slots range
-  pub filled : IsFilled t.room slots words.base (held_memory u.rooms.held)
+  pub filled : IsFilled z.entries t.room slots words.base (held_memory u.rooms.held)
   pub named : AllNamed slots
   -- to a pass that is alone
   pub alone : Runs (TakesRoom z v t.room held) v u
@@ -80,7 +82,7 @@ pub record HoldsPair (z : Sizes) (low up : Taken) (slots : List SortSlot) (v : P
   pub own : List SortSlot
   pub own_many : length own ≡ low.kept
   pub own_has : SlotsHave (keys_in v.rooms.moving) own below
-  pub own_filled : IsFilled low.room own lower.base (held_memory v.rooms.held)
+  pub own_filled : IsFilled z.entries low.room own lower.base (held_memory v.rooms.held)
   pub many : length slots ≡ up.kept
   pub has : SlotsHave (keys_in v.rooms.moving) slots above
   pub named : AllNamed slots
@@ -95,6 +97,7 @@ pub record JoinsPair (z : Sizes) (call : ℕ) (low up : Taken) (below above : Mo
   pub beside : WorksBeside call v u
   pub claims : u.findings.rebalances.claims ≡ v.findings.rebalances.claims
   pub sorted : IsSorted (low.kept + up.kept) opened
+  pub chained : IsChained z opened
   -- to a pass that is alone
   pub alone : Runs (FreesUpper z low.room up.room) v u
 

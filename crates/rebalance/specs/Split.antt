@@ -7,10 +7,10 @@ use Rattle.oak_core.specs.declared.sorting.SortSlot.{SortSlot}
 use Rattle.rebalance.specs.Bounds.{bound_word}
 use Rattle.rebalance.specs.Filled.{IsFilled}
 
--- The lower room has these entries up to the key, the upper one the others from the key on and up to the old high bound; both have this base, and no other room was changed.
-pub record Splits (low high : ℕ) (below above : List SortSlot) (k : StoredKey) (shared : ℕ) (m m' : RoomMemory) : Type 0 where
-  pub low_filled : IsFilled low below shared m'
-  pub high_filled : IsFilled high above shared m'
+-- The lower room, of e entries as the upper one, has these entries up to the key, the upper one the others from the key on and up to the old high bound; both have this base, and no other room was changed.
+pub record Splits (e low high : ℕ) (below above : List SortSlot) (k : StoredKey) (shared : ℕ) (m m' : RoomMemory) : Type 0 where
+  pub low_filled : IsFilled e low below shared m'
+  pub high_filled : IsFilled e high above shared m'
   pub lower : (j : ℕ) → m'.low low j ≡ m.low low j
   pub middle_high : (j : ℕ) → j < BOUND_WORDS → m'.high low j ≡ bound_word (k.length + 1) k.words j
   pub middle_low : (j : ℕ) → j < BOUND_WORDS → m'.low high j ≡ bound_word k.length k.words j

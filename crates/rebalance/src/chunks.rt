@@ -5,6 +5,7 @@ ghost use Rattle.oak_model.specs.KeyNumber.{key_number};
 ghost use Rattle.chunk_core.specs.declared.holds.HeldRoom.{HeldRoom};
 ghost use Rattle.chunk_core.specs.declared.holds.MovingRange.{MovingRange};
 ghost use Rattle.chunk_core.specs.declared.holds.RoomCopy.{RoomCopy};
+ghost use Rattle.chunk_core.specs.ChainedRooms.{IsChained};
 ghost use Rattle.chunk_core.specs.Spans.{within};
 ghost use Rattle.oak_core.specs.Passes.{IsPassOf, Stays, state, key as sizes, call_of};
 ghost use Rattle.chunk_ops.specs.AskedRanges.{CoversKey};
@@ -61,10 +62,29 @@ fn front_has(table: &OakTable, pass: &mut Pass, room: u32, key: &StoredKey) -> b
     has
 }
 
-/// Opens the front room over all of its range.
-pub(crate) fn open_front(table: &OakTable, pass: &mut Pass, room: u32)
+/// Finds the key inside the range of the front room, which had it when the room was pinned. A room keeps its
+/// range from then on until it is held, so the first look finds it. What the pass has of a frozen room does
+/// not say so, and the two bounds are compared with the key for that.
+fn find_inside<R: Wait>(rt: &R, table: &OakTable, pass: &mut Pass, room: u32, key: &StoredKey)
     requires own { IsPassOf table.now pass.old }
     requires front { (w : RoomCopy) × (g : MovingRange) × (hs : List HeldRoom) × (gs : List MovingRange) × HoldsFront (sizes table.now) room w g hs gs (state pass.old) }
+    ensures own { Stays pass.old pass.new }
+    ensures works { WorksOnRooms (sizes table.now) (call_of pass.old) (state pass.old) (state pass.new) }
+    ensures rooms { (state pass.new).rooms ≡ (state pass.old).rooms }
+    ensures inside { (w : RoomCopy) (g : MovingRange) (hs : List HeldRoom) (gs : List MovingRange) (b : List ℕ) → HoldsFront (sizes table.now) room w g hs gs (state pass.old) → IsStored key.now b → within (copy_span w) (key_number b) ≡ 1 }
+{
+    for _ in rt.forever() {
+        if front_has(table, pass, room, key) {
+            return;
+        }
+    }
+    unreachable!()
+}
+
+/// Opens the front room, whose entries links name in turn, over all of its range.
+pub(crate) fn open_front(table: &OakTable, pass: &mut Pass, room: u32)
+    requires own { IsPassOf table.now pass.old }
+    requires front { (w : RoomCopy) × (g : MovingRange) × (hs : List HeldRoom) × (gs : List MovingRange) × HoldsFront (sizes table.now) room w g hs gs (state pass.old) × IsChained (sizes table.now) w }
     ensures own { Stays pass.old pass.new }
     ensures opens { (w : RoomCopy) (g : MovingRange) (hs : List HeldRoom) (gs : List MovingRange) → HoldsFront (sizes table.now) room w g hs gs (state pass.old) → OpensFront (sizes table.now) (call_of pass.old) room w hs gs (state pass.old) (state pass.new) }
 {
@@ -101,13 +121,8 @@ fn try_hold<R: Wait>(rt: &R, table: &OakTable, pass: &mut Pass, key: &[u8]) -> O
     if !hold_pinned(rt, table, pass, pin) {
         return None;
     }
-    // A room keeps its range from the pin on until it is held, so the answer is yes. What the pass has of
-    // a frozen room does not say so, and the two bounds are compared with the key for that.
-    if front_has(table, pass, room, &StoredKey::of(key)) {
-        return Some(room);
-    }
-    open_front(table, pass, room);
-    None
+    find_inside(rt, table, pass, room, &StoredKey::of(key));
+    Some(room)
 }
 
 /// Holds the chunk that covers the key alone, and gives its room. It waits until no pin stands on it, and while other

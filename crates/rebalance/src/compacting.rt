@@ -1,10 +1,12 @@
 //! The entries of a held room, read, sorted and stored again.
 ghost use Rattle.std.specs.Prelude.{◌≡◌, ℕ, ◌<◌, ◌≤◌, take};
+ghost use Rattle.oak_model.specs.Counts.{Each};
 ghost use Rattle.chunk_core.specs.LinkedEntries.{entries_in};
 ghost use Rattle.chunk_core.specs.ValueWord.{names_header};
 ghost use Rattle.rebalance.specs.Compacted.{IsHeldRoom, ReadsSorted, IsCompacted, in_use};
 ghost use Rattle.rebalance.specs.Dropping.{DropsKeys, dropped_ranges};
 ghost use Rattle.rebalance.specs.Entries.{dropped};
+ghost use Rattle.rebalance.specs.HeldRooms.{AllValued};
 ghost use Rattle.rebalance.specs.Read.{HasRead};
 ghost use Rattle.rebalance.specs.Slots.{AllNamed};
 
@@ -48,14 +50,16 @@ pub(crate) fn read_sorted<H: HeldRooms>(rooms: &mut H, room: u32) -> Read
     read
 }
 
-/// Compacts a held room: its entries are then those that had a value, in the order of their keys.
+/// Compacts a held room: its entries are then those that had a value, in the order of their keys, with
+/// nothing behind them. No other entry that the ranges carry lacks a value.
 pub(crate) fn compact_held<H: HeldRooms>(rooms: &mut H, room: u32) -> Read
     requires held { H.held rooms.old room }
     requires within { entries_in ((H.rooms rooms.old).count room) ≤ H.entries rooms.old }
     requires room { let m = H.rooms rooms.old in IsHeldRoom (H.names rooms.old) (H.keys rooms.old) (H.ranges rooms.old) m room (entries_in (m.count room)) }
+    requires valued { Each AllValued (dropped_ranges (dropped (in_use (H.rooms rooms.old) room)) (H.ranges rooms.old)) }
     ensures stays { H.stays rooms.old rooms.new }
     ensures sees { let m = H.rooms rooms.old in (i : ℕ) → i < entries_in (m.count room) → names_header (m.value room i) ≡ 1 → H.sees rooms.old rooms.new room i }
-    ensures rooms { IsCompacted room (entries_in ((H.rooms rooms.old).count room)) (take result.kept (H.slots rooms.new)) result.base (H.rooms rooms.old) (H.rooms rooms.new) }
+    ensures rooms { IsCompacted (H.entries rooms.old) room (entries_in ((H.rooms rooms.old).count room)) (take result.kept (H.slots rooms.new)) result.base (H.rooms rooms.old) (H.rooms rooms.new) }
     ensures ranges { H.ranges rooms.new ≡ dropped_ranges (dropped (in_use (H.rooms rooms.old) room)) (H.ranges rooms.old) }
     ensures read { ReadsSorted (H.keys rooms.old) (H.rooms rooms.old) room (H.slots rooms.new) result }
     ensures named { AllNamed (take result.kept (H.slots rooms.new)) }

@@ -1,9 +1,12 @@
 //! Stores slots into held rooms.
 ghost use Rattle.std.specs.Prelude.{◌≡◌, ◌+◌, ◌<◌, ◌≤◌, take};
+ghost use Rattle.oak_model.specs.Counts.{Each};
 ghost use Rattle.oak_model.specs.declared.limits.TheConstants.{GREATEST_ENTRIES};
 ghost use Rattle.rebalance.specs.Filled.{Fills, StoresSlots, slots_from, write_slot, next_of, first_of, link_to, IsLinked, Appends};
+ghost use Rattle.rebalance.specs.HeldRooms.{AllValued};
 ghost use Rattle.rebalance.specs.Slots.{AllNamed};
 
+use crate::clearing::clear_entries;
 use crate::rooms::{HeldRooms, RoomWord};
 use oak_core::SortSlot;
 
@@ -77,17 +80,20 @@ fn store_slots<H: HeldRooms>(rooms: &mut H, room: u32, from: usize, start: usize
 }
 
 /// Makes `n` slots, the first of which is slot `from`, the entries of a held room: its sorted prefix, with
-/// links from each to the next, and nothing behind it.
+/// links from each to the next, and nothing behind it. No entry that the ranges carry lacks a value.
 pub(crate) fn fill_room<H: HeldRooms>(rooms: &mut H, room: u32, from: usize, n: usize, base: u64)
     requires held { H.held rooms.old room }
+    requires valued { Each AllValued (H.ranges rooms.old) }
     requires within { n ≤ H.entries rooms.old }
     requires few { from + n ≤ GREATEST_ENTRIES }
     requires named { AllNamed (slots_from from n (H.slots rooms.old)) }
     ensures stays { H.stays rooms.old rooms.new }
     ensures ranges { H.ranges rooms.new ≡ H.ranges rooms.old }
     ensures slots { H.slots rooms.new ≡ H.slots rooms.old }
-    ensures rooms { Fills room (slots_from from n (H.slots rooms.old)) base (H.rooms rooms.old) (H.rooms rooms.new) }
+    ensures rooms { Fills (H.entries rooms.old) room (slots_from from n (H.slots rooms.old)) base (H.rooms rooms.old) (H.rooms rooms.new) }
 {
+    let others = rooms.entries_each() as usize - n;
+    clear_entries(rooms, room, n, others);
     store_slots(rooms, room, from, 0, n);
     rooms.store(room, RoomWord::Base, base);
     rooms.store(room, RoomWord::First, first_of(n));

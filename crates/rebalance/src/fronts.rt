@@ -8,8 +8,9 @@ ghost use Rattle.chunk_core.specs.LinkedEntries.{entries_in};
 ghost use Rattle.chunk_core.specs.ValueWord.{names_header};
 ghost use Rattle.oak_core.specs.Passes.{IsPassOf, Stays, state, key as sizes, call_of, slots_of};
 ghost use Rattle.oak_core.specs.Scratch.{StaysButSlots};
-ghost use Rattle.rebalance.specs.Chunks.{AllValued, CompactsFront, HoldsFront, ReadsFront};
+ghost use Rattle.rebalance.specs.Chunks.{CompactsFront, HoldsFront, ReadsFront};
 ghost use Rattle.rebalance.specs.Filled.{Fills};
+ghost use Rattle.rebalance.specs.HeldRooms.{AllValued};
 ghost use Rattle.rebalance.specs.HeldTables.{Apart, HoldsAlone, IsHeldRow, SeesValue, WorksOnRooms};
 ghost use Rattle.rebalance.specs.Mirrors.{held_memory};
 ghost use Rattle.rebalance.specs.Slots.{AllNamed};
@@ -25,7 +26,7 @@ use oak_model::GREATEST_ENTRIES;
 /// and nothing is behind it.
 pub(crate) fn compact_front(table: &OakTable, pass: &mut Pass, room: u32) -> Read
     requires own { IsPassOf table.now pass.old }
-    requires front { (w : RoomCopy) × (g : MovingRange) × (hs : List HeldRoom) × (gs : List MovingRange) × HoldsFront (sizes table.now) room w g hs gs (state pass.old) }
+    requires front { (w : RoomCopy) × (g : MovingRange) × (hs : List HeldRoom) × (gs : List MovingRange) × HoldsFront (sizes table.now) room w g hs gs (state pass.old) × Each AllValued gs }
     ensures own { StaysButSlots pass.old pass.new }
     ensures compacted { (w : RoomCopy) (g : MovingRange) (hs : List HeldRoom) (gs : List MovingRange) → HoldsFront (sizes table.now) room w g hs gs (state pass.old) → Each AllValued gs → Each (IsHeldRow (sizes table.now)) hs → Apart hs → CompactsFront (sizes table.now) (call_of pass.old) room result.dropped (take result.kept (slots_of pass.new)) w hs gs (state pass.old) (state pass.new) }
     ensures many { length (take result.kept (slots_of pass.new)) ≡ result.kept }
@@ -53,15 +54,17 @@ pub(crate) fn read_front(table: &OakTable, pass: &mut Pass, room: u32) -> Read
 }
 
 /// Makes the slots that were read the entries of the held room: its sorted prefix, with nothing behind it.
+/// No entry that the ranges carry lacks a value.
 pub(crate) fn fill_front(table: &OakTable, pass: &mut Pass, room: u32, read: &Read)
     requires own { IsPassOf table.now pass.old }
     requires held { HoldsAlone (sizes table.now) room (state pass.old) }
     requires few { read.now.kept ≤ (sizes table.now).entries }
     requires named { AllNamed (take read.now.kept (slots_of pass.old)) }
+    requires valued { Each AllValued (state pass.old).rooms.moving }
     ensures own { Stays pass.old pass.new }
     ensures works { WorksOnRooms (sizes table.now) (call_of pass.old) (state pass.old) (state pass.new) }
     ensures ranges { (state pass.new).rooms.moving ≡ (state pass.old).rooms.moving }
-    ensures filled { Fills room (take read.now.kept (slots_of pass.old)) read.now.base (held_memory (state pass.old).rooms.held) (held_memory (state pass.new).rooms.held) }
+    ensures filled { Fills (sizes table.now).entries room (take read.now.kept (slots_of pass.old)) read.now.base (held_memory (state pass.old).rooms.held) (held_memory (state pass.new).rooms.held) }
 {
     // Reading the slots shows how many there are, before and behind.
     prove!(pass.sorting().slots().len() == GREATEST_ENTRIES as usize);

@@ -2,6 +2,7 @@
 ghost use Rattle.std.specs.Prelude.{◌≡◌, ◌<◌, ◌*◌, ◌-◌, ℕ, List, length, take};
 ghost use Rattle.std.specs.List.Sorted.{IsPermutation};
 ghost use Rattle.oak_model.specs.WordBytes.{word_bytes};
+ghost use Rattle.oak_model.specs.Counts.{Each};
 ghost use Rattle.arena_core.specs.Words.{bytes_in};
 ghost use Rattle.chunk_core.specs.MovingRanges.{ranges_with};
 ghost use Rattle.chunk_core.specs.RoomStep.{put_room};
@@ -9,7 +10,7 @@ ghost use Rattle.chunk_core.specs.Rooms.{at_key, read_room};
 ghost use Rattle.chunk_core.specs.ValueWord.{names_header};
 ghost use Rattle.oak_core.specs.Memory.{in_rooms, index};
 ghost use Rattle.oak_core.specs.Passes.{IsPassOf, Stays, state, key as sizes, call_of};
-ghost use Rattle.rebalance.specs.HeldRooms.{IsLoose, IsPlain, IsWithin, spot};
+ghost use Rattle.rebalance.specs.HeldRooms.{AllValued, IsLoose, IsPlain, IsWithin, spot};
 ghost use Rattle.rebalance.specs.HeldTables.{HoldsAlone, HoldsInTable, NamesInTable, NamesValued, SeesInTable, SeesValue, StaysInTable, WorksOnRooms, entries_few, entries_of, entries_stay, holds_still, is_its_key, key_of_entry, keys_of, names_still, ranges_of, rooms_of, sees_earlier, sees_later, slots_held, slots_many, stays_itself, stays_then, valued, with_word};
 ghost use Rattle.rebalance.specs.Mirrors.{held_memory};
 ghost use Rattle.rebalance.specs.Slots.{AreDistinct, Rise};
@@ -80,6 +81,14 @@ impl HeldRooms for HeldTable<'_> {
 
     fn drop_entry(&mut self, room: u32, entry: u32, place: u64) {
         drop_key(self.table, self.pass, room, entry, place);
+    }
+
+    fn clear_key(&mut self, room: u32, entry: u32) {
+        clear_key(self.table, self.pass, room, entry);
+    }
+
+    fn entries_each(&self) -> u32 {
+        self.table.entries()
     }
 
     fn slot(&self, i: usize) -> SortSlot {
@@ -190,4 +199,20 @@ fn drop_key(table: &OakTable, pass: &mut Pass, room: u32, entry: u32, place: u64
         number: block_in(place),
     };
     give(table, pass, block);
+}
+
+/// Stores 0 to the key word of an entry of a room that the pass holds, where each entry that its ranges
+/// carry has a value, so that none is dropped.
+fn clear_key(table: &OakTable, pass: &mut Pass, room: u32, entry: u32)
+    requires own { IsPassOf table.now pass.old }
+    requires held { HoldsAlone (sizes table.now) room (state pass.old) }
+    requires within { entry < (sizes table.now).entries }
+    requires valued { Each AllValued (state pass.old).rooms.moving }
+    ensures own { Stays pass.old pass.new }
+    ensures works { WorksOnRooms (sizes table.now) (call_of pass.old) (state pass.old) (state pass.new) }
+    ensures ranges { (state pass.new).rooms.moving ≡ (state pass.old).rooms.moving }
+    ensures cleared { held_memory (state pass.new).rooms.held ≡ put_room (held_memory (state pass.old).rooms.held) (at_key room entry) 0 }
+{
+    let at = table.key_at(room, entry);
+    store_room(table, pass, at, 0);
 }

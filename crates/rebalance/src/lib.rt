@@ -4,6 +4,7 @@
 mod answers;
 mod bounds;
 mod chunks;
+mod clearing;
 mod compacting;
 mod compacts;
 mod entries;

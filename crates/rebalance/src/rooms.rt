@@ -4,6 +4,7 @@ ghost use Rattle.std.specs.List.{slice_index_or};
 ghost use Rattle.std.specs.List.Sorted.{IsPermutation};
 ghost use Rattle.oak_model.specs.WordBytes.{word_bytes};
 ghost use Rattle.oak_model.specs.declared.limits.TheConstants.{GREATEST_ENTRIES};
+ghost use Rattle.oak_model.specs.Counts.{Each};
 ghost use Rattle.arena_core.specs.Words.{bytes_in};
 ghost use Rattle.chunk_core.specs.declared.holds.MovingRange.{MovingRange};
 ghost use Rattle.chunk_core.specs.MovingRanges.{ranges_with};
@@ -11,7 +12,7 @@ ghost use Rattle.chunk_core.specs.RoomStep.{put_room};
 ghost use Rattle.chunk_core.specs.Rooms.{RoomMemory, read_room, at_key};
 ghost use Rattle.chunk_core.specs.ValueWord.{names_header};
 ghost use Rattle.oak_core.specs.declared.sorting.SortSlot.{SortSlot};
-ghost use Rattle.rebalance.specs.HeldRooms.{IsNamed, IsLoose, IsPlain, IsWithin, spot};
+ghost use Rattle.rebalance.specs.HeldRooms.{AllValued, IsNamed, IsLoose, IsPlain, IsWithin, spot};
 ghost use Rattle.rebalance.specs.Slots.{AreDistinct, Rise};
 
 use oak_core::SortSlot;
@@ -100,6 +101,20 @@ pub(crate) trait HeldRooms {
         ensures slots { slots self.new ≡ slots self.old }
         ensures dropped { rooms self.new ≡ put_room (rooms self.old) (at_key room entry) 0 }
         ensures ranges { ranges self.new ≡ ranges_with place (ranges self.old) };
+
+    /// Stores 0 to the key word of an entry, where each carried entry has a value, so that none is dropped.
+    fn clear_key(&mut self, room: u32, entry: u32)
+        requires held { held self.old room }
+        requires within { entry < entries self.old }
+        requires valued { Each AllValued (ranges self.old) }
+        ensures stays { stays self.old self.new }
+        ensures ranges { ranges self.new ≡ ranges self.old }
+        ensures slots { slots self.new ≡ slots self.old }
+        ensures cleared { rooms self.new ≡ put_room (rooms self.old) (at_key room entry) 0 };
+
+    /// How many entries a room has.
+    fn entries_each(&self) -> u32
+        ensures { result ≡ entries self.now };
 
     /// Slot `i`.
     fn slot(&self, i: usize) -> SortSlot

@@ -1,9 +1,11 @@
 //! The slots of one held room, stored into two.
 ghost use Rattle.std.specs.Prelude.{◌≡◌, ◌≢◌, ◌-◌, ◌<◌, ◌≤◌, ◌/◌, take};
 ghost use Rattle.std.specs.List.{slice_index_or};
+ghost use Rattle.oak_model.specs.Counts.{Each};
 ghost use Rattle.oak_model.specs.declared.limits.TheConstants.{GREATEST_ENTRIES, GREATEST_KEY};
 ghost use Rattle.oak_core.specs.declared.sorting.SortSlot.{SortSlot};
 ghost use Rattle.rebalance.specs.Filled.{FillsBoth, slots_from};
+ghost use Rattle.rebalance.specs.HeldRooms.{AllValued};
 ghost use Rattle.rebalance.specs.Slots.{AllNamed, key_of};
 ghost use Rattle.rebalance.specs.Split.{Splits};
 
@@ -19,10 +21,11 @@ fn fill_halves<H: HeldRooms>(rooms: &mut H, low: u32, high: u32, n: usize, base:
     requires apart { low ≢ high }
     requires within { n ≤ H.entries rooms.old }
     requires named { AllNamed (take n (H.slots rooms.old)) }
+    requires valued { Each AllValued (H.ranges rooms.old) }
     ensures stays { H.stays rooms.old rooms.new }
     ensures ranges { H.ranges rooms.new ≡ H.ranges rooms.old }
     ensures slots { H.slots rooms.new ≡ H.slots rooms.old }
-    ensures rooms { let half = n / 2 in FillsBoth low high (take half (H.slots rooms.old)) (slots_from half (n - half) (H.slots rooms.old)) base (H.rooms rooms.old) (H.rooms rooms.new) }
+    ensures rooms { let half = n / 2 in FillsBoth (H.entries rooms.old) low high (take half (H.slots rooms.old)) (slots_from half (n - half) (H.slots rooms.old)) base (H.rooms rooms.old) (H.rooms rooms.new) }
 {
     let half = n / 2;
     fill_room(rooms, low, 0, half, base);
@@ -47,11 +50,12 @@ pub(crate) fn split_held<H: HeldRooms>(rooms: &mut H, low: u32, high: u32, n: us
     requires some { 0 < n }
     requires within { n ≤ H.entries rooms.old }
     requires named { AllNamed (take n (H.slots rooms.old)) }
+    requires valued { Each AllValued (H.ranges rooms.old) }
     requires keys { (d : SortSlot) → (slice_index_or (H.slots rooms.old) (n / 2) d).length ≤ GREATEST_KEY }
     ensures stays { H.stays rooms.old rooms.new }
     ensures ranges { H.ranges rooms.new ≡ H.ranges rooms.old }
     ensures slots { H.slots rooms.new ≡ H.slots rooms.old }
-    ensures rooms { (d : SortSlot) → let half = n / 2 in let slots = H.slots rooms.old in Splits low high (take half slots) (slots_from half (n - half) slots) (key_of (slice_index_or slots half d)) base (H.rooms rooms.old) (H.rooms rooms.new) }
+    ensures rooms { (d : SortSlot) → let half = n / 2 in let slots = H.slots rooms.old in Splits (H.entries rooms.old) low high (take half slots) (slots_from half (n - half) slots) (key_of (slice_index_or slots half d)) base (H.rooms rooms.old) (H.rooms rooms.new) }
 {
     let middle = slot_key(rooms, n / 2);
     copy_high(rooms, low, high);

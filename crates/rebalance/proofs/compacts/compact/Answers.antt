@@ -2,14 +2,18 @@ use Rattle.std.proofs.Common.{ℕ, take, ◌∙◌, subst, arith}
 use Rattle.oak_core.specs.Passes.{state, call_of, slots_of, key as sizes}
 use Rattle.chunk_ops.proofs.WordParts.{slice_bytes}
 use Rattle.rebalance.specs.Chunks.{CompactsFront, OpensFront}
+use Rattle.rebalance.proofs.ChainedFronts.{compacted_chained}
 use Rattle.rebalance.proofs.CompactCalls.{compacts_key, no_ranges, no_rows, no_several}
 use Rattle.rebalance.proofs.FrontRewrites.{entries_limited}
 use Rattle.rebalance.proofs.compacts.compact.Goals as goal
 
+pub compact_front-read-requires-clause-front : goal.compact_front-read-requires-clause-front
+compact_front-read-requires-clause-front g c = let v = state c.args.pass.now in let h = c.hold_for-room.ensures.holds in (h.0, h.1, v.rooms.held, v.rooms.moving, h.2.front, no_ranges v c.requires.idle)
+
 pub open_front-requires-clause-front : goal.open_front-requires-clause-front
 open_front-requires-clause-front g c = let z = sizes c.args.table.now in let v = state c.args.pass.now in let h = c.hold_for-room.ensures.holds in
     let k = c.compact_front-read.ensures.compacted h.0 h.1 v.rooms.held v.rooms.moving h.2.front (no_ranges v c.requires.idle) (no_rows z v c.requires.idle) (no_several v c.requires.idle) in
-    (k.words, k.range, v.rooms.held, v.rooms.moving, k.front)
+    (k.words, k.range, v.rooms.held, v.rooms.moving, k.front, compacted_chained z (call_of c.hold_for-room.new.pass) c.hold_for-room.result c.compact_front-read.result.dropped (take c.compact_front-read.result.kept (slots_of c.compact_front-read.new.pass)) h.0 v.rooms.held v.rooms.moving (state c.hold_for-room.new.pass) (state c.compact_front-read.new.pass) k)
 
 pub overflow_cast-result : goal.overflow_cast-result
 overflow_cast-result g c = let z = sizes c.args.table.now in let v = state c.args.pass.now in let h = c.hold_for-room.ensures.holds in

@@ -9,6 +9,7 @@ use Rattle.rebalance.proofs.FrontRewrites.{front_compacts}
 use Rattle.rebalance.proofs.FrontRooms.{front_alone, front_differ, front_keys, front_mirrors, front_names, front_stands, front_there}
 use Rattle.rebalance.proofs.HeldRoomFacts.{is_held_room}
 use Rattle.rebalance.proofs.HeldSlots.{front_slots}
+use Rattle.rebalance.proofs.ValuedRanges.{front_valued}
 use Rattle.rebalance.proofs.fronts.compact_front.Goals as goal
 
 pub compact_held-read-requires-clause-held : goal.compact_held-read-requires-clause-held
@@ -21,6 +22,9 @@ pub compact_held-read-requires-clause-room : goal.compact_held-read-requires-cla
 compact_held-read-requires-clause-room c = let z = sizes c.args.table.now in let r = c.args.room in let v = state c.args.pass.now in let q = c.requires.front in let w = q.0 in let g = q.1 in let hs = q.2 in let gs = q.3 in let f = q.4 in
     is_held_room z (held_memory v.rooms.held) r g (front_mirrors z r w g hs gs v f) (front_stands z r w g hs gs v f) (front_differ z r w g hs gs v f) (keys_in v.rooms.moving) (front_keys z r w g hs gs v f) _ v.rooms.moving zero (front_there z r w g hs gs v f)
     (λ k h b. record { own = c.requires.own; names = front_names z r w g hs gs v f k h b })
+
+pub compact_held-read-requires-clause-valued : goal.compact_held-read-requires-clause-valued
+compact_held-read-requires-clause-valued c = let q = c.requires.front in front_valued (sizes c.args.table.now) c.args.room q.0 q.1 q.2 q.3 (state c.args.pass.now) q.4 q.5
 
 pub returns-clause-compacted : goal.returns-clause-compacted
 returns-clause-compacted c = λ w g hs gs f others rows several. let z = sizes c.args.table.now in let r = c.args.room in let v = state c.args.pass.now in let t = c.compact_held-read.new.rooms in let u = state t.pass.now in let k = c.compact_held-read.ensures in let x = c.compact_held-read.result in

@@ -1,7 +1,7 @@
 use Rattle.std.proofs.Common.{rules, ◌≡◌, List, take, length, sym, ap, ◌∙◌, subst}
 use Rattle.oak_model.specs.declared.limits.TheConstants.{GREATEST_ENTRIES}
 use Rattle.oak_core.specs.declared.sorting.SortSlot.{SortSlot}
-use Rattle.oak_core.specs.Passes.{state, slots_of}
+use Rattle.oak_core.specs.Passes.{state, slots_of, key as sizes}
 use Rattle.rebalance.specs.Filled.{Fills}
 use Rattle.rebalance.specs.Mirrors.{held_memory}
 use Rattle.rebalance.specs.Slots.{AllNamed}
@@ -20,6 +20,6 @@ returns-clause-own c = let x = c.fill_room.ensures in let q = c.fill_room.new.ro
 
 pub returns-clause-filled : goal.returns-clause-filled
 returns-clause-filled c = let p = c.args.pass.now in let q = c.fill_room.new.rooms.pass.now in let before : length (slots_of p) ≡ GREATEST_ENTRIES = sym (ap (λ (l : List SortSlot). length l) (c.slots.ensures.slots ∙ c.sorting.ensures)) ∙ c.slots.ensures.many in
-    let done : Fills c.args.room (take c.args.read.now.kept (slots_of p)) c.args.read.now.base (held_memory (state p).rooms.held) (held_memory (state q).rooms.held) =
-    subst (λ (xs : List SortSlot). Fills c.args.room xs c.args.read.now.base (held_memory (state p).rooms.held) (held_memory (state q).rooms.held)) (front_slots (slots_of p) c.args.read.now.kept before) c.fill_room.ensures.rooms in
+    let done : Fills (sizes c.args.table.now).entries c.args.room (take c.args.read.now.kept (slots_of p)) c.args.read.now.base (held_memory (state p).rooms.held) (held_memory (state q).rooms.held) =
+    subst (λ (xs : List SortSlot). Fills (sizes c.args.table.now).entries c.args.room xs c.args.read.now.base (held_memory (state p).rooms.held) (held_memory (state q).rooms.held)) (front_slots (slots_of p) c.args.read.now.kept before) c.fill_room.ensures.rooms in
     search (rules, done)

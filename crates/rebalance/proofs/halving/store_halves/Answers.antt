@@ -15,6 +15,7 @@ use Rattle.rebalance.proofs.FrontLaws.{slots_stay}
 use Rattle.rebalance.proofs.HalvedRooms.{stores_halves}
 use Rattle.rebalance.proofs.HeldPairs.{half_short, lower_alone, upper_alone}
 use Rattle.rebalance.proofs.HeldSlots.{filled_whole, front_slots}
+use Rattle.rebalance.proofs.ValuedRanges.{pair_valued}
 use Rattle.rebalance.proofs.halving.store_halves.Goals as goal
 
 pub split_held-requires-clause-low : goal.split_held-requires-clause-low
@@ -26,6 +27,9 @@ split_held-requires-clause-high c = let p = c.requires.pair in record { own = c.
 pub split_held-requires-clause-named : goal.split_held-requires-clause-named
 split_held-requires-clause-named c = let p = c.args.pass.now in let before : length (slots_of p) ≡ GREATEST_ENTRIES = sym (ap (λ (l : List SortSlot). length l) (c.slots.ensures.slots ∙ c.sorting.ensures)) ∙ c.slots.ensures.many in
     subst AllNamed (sym (front_slots (slots_of p) c.args.read.now.kept before)) c.requires.whole.named
+
+pub split_held-requires-clause-valued : goal.split_held-requires-clause-valued
+split_held-requires-clause-valued c = let q = c.requires.pair in pair_valued (sizes c.args.table.now) c.args.room c.args.upper q.0 q.1 q.2 (state c.args.pass.now) q.3 (slots_of c.args.pass.now) c.args.read.now c.requires.whole
 
 pub split_held-requires-clause-keys : goal.split_held-requires-clause-keys
 split_held-requires-clause-keys c = λ d. let p = c.args.pass.now in let x = c.args.read.now in let q = c.requires.pair in let before : length (slots_of p) ≡ GREATEST_ENTRIES = sym (ap (λ (l : List SortSlot). length l) (c.slots.ensures.slots ∙ c.sorting.ensures)) ∙ c.slots.ensures.many in
@@ -40,5 +44,5 @@ pub returns-clause-stores : goal.returns-clause-stores
 returns-clause-stores c = let z = sizes c.args.table.now in let r = c.args.room in let q = c.args.upper in let p = c.args.pass.now in let t = c.split_held.new.rooms.pass.now in let x = c.args.read.now in let k = c.split_held.ensures in
     let before : length (slots_of p) ≡ GREATEST_ENTRIES = sym (ap (λ (l : List SortSlot). length l) (c.slots.ensures.slots ∙ c.sorting.ensures)) ∙ c.slots.ensures.many in
     let done : (w cc : RoomCopy) (g : MovingRange) → HoldsPair z r q w cc g (state p) → StoresHalves z (call_of p) r q w g (state p) (state t) = (λ w cc g h. stores_halves z (call_of p) r q w cc g (state p) h (slots_of p) x c.requires.whole (state t) k.stays.works k.ranges
-    (subst (λ (xs : List SortSlot). Splits r q (take (x.kept / 2) xs) (slots_from (x.kept / 2) (x.kept - x.kept / 2) xs) (key_of (slice_index_or xs (x.kept / 2) no_slot)) x.base (held_memory (state p).rooms.held) (held_memory (state t).rooms.held)) (filled_whole GREATEST_ENTRIES (slots_of p) before) (k.rooms no_slot))) in
+    (subst (λ (xs : List SortSlot). Splits z.entries r q (take (x.kept / 2) xs) (slots_from (x.kept / 2) (x.kept - x.kept / 2) xs) (key_of (slice_index_or xs (x.kept / 2) no_slot)) x.base (held_memory (state p).rooms.held) (held_memory (state t).rooms.held)) (filled_whole GREATEST_ENTRIES (slots_of p) before) (k.rooms no_slot))) in
     search (rules, done)

@@ -6,10 +6,17 @@ use Rattle.chunk_ops.proofs.WordParts.{slice_bytes}
 use Rattle.rebalance.specs.Chunks.{OpensFront}
 use Rattle.rebalance.specs.HeldTables.{WorksOnRooms}
 use Rattle.rebalance.specs.Merging.{ApartUpTo, JoinsPair, TakesChunk}
+use Rattle.rebalance.proofs.ChainedFronts.{taken_chained}
 use Rattle.rebalance.proofs.MergedChunks.{apart_alone, apart_full, apart_of, merged_chunks, none_of}
 use Rattle.rebalance.proofs.NeighbourChunks.{pair_held}
 use Rattle.rebalance.proofs.TakenChunks.{end_is_key, front_back, front_looked, lone_compacted, lone_front}
 use Rattle.rebalance.proofs.merging.merge_chunk.Goals as goal
+
+pub open_front-requires-clause-front : goal.open_front-requires-clause-front
+open_front-requires-clause-front g c = let z : Sizes = sizes c.args.table.now in let call = call_of c.args.pass.now in let key = c.args.key.now in let v = state c.args.pass.now in let a = state c.take_chunk-low.new.pass in let q = state c.high_of.new.pass in
+    let low = c.take_chunk-low.result in let ys = take low.kept (slots_of c.take_chunk-low.new.pass) in let idle = c.requires.idle in let lower = c.take_chunk-low.ensures.takes in let to_a = c.take_chunk-low.ensures.own.call in
+    let works = subst (λ (k : ℕ). WorksOnRooms z k a q) to_a c.high_of.ensures.works in let alone = lone_front z call key low ys v a idle lower in let front = front_looked z call low.room lower.words lower.range [] [] a q alone works c.high_of.ensures.rooms in
+    (lower.words, lower.range, [], [], front, taken_chained z call key low ys v a lower)
 
 pub returns-in_default-clause-apart : goal.returns-in_default-clause-apart
 returns-in_default-clause-apart g c = λ high same. let z : Sizes = sizes c.args.table.now in let call = call_of c.args.pass.now in let key = c.args.key.now in let v = state c.args.pass.now in let a = state c.take_chunk-low.new.pass in let q = state c.high_of.new.pass in
@@ -32,6 +39,11 @@ take_chunk-up-requires-clause-compacted g c = let z : Sizes = sizes c.args.table
     let works = subst (λ (k : ℕ). WorksOnRooms z k a q) to_a c.high_of.ensures.works in let alone = lone_front z call key low ys v a idle lower in let front = front_looked z call low.room lower.words lower.range [] [] a q alone works c.high_of.ensures.rooms in
     lone_compacted z call key low ys v a idle lower q front
 
+pub open_front-requires-then-low-up-clause-front : goal.open_front-requires-then-low-up-clause-front
+open_front-requires-then-low-up-clause-front g c = let z : Sizes = sizes c.args.table.now in let q = state c.high_of.new.pass in let up = c.take_chunk-up.result in let b = state c.take_chunk-up.new.pass in
+    let xs = take up.kept (slots_of c.take_chunk-up.new.pass) in let upper = c.take_chunk-up.ensures.takes in
+    (upper.words, upper.range, q.rooms.held, q.rooms.moving, upper.front, taken_chained z (call_of c.high_of.new.pass) c.as_slice.result.now up xs q b upper)
+
 pub open_front-requires-then-low-up-2-clause-front : goal.open_front-requires-then-low-up-2-clause-front
 open_front-requires-then-low-up-2-clause-front g c = let z : Sizes = sizes c.args.table.now in let call = call_of c.args.pass.now in let key = c.args.key.now in let v = state c.args.pass.now in let a = state c.take_chunk-low.new.pass in let q = state c.high_of.new.pass in
     let low = c.take_chunk-low.result in let ys = take low.kept (slots_of c.take_chunk-low.new.pass) in let idle = c.requires.idle in let lower = c.take_chunk-low.ensures.takes in let to_a = c.take_chunk-low.ensures.own.call in
@@ -41,7 +53,7 @@ open_front-requires-then-low-up-2-clause-front g c = let z : Sizes = sizes c.arg
     let upper = subst (λ (k : ℕ). TakesChunk z k h up xs q b) to_q (subst (λ (l : List ℕ). TakesChunk z (call_of c.high_of.new.pass) l up xs q b) c.as_slice.ensures c.take_chunk-up.ensures.takes) in
     let d = state c.open_front-then-low-up.new.pass in let n = subst (λ (k : ℕ). OpensFront z k up.room upper.words q.rooms.held q.rooms.moving b d) to_b (c.open_front-then-low-up.ensures.opens upper.words upper.range q.rooms.held q.rooms.moving upper.front) in
     let again = front_back z call low.room up.room lower.words upper.words lower.range upper.range [] [] q b d front upper.front n in
-    (lower.words, lower.range, [], [], again)
+    (lower.words, lower.range, [], [], again, taken_chained z call key low ys v a lower)
 
 pub returns-then-low-up-clause-apart : goal.returns-then-low-up-clause-apart
 returns-then-low-up-clause-apart g c = λ high same. let z : Sizes = sizes c.args.table.now in let call = call_of c.args.pass.now in let key = c.args.key.now in let v = state c.args.pass.now in let a = state c.take_chunk-low.new.pass in let q = state c.high_of.new.pass in
@@ -74,7 +86,7 @@ open_front-requires-2-clause-front g c = let z : Sizes = sizes c.args.table.now 
     let upper = subst (λ (k : ℕ). TakesChunk z k h up xs q b) to_q (subst (λ (l : List ℕ). TakesChunk z (call_of c.high_of.new.pass) l up xs q b) c.as_slice.ensures c.take_chunk-up.ensures.takes) in
     let few = c.if-low-up.false in let is = c.entries.ensures.is in let pair = pair_held z call key h low up ys xs v a q b lower front upper end (omega (arith, few, is)) in let d = state c.join_above.new.pass in
     let joins = subst (λ (k : ℕ). JoinsPair z k low up lower.range upper.range b d) to_b (c.join_above.ensures.joins pair) in
-    (joins.opened, _, [], [], joins.front)
+    (joins.opened, _, [], [], joins.front, joins.chained)
 
 pub returns-clause-joined : goal.returns-clause-joined
 returns-clause-joined g c = λ _. let z : Sizes = sizes c.args.table.now in let call = call_of c.args.pass.now in let key = c.args.key.now in let v = state c.args.pass.now in let a = state c.take_chunk-low.new.pass in let q = state c.high_of.new.pass in

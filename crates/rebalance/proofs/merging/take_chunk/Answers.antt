@@ -5,6 +5,9 @@ use Rattle.rebalance.specs.Chunks.{CompactsFront}
 use Rattle.rebalance.proofs.TakenChunks.{taken}
 use Rattle.rebalance.proofs.merging.take_chunk.Goals as goal
 
+pub compact_front-read-requires-clause-front : goal.compact_front-read-requires-clause-front
+compact_front-read-requires-clause-front g c = let v = state c.args.pass.now in let h = c.hold_for-room.ensures.holds in (h.0, h.1, v.rooms.held, v.rooms.moving, h.2.front, c.requires.compacted.valued)
+
 pub returns-clause-takes : goal.returns-clause-takes
 returns-clause-takes g c = let z : Sizes = sizes c.args.table.now in let call = call_of c.args.pass.now in let r = c.hold_for-room.result in let v = state c.args.pass.now in let t = state c.hold_for-room.new.pass in let u = state c.compact_front-read.new.pass in
     let h = c.hold_for-room.ensures.holds in let x = c.compact_front-read.result in let slots = take x.kept (slots_of c.compact_front-read.new.pass) in let w = h.0 in let b = c.requires.compacted in

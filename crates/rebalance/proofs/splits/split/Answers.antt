@@ -16,6 +16,12 @@ use Rattle.rebalance.specs.Mirrors.{held_memory}
 use Rattle.rebalance.proofs.FrontReads.{read_alone, read_few}
 use Rattle.rebalance.proofs.FrontRooms.{front_alone}
 use Rattle.rebalance.proofs.SplitCalls.{none_filled, none_front, none_lacks, split_filled, split_halves, split_loosens, split_only, split_pair, split_whole}
+use Rattle.rebalance.proofs.ChainedFronts.{compacted_chained}
+use Rattle.rebalance.proofs.CompactCalls.{no_ranges}
+use Rattle.rebalance.proofs.ValuedRanges.{read_valued}
+use Rattle.rebalance.specs.HeldRooms.{AllValued}
+use Rattle.oak_model.specs.Counts.{Each}
+use Rattle.chunk_core.specs.declared.holds.RoomHolds.{RoomHolds}
 use Rattle.rebalance.proofs.splits.split.Goals as goal
 
 -- the room of the upper half
@@ -28,12 +34,16 @@ pub fill_front-requires-clause-held : goal.fill_front-requires-clause-held
 fill_front-requires-clause-held g c = let z = sizes c.args.table.now in let r = c.hold_for-room.result in let v = state c.hold_for-room.new.pass in let h = c.hold_for-room.ensures.holds in let v0 = state c.args.pass.now in let u = state c.read_front-read.new.pass in
     read_alone z (call_of c.hold_for-room.new.pass) r h.0 h.1 v0.rooms.held v0.rooms.moving v h.2.front u (slots_of c.read_front-read.new.pass) c.read_front-read.result c.read_front-read.ensures.reads
 
+pub fill_front-requires-clause-valued : goal.fill_front-requires-clause-valued
+fill_front-requires-clause-valued g c = let z = sizes c.args.table.now in let r = c.hold_for-room.result in let v = state c.hold_for-room.new.pass in let h = c.hold_for-room.ensures.holds in let v0 = state c.args.pass.now in let u = state c.read_front-read.new.pass in
+    read_valued z r h.0 h.1 v0.rooms.held v0.rooms.moving v h.2.front (no_ranges v0 c.requires.idle) (call_of c.hold_for-room.new.pass) (slots_of c.read_front-read.new.pass) c.read_front-read.result u c.read_front-read.ensures.reads
+
 pub open_front-requires-clause-front : goal.open_front-requires-clause-front
 open_front-requires-clause-front g c = let z = sizes c.args.table.now in let call = call_of c.args.pass.now in let r = c.hold_for-room.result in let v = state c.hold_for-room.new.pass in let h = c.hold_for-room.ensures.holds in let v0 = state c.args.pass.now in let u = state c.read_front-read.new.pass in let t = state c.fill_front.new.pass in
     let slots = slots_of c.read_front-read.new.pass in let x = c.read_front-read.result in let here = c.hold_for-room.ensures.own.call in let k = c.fill_front.ensures in
     let reads = subst (λ (n : ℕ). ReadsFront z n r slots x v u) here c.read_front-read.ensures.reads in
     let filled = split_filled z call r c.args.key.now h.0 h.1 v0 v c.requires.idle c.requires.key (slice_bytes c.args.key.now c.type_inv.key) h.2 u slots x reads t (subst (λ (n : ℕ). WorksOnRooms z n u t) (c.read_front-read.ensures.own.call ∙ here) k.works) k.ranges k.filled in
-    (filled.words, filled.range, v0.rooms.held, v0.rooms.moving, filled.front)
+    (filled.words, filled.range, v0.rooms.held, v0.rooms.moving, filled.front, compacted_chained z call r x.dropped (take x.kept slots) h.0 v0.rooms.held v0.rooms.moving v t filled)
 
 pub returns-then-read-entries-clause-loosened : goal.returns-then-read-entries-clause-loosened
 returns-then-read-entries-clause-loosened g c _ = let z = sizes c.args.table.now in let call = call_of c.args.pass.now in let r = c.hold_for-room.result in let v = state c.hold_for-room.new.pass in let h = c.hold_for-room.ensures.holds in let v0 = state c.args.pass.now in let u = state c.read_front-read.new.pass in let t = state c.fill_front.new.pass in let e = state c.open_front.new.pass in
@@ -56,6 +66,11 @@ fill_front-requires-in_default-clause-held g c = let z = sizes c.args.table.now 
     let none = subst (λ (n : ℕ). FindsNoneFree z n r u t) (c.read_front-read.ensures.own.call ∙ here) c.in_default.ensures.none in
     front_alone z r h.0 h.1 v0.rooms.held v0.rooms.moving t (none_front z call r c.args.key.now h.0 h.1 v0 v c.requires.idle c.requires.key (slice_bytes c.args.key.now c.type_inv.key) h.2 u slots x reads (let a = c.if-read-entries.false in let b = c.entries.ensures.is in omega arith) t none)
 
+pub fill_front-requires-in_default-clause-valued : goal.fill_front-requires-in_default-clause-valued
+fill_front-requires-in_default-clause-valued g c = let z = sizes c.args.table.now in let r = c.hold_for-room.result in let v = state c.hold_for-room.new.pass in let h = c.hold_for-room.ensures.holds in let v0 = state c.args.pass.now in let u = state c.read_front-read.new.pass in
+    let none = c.in_default.ensures.none in let valued = read_valued z r h.0 h.1 v0.rooms.held v0.rooms.moving v h.2.front (no_ranges v0 c.requires.idle) (call_of c.hold_for-room.new.pass) (slots_of c.read_front-read.new.pass) c.read_front-read.result u c.read_front-read.ensures.reads in
+    subst (λ (a : RoomHolds). Each AllValued a.moving) (sym none.only.rooms) valued
+
 pub fill_front-requires-in_default-clause-few : goal.fill_front-requires-in_default-clause-few
 fill_front-requires-in_default-clause-few g c = let z = sizes c.args.table.now in let r = c.hold_for-room.result in let v = state c.hold_for-room.new.pass in let h = c.hold_for-room.ensures.holds in let v0 = state c.args.pass.now in
     read_few z (call_of c.hold_for-room.new.pass) r h.0 h.1 v0.rooms.held v0.rooms.moving v h.2.front (state c.read_front-read.new.pass) (slots_of c.read_front-read.new.pass) c.read_front-read.result c.read_front-read.ensures.reads
@@ -67,8 +82,8 @@ open_front-requires-in_default-clause-front g c = let z = sizes c.args.table.now
     let few = read_few z call r h.0 h.1 v0.rooms.held v0.rooms.moving v h.2.front u slots x reads in
     let none = subst (λ (n : ℕ). FindsNoneFree z n r u t) to_read c.in_default.ensures.none in
     let filled = none_filled z call r c.args.key.now h.0 h.1 v0 v c.requires.idle c.requires.key (slice_bytes c.args.key.now c.type_inv.key) h.2 u slots x reads (let a = c.if-read-entries.false in let b = c.entries.ensures.is in omega arith) t none s
-    (subst (λ (n : ℕ). WorksOnRooms z n t s) (c.claim_free.ensures.own.call ∙ to_read) k.works) k.ranges (subst (λ (xs : List SortSlot). Fills r (take x.kept xs) x.base (held_memory t.rooms.held) (held_memory s.rooms.held)) c.claim_free.ensures.own.sorting k.filled) in
-    (filled.words, filled.range, v0.rooms.held, v0.rooms.moving, filled.front)
+    (subst (λ (n : ℕ). WorksOnRooms z n t s) (c.claim_free.ensures.own.call ∙ to_read) k.works) k.ranges (subst (λ (xs : List SortSlot). Fills z.entries r (take x.kept xs) x.base (held_memory t.rooms.held) (held_memory s.rooms.held)) c.claim_free.ensures.own.sorting k.filled) in
+    (filled.words, filled.range, v0.rooms.held, v0.rooms.moving, filled.front, compacted_chained z call r 0 (take x.kept slots) h.0 v0.rooms.held v0.rooms.moving t s filled)
 
 pub returns-in_default-clause-none : goal.returns-in_default-clause-none
 returns-in_default-clause-none g c = let z = sizes c.args.table.now in let call = call_of c.args.pass.now in let r = c.hold_for-room.result in let v = state c.hold_for-room.new.pass in let h = c.hold_for-room.ensures.holds in let v0 = state c.args.pass.now in let u = state c.read_front-read.new.pass in let t = state c.claim_free.new.pass in let s = state c.fill_front-in_default.new.pass in let e = state c.open_front-in_default.new.pass in
@@ -78,7 +93,7 @@ returns-in_default-clause-none g c = let z = sizes c.args.table.now in let call 
     let full : x.kept ≡ z.entries = (let a = c.if-read-entries.false in let b = c.entries.ensures.is in omega arith) in
     let none = subst (λ (n : ℕ). FindsNoneFree z n r u t) to_read c.in_default.ensures.none in
     let filled = none_filled z call r c.args.key.now h.0 h.1 v0 v c.requires.idle c.requires.key bytes h.2 u slots x reads full t none s
-    (subst (λ (n : ℕ). WorksOnRooms z n t s) (c.claim_free.ensures.own.call ∙ to_read) k.works) k.ranges (subst (λ (xs : List SortSlot). Fills r (take x.kept xs) x.base (held_memory t.rooms.held) (held_memory s.rooms.held)) c.claim_free.ensures.own.sorting k.filled) in
+    (subst (λ (n : ℕ). WorksOnRooms z n t s) (c.claim_free.ensures.own.call ∙ to_read) k.works) k.ranges (subst (λ (xs : List SortSlot). Fills z.entries r (take x.kept xs) x.base (held_memory t.rooms.held) (held_memory s.rooms.held)) c.claim_free.ensures.own.sorting k.filled) in
     let opens = subst (λ (n : ℕ). OpensFront z n r filled.words v0.rooms.held v0.rooms.moving s e) (k.own.call ∙ (c.claim_free.ensures.own.call ∙ to_read)) (c.open_front-in_default.ensures.opens filled.words filled.range v0.rooms.held v0.rooms.moving filled.front) in
     none_lacks z call r c.args.key.now h.0 h.1 v0 v c.requires.idle c.requires.key bytes h.2 u slots x reads full t none c.claim_free.ensures.others c.read_front-read.ensures.sees s e filled opens
 
