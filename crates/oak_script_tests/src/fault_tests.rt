@@ -1,6 +1,7 @@
 use oak_model::Shape;
 use oak_script::{NoScript, ScriptFault, What, read_script};
 use std::alloc::{AllocError, Global};
+use std::process::Abort;
 use std::test::Fail;
 
 /// The front, the piece so many times, and the back.
@@ -26,6 +27,22 @@ fn told(alloc: Global, text: &[u8]) -> Result<Option<ScriptFault>, AllocError> {
         Err(NoScript::Fault(fault)) => Ok(Some(fault)),
         Err(NoScript::OutOfMemory) => Err(AllocError),
     }
+}
+
+/// This fault is told of the text, by its line and what it is, or none where it is a script.
+fn expect_fault(
+    rt: &impl Abort,
+    alloc: Global,
+    text: &[u8],
+    fault: Option<(u32, What)>,
+    row: &str,
+) -> Result<(), AllocError> {
+    let want = match fault {
+        None => None,
+        Some((line, what)) => Some(ScriptFault { line, what }),
+    };
+    assert_eq!(rt; told(alloc, text)?, want, "{row:?}");
+    Ok(())
 }
 
 #[test]
@@ -73,11 +90,7 @@ fn tells_the_first_fault(rt: HostRuntime) -> Result<(), Fail> {
         ("oak 1\nthread\nget 6b\n", 4, What::NoEnd),
     ];
     for (text, line, what) in faulty {
-        assert_eq!(rt;
-            told(alloc, text.as_bytes())?,
-            Some(ScriptFault { line, what }),
-            "{text:?}"
-        );
+        expect_fault(&rt, alloc, text.as_bytes(), Some((line, what)), text)?;
     }
     Ok(())
 }
@@ -94,7 +107,7 @@ fn finds_no_fault_in_a_script(rt: HostRuntime) -> Result<(), Fail> {
         "oak 1\nthread\ncompute 6b add 18446744073709551615\nend\n",
     ];
     for text in lawful {
-        assert_eq!(rt; told(alloc, text.as_bytes())?, None, "{text:?}");
+        expect_fault(&rt, alloc, text.as_bytes(), None, text)?;
     }
     Ok(())
 }
@@ -104,18 +117,17 @@ fn tells_words_that_are_too_long(rt: HostRuntime) -> Result<(), Fail> {
     let alloc = rt.alloc();
     let long = [
         ("get ", "61", 64, None),
-        ("get ", "61", 65, Some(What::Key)),
+        ("get ", "61", 65, Some((3, What::Key))),
         ("put 6b ", "62", 1_024, None),
-        ("put 6b ", "62", 1_025, Some(What::Value)),
-        ("scan - ", "61", 65, Some(What::Key)),
-        ("put 6b 62", " ", 100_000, Some(What::Word)),
+        ("put 6b ", "62", 1_025, Some((3, What::Value))),
+        ("scan - ", "61", 65, Some((3, What::Key))),
+        ("put 6b 62", " ", 100_000, Some((3, What::Word))),
     ];
-    for (front, piece, times, what) in long {
+    for (front, piece, times, fault) in long {
         let line = repeated(alloc, front, piece, times, "\nend\n")?;
         let mut text = Vec::from_slice(alloc, b"oak 1\nthread\n")?;
         text.extend_from_slice(&line)?;
-        let want = what.map(|what| ScriptFault { line: 3, what });
-        assert_eq!(rt; told(alloc, &text)?, want, "{front} with {times}");
+        expect_fault(&rt, alloc, &text, fault, front)?;
     }
     Ok(())
 }
@@ -131,8 +143,7 @@ fn tells_the_first_call_and_the_first_scan_too_many(rt: HostRuntime) -> Result<(
     ];
     for (piece, times, fault) in many {
         let text = repeated(alloc, "oak 1\nthread\n", piece, times, "end\n")?;
-        let want = fault.map(|(line, what)| ScriptFault { line, what });
-        assert_eq!(rt; told(alloc, &text)?, want, "{times} lines");
+        expect_fault(&rt, alloc, &text, fault, piece)?;
     }
     Ok(())
 }
@@ -187,17 +198,16 @@ fn tells_the_first_fault_of_a_shape(rt: HostRuntime) -> Result<(), Fail> {
     ];
     for (shape, behind, line, what) in faulty {
         let text = format!(in alloc; "oak 1\n{shape}\n{behind}thread\nend\n")?;
-        assert_eq!(rt;
-            told(alloc, text.as_bytes())?,
-            Some(ScriptFault { line, what }),
-            "{text:?}"
-        );
+        expect_fault(
+            &rt,
+            alloc,
+            text.as_bytes(),
+            Some((line, what)),
+            text.as_str(),
+        )?;
     }
-    let line = ScriptFault {
-        line: 3,
-        what: What::NoEnd,
-    };
-    assert_eq!(rt; told(alloc, b"oak 1\nshape 4 4 16 2 0 0 0\n")?, Some(line));
+    let text = "oak 1\nshape 4 4 16 2 0 0 0\n";
+    expect_fault(&rt, alloc, text.as_bytes(), Some((3, What::NoEnd)), text)?;
     Ok(())
 }
 
@@ -300,12 +310,8 @@ fn tells_one_thread_too_many(rt: HostRuntime) -> Result<(), Fail> {
     ];
     for (front, piece, times, back, fault) in many {
         let text = repeated(alloc, front, piece, times, back)?;
-        let want = fault.map(|(line, what)| ScriptFault { line, what });
-        assert_eq!(rt;
-            told(alloc, &text)?,
-            want,
-            "{front:?}, {times} times {piece:?}, {back:?}"
-        );
+        let row = format!(in alloc; "{times} times before {back:?}")?;
+        expect_fault(&rt, alloc, &text, fault, row.as_str())?;
     }
     Ok(())
 }
@@ -338,12 +344,8 @@ fn counts_the_calls_of_all_threads(rt: HostRuntime) -> Result<(), Fail> {
     for (first, before, second, behind, fault) in many {
         let mut text = repeated(alloc, "oak 1\nthread\n", first, before, "thread\n")?;
         text.extend_from_slice(&repeated(alloc, "", second, behind, "end\n")?)?;
-        let want = fault.map(|(line, what)| ScriptFault { line, what });
-        assert_eq!(rt;
-            told(alloc, &text)?,
-            want,
-            "{before} times {first:?}, {behind} times {second:?}"
-        );
+        let row = format!(in alloc; "{behind} times {second:?}")?;
+        expect_fault(&rt, alloc, &text, fault, row.as_str())?;
     }
     Ok(())
 }

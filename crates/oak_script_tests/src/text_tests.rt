@@ -1,7 +1,8 @@
-ghost use Rattle.std.specs.Prelude.{◌≡◌, IfOk, OnOk};
+ghost use Rattle.std.specs.Prelude.{◌≡◌, IfOk, OnOk, map};
 ghost use Rattle.oak_model.specs.Key.{IsKey};
+ghost use Rattle.oak_model.specs.Name.{IsName};
 ghost use Rattle.oak_model.specs.Value.{IsValue};
-ghost use Rattle.oak_script.specs.Text.{CanReply, CallsAnswered};
+ghost use Rattle.oak_script.specs.Text.{CanReply, CallsAnswered, RepliesAnswer};
 
 use oak_model::{
     Class, Key, Lack, Name, OutOfMemory, Pair, Pairs, RecipeKind, Reply, Shape, Usage, Value, Wrote,
@@ -37,17 +38,61 @@ impl Thread {
         self.replies.push(reply)?;
         Ok(())
     }
-}
 
-fn put_call(alloc: Global, key: &[u8], value: &[u8]) -> Result<Call, OutOfMemory>
-    requires key { IsKey key.now }
-    requires value { IsValue value.now }
-    ensures { IfOk result (λ c. c ≡ Call.Put key.now value.now) }
-{
-    Ok(Call::Put {
-        key: Key::make(alloc, key)?,
-        value: Value::make(alloc, value)?,
-    })
+    /// Adds a put, answered so.
+    fn puts(
+        &mut self,
+        alloc: Global,
+        key: &[u8],
+        value: &[u8],
+        wrote: Wrote,
+    ) -> Result<(), OutOfMemory>
+        requires answered { CallsAnswered self.old.calls.items self.old.replies.items }
+        requires key { IsKey key.now }
+        requires value { IsValue value.now }
+        requires one { CanReply (Call.Put key.now value.now) (Reply.Wrote wrote) }
+        ensures { OnOk result (CallsAnswered self.new.calls.items self.new.replies.items) }
+    {
+        let key = Key::make(alloc, key)?;
+        let value = Value::make(alloc, value)?;
+        self.add(Call::Put { key, value }, Reply::Wrote(wrote))
+    }
+
+    /// Adds a get that finds the value, of this stamp.
+    fn gets(&mut self, alloc: Global, key: &[u8], value: &[u8], at: u64) -> Result<(), OutOfMemory>
+        requires answered { CallsAnswered self.old.calls.items self.old.replies.items }
+        requires key { IsKey key.now }
+        requires value { IsValue value.now }
+        ensures { OnOk result (CallsAnswered self.new.calls.items self.new.replies.items) }
+    {
+        let call = Call::Get {
+            key: Key::make(alloc, key)?,
+        };
+        self.add(call, shown(alloc, key, value, at)?)
+    }
+
+    /// Adds a removal, with this stamp.
+    fn removes(&mut self, alloc: Global, key: &[u8], at: u64) -> Result<(), OutOfMemory>
+        requires answered { CallsAnswered self.old.calls.items self.old.replies.items }
+        requires key { IsKey key.now }
+        ensures { OnOk result (CallsAnswered self.new.calls.items self.new.replies.items) }
+    {
+        let call = Call::Remove {
+            key: Key::make(alloc, key)?,
+        };
+        self.add(call, Reply::Wrote(Wrote::Removed { at }))
+    }
+
+    /// Adds a look at the value of a name, answered so.
+    fn looks(&mut self, alloc: Global, name: &[u8], reply: Reply) -> Result<(), OutOfMemory>
+        requires answered { CallsAnswered self.old.calls.items self.old.replies.items }
+        requires name { IsName name.now }
+        requires one { CanReply (Call.Look name.now) reply }
+        ensures { OnOk result (CallsAnswered self.new.calls.items self.new.replies.items) }
+    {
+        let name = Name::make(alloc, name)?;
+        self.add(Call::Look { name }, reply)
+    }
 }
 
 fn shown(alloc: Global, key: &[u8], value: &[u8], at: u64) -> Result<Reply, OutOfMemory>
@@ -73,21 +118,53 @@ fn pair(alloc: Global, key: &[u8], value: &[u8], at: u64) -> Result<Pair, OutOfM
     })
 }
 
-fn short_thread(alloc: Global) -> Result<Thread, OutOfMemory>
-    ensures { IfOk result (λ t. CallsAnswered t.calls.items t.replies.items) }
+/// Two pairs.
+fn pairs(alloc: Global, first: Pair, second: Pair) -> Result<Vec<Pair>, OutOfMemory> {
+    let mut pairs = Vec::new(alloc);
+    pairs.push(first)?;
+    pairs.push(second)?;
+    Ok(pairs)
+}
+
+/// The text of the run is this.
+fn expect_text(
+    rt: &impl Abort,
+    alloc: Global,
+    script: &Script,
+    replies: &[Vec<Reply>],
+    finals: &[Pair],
+    usage: &Usage,
+    says: &str,
+) -> Result<(), Fail>
+    requires { RepliesAnswer script.now.threads (map (λ v. v.items) replies.now) }
 {
-    let mut thread = Thread::new(alloc);
-    thread.add(
-        put_call(alloc, b"k1", b"v1")?,
-        Reply::Wrote(Wrote::New { at: 1 }),
-    )?;
-    thread.add(
-        Call::Get {
-            key: Key::make(alloc, b"k1")?,
-        },
-        shown(alloc, b"k1", b"v1", 1)?,
-    )?;
-    Ok(thread)
+    let text = print_run(alloc, script, replies, finals, usage)?;
+    assert_eq!(rt; text.as_slice(), says.as_bytes());
+    Ok(())
+}
+
+/// So it is of a run of one thread, with this pair at its end, on a table of which two blocks are used.
+fn expect_text_of_one(
+    rt: &impl Abort,
+    alloc: Global,
+    shape: Shape,
+    thread: Thread,
+    last: Pair,
+    says: &str,
+) -> Result<(), Fail>
+    requires { CallsAnswered thread.calls.items thread.replies.items }
+{
+    let Thread { calls, replies } = thread;
+    let threads = Threads::of(vec![in alloc; calls]?);
+    let script = Script { shape, threads };
+    let replies = vec![in alloc; replies]?;
+    let finals = vec![in alloc; last]?;
+    let usage = Usage {
+        blocks: [2, 0, 0, 0],
+        headers: 1,
+        chunks: 1,
+    };
+    expect_text(rt, alloc, &script, &replies, &finals, &usage, says)
 }
 
 const SHORT_TEXT: &str = "\
@@ -104,35 +181,27 @@ headers 1 8192
 chunks 1 256
 ";
 
+#[test]
+fn prints_a_put_and_a_get(rt: HostRuntime) -> Result<(), Fail> {
+    let alloc = rt.alloc();
+    let mut thread = Thread::new(alloc);
+    thread.puts(alloc, b"k1", b"v1", Wrote::New { at: 1 })?;
+    thread.gets(alloc, b"k1", b"v1", 1)?;
+    let shape = Shape::make(2, 256, 64, 8_192, [16_384, 4_096, 1_024, 512])?;
+    let last = pair(alloc, b"k1", b"v1", 1)?;
+    expect_text_of_one(&rt, alloc, shape, thread, last, SHORT_TEXT)
+}
+
 /// A table of two blocks of 16 bytes: the second put lacks one, until the first key is removed.
 fn small_thread(alloc: Global) -> Result<Thread, OutOfMemory>
     ensures { IfOk result (λ t. CallsAnswered t.calls.items t.replies.items) }
 {
     let mut thread = Thread::new(alloc);
-    thread.add(
-        put_call(alloc, &[0x61], &[1])?,
-        Reply::Wrote(Wrote::New { at: 1 }),
-    )?;
-    thread.add(
-        put_call(alloc, &[0x62], &[2])?,
-        Reply::Wrote(Wrote::Full(Lack::Block(Class::B16))),
-    )?;
-    thread.add(
-        Call::Get {
-            key: Key::make(alloc, &[0x61])?,
-        },
-        shown(alloc, &[0x61], &[1], 1)?,
-    )?;
-    thread.add(
-        Call::Remove {
-            key: Key::make(alloc, &[0x61])?,
-        },
-        Reply::Wrote(Wrote::Removed { at: 2 }),
-    )?;
-    thread.add(
-        put_call(alloc, &[0x62], &[2])?,
-        Reply::Wrote(Wrote::New { at: 3 }),
-    )?;
+    thread.puts(alloc, &[0x61], &[1], Wrote::New { at: 1 })?;
+    thread.puts(alloc, &[0x62], &[2], Wrote::Full(Lack::Block(Class::B16)))?;
+    thread.gets(alloc, &[0x61], &[1], 1)?;
+    thread.removes(alloc, &[0x61], 2)?;
+    thread.puts(alloc, &[0x62], &[2], Wrote::New { at: 3 })?;
     Ok(thread)
 }
 
@@ -153,66 +222,112 @@ headers 1 16
 chunks 1 4
 ";
 
+#[test]
+fn prints_a_refused_put(rt: HostRuntime) -> Result<(), Fail> {
+    let alloc = rt.alloc();
+    let thread = small_thread(alloc)?;
+    let shape = Shape::make(2, 4, 4, 16, [2, 0, 0, 0])?;
+    let last = pair(alloc, &[0x62], &[2], 3)?;
+    expect_text_of_one(&rt, alloc, shape, thread, last, SMALL_TEXT)
+}
+
+/// Adds a put of `a` that finds it, and a hold of it.
+fn keeps_and_holds(alloc: Global, thread: &mut Thread) -> Result<(), OutOfMemory>
+    requires { CallsAnswered thread.old.calls.items thread.old.replies.items }
+    ensures { OnOk result (CallsAnswered thread.new.calls.items thread.new.replies.items) }
+{
+    let key = Key::make(alloc, b"a")?;
+    let value = Value::make(alloc, b"1")?;
+    thread.add(
+        Call::PutNew { key, value },
+        Reply::Wrote(Wrote::Kept { at: 4 }),
+    )?;
+    let name = Name::make(alloc, b"h")?;
+    let key = Key::make(alloc, b"a")?;
+    thread.add(Call::Hold { name, key }, Reply::Held { at: 5 })
+}
+
+/// Adds looks at what was held, and at what was not.
+fn looks_at_both(alloc: Global, thread: &mut Thread) -> Result<(), OutOfMemory>
+    requires { CallsAnswered thread.old.calls.items thread.old.replies.items }
+    ensures { OnOk result (CallsAnswered thread.new.calls.items thread.new.replies.items) }
+{
+    thread.looks(alloc, b"h", Reply::Gone)?;
+    thread.looks(alloc, b"i", Reply::Unheld)?;
+    let call = Call::Get {
+        key: Key::make(alloc, b"a")?,
+    };
+    thread.add(call, Reply::Wrote(Wrote::Absent { at: 9 }))
+}
+
 /// The writes of the key `a` with the stamps 2 and 9, and what stands between them and behind them.
 fn first_thread(alloc: Global) -> Result<Thread, OutOfMemory>
     ensures { IfOk result (λ t. CallsAnswered t.calls.items t.replies.items) }
 {
     let mut thread = Thread::new(alloc);
-    thread.add(
-        put_call(alloc, b"a", b"")?,
-        Reply::Wrote(Wrote::New { at: 2 }),
-    )?;
-    thread.add(
-        Call::Get {
-            key: Key::make(alloc, b"a")?,
-        },
-        shown(alloc, b"a", b"", 2)?,
-    )?;
-    thread.add(
-        Call::PutNew {
-            key: Key::make(alloc, b"a")?,
-            value: Value::make(alloc, b"1")?,
-        },
-        Reply::Wrote(Wrote::Kept { at: 4 }),
-    )?;
-    thread.add(
-        Call::Hold {
-            name: Name::make(alloc, b"h")?,
-            key: Key::make(alloc, b"a")?,
-        },
-        Reply::Held { at: 5 },
-    )?;
-    thread.add(
-        Call::Look {
-            name: Name::make(alloc, b"h")?,
-        },
-        shown(alloc, b"a", &[3], 7)?,
-    )?;
-    thread.add(
-        Call::Remove {
-            key: Key::make(alloc, b"a")?,
-        },
-        Reply::Wrote(Wrote::Removed { at: 9 }),
-    )?;
-    thread.add(
-        Call::Look {
-            name: Name::make(alloc, b"h")?,
-        },
-        Reply::Gone,
-    )?;
-    thread.add(
-        Call::Look {
-            name: Name::make(alloc, b"i")?,
-        },
-        Reply::Unheld,
-    )?;
-    thread.add(
-        Call::Get {
-            key: Key::make(alloc, b"a")?,
-        },
-        Reply::Wrote(Wrote::Absent { at: 9 }),
-    )?;
+    thread.puts(alloc, b"a", b"", Wrote::New { at: 2 })?;
+    thread.gets(alloc, b"a", b"", 2)?;
+    keeps_and_holds(alloc, &mut thread)?;
+    thread.looks(alloc, b"h", shown(alloc, b"a", &[3], 7)?)?;
+    thread.removes(alloc, b"a", 9)?;
+    looks_at_both(alloc, &mut thread)?;
     Ok(thread)
+}
+
+/// Adds a compute of `a`, and an upsert of `b` that puts it.
+fn computes_and_upserts(alloc: Global, thread: &mut Thread) -> Result<(), OutOfMemory>
+    requires { CallsAnswered thread.old.calls.items thread.old.replies.items }
+    ensures { OnOk result (CallsAnswered thread.new.calls.items thread.new.replies.items) }
+{
+    let call = Call::Compute {
+        key: Key::make(alloc, b"a")?,
+        recipe: RecipeKind::Rev,
+        argument: 0,
+    };
+    thread.add(call, Reply::Wrote(Wrote::Done { at: 7 }))?;
+    let key = Key::make(alloc, b"b")?;
+    let call = Call::Upsert {
+        key,
+        value: Value::make(alloc, b"")?,
+        recipe: RecipeKind::Xor,
+        argument: 1,
+    };
+    thread.add(call, Reply::Wrote(Wrote::New { at: 3 }))
+}
+
+/// Adds a scan up that gives two pairs.
+fn scans_up(alloc: Global, thread: &mut Thread) -> Result<(), OutOfMemory>
+    requires { CallsAnswered thread.old.calls.items thread.old.replies.items }
+    ensures { OnOk result (CallsAnswered thread.new.calls.items thread.new.replies.items) }
+{
+    let first = pair(alloc, b"a", &[3], 8)?;
+    let second = pair(alloc, b"b", &[0x0a, 0xff], 6)?;
+    let risen = pairs(alloc, first, second)?;
+    let low = Some(Key::make(alloc, b"a")?);
+    thread.add(
+        Call::Scan { low, high: None },
+        Reply::Pairs(Pairs::of(risen)),
+    )
+}
+
+/// Adds a scan down that gives two pairs, and one up that gives none.
+fn scans_down(alloc: Global, thread: &mut Thread) -> Result<(), OutOfMemory>
+    requires { CallsAnswered thread.old.calls.items thread.old.replies.items }
+    ensures { OnOk result (CallsAnswered thread.new.calls.items thread.new.replies.items) }
+{
+    let first = pair(alloc, b"b", &[1], 5)?;
+    let second = pair(alloc, b"a", b"", 2)?;
+    let fallen = pairs(alloc, first, second)?;
+    let high = Some(Key::make(alloc, b"b")?);
+    thread.add(
+        Call::Back { low: None, high },
+        Reply::Pairs(Pairs::of(fallen)),
+    )?;
+    let whole = Call::Scan {
+        low: None,
+        high: None,
+    };
+    thread.add(whole, Reply::Pairs(Pairs::of(Vec::new(alloc))))
 }
 
 /// The writes of the key `a` with the stamps 5 and 7, those of `b` with 3 and 6, and scans.
@@ -220,57 +335,11 @@ fn second_thread(alloc: Global) -> Result<Thread, OutOfMemory>
     ensures { IfOk result (λ t. CallsAnswered t.calls.items t.replies.items) }
 {
     let mut thread = Thread::new(alloc);
-    thread.add(
-        put_call(alloc, b"a", &[3])?,
-        Reply::Wrote(Wrote::Over { at: 5 }),
-    )?;
-    thread.add(
-        Call::Compute {
-            key: Key::make(alloc, b"a")?,
-            recipe: RecipeKind::Rev,
-            argument: 0,
-        },
-        Reply::Wrote(Wrote::Done { at: 7 }),
-    )?;
-    thread.add(
-        Call::Upsert {
-            key: Key::make(alloc, b"b")?,
-            value: Value::make(alloc, b"")?,
-            recipe: RecipeKind::Xor,
-            argument: 1,
-        },
-        Reply::Wrote(Wrote::New { at: 3 }),
-    )?;
-    thread.add(
-        put_call(alloc, b"b", &[0x0a, 0xff])?,
-        Reply::Wrote(Wrote::Over { at: 6 }),
-    )?;
-    let risen = vec![in alloc;
-        pair(alloc, b"a", &[3], 8)?,
-        pair(alloc, b"b", &[0x0a, 0xff], 6)?,
-    ]?;
-    thread.add(
-        Call::Scan {
-            low: Some(Key::make(alloc, b"a")?),
-            high: None,
-        },
-        Reply::Pairs(Pairs::of(risen)),
-    )?;
-    let fallen = vec![in alloc; pair(alloc, b"b", &[1], 5)?, pair(alloc, b"a", b"", 2)?]?;
-    thread.add(
-        Call::Back {
-            low: None,
-            high: Some(Key::make(alloc, b"b")?),
-        },
-        Reply::Pairs(Pairs::of(fallen)),
-    )?;
-    thread.add(
-        Call::Scan {
-            low: None,
-            high: None,
-        },
-        Reply::Pairs(Pairs::of(Vec::new(alloc))),
-    )?;
+    thread.puts(alloc, b"a", &[3], Wrote::Over { at: 5 })?;
+    computes_and_upserts(alloc, &mut thread)?;
+    thread.puts(alloc, b"b", &[0x0a, 0xff], Wrote::Over { at: 6 })?;
+    scans_up(alloc, &mut thread)?;
+    scans_down(alloc, &mut thread)?;
     Ok(thread)
 }
 
@@ -279,30 +348,16 @@ fn full_thread(alloc: Global) -> Result<Thread, OutOfMemory>
     ensures { IfOk result (λ t. CallsAnswered t.calls.items t.replies.items) }
 {
     let mut thread = Thread::new(alloc);
-    thread.add(
-        put_call(alloc, b"d", b"")?,
-        Reply::Wrote(Wrote::Full(Lack::Block(Class::B16))),
-    )?;
-    thread.add(
-        put_call(alloc, b"d", b"")?,
-        Reply::Wrote(Wrote::Full(Lack::Block(Class::B64))),
-    )?;
-    thread.add(
-        put_call(alloc, b"d", b"")?,
-        Reply::Wrote(Wrote::Full(Lack::Block(Class::B256))),
-    )?;
-    thread.add(
-        put_call(alloc, b"d", b"")?,
-        Reply::Wrote(Wrote::Full(Lack::Block(Class::B1024))),
-    )?;
-    thread.add(
-        put_call(alloc, b"d", b"")?,
-        Reply::Wrote(Wrote::Full(Lack::Header)),
-    )?;
-    thread.add(
-        put_call(alloc, b"d", b"")?,
-        Reply::Wrote(Wrote::Full(Lack::Room)),
-    )?;
+    for lack in [
+        Lack::Block(Class::B16),
+        Lack::Block(Class::B64),
+        Lack::Block(Class::B256),
+        Lack::Block(Class::B1024),
+        Lack::Header,
+        Lack::Room,
+    ] {
+        thread.puts(alloc, b"d", b"", Wrote::Full(lack))?;
+    }
     Ok(thread)
 }
 
@@ -345,6 +400,34 @@ headers 2 7
 chunks 1 9
 ";
 
+/// A script of three threads, and the replies to them.
+fn three_threads(alloc: Global) -> Result<(Script, Vec<Vec<Reply>>), Fail>
+    ensures { IfOk result (λ t. RepliesAnswer t.0.threads (map (λ v. v.items) t.1.items)) }
+{
+    let first = first_thread(alloc)?;
+    let second = second_thread(alloc)?;
+    let full = full_thread(alloc)?;
+    let threads = Threads::of(vec![in alloc; first.calls, second.calls, full.calls]?);
+    let replies = vec![in alloc; first.replies, second.replies, full.replies]?;
+    let shape = Shape::make(4, 9, 8, 7, [66, 55, 44, 33])?;
+    Ok((Script { shape, threads }, replies))
+}
+
+#[test]
+fn prints_every_reply(rt: HostRuntime) -> Result<(), Fail> {
+    let alloc = rt.alloc();
+    let (script, replies) = three_threads(alloc)?;
+    let first = pair(alloc, b"b", &[0x0a, 0xff], 6)?;
+    let second = pair(alloc, b"c", b"", 1)?;
+    let finals = pairs(alloc, first, second)?;
+    let usage = Usage {
+        blocks: [6, 5, 4, 3],
+        headers: 2,
+        chunks: 1,
+    };
+    expect_text(&rt, alloc, &script, &replies, &finals, &usage, LONG_TEXT)
+}
+
 /// A thread that puts a value under a key of its own.
 fn put_thread(alloc: Global, key: &[u8], value: &[u8]) -> Result<Thread, OutOfMemory>
     requires key { IsKey key.now }
@@ -352,11 +435,20 @@ fn put_thread(alloc: Global, key: &[u8], value: &[u8]) -> Result<Thread, OutOfMe
     ensures { IfOk result (λ t. CallsAnswered t.calls.items t.replies.items) }
 {
     let mut thread = Thread::new(alloc);
-    thread.add(
-        put_call(alloc, key, value)?,
-        Reply::Wrote(Wrote::New { at: 1 }),
-    )?;
+    thread.puts(alloc, key, value, Wrote::New { at: 1 })?;
     Ok(thread)
+}
+
+/// A script of two threads, and the replies to them.
+fn two_threads(alloc: Global) -> Result<(Script, Vec<Vec<Reply>>), Fail>
+    ensures { IfOk result (λ t. RepliesAnswer t.0.threads (map (λ v. v.items) t.1.items)) }
+{
+    let first = put_thread(alloc, &[0x61], &[1])?;
+    let second = put_thread(alloc, &[0x62], &[2])?;
+    let threads = Threads::of(vec![in alloc; first.calls, second.calls]?);
+    let replies = vec![in alloc; first.replies, second.replies]?;
+    let shape = Shape::make(3, 256, 64, 8_192, [16_384, 4_096, 1_024, 512])?;
+    Ok((Script { shape, threads }, replies))
 }
 
 const TWO_THREADS_TEXT: &str = "\
@@ -377,112 +469,15 @@ chunks 1 256
 #[test]
 fn prints_the_replies_of_two_threads(rt: HostRuntime) -> Result<(), Fail> {
     let alloc = rt.alloc();
-    let first = put_thread(alloc, &[0x61], &[1])?;
-    let second = put_thread(alloc, &[0x62], &[2])?;
-    let script = Script {
-        shape: Shape::make(3, 256, 64, 8_192, [16_384, 4_096, 1_024, 512])?,
-        threads: Threads::of(vec![in alloc; first.calls, second.calls]?),
-    };
-    let replies = vec![in alloc; first.replies, second.replies]?;
-    let finals = vec![in alloc;
-        pair(alloc, &[0x61], &[1], 1)?,
-        pair(alloc, &[0x62], &[2], 1)?,
-    ]?;
+    let (script, replies) = two_threads(alloc)?;
+    let first = pair(alloc, &[0x61], &[1], 1)?;
+    let second = pair(alloc, &[0x62], &[2], 1)?;
+    let finals = pairs(alloc, first, second)?;
     let usage = Usage {
         blocks: [4, 0, 0, 0],
         headers: 2,
         chunks: 1,
     };
-    let text = print_run(
-        alloc,
-        &script,
-        replies.as_slice(),
-        finals.as_slice(),
-        &usage,
-    )?;
-    assert_eq!(rt; text.as_slice(), TWO_THREADS_TEXT.as_bytes());
-    Ok(())
-}
-
-#[test]
-fn prints_a_put_and_a_get(rt: HostRuntime) -> Result<(), Fail> {
-    let alloc = rt.alloc();
-    let Thread { calls, replies } = short_thread(alloc)?;
-    let script = Script {
-        shape: Shape::make(2, 256, 64, 8_192, [16_384, 4_096, 1_024, 512])?,
-        threads: Threads::of(vec![in alloc; calls]?),
-    };
-    let replies = vec![in alloc; replies]?;
-    let finals = vec![in alloc; pair(alloc, b"k1", b"v1", 1)?]?;
-    let usage = Usage {
-        blocks: [2, 0, 0, 0],
-        headers: 1,
-        chunks: 1,
-    };
-    let text = print_run(
-        alloc,
-        &script,
-        replies.as_slice(),
-        finals.as_slice(),
-        &usage,
-    )?;
-    assert_eq!(rt; text.as_slice(), SHORT_TEXT.as_bytes());
-    Ok(())
-}
-
-#[test]
-fn prints_a_refused_put(rt: HostRuntime) -> Result<(), Fail> {
-    let alloc = rt.alloc();
-    let Thread { calls, replies } = small_thread(alloc)?;
-    let script = Script {
-        shape: Shape::make(2, 4, 4, 16, [2, 0, 0, 0])?,
-        threads: Threads::of(vec![in alloc; calls]?),
-    };
-    let replies = vec![in alloc; replies]?;
-    let finals = vec![in alloc; pair(alloc, &[0x62], &[2], 3)?]?;
-    let usage = Usage {
-        blocks: [2, 0, 0, 0],
-        headers: 1,
-        chunks: 1,
-    };
-    let text = print_run(
-        alloc,
-        &script,
-        replies.as_slice(),
-        finals.as_slice(),
-        &usage,
-    )?;
-    assert_eq!(rt; text.as_slice(), SMALL_TEXT.as_bytes());
-    Ok(())
-}
-
-#[test]
-fn prints_every_reply(rt: HostRuntime) -> Result<(), Fail> {
-    let alloc = rt.alloc();
-    let first = first_thread(alloc)?;
-    let second = second_thread(alloc)?;
-    let full = full_thread(alloc)?;
-    let script = Script {
-        shape: Shape::make(4, 9, 8, 7, [66, 55, 44, 33])?,
-        threads: Threads::of(vec![in alloc; first.calls, second.calls, full.calls]?),
-    };
-    let replies = vec![in alloc; first.replies, second.replies, full.replies]?;
-    let finals = vec![in alloc;
-        pair(alloc, b"b", &[0x0a, 0xff], 6)?,
-        pair(alloc, b"c", b"", 1)?,
-    ]?;
-    let usage = Usage {
-        blocks: [6, 5, 4, 3],
-        headers: 2,
-        chunks: 1,
-    };
-    let text = print_run(
-        alloc,
-        &script,
-        replies.as_slice(),
-        finals.as_slice(),
-        &usage,
-    )?;
-    assert_eq!(rt; text.as_slice(), LONG_TEXT.as_bytes());
-    Ok(())
+    let says = TWO_THREADS_TEXT;
+    expect_text(&rt, alloc, &script, &replies, &finals, &usage, says)
 }
