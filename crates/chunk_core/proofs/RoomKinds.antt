@@ -18,10 +18,11 @@ use Rattle.chunk_core.specs.CoverRule.{CoversPartition}
 use Rattle.chunk_core.specs.CoverSums.{covers, each, all_of, owning, owners_in_rooms, weight}
 use Rattle.chunk_core.specs.Covers.{Cover, cover_at, cover_from, moving_of, used_at}
 use Rattle.chunk_core.specs.LinkedEntries.{linked}
+use Rattle.chunk_core.specs.MayOnRooms.{MayRoom}
 use Rattle.chunk_core.specs.RoomCopies.{without_room}
 use Rattle.chunk_core.specs.RoomReads.{words_at, copy_at, carried_at, moving_at}
 use Rattle.chunk_core.specs.RoomRule.{in_room_state, IsWholeHeld, IsWholeCopy, RoomsStand}
-use Rattle.chunk_core.specs.RoomStep.{put_room}
+use Rattle.chunk_core.specs.RoomStep.{put_room, thaw_room}
 use Rattle.chunk_core.specs.Rooms.{RoomMemory, at_room_pin}
 use Rattle.chunk_core.proofs.CoverFrames.{partition_same}
 use Rattle.chunk_core.proofs.CoverLaws.{all_still, covers_same}
@@ -67,13 +68,16 @@ module _ (z : Sizes) (m : RoomMemory) (content : ℕ → List ℕ) (is_key_word 
     freeze_partition = partition_same z m (put_room m (at_room_pin r) x) content content is_key_word hs (set hs seat (record a { held = record { room = r; held_as = Frozen } ∷ a.held })) freeze_covers parts
 
   -- a room that the pass has frozen becomes open again
-  module _ (mine : in_room_state r FROZEN a ≡ 1) (now : state_of x ≡ OPEN) (count : count_of x ≡ count_of (m.pin r)) where
+  module _ (may : MayRoom z (thaw_room r) a) (now : state_of x ≡ OPEN) (count : count_of x ≡ count_of (m.pin r)) where
+    is_mine : 0 < in_room_state r FROZEN a
+    is_mine = omega arith
+
     is_frozen : state_of (m.pin r) ≡ FROZEN
-    is_frozen = is_so z m content hs rule seat a here r FROZEN (inl refl) (omega arith)
+    is_frozen = is_so z m content hs rule seat a here r FROZEN (inl refl) is_mine
 
     pub thaw_rooms : RoomsStand z (put_room m (at_room_pin r) x) content (set hs seat (record a { held = without_room r a.held }))
     thaw_rooms = restated z m content hs rule seat a here r x count generation (omega arith) (without_room r a.held) a.moving
-        (λ s is. let w = without_here r s a.held in let o = rows_are z m content hs rule seat a here r FROZEN (inl refl) (omega arith) s is in let n = open_none x s now is in omega arith)
+        (λ s is. let w = without_here r s a.held in let o = rows_are z m content hs rule seat a here r FROZEN (inl refl) is_mine s is in let n = open_none x s now is in omega arith)
         (λ j s ne. without_else r j s a.held ne)
         (λ _. rule.ordered r (weight_frozen (m.pin r) is_frozen)) (λ _. inl (weight_open x now)) (rule.carried seat a here)
         (each_without (λ (h : HeldRoom). IsWholeHeld z h.held_as) r a.held (rule.passes seat a here).whole)

@@ -6,7 +6,6 @@ use Rattle.oak_model.proofs.Lists.{map_set}
 use Rattle.arena_core.specs.Place.{content}
 use Rattle.chunk_core.specs.declared.holds.RoomHolds.{RoomHolds}
 use Rattle.chunk_core.specs.declared.states.TheConstants.{OPEN, FROZEN}
-use Rattle.chunk_core.specs.Covers.{Cover}
 use Rattle.chunk_core.specs.CoverSums.{all_of}
 use Rattle.chunk_core.specs.RoomRule.{in_room_state}
 use Rattle.chunk_core.specs.Rooms.{at_room_pin}
