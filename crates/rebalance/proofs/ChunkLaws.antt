@@ -33,12 +33,12 @@ use Rattle.chunk_ops.specs.RoomPins.{AddsRoomPin, DropsRoomPin, PinsOpen, Unpins
 use Rattle.chunk_ops.proofs.MeetingCalls.{stays_then}
 use Rattle.chunk_ops.proofs.PinSteps.{pin_found, undone}
 use Rattle.rebalance.specs.Copies.{copy_span}
-use Rattle.rebalance.specs.Chunks.{ComesBack, HoldsFor, HoldsFront, HoldsPinned, LosesPinned, OpensFront, WorksBeside, held_row}
+use Rattle.rebalance.specs.Chunks.{ComesBack, HoldsFor, HoldsFront, HoldsPinned, LosesPinned, WorksBeside, held_row}
 use Rattle.rebalance.specs.HeldTables.{AwayFromPins, HoldsOnlyRooms, WorksOnRooms}
 use Rattle.rebalance.specs.Holding.{FindsFrozen, Freezes, Holds, StandsBeside, SweepsBeside, TriesBeside, with_moving}
 use Rattle.rebalance.specs.LoneWords.{FreezesWords, LeavesBut, MovesWith, TakesRoom, held_by, leaves_same, no_room, runs_leave_both, stay_leaves}
 use Rattle.rebalance.proofs.ListedRows.{rows_total}
-use Rattle.rebalance.proofs.LoneTakes.{front_or, pin_takes, pinned_takes, takes_back, taken_works, works_takes}
+use Rattle.rebalance.proofs.LoneTakes.{front_or, pin_takes, pinned_takes, taken_works, works_takes}
 use Rattle.rebalance.specs.Resting.{rests_both, rests_of, tries_of}
 
 -- ---- what a pass does beside its rooms
@@ -290,15 +290,6 @@ module _ (z : Sizes) (call r : ℕ) (key : List ℕ) (v x : PassState) (only : H
         front = looked_front;
         origin = h.origin;
         alone = looked_alone;
-      }
-
-      -- it was opened again
-      pub back_opened : (u : PassState) → OpensFront z call r w v.rooms.held v.rooms.moving q u → ComesBack z call v u
-      back_opened u o = record {
-        beside = works_both call v q u looked_beside o.beside;
-        claims = o.claims ∙ (works.stands.claims ∙ front_beside.stands.claims);
-        rooms = o.rooms ∙ (ap (λ (a : RoomHolds). record a { held = v.rooms.held; moving = v.rooms.moving }) (same ∙ front_rooms) ∙ pin_gone v only);
-        alone = runs_as (Then (TakesRoom z v r w) (MovesWith z r HELD OPEN w)) (LeavesBut z no_room (held_by v)) v u (λ a b s. takes_back z v r w a s.0 b s.1 s.2) (runs_then (TakesRoom z v r w) (MovesWith z r HELD OPEN w) v q u looked_alone o.alone);
       }
 
 -- a pass does not hold a room that is none of its own

@@ -1,25 +1,10 @@
 -- Entries of a held room are cleared.
-use Rattle.std.proofs.Common.{◌≡◌, ◌≢◌, ℕ, ◌+◌, ◌-◌, ◌<◌, ◌≤◌, ◌⊎◌, inl, inr, sym, ◌∙◌, refl, arith, subst}
+use Rattle.std.proofs.Common.{◌≡◌, ◌≢◌, ℕ, ◌+◌, ◌-◌, ◌<◌, ◌≤◌, ◌⊎◌, inl, inr, refl, arith, subst}
 use mathlib.Core.Logic.{dite}
 use native.Mathlib.Decide.{ℕ_discrete}
-use Rattle.chunk_core.specs.RoomStep.{put_room}
-use Rattle.chunk_core.specs.Rooms.{RoomMemory, at_key, at_value}
+use Rattle.chunk_core.specs.Rooms.{RoomMemory}
 use Rattle.rebalance.specs.Filled.{AreBare, ClearsEntries, bare_entry}
 use Rattle.rebalance.proofs.StoredWords.{at_one}
-
--- a word that is 0 already
-
-pub key_clear : (m : RoomMemory) (r i : ℕ) → m.key r i ≡ 0 → put_room m (at_key r i) 0 ≡ m
-key_clear m r i clear = λ t. record { pin = m.pin; base = m.base; count = m.count; latch = m.latch; first = m.first; low = m.low; high = m.high; key = λ q j. same q j t; value = m.value; next = m.next }
-  where
-    same : (q j : ℕ) → (put_room m (at_key r i) 0).key q j ≡ m.key q j
-    same q j = at_one j i q r 0 (m.key q j) (λ v. v ≡ m.key q j) (λ a b. sym ((λ t. m.key (b t) (a t)) ∙ clear)) (λ _. refl)
-
-pub value_clear : (m : RoomMemory) (r i : ℕ) → m.value r i ≡ 0 → put_room m (at_value r i) 0 ≡ m
-value_clear m r i clear = λ t. record { pin = m.pin; base = m.base; count = m.count; latch = m.latch; first = m.first; low = m.low; high = m.high; key = m.key; value = λ q j. same q j t; next = m.next }
-  where
-    same : (q j : ℕ) → (put_room m (at_value r i) 0).value q j ≡ m.value q j
-    same q j = at_one j i q r 0 (m.value q j) (λ v. v ≡ m.value q j) (λ a b. sym ((λ t. m.value (b t) (a t)) ∙ clear)) (λ _. refl)
 
 module _ (r from : ℕ) (m : RoomMemory) where
   -- no entry was cleared yet

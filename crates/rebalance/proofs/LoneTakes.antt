@@ -17,7 +17,7 @@ use Rattle.chunk_ops.specs.LoneRooms.{HasNoRoom}
 use Rattle.chunk_ops.specs.RoomPins.{AddsRoomPin, DropsRoomPin, HadMoment}
 use Rattle.rebalance.specs.Chunks.{held_row}
 use Rattle.rebalance.specs.LoneCalls.{Divided, RewritesRoom}
-use Rattle.rebalance.specs.LoneWords.{Divides, FreezesWords, LeavesBut, MovesWith, TakesRoom, held_by, leaves_both, leaves_more, no_room, or_held, room_in, state_in, this_room}
+use Rattle.rebalance.specs.LoneWords.{Divides, FreezesWords, LeavesBut, MovesWith, TakesRoom, held_by, leaves_both, leaves_more, no_room, or_held, state_in, this_room}
 use Rattle.rebalance.proofs.LoneChunks.{divided_runs, divides_before}
 use Rattle.rebalance.proofs.LonePins.{pin_leaves, unpin_leaves}
 
@@ -93,15 +93,7 @@ moved_back z r S a b l e = record {
 opened_leaves : (z : Sizes) (v : PassState) (r : ℕ) (w x : RoomCopy) (a b c : List ℕ) → TakesRoom z v r w a b → MovesWith z r HELD OPEN x b c → LeavesBut z no_room (or_held r v) a c
 opened_leaves z v r w x a b c t m = moved_back z r (or_held r v) a c (leaves_both z (this_room r) (or_held r v) a b c t.leaves (leaves_more z (this_room r) no_room (this_room r) (or_held r v) b c (λ q m. m) (λ q n. absurd n) m.moves.leaves)) (m.moves.is ∙ sym t.was)
 
--- opened with the words that it was taken with
-pub takes_back : (z : Sizes) (v : PassState) (r : ℕ) (w : RoomCopy) (a b c : List ℕ) → TakesRoom z v r w a b → MovesWith z r HELD OPEN w b c → LeavesBut z no_room (held_by v) a c
-takes_back z v r w a b c t m = let l = opened_leaves z v r w w a b c t m in record {
-  headers = l.headers;
-  states = l.states;
-  words = λ q n. dite (ℕ_discrete q r) (λ is. subst (λ (k : ℕ). room_in z c k ≡ room_in z a k) (sym is) (m.moves.leaves.words r (λ n. n) ∙ (m.words ∙ sym t.words))) (λ ne. l.words q (⊎_elim ne n));
-}
-
--- and with others, by a pass that had no room
+-- with other words, by a pass that had no room
 takes_rewrites : (z : Sizes) (v : PassState) (r : ℕ) (w x : RoomCopy) → r < z.chunks → HasNoRoom v → (a b c : List ℕ) → TakesRoom z v r w a b → MovesWith z r HELD OPEN x b c → Divides z a × RewritesRoom z r w x a c
 takes_rewrites z v r w x lt bare a b c t m = (
   t.divided bare,
