@@ -183,7 +183,8 @@ pub fn store_room(table: &OakTable, pass: &mut Pass, word: u32, value: u64)
 
 /// Opens a room that the pass holds alone, over a range that moves with the pass, or over its upper part:
 /// `word` is the room's pin word, and `operand` what lies between the states held and open. The room has
-/// the range's base, its high bound and its entries, and the pass has them no more.
+/// the range's base, its high bound and its entries, which are its sorted prefix, each linked to the next,
+/// with 0 in the key word and the value word of each entry behind them. The pass has them no more.
 pub fn open_room(table: &OakTable, pass: &mut Pass, word: u32, operand: u64) -> u64
     requires own { IsPassOf table.now pass.old }
     requires names { (r : ℕ) × NamesRoomPin (key table.now) r word × (operand ≡ (HELD - OPEN) * STATE) × MayOnRooms (key table.now) (call_of pass.old) (open_room r) (state pass.old) }
