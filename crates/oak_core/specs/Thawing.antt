@@ -1,11 +1,15 @@
 -- What a step finds, leaves and changes that opens a frozen room again.
 use Rattle.std.specs.Prelude.{◌≡◌, ◌≢◌, ℕ, [], ◌∷◌, ◌++◌, map, Some}
+use mathlib.Core.Option.{some}
+use lib.ListN.{get_elem?}
 use Rattle.pin_word.specs.PinWord.{state_of, count_of, generation_of}
 use Rattle.oak_model.specs.Limits.{Sizes}
 use Rattle.arena_core.specs.Place.{content}
 use Rattle.chunk_core.specs.declared.states.TheConstants.{OPEN, FROZEN}
+use Rattle.chunk_core.specs.declared.holds.PinnedRoom.{PinnedRoom}
 use Rattle.chunk_core.specs.Covers.{Cover}
 use Rattle.chunk_core.specs.CoverSums.{all_of}
+use Rattle.chunk_core.specs.PinnedRooms.{IsGoodRoom, OnRoomPin, RoomPinHolds}
 use Rattle.chunk_core.specs.RoomCopies.{without_room}
 use Rattle.chunk_core.specs.RoomRule.{in_room_state}
 use Rattle.chunk_core.specs.Rooms.{at_room_pin}
@@ -22,6 +26,10 @@ use Rattle.oak_core.specs.TableState.{TableState}
 -- whatever is added up over the covers is as it was: so is each key's range, its base, and its entry with its floor
 abbrev pub KeepsCovers : Sizes → TableState → TableState → Type 0
 KeepsCovers z s t = (F : Cover → ℕ) → all_of z (memory z t.words).rooms (content (memory z t.words).arena.bytes) (map rooms_held t.states) F ≡ all_of z (memory z s.words).rooms (content (memory z s.words).arena.bytes) (map rooms_held s.states) F
+
+-- each room pin that was good of some pass is so still, and what it found stands
+abbrev pub KeepsPins : Sizes → TableState → TableState → Type 0
+KeepsPins z s t = (seat : ℕ) (u : PassState) → get_elem? s.states seat ≡ some u → OnRoomPin (λ (p : PinnedRoom). IsGoodRoom p → RoomPinHolds z (memory z t.words).rooms (content (memory z t.words).arena.bytes) p) u.rooms.pin
 
 -- The room, which the pass had frozen, is open. The step found the word n; all that the pass has but the room stays.
 pub record ThawsRoom (z : Sizes) (call r : ℕ) (v : PassState) (n : ℕ) (w : PassState) : Type 0 where
@@ -43,7 +51,8 @@ pub record ThawsRoom (z : Sizes) (call r : ℕ) (v : PassState) (n : ℕ) (w : P
   pub headers : w.headers ≡ v.headers
   pub numbers : w.numbers ≡ v.numbers
   pub knowledge : w.knowledge ≡ v.knowledge
-  -- the rule holds behind the step, the covers are those that they were, and so are the histories of all keys
+  -- the rule holds behind the step; all good pins stand, the covers are those that they were, and so are the histories of all keys
   pub rule : Rule z (table_after z call (on_rooms (thaw_room r)) told.seat v told.table)
+  pub pins : KeepsPins z told.table (table_after z call (on_rooms (thaw_room r)) told.seat v told.table)
   pub covers : KeepsCovers z told.table (table_after z call (on_rooms (thaw_room r)) told.seat v told.table)
   pub keys : KeepsKeys told.table (table_after z call (on_rooms (thaw_room r)) told.seat v told.table)
