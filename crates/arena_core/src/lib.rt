@@ -4,8 +4,6 @@
 pub mod blocks;
 pub mod layout;
 pub mod place;
-#[cfg(test)]
-mod tests;
 pub mod words;
 
 pub use blocks::{HeldBlock, HeldBlocks};

@@ -4,8 +4,6 @@
 pub mod holds;
 pub mod layout;
 pub mod states;
-#[cfg(test)]
-mod tests;
 
 pub use holds::{
     Carried, Claim, EntryWords, FoundEntry, HeldRoom, Latch, MovingRange, PinnedRoom, RoomCopy,

@@ -8,8 +8,6 @@ mod index;
 mod low;
 mod lows;
 mod readers;
-#[cfg(test)]
-mod tests;
 mod writers;
 
 pub use index::ChunkIndex;

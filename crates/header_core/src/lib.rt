@@ -4,8 +4,6 @@
 pub mod holds;
 pub mod layout;
 pub mod states;
-#[cfg(test)]
-mod tests;
 
 pub use holds::{AtLock, HeaderHolds, HeldAs, HeldHeader, PinnedHeader};
 pub use states::{DEAD, FREE, LAST_GENERATION, LIVE, LOCKED, OWNED, RETIRED};

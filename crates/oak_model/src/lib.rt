@@ -13,8 +13,6 @@ mod names;
 mod recipes;
 mod replies;
 mod shapes;
-#[cfg(test)]
-mod tests;
 mod values;
 mod writes;
 

@@ -1,4 +1,6 @@
-use crate::{
+//! The model: classes, shapes, recipes, keys, and the answers of a cell.
+
+use oak_model::{
     Answer, BadShape, CellCall, Class, Key, Name, RecipeKind, Shape, ShapeField, Value,
     answer_call, apply_kind, class_of, cmp_keys, is_key, is_value,
 };

@@ -1,6 +1,7 @@
+//! Hints of an index of minima.
 ghost use Rattle.oak_model.specs.Key.{IsKey};
 
-use crate::{ChunkIndex, IndexReader, IndexWriter};
+use chunk_index::{ChunkIndex, IndexReader, IndexWriter};
 use std::sync::Wait;
 use std::test::Fail;
 use std::thread::{Threads, join};
