@@ -27,7 +27,7 @@ use Rattle.chunk_core.specs.KeyWords.{key_in, low_number, high_from, high_number
 use Rattle.chunk_core.specs.LinkedEntries.{linked, entries_in, prefix_in, first_numbers}
 use Rattle.chunk_core.specs.MayOnRooms.{MayOpenRoom}
 use Rattle.chunk_core.specs.MovingRanges.{takes, is_upper, upper_of, left_of, ranges_left}
-use Rattle.chunk_core.specs.RoomCopies.{without_room, entries_held, word_held}
+use Rattle.chunk_core.specs.RoomCopies.{without_room, entries_held}
 use Rattle.chunk_core.specs.RoomReads.{words_at, copy_at}
 use Rattle.chunk_core.specs.RoomRule.{in_room_state, AreTrueRanges, RoomsStand, AreBounds}
 use Rattle.chunk_core.specs.RoomStep.{put_room}
