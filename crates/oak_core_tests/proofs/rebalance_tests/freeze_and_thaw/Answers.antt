@@ -1,4 +1,4 @@
-use Rattle.std.proofs.Common.{◌≡◌, ℕ, ◌+◌, ◌-◌, ◌*◌, ◌==◌, cond, Bool, ◌∷◌, eq-eqb, refl, sym, ap, ◌∙◌, subst, arith}
+use Rattle.std.proofs.Common.{◌≡◌, ℕ, ◌+◌, ◌-◌, ◌*◌, cond, Bool, ◌∷◌, eq-eqb, refl, sym, ap, ◌∙◌, subst, arith}
 use Rattle.pin_word.specs.PinWord.{STATE, packed, state_of}
 use Rattle.pin_word.proofs.Laws.{state_of-packed}
 use Rattle.oak_model.specs.Limits.{Sizes}

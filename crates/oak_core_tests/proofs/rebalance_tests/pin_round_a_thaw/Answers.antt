@@ -1,7 +1,6 @@
 use Rattle.std.proofs.Common.{◌≡◌, ℕ, refl, sym, ap, ◌∙◌, subst, arith, Some, None}
 use Rattle.oak_model.specs.Limits.{Sizes}
 use Rattle.oak_model.proofs.Counting.{one_at-same}
-use Rattle.chunk_core.specs.declared.holds.PinnedRoom.{PinnedRoom}
 use Rattle.chunk_core.specs.declared.holds.RoomHolds.{RoomHolds}
 use Rattle.chunk_core.specs.RoomHolds.{no_rooms}
 use Rattle.chunk_core.specs.RoomReads.{pinned_at}
@@ -18,9 +17,6 @@ use Rattle.oak_core_tests.proofs.rebalance_tests.pin_round_a_thaw.Goals as goal
 
 module _ (z : Sizes) (call next n k : ℕ) (u v w : PassState) (idle : HoldsNothing u) (t : Told z call (on_rooms (pin_room 0)) u n v) where
   -- the pass has a pin on the room, and nothing else of rooms
-  abbrev pinned : RoomHolds
-  pinned = record no_rooms { pin = Some (pinned_at (memory z t.table.words).rooms 0) }
-
   has_pin : v.rooms ≡ record no_rooms { pin = Some (pinned_at (memory z t.table.words).rooms 0) }
   has_pin = (λ i. (t.after i).rooms) ∙ ap (λ (a : RoomHolds). record a { pin = Some (pinned_at (memory z t.table.words).rooms 0) }) idle.rooms
 
