@@ -1,5 +1,5 @@
 -- A chunk that a call comes to hold alone, and that it opens again.
-use Rattle.std.proofs.Common.{◌≡◌, ℕ, ◌<◌, cond, Bool, List, [], ◌∷◌, length, map, sym, refl, ap, ◌∙◌, subst, inl, inr, arith, eq-eqb, ne_eqb, Option, Some, None}
+use Rattle.std.proofs.Common.{◌≡◌, ℕ, ◌<◌, cond, Bool, List, [], ◌∷◌, length, map, sym, refl, ap, ◌∙◌, subst, inl, inr, arith, eq-eqb, ne_eqb, Option, Some, None, ⊎_elim}
 use Rattle.pin_word.specs.PinWord.{state_of, count_of}
 use Rattle.oak_model.specs.Counts.{one_at, total}
 use Rattle.oak_model.specs.KeyNumber.{key_number}
@@ -16,7 +16,7 @@ use Rattle.chunk_core.specs.RoomCopies.{copy_of, without_room}
 use Rattle.chunk_core.specs.RoomRule.{in_room_state}
 use Rattle.chunk_core.specs.Rooms.{at_room_pin}
 use Rattle.chunk_core.specs.RoomStep.{freeze_room, hold_room}
-use Rattle.chunk_core.specs.Spans.{within}
+use Rattle.chunk_core.specs.Spans.{within, Span}
 use Rattle.chunk_core.proofs.HeldRooms.{room_rows}
 use Rattle.chunk_core.proofs.Weights.{open_none}
 use Rattle.oak_core.specs.declared.states.PassState.{PassState}
@@ -28,18 +28,24 @@ use Rattle.oak_core.specs.Sweeping.{sweep}
 use Rattle.oak_core.proofs.AloneRuns.{Then, runs_as, runs_then}
 use Rattle.oak_core.proofs.CallSteps.{begins_same, met_both, met_none, step_in, step_since, step_until}
 use Rattle.chunk_ops.specs.AskedRanges.{CoversKey}
-use Rattle.chunk_ops.specs.PinRecords.{OnlyMeets, with_room_pin}
+use Rattle.chunk_ops.specs.PinRecords.{OnlyMeets, with_room_pin, room_pin}
 use Rattle.chunk_ops.specs.RoomPins.{AddsRoomPin, DropsRoomPin, PinsOpen, Unpins}
 use Rattle.chunk_ops.proofs.MeetingCalls.{stays_then}
 use Rattle.chunk_ops.proofs.PinSteps.{pin_found, undone}
 use Rattle.rebalance.specs.Copies.{copy_span}
 use Rattle.rebalance.specs.Chunks.{ComesBack, HoldsFor, HoldsFront, HoldsPinned, LosesPinned, WorksBeside, held_row}
 use Rattle.rebalance.specs.HeldTables.{AwayFromPins, HoldsOnlyRooms, WorksOnRooms}
-use Rattle.rebalance.specs.Holding.{FindsFrozen, Freezes, Holds, StandsBeside, SweepsBeside, TriesBeside, with_moving}
+use Rattle.rebalance.specs.Holding.{FindsFrozen, Freezes, Holds, StandsBeside, SweepsBeside, TriesBeside, with_moving, FindsChanged, FindsPinned, LeavesUnfrozen, Thaws}
 use Rattle.rebalance.specs.LoneWords.{FreezesWords, LeavesBut, MovesWith, TakesRoom, held_by, leaves_same, no_room, runs_leave_both, stay_leaves}
 use Rattle.rebalance.proofs.ListedRows.{rows_total}
 use Rattle.rebalance.proofs.LoneTakes.{front_or, pin_takes, pinned_takes, taken_works, works_takes}
 use Rattle.rebalance.specs.Resting.{rests_both, rests_of, tries_of}
+use Rattle.oak_core.specs.declared.sorting.SortSlot.{SortSlot}
+use Rattle.chunk_core.specs.PinnedRooms.{span_of}
+use Rattle.chunk_ops.specs.Latching.{Never}
+use Rattle.chunk_ops.specs.LoneRooms.{HasNoRoom, NeverAlone}
+use Rattle.rebalance.specs.Busy.{IsBusyFor}
+use Rattle.rebalance.proofs.NeverRuns.{never_alone_first, never_alone_last, never_first, never_last, never_so}
 
 -- ---- what a pass does beside its rooms
 
@@ -155,14 +161,19 @@ holds_pinned z call r v a b u f n h = let w : RoomCopy = h.0 in let g : MovingRa
     moment = p.ended;
     alone = runs_as (Then (Then (FreezesWords z v r) (DropsRoomPin z r)) (MovesWith z r FROZEN HELD w)) (TakesRoom z v r w) v u (λ x y s. pinned_takes z v r w f.step.told.may.inside.0 x s.1.0 s.0 y s.1.1 s.1.2 s.2)
         (runs_then (Then (FreezesWords z v r) (DropsRoomPin z r)) (MovesWith z r FROZEN HELD w) v b u (runs_then (FreezesWords z v r) (DropsRoomPin z r) v a b f.alone n.still) p.alone);
+    ranged = runs_as (Then (Then (FreezesWords z v r) (DropsRoomPin z r)) (MovesWith z r FROZEN HELD w)) (λ _ _. copy_span w ≡ span_of (room_pin v)) v u
+        (λ x y s. ap copy_span (sym (pinned_takes z v r w f.step.told.may.inside.0 x s.1.0 s.0 y s.1.1 s.1.2 s.2).words) ∙ s.1.1.ranged)
+        (runs_then (Then (FreezesWords z v r) (DropsRoomPin z r)) (MovesWith z r FROZEN HELD w) v b u (runs_then (FreezesWords z v r) (DropsRoomPin z r) v a b f.alone n.still) p.alone);
   },
 )
 
--- another pass froze it
-pub loses_pinned : (z : Sizes) (call r : ℕ) (v a u : PassState) → FindsFrozen z call r v a → Unpins z call r a u → LosesPinned z call r v u
-loses_pinned z call r v a u f n = record {
-  step = step_until z call (load (in_rooms (at_room_pin r))) v a u n.stands.met f.step;
-  frozen = f.frozen;
+-- another pass had frozen it, or pinned it
+pub loses_unfrozen : (z : Sizes) (call r : ℕ) (v a u : PassState) → LeavesUnfrozen z call r v a → Unpins z call r a u → LosesPinned z call r v u
+loses_unfrozen z call r v a u f n = record {
+  why = ⊎_elim
+      (λ (x : FindsFrozen z call r v a). inl record { step = step_until z call (load (in_rooms (at_room_pin r))) v a u n.stands.met x.step; frozen = x.frozen })
+      (λ (x : FindsChanged z call r v a). inr (inl record { word = x.word; step = step_until z call (on_rooms (freeze_room r x.word)) v a u n.stands.met x.step; changed = x.changed }))
+      f.why;
   unpins = record {
     stands = rests_both call v a u f.only.stands (rests_of call a u n.stands);
     blocks = n.blocks ∙ f.only.blocks;
@@ -171,7 +182,26 @@ loses_pinned z call r v a u f n = record {
     ended = n.ended;
     still = stays_then (DropsRoomPin z r) v a u f.only.still n.still;
   };
+  alone = never_alone_first (DropsRoomPin z r) v a u f.alone n.still;
 }
+
+-- it was frozen, and pinned, and is open again
+pub loses_thawed : (z : Sizes) (call r : ℕ) (v a b u : PassState) → Freezes z call r v a → Unpins z call r a b → Thaws z call r b u → LosesPinned z call r v u
+loses_thawed z call r v a b u f n p = let met = met_both call v a b f.beside.stands.met n.stands.met in
+    let never : Runs Never v u = never_last (Then (FreezesWords z v r) (DropsRoomPin z r)) v b u (runs_then (FreezesWords z v r) (DropsRoomPin z r) v a b f.alone n.still) p.alone in record {
+      why = inr (inr record { word = p.pinned.word; step = step_since z call (on_rooms (hold_room r p.pinned.word)) v b u met p.pinned.step; frozen = p.pinned.frozen; pinned = p.pinned.pinned });
+      unpins = record {
+        stands = rests_both call v b u (rests_both call v a b f.beside.stands (rests_of call a b n.stands)) p.beside.stands;
+        blocks = p.beside.blocks ∙ (n.blocks ∙ f.beside.blocks);
+        headers = p.beside.headers ∙ (n.headers ∙ f.beside.headers);
+        rooms = p.rooms
+            ∙ (ap (λ (o : RoomHolds). record o { held = without_room r o.held }) (n.rooms ∙ ap (with_room_pin None) f.rooms)
+            ∙ ap (λ (hs : List HeldRoom). record v.rooms { pin = None; held = hs }) (without_first r (record { room = r; held_as = Frozen }) v.rooms.held refl (frozen_apart z call r v a f)));
+        ended = p.ended;
+        still = never_so (DropsRoomPin z r) v u never;
+      };
+      alone = never_so (NeverAlone v) v u never;
+    }
 
 -- ---- a try to hold the chunk of a key
 
@@ -210,6 +240,25 @@ module _ (z : Sizes) (call r : ℕ) (key : List ℕ) (v x : PassState) (only : H
     alone = runs_as (Then (AddsRoomPin z r) (DropsRoomPin z r)) (LeavesBut z no_room (held_by v)) v u
         (λ a b s. leaves_same z no_room (held_by v) a b (undone z r p.has.inside a s.0 b (λ n. state_of n ≡ OPEN) (λ n. 0 < count_of n) s.1 s.2)) (runs_then (AddsRoomPin z r) (DropsRoomPin z r) v x u p.still l.unpins.still);
   }
+
+  -- why it could not be held
+  pub busy_lost : (u : PassState) → LosesPinned z call r x u → IsBusyFor z call key v u
+  busy_lost u l = inr (
+    r,
+    inl (⊎_elim
+        (λ (b : FindsFrozen z call r x u). inl record { step = step_since z call (load (in_rooms (at_room_pin r))) v x u p.stands.met b.step; frozen = b.frozen })
+        (⊎_elim
+        (λ (b : FindsChanged z call r x u). inr (inl record { word = b.word; step = step_since z call (on_rooms (freeze_room r b.word)) v x u p.stands.met b.step; changed = b.changed }))
+        (λ (b : FindsPinned z call r x u). inr (inr record { word = b.word; step = step_since z call (on_rooms (hold_room r b.word)) v x u p.stands.met b.step; frozen = b.frozen; pinned = b.pinned })))
+        l.why),
+  )
+
+  bare_pinned : HasNoRoom v → HasNoRoom x
+  bare_pinned n = record { held = ap (λ (o : RoomHolds). o.held) p.rooms ∙ n.held; moving = ap (λ (o : RoomHolds). o.moving) p.rooms ∙ n.moving }
+
+  -- a pass that is alone and has no room loses none
+  pub alone_lost : (u : PassState) → LosesPinned z call r x u → Runs (NeverAlone v) v u
+  alone_lost u l = never_alone_last (AddsRoomPin z r) v x u bare_pinned p.still l.alone
 
   -- the room is held in front of what the pass held
 
@@ -291,6 +340,34 @@ module _ (z : Sizes) (call r : ℕ) (key : List ℕ) (v x : PassState) (only : H
         origin = h.origin;
         alone = looked_alone;
       }
+
+      -- it was opened again
+      pub back_opened : (u : PassState) → OpensFront z call r w v.rooms.held v.rooms.moving q u → ComesBack z call v u
+      back_opened u o = record {
+        beside = works_both call v q u looked_beside o.beside;
+        claims = o.claims ∙ (works.stands.claims ∙ front_beside.stands.claims);
+        rooms = o.rooms ∙ (ap (λ (a : RoomHolds). record a { held = v.rooms.held; moving = v.rooms.moving }) (same ∙ front_rooms) ∙ pin_gone v only);
+        alone = runs_as (Then (TakesRoom z v r w) (MovesWith z r HELD OPEN w)) (LeavesBut z no_room (held_by v)) v u (λ a b s. takes_back z v r w a s.0 b s.1 s.2) (runs_then (TakesRoom z v r w) (MovesWith z r HELD OPEN w) v q u looked_alone o.alone);
+      }
+
+      module _ (u : PassState) (o : OpensFront z call r w v.rooms.held v.rooms.moving q u) (off : within (copy_span w) (key_number key) ≡ 1 → ⊥) where
+        -- its range had not the key
+        pub busy_off : IsBusyFor z call key v u
+        busy_off = inr (
+          r,
+          inr record {
+            copy = w;
+            came = record { old = h.came.old; step = step_in z call (on_rooms (hold_room r h.came.old)) v x y u p.stands.met (met_both call y q u works.stands.met o.beside.met) h.came.step; found_is = h.came.found_is; copy_is = h.came.copy_is };
+            off = off;
+          },
+        )
+
+        -- to a pass that is alone it has the range that the pin found
+        pub alone_off : Runs Never v u
+        alone_off = never_first (MovesWith z r HELD OPEN w) v q u (never_first (LeavesBut z no_room (held_by y)) v y q (never_last (AddsRoomPin z r) v x y p.still ranged_off) works.words) o.alone
+          where
+            ranged_off : Runs Never x y
+            ranged_off = runs_as (λ _ _. copy_span w ≡ span_of (room_pin x)) Never x y (λ a b e. off (subst (λ (s : Span). within s (key_number key) ≡ 1) (sym e) p.range)) h.ranged
 
 -- a pass does not hold a room that is none of its own
 held_apart : (v : PassState) (r : ℕ) → total (λ (h : HeldRoom). one_at h.room r) v.rooms.held ≡ 0 → held_by v r → ⊥

@@ -1,12 +1,12 @@
 -- A pass freezes a room on which it has a pin, or finds it frozen.
-use Rattle.std.proofs.Common.{◌≡◌, ◌≢◌, ℕ, ◌+◌, map, sym, refl, ap, ◌∙◌, subst, arith, inl}
+use Rattle.std.proofs.Common.{◌≡◌, ◌≢◌, ℕ, ◌+◌, map, sym, refl, ap, ◌∙◌, subst, arith, inl, List, get_or, ⊎_elim, inr}
 use Rattle.pin_word.specs.PinWord.{state_of}
 use Rattle.oak_model.specs.Limits.{Sizes}
 use Rattle.oak_model.proofs.Counting.{one_at-same, one_at-other, one_at-true, total_at}
 use Rattle.oak_model.proofs.Lists.{at_map}
 use Rattle.chunk_core.specs.declared.holds.RoomHeldAs.TheVariants.{Frozen}
 use Rattle.chunk_core.specs.declared.holds.RoomHolds.{RoomHolds}
-use Rattle.chunk_core.specs.declared.states.TheConstants.{OPEN, FROZEN}
+use Rattle.chunk_core.specs.declared.states.TheConstants.{OPEN, FROZEN, FREE}
 use Rattle.chunk_core.specs.CoverSums.{weight}
 use Rattle.chunk_core.specs.RoomRule.{in_room_state}
 use Rattle.chunk_core.specs.RoomStep.{freeze_room}
@@ -15,23 +15,31 @@ use Rattle.chunk_core.proofs.HeldRooms.{room_rows, row_here}
 use Rattle.chunk_core.proofs.Weights.{open_none}
 use Rattle.oak_core.specs.declared.states.PassState.{PassState}
 use Rattle.oak_core.specs.AloneWords.{Runs}
-use Rattle.oak_core.specs.Memory.{in_rooms, memory}
+use Rattle.oak_core.specs.Memory.{in_rooms, memory, Memory, index}
 use Rattle.oak_core.specs.PassState.{rooms_held}
 use Rattle.oak_core.specs.RoomCalls.{NamesRoomPin, FreezesRoom}
 use Rattle.oak_core.specs.Splitting.{Loads}
 use Rattle.oak_core.specs.Step.{Step, load, on_rooms, Told}
-use Rattle.oak_core.proofs.AloneRuns.{moment_after, runs_as}
-use Rattle.oak_core.proofs.CallSteps.{step_alone, step_since}
-use Rattle.chunk_ops.specs.PinRecords.{HasRoomPin, RoomPinned}
+use Rattle.oak_core.proofs.AloneRuns.{moment_after, runs_as, DoesStep, Then, load_runs, runs_then, step_runs}
+use Rattle.oak_core.proofs.CallSteps.{step_alone, step_since, met_both, step_met}
+use Rattle.chunk_ops.specs.PinRecords.{HasRoomPin, RoomPinned, pin_or, room_pin}
 use Rattle.chunk_ops.proofs.MeetingCalls.{stays_then}
 use Rattle.chunk_ops.proofs.PinSteps.{pin_found}
 use Rattle.chunk_ops.proofs.WordLoads.{load_at, load_reads, only_loaded, pin_holds}
-use Rattle.rebalance.specs.Holding.{Freezes, FindsFrozen, with_frozen}
-use Rattle.rebalance.specs.LoneWords.{FreezesWords}
+use Rattle.rebalance.specs.Holding.{Freezes, with_frozen, FindsChanged, LeavesUnfrozen}
+use Rattle.rebalance.specs.LoneWords.{FreezesWords, room_in, state_in}
 use Rattle.rebalance.proofs.LoneChunks.{lone_divides}
 use Rattle.rebalance.proofs.LoneSteps.{StepAt, moment_at, moves_at, step_at}
 use Rattle.rebalance.proofs.RoomExchanges.{beside_since, exchanged_state, freeze_beside, freeze_takes}
 use Rattle.rebalance.specs.Resting.{OnlyRests, only_rests, resting_both}
+use Rattle.chunk_ops.specs.Latching.{Never}
+use Rattle.chunk_ops.specs.LoneRooms.{NeverAlone}
+use Rattle.chunk_core.specs.Covers.{span_in}
+use Rattle.chunk_core.specs.KeyWords.{low_number, high_number}
+use Rattle.chunk_core.specs.PinnedRooms.{span_of}
+use Rattle.rebalance.specs.Copies.{copy_span}
+use Rattle.rebalance.proofs.LoneTakes.{bare_still}
+use Rattle.rebalance.proofs.NeverRuns.{never_so}
 
 -- the load of a room's pin word
 pub pin_load : (z : Sizes) (call r word n : ℕ) (v w : PassState) → NamesRoomPin z r word → Loads z call word v n w → Told z call (load (in_rooms (at_room_pin r))) v n w
@@ -49,12 +57,51 @@ not_open : (w : ℕ) → weight w ≡ 1 → state_of w ≢ OPEN → state_of w �
 not_open w weighs ne = let o = one_at-other (state_of w) OPEN ne in one_at-true (state_of w) FROZEN (omega arith)
 
 -- a pinned room that is found not open
-pub finds_frozen : (z : Sizes) (call r word n : ℕ) (u v w : PassState) → NamesRoomPin z r word → HasRoomPin z r v → OnlyRests call u v → Loads z call word v n w → state_of n ≢ OPEN → FindsFrozen z call r u w
-finds_frozen z call r word n u v w names pin only l shut = let t = pin_load z call r word n v w names l in record {
-  step = step_since z call (load (in_rooms (at_room_pin r))) u v w only.stands.met (step_alone z call (load (in_rooms (at_room_pin r))) v n w t);
-  frozen = not_open n (subst (λ (k : ℕ). weight k ≡ 1) (ap (memory z t.table.words).rooms.pin pin.pin.room ∙ load_reads z call n v w (in_rooms (at_room_pin r)) t) (pin_holds z call r (load (in_rooms (at_room_pin r))) v n w pin t).cover) shut;
-  only = resting_both call u v w only (pin_load_only z call r word n v w names l);
+module _ (z : Sizes) (call r word n : ℕ) (u v w : PassState) (names : NamesRoomPin z r word) (pin : HasRoomPin z r v) (only : OnlyRests call u v) (l : Loads z call word v n w) (shut : state_of n ≢ OPEN) where
+  told : Told z call (load (in_rooms (at_room_pin r))) v n w
+  told = pin_load z call r word n v w names l
+
+  frozen : state_of n ≡ FROZEN
+  frozen = not_open n (subst (λ (k : ℕ). weight k ≡ 1) (ap (memory z told.table.words).rooms.pin pin.pin.room ∙ load_reads z call n v w (in_rooms (at_room_pin r)) told) (pin_holds z call r (load (in_rooms (at_room_pin r))) v n w pin told).cover) shut
+
+  -- each room is free or open to a pass that is alone and has none
+  never_frozen : (a b : List ℕ) → StepAt z call (load (in_rooms (at_room_pin r))) v n w told a b → NeverAlone u a b
+  never_frozen a b s bare = let d = lone_divides z a v (moment_at z call (load (in_rooms (at_room_pin r))) v n w told a b s) s.alone (bare_still u v bare only.rooms) in
+      let is : state_in z a r ≡ FROZEN = ap state_of (ap (λ (ws : List ℕ). (memory z ws).rooms.pin r) s.was ∙ load_reads z call n v w (in_rooms (at_room_pin r)) told) ∙ frozen in
+      ⊎_elim (λ (e : state_in z a r ≡ FREE). let f : FREE ≡ FROZEN = sym e ∙ is in absurd (omega arith)) (λ (e : state_in z a r ≡ OPEN). let f : OPEN ≡ FROZEN = sym e ∙ is in absurd (omega arith)) (d.states r names.inside)
+
+  pub finds_frozen : LeavesUnfrozen z call r u w
+  finds_frozen = record {
+    why = inl record { step = step_since z call (load (in_rooms (at_room_pin r))) u v w only.stands.met (step_alone z call (load (in_rooms (at_room_pin r))) v n w told); frozen = frozen };
+    only = resting_both call u v w only (pin_load_only z call r word n v w names l);
+    alone = stays_then (NeverAlone u) u v w only.still (runs_as (StepAt z call (load (in_rooms (at_room_pin r))) v n w told) (NeverAlone u) v w never_frozen (step_at z call (load (in_rooms (at_room_pin r))) v n w tt told));
+  }
+
+-- an exchange behind a look finds what that found
+pub never_changed : (z : Sizes) (call r old n k : ℕ) (u v w : PassState) → Told z call (load (in_rooms (at_room_pin r))) u k v → k ≡ old → FreezesRoom z call r old v n w → n ≢ old → Runs Never u w
+never_changed z call r old n k u v w l found t ne = let i : ℕ = index z (in_rooms (at_room_pin r)) in
+    runs_as (Then (λ a b. (k ≡ get_or a i 0) × (b ≡ a)) (DoesStep z (on_rooms (freeze_room r old)) n)) Never u w (λ a b d. ne (d.2.0 ∙ (ap (λ (ws : List ℕ). get_or ws i 0) d.1.1 ∙ (sym d.1.0 ∙ found))))
+    (runs_then (λ a b. (k ≡ get_or a i 0) × (b ≡ a)) (DoesStep z (on_rooms (freeze_room r old)) n) u v w (load_runs z call (in_rooms (at_room_pin r)) u k v l) (step_runs z call (on_rooms (freeze_room r old)) v n w tt t))
+
+-- so many exchanges that found another word
+pub record Changed (z : Sizes) (call r : ℕ) (v w : PassState) : Type 0 where
+  pub why : FindsChanged z call r v w
+  pub alone : Runs Never v w
+
+-- one of them, behind others
+pub changed_since : (z : Sizes) (call r old n k : ℕ) (u v x w : PassState) → OnlyRests call u v → Told z call (load (in_rooms (at_room_pin r))) v k x → k ≡ old → FreezesRoom z call r old x n w → n ≢ old → Changed z call r u w
+changed_since z call r old n k u v x w only l found t ne = record {
+  why = record {
+    word = old;
+    step = step_since z call (on_rooms (freeze_room r old)) u x w (met_both call u v x only.stands.met (step_met z call (load (in_rooms (at_room_pin r))) v k x l)) (step_alone z call (on_rooms (freeze_room r old)) x n w t);
+    changed = ne;
+  };
+  alone = stays_then Never u v w only.still (never_changed z call r old n k v x w l found t ne);
 }
+
+-- the pass gives up behind them
+pub leaves_changed : (z : Sizes) (call r : ℕ) (v w : PassState) → Changed z call r v w → OnlyRests call v w → LeavesUnfrozen z call r v w
+leaves_changed z call r v w c only = record { why = inr c.why; only = only; alone = never_so (NeverAlone v) v w c.alone }
 
 -- a room that is found open is frozen once
 frozen_once : (z : Sizes) (call r old n : ℕ) (v w : PassState) → (t : FreezesRoom z call r old v n w) → n ≡ old → in_room_state r FROZEN (with_frozen r v.rooms) ≡ 1
@@ -64,10 +111,16 @@ frozen_once z call r old n v w t e = let is_open : state_of ((memory z t.table.w
     let none = open_none ((memory z t.table.words).rooms.pin r) FROZEN is_open (inl refl) in
     let more = row_here r r FROZEN (record { room = r; held_as = Frozen }) v.rooms.held refl refl in let one = one_at-same FROZEN FROZEN refl in omega arith
 
+-- at each step of its pass the pinned room has the range that the pin found
+pinned_span : (z : Sizes) (call r : ℕ) (x : Step) (v : PassState) (n : ℕ) (w : PassState) → HasRoomPin z r v → (t : Told z call x v n w) → copy_span (room_in z t.table.words r) ≡ span_of (room_pin v)
+pinned_span z call r x v n w p t = let h = pin_holds z call r x v n w p t in let m : Memory = memory z t.table.words in
+    ap (λ (k : ℕ). span_in m.rooms k) (sym p.pin.room) ∙ (λ i. record { low = low_number (h.low i); high = high_number (h.high i); base = h.base i })
+
 -- what it does to the words, where the pass is alone
-freezes_alone : (z : Sizes) (call r old n : ℕ) (u v w : PassState) → OnlyRests call u v → (t : FreezesRoom z call r old v n w) → n ≡ old → Runs (FreezesWords z u r) u w
-freezes_alone z call r old n u v w only t e = stays_then (FreezesWords z u r) u v w only.still (runs_as (StepAt z call x v n w t) (FreezesWords z u r) v w (λ a b s. record {
+freezes_alone : (z : Sizes) (call r old n : ℕ) (u v w : PassState) → HasRoomPin z r u → OnlyRests call u v → (t : FreezesRoom z call r old v n w) → n ≡ old → Runs (FreezesWords z u r) u w
+freezes_alone z call r old n u v w pin only t e = stays_then (FreezesWords z u r) u v w only.still (runs_as (StepAt z call x v n w t) (FreezesWords z u r) v w (λ a b s. record {
   moves = moves_at z call r (freeze_room r old) refl v n w t t.may.inside.0 OPEN FROZEN (ap state_of e ∙ t.may.rooms) (exchanged_state n old 1 e (let o = t.may.rooms in omega arith) ∙ ap (λ (k : ℕ). k + 1) t.may.rooms) a b s;
+  ranged = ap (λ (ws : List ℕ). copy_span (room_in z ws r)) s.was ∙ (pinned_span z call r x v n w (pinned_still z call r u v only pin) t ∙ ap (λ (h : RoomHolds). span_of (pin_or h.pin)) only.rooms);
   divided = λ bare. lone_divides z a v (moment_at z call x v n w t a b s) s.alone record { held = ap (λ (h : RoomHolds). h.held) only.rooms ∙ bare.held; moving = ap (λ (h : RoomHolds). h.moving) only.rooms ∙ bare.moving };
 }) (step_at z call x v n w tt t))
   where
@@ -75,8 +128,8 @@ freezes_alone z call r old n u v w only t e = stays_then (FreezesWords z u r) u 
     x = on_rooms (freeze_room r old)
 
 -- a step of the call that froze the room
-pub freezes : (z : Sizes) (call r old n : ℕ) (u v w : PassState) → OnlyRests call u v → FreezesRoom z call r old v n w → n ≡ old → Freezes z call r u w
-freezes z call r old n u v w only t e = record {
+pub freezes : (z : Sizes) (call r old n : ℕ) (u v w : PassState) → HasRoomPin z r u → OnlyRests call u v → FreezesRoom z call r old v n w → n ≡ old → Freezes z call r u w
+freezes z call r old n u v w pin only t e = record {
   word = old;
   step = step_since z call (on_rooms (freeze_room r old)) u v w only.stands.met (step_alone z call (on_rooms (freeze_room r old)) v n w t);
   was = e;
@@ -87,5 +140,5 @@ freezes z call r old n u v w only t e = record {
   rooms = freeze_takes z call r old n v w t e ∙ ap (with_frozen r) only.rooms;
   frozen = subst (λ (a : RoomHolds). in_room_state r FROZEN a ≡ 1) (sym (freeze_takes z call r old n v w t e)) (frozen_once z call r old n v w t e);
   ended = (_, moment_after z call (on_rooms (freeze_room r old)) v n w t);
-  alone = freezes_alone z call r old n u v w only t e;
+  alone = freezes_alone z call r old n u v w pin only t e;
 }

@@ -1,10 +1,10 @@
 -- A pass comes to hold a room alone that it has frozen, with the range of the room.
-use Rattle.std.proofs.Common.{◌≡◌, ℕ, ◌+◌, ◌<◌, cond, Bool, List, ◌∷◌, map, sym, refl, ap, ◌∙◌, subst, arith, eq-eqb, Some}
+use Rattle.std.proofs.Common.{None, ◌≡◌, ℕ, ◌+◌, ◌<◌, cond, Bool, List, ◌∷◌, map, sym, refl, ap, ◌∙◌, subst, arith, eq-eqb, Some, ◌≢◌, [], inl}
 use lib.ListN.{get_elem?}
-use Rattle.pin_word.specs.PinWord.{packed, state_of, count_of, HasNoPin}
-use Rattle.pin_word.proofs.Laws.{state_of-packed, count_of-packed}
+use Rattle.pin_word.specs.PinWord.{packed, state_of, count_of, HasNoPin, generation_of}
+use Rattle.pin_word.proofs.Laws.{state_of-packed, count_of-packed, parts_equal}
 use Rattle.oak_model.specs.Limits.{Sizes}
-use Rattle.oak_model.proofs.Counting.{one_at-same}
+use Rattle.oak_model.proofs.Counting.{one_at-same, one_at-true, total_at}
 use Rattle.arena_core.specs.Place.{content}
 use Rattle.chunk_core.specs.declared.holds.HeldRoom.{HeldRoom}
 use Rattle.chunk_core.specs.declared.holds.MovingRange.{MovingRange}
@@ -15,7 +15,7 @@ use Rattle.chunk_core.specs.declared.states.TheConstants.{FROZEN, HELD}
 use Rattle.chunk_core.specs.RoomCopies.{copy_of, without_room}
 use Rattle.chunk_core.specs.RoomReads.{copy_at, moving_at}
 use Rattle.chunk_core.specs.RoomRule.{in_room_state, IsWholeCopy}
-use Rattle.chunk_core.specs.RoomStep.{hold_room}
+use Rattle.chunk_core.specs.RoomStep.{hold_room, thaw_room}
 use Rattle.chunk_core.proofs.HeldRooms.{room_rows, row_here, without_here}
 use Rattle.chunk_core.proofs.RoomKinds.{whole_copy}
 use Rattle.chunk_core.proofs.Weights.{weight_frozen}
@@ -23,20 +23,28 @@ use Rattle.oak_core.specs.declared.states.PassState.{PassState}
 use Rattle.oak_core.specs.Memory.{Memory, memory}
 use Rattle.oak_core.specs.PassState.{rooms_held}
 use Rattle.oak_core.specs.RoomCalls.{HoldsRoomWord}
-use Rattle.oak_core.specs.Step.{on_rooms}
-use Rattle.oak_core.proofs.AloneRuns.{moment_after}
-use Rattle.oak_core.proofs.CallSteps.{step_alone, step_since}
+use Rattle.oak_core.specs.Step.{on_rooms, Told}
+use Rattle.oak_core.proofs.AloneRuns.{moment_after, DoesStep, runs_as, step_runs}
+use Rattle.oak_core.proofs.CallSteps.{step_alone, step_since, step_until}
 use Rattle.chunk_ops.specs.RoomPins.{HadMoment}
 use Rattle.chunk_ops.proofs.MeetingCalls.{stays_then}
 use Rattle.chunk_ops.proofs.PinSteps.{pin_found}
-use Rattle.rebalance.specs.Holding.{HasHeld, Holds, with_moving}
+use Rattle.rebalance.specs.Holding.{HasHeld, Holds, with_moving, FindsPinned, StandsBeside, Thaws}
 use Rattle.rebalance.specs.LoneWords.{MovesWith}
 use Rattle.rebalance.specs.Mirrors.{Mirrors}
-use Rattle.rebalance.proofs.LoneSteps.{room_moves_with}
+use Rattle.rebalance.proofs.LoneSteps.{room_moves_with, StepAt, moment_at, step_at}
 use Rattle.rebalance.proofs.MirroredRooms.{latch_free, mirrors_at}
 use Rattle.rebalance.proofs.RangesStand.{range_stands}
 use Rattle.rebalance.proofs.RoomExchanges.{beside_since, exchanged_state, hold_beside, hold_takes}
 use Rattle.rebalance.specs.Resting.{OnlyRests}
+use mathlib.Core.Logic.{dite}
+use native.Mathlib.Decide.{ℕ_discrete}
+use Rattle.oak_model.proofs.Lists.{at_map}
+use Rattle.oak_core.specs.AloneWords.{Runs}
+use Rattle.oak_core.specs.Thawing.{ThawsRoom}
+use Rattle.chunk_ops.specs.Latching.{Never}
+use Rattle.rebalance.proofs.LoneChunks.{lone_count}
+use Rattle.rebalance.proofs.NeverRuns.{never_first}
 
 -- a word of a state and no pin
 packed_bare : (s : ℕ) → s < 16 → HasNoPin s (packed 0 s 0)
@@ -111,3 +119,63 @@ frozen_still call r v w only e = subst (λ (a : RoomHolds). in_room_state r FROZ
 -- the word that it looks for is that of a room without a pin
 pub bare_word : (s n : ℕ) → s < 16 → n ≡ packed 0 s 0 → HasNoPin s n
 bare_word s n lt e = subst (HasNoPin s) (sym e) (packed_bare s lt)
+
+-- ---- a frozen room that is pinned
+
+-- A room that the pass has frozen has a pin, where its word is not that of a room without one.
+module _ (z : Sizes) (call r old n : ℕ) (v w : PassState) (t : HoldsRoomWord z call r old v n w) (first : generation_of old ≡ 0) (ne : n ≢ old) where
+  found_is : (memory z t.table.words).rooms.pin r ≡ n
+  found_is = pin_found z call r (hold_room r old) refl v n w t t.may.inside.0
+
+  found_frozen : state_of n ≡ FROZEN
+  found_frozen = ap state_of (sym found_is) ∙ (let mine = t.may.rooms.1 in let l = total_at (in_room_state r FROZEN) (map rooms_held t.table.states) t.seat v.rooms (at_map rooms_held t.table.states t.seat v t.here) in let s = t.rule.rooms.held r FROZEN (inl refl) in one_at-true (state_of ((memory z t.table.words).rooms.pin r)) FROZEN (omega arith))
+
+  found_pinned : 0 < count_of n
+  found_pinned = dite (ℕ_discrete (count_of n) 0)
+      (λ e. absurd (ne (parts_equal n old (ap generation_of (sym found_is) ∙ (t.rule.rooms.generations r ∙ sym first)) (found_frozen ∙ sym t.may.rooms.0.state) (e ∙ sym t.may.rooms.0.count))))
+      (λ some. omega arith)
+
+  -- a pass that is alone and has no pin finds none
+  never_pinned : v.rooms.pin ≡ None → Runs Never v w
+  never_pinned none = runs_as (StepAt z call (on_rooms (hold_room r old)) v n w t) Never v w
+      (λ a b s. let c = lone_count z a v (moment_at z call (on_rooms (hold_room r old)) v n w t a b s) s.alone none r in
+      let e : count_of ((memory z a).rooms.pin r) ≡ count_of n = ap (λ (ws : List ℕ). count_of ((memory z ws).rooms.pin r)) s.was ∙ ap count_of found_is in let p = found_pinned in absurd (omega arith))
+      (step_at z call (on_rooms (hold_room r old)) v n w tt t)
+
+-- so many looks that found it so
+pub record StaysPinned (z : Sizes) (call r : ℕ) (v w : PassState) : Type 0 where
+  pub why : FindsPinned z call r v w
+  pub alone : Runs Never v w
+
+-- one of them, behind others
+pub pinned_since : (z : Sizes) (call r old n : ℕ) (u v w : PassState) → OnlyRests call u v → HoldsRoomWord z call r old v n w → generation_of old ≡ 0 → n ≢ old → u.rooms.pin ≡ None → StaysPinned z call r u w
+pinned_since z call r old n u v w only t first ne none = record {
+  why = record {
+    word = old;
+    step = step_since z call (on_rooms (hold_room r old)) u v w only.stands.met (step_alone z call (on_rooms (hold_room r old)) v n w t);
+    frozen = found_frozen z call r old n v w t first ne;
+    pinned = found_pinned z call r old n v w t first ne;
+  };
+  alone = stays_then Never u v w only.still (never_pinned z call r old n v w t first ne (ap (λ (a : RoomHolds). a.pin) only.rooms ∙ none));
+}
+
+-- ---- a frozen room that is opened again
+
+thaw_beside : (z : Sizes) (call r n : ℕ) (v w : PassState) → Told z call (on_rooms (thaw_room r)) v n w → StandsBeside call v w
+thaw_beside z call r n v w t = subst (StandsBeside call v) (sym t.after) (record {
+  stands = record { met = record { more = _ ∷ []; met = refl; calls = (refl, tt) }; numbers = refl; knowledge = refl; fulls = refl; swept = refl; sights = refl; gones = refl; claims = refl };
+  blocks = refl;
+  headers = refl;
+})
+
+-- behind looks that found it pinned
+pub thaws : (z : Sizes) (call r n : ℕ) (u v w : PassState) → StaysPinned z call r u v → OnlyRests call u v → ThawsRoom z call r v n w → Thaws z call r u w
+thaws z call r n u v w p only t = let b = thaw_beside z call r n v w t.told in record {
+  pinned = record { word = p.why.word; step = step_until z call (on_rooms (hold_room r p.why.word)) u v w b.stands.met p.why.step; frozen = p.why.frozen; pinned = p.why.pinned };
+  step = step_since z call (on_rooms (thaw_room r)) u v w only.stands.met (step_alone z call (on_rooms (thaw_room r)) v n w t.told);
+  last = refl;
+  beside = beside_since call u v w only b;
+  rooms = t.rooms ∙ ap (λ (a : RoomHolds). record a { held = without_room r a.held }) only.rooms;
+  ended = (_, moment_after z call (on_rooms (thaw_room r)) v n w t.told);
+  alone = never_first (DoesStep z (on_rooms (thaw_room r)) n) u v w p.alone (step_runs z call (on_rooms (thaw_room r)) v n w tt t.told);
+}

@@ -26,6 +26,7 @@ pub mod JoinedRanges
 pub mod MergedMirrors
 pub mod MiddleBounds
 pub mod MirroredEntries
+pub mod NeverRuns
 mod RoomExchanges
 mod RangesStand
 mod MirroredRooms
@@ -79,3 +80,4 @@ pub mod HalvedRooms
 mod LoneSplits
 pub mod SplitCalls
 mod CopyBases
+mod GivenUp

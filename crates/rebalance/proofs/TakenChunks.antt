@@ -24,7 +24,7 @@ use Rattle.rebalance.specs.declared.merging.Taken.{Taken}
 use Rattle.rebalance.specs.declared.reading.Read.{Read}
 use Rattle.rebalance.specs.Calls.{ComesToHold, Leaves, OpensWith, Rewrites}
 use Rattle.rebalance.specs.Copies.{copy_span}
-use Rattle.rebalance.specs.Chunks.{CompactsFront, HoldsFor, HoldsFront, OpensFront, WorksBeside}
+use Rattle.rebalance.specs.Chunks.{CompactsFront, HoldsFor, HoldsFront, OpensFront, WorksBeside, ComesBack}
 use Rattle.rebalance.specs.HeldRooms.{AllValued}
 use Rattle.rebalance.specs.HeldTables.{Apart, IsHeldRow, WorksOnRooms}
 use Rattle.rebalance.specs.Merging.{HoldsCompacted, SweepsUpTo, TakesChunk}

@@ -1,7 +1,6 @@
 -- A chunk that a pass holds alone, as the last one that it came to hold, and what the parts of a rebalance do to it.
 use Rattle.std.specs.Prelude.{◌≡◌, ℕ, ◌+◌, ◌*◌, ◌<◌, List, [], ◌∷◌, ◌++◌, length, take, None}
-use Rattle.pin_word.specs.PinWord.{state_of}
-use Rattle.oak_model.specs.Counts.{one_at, total, Begins}
+use Rattle.oak_model.specs.Counts.{one_at, total, Begins, Each}
 use Rattle.oak_model.specs.Key.{AreBytes, IsKey}
 use Rattle.oak_model.specs.KeyNumber.{key_number}
 use Rattle.oak_model.specs.Limits.{Sizes}
@@ -10,21 +9,22 @@ use Rattle.chunk_core.specs.declared.holds.HeldRoom.{HeldRoom}
 use Rattle.chunk_core.specs.declared.holds.MovingRange.{MovingRange}
 use Rattle.chunk_core.specs.declared.holds.RoomCopy.{RoomCopy}
 use Rattle.chunk_core.specs.declared.holds.RoomHeldAs.TheVariants.{Held}
-use Rattle.chunk_core.specs.declared.states.TheConstants.{FROZEN, HELD, OPEN}
+use Rattle.chunk_core.specs.declared.states.TheConstants.{HELD, OPEN}
 use Rattle.chunk_core.specs.KeyWords.{low_bytes, high_bytes}
 use Rattle.chunk_core.specs.LinkedEntries.{entries_in}
+use Rattle.chunk_core.specs.PinnedRooms.{span_of}
 use Rattle.chunk_core.specs.RoomCopies.{entries_held}
 use Rattle.chunk_core.specs.RoomReads.{copy_at}
 use Rattle.chunk_core.specs.RoomRule.{IsWholeCopy}
-use Rattle.chunk_core.specs.Rooms.{at_room_pin}
 use Rattle.chunk_core.specs.Spans.{within}
 use Rattle.chunk_core.specs.ValueWord.{names_header}
 use Rattle.oak_core.specs.declared.states.PassState.{PassState}
 use Rattle.oak_core.specs.AloneWords.{Runs}
-use Rattle.oak_core.specs.CallSteps.{MetMore, StepOfCall}
-use Rattle.oak_core.specs.Memory.{in_rooms, memory}
-use Rattle.oak_core.specs.Step.{load}
+use Rattle.oak_core.specs.CallSteps.{MetMore}
+use Rattle.oak_core.specs.Memory.{memory}
 use Rattle.oak_core.specs.Sweeping.{valueless}
+use Rattle.chunk_ops.specs.LoneRooms.{NeverAlone}
+use Rattle.chunk_ops.specs.PinRecords.{room_pin}
 use Rattle.chunk_ops.specs.RoomPins.{HadMoment}
 use Rattle.rebalance.specs.Calls.{ComesToHold, IsSorted, OpensWith, SweepsKey}
 use Rattle.rebalance.specs.Copies.{base_without, copy_span, values_in}
@@ -34,7 +34,7 @@ use Rattle.rebalance.specs.Dropping.{DropsKeys, dropped_ranges}
 use Rattle.rebalance.specs.Entries.{dropped}
 use Rattle.rebalance.specs.Filled.{IsFilled}
 use Rattle.rebalance.specs.HeldTables.{AwayFromPins, HoldsOnlyRooms, WorksOnRooms, key_of_entry, valued, with_word}
-use Rattle.rebalance.specs.Holding.{StandsBeside}
+use Rattle.rebalance.specs.Holding.{IsBusy, StandsBeside}
 use Rattle.rebalance.specs.Resting.{RestsUnpinned}
 use Rattle.rebalance.specs.LoneWords.{LeavesBut, MovesWith, TakesRoom, held_by, no_room}
 use Rattle.rebalance.specs.Mirrors.{Mirrors, held_memory}
@@ -96,12 +96,15 @@ pub record HoldsPinned (z : Sizes) (call r : ℕ) (w : RoomCopy) (g : MovingRang
   pub moment : HadMoment z u
   -- to a pass that is alone
   pub alone : Runs (TakesRoom z v r w) v u
+  -- the room has the range that the pin found
+  pub ranged : Runs (λ _ _. copy_span w ≡ span_of (room_pin v)) v u
 
--- The pass had a pin of the room, which a step of the call found frozen, and undid it.
+-- The pass had a pin of the room, which it found busy, and undid it. It only met more else.
 pub record LosesPinned (z : Sizes) (call r : ℕ) (v u : PassState) : Type 0 where
-  pub step : StepOfCall z call (load (in_rooms (at_room_pin r))) v u
-  pub frozen : state_of step.number ≡ FROZEN
+  pub why : IsBusy z call r v u
   pub unpins : RestsUnpinned z call r v u
+  -- to a pass that is alone
+  pub alone : Runs (NeverAlone v) v u
 
 -- The pass has of rooms what it had. It only met more else, and may have swept ranges.
 pub record ComesBack (z : Sizes) (call : ℕ) (v u : PassState) : Type 0 where

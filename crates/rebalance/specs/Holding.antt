@@ -1,6 +1,6 @@
 -- What a pass has of the rooms that it freezes, holds, claims, opens and retires, and what it finds of those that it does not come to have.
-use Rattle.std.specs.Prelude.{◌≡◌, ◌≢◌, ℕ, ◌<◌, ◌≤◌, List, ◌∷◌, ◌++◌, length, Some, None}
-use Rattle.pin_word.specs.PinWord.{state_of, HasNoPin}
+use Rattle.std.specs.Prelude.{◌≡◌, ◌≢◌, ℕ, ◌<◌, ◌≤◌, ◌⊎◌, List, ◌∷◌, ◌++◌, length, Some, None}
+use Rattle.pin_word.specs.PinWord.{state_of, count_of, HasNoPin}
 use Rattle.oak_model.specs.Limits.{Sizes}
 use Rattle.oak_model.specs.Counts.{Each}
 use Rattle.arena_core.specs.Place.{content}
@@ -14,7 +14,7 @@ use Rattle.chunk_core.specs.MovingRanges.{ranges_opened, ranges_joined}
 use Rattle.chunk_core.specs.RoomCopies.{copy_of, without_room}
 use Rattle.chunk_core.specs.RoomReads.{copy_at, moving_at}
 use Rattle.chunk_core.specs.RoomRule.{in_room_state, IsWholeCopy}
-use Rattle.chunk_core.specs.RoomStep.{freeze_room, hold_room, claim_room, open_room, retire_room}
+use Rattle.chunk_core.specs.RoomStep.{freeze_room, thaw_room, hold_room, claim_room, open_room, retire_room}
 use Rattle.chunk_core.specs.Rooms.{at_room_pin}
 use Rattle.oak_core.specs.declared.states.Finding.{Finding}
 use Rattle.oak_core.specs.declared.states.PassState.{PassState}
@@ -25,6 +25,8 @@ use Rattle.oak_core.specs.QuietSteps.{MetOnly}
 use Rattle.oak_core.specs.RoomLacks.{FoundUsed}
 use Rattle.oak_core.specs.Step.{load, on_rooms}
 use Rattle.oak_core.specs.Sweeping.{swept_by}
+use Rattle.chunk_ops.specs.Latching.{Never}
+use Rattle.chunk_ops.specs.LoneRooms.{NeverAlone}
 use Rattle.chunk_ops.specs.RoomPins.{HadMoment}
 use Rattle.rebalance.specs.LoneWords.{FreezesWords, MovesRoom, MovesWith, NoneFree}
 use Rattle.rebalance.specs.Mirrors.{Mirrors, RangeStands}
@@ -69,11 +71,34 @@ pub record Freezes (z : Sizes) (call r : ℕ) (v w : PassState) : Type 0 where
   -- to a pass that is alone
   pub alone : Runs (FreezesWords z v r) v w
 
--- A step of the call found the room frozen, and the pass only met more.
+-- a step of the call found the room frozen
 pub record FindsFrozen (z : Sizes) (call r : ℕ) (v w : PassState) : Type 0 where
   pub step : StepOfCall z call (load (in_rooms (at_room_pin r))) v w
   pub frozen : state_of step.number ≡ FROZEN
+
+-- a step of the call by which it would have frozen the room found another word than the look before it
+pub record FindsChanged (z : Sizes) (call r : ℕ) (v w : PassState) : Type 0 where
+  pub word : ℕ
+  pub step : StepOfCall z call (on_rooms (freeze_room r word)) v w
+  pub changed : step.number ≢ word
+
+-- a step of the call found the room frozen, as its pass had it, with a pin
+pub record FindsPinned (z : Sizes) (call r : ℕ) (v w : PassState) : Type 0 where
+  pub word : ℕ
+  pub step : StepOfCall z call (on_rooms (hold_room r word)) v w
+  pub frozen : state_of step.number ≡ FROZEN
+  pub pinned : 0 < count_of step.number
+
+-- the pass could not have the room alone: another one had frozen it, or had it pinned
+abbrev pub IsBusy : Sizes → ℕ → ℕ → PassState → PassState → Type 0
+IsBusy z call r v w = FindsFrozen z call r v w ⊎ (FindsChanged z call r v w ⊎ FindsPinned z call r v w)
+
+-- The pass did not freeze the room, of which it has a pin, and only met more.
+pub record LeavesUnfrozen (z : Sizes) (call r : ℕ) (v w : PassState) : Type 0 where
+  pub why : FindsFrozen z call r v w ⊎ FindsChanged z call r v w
   pub only : OnlyRests call v w
+  -- to a pass that is alone
+  pub alone : Runs (NeverAlone v) v w
 
 -- ---- holding
 
@@ -99,6 +124,17 @@ pub record Holds (z : Sizes) (call r : ℕ) (copy : RoomCopy) (range : MovingRan
   pub ended : HadMoment z w
   -- to a pass that is alone
   pub alone : Runs (MovesWith z r FROZEN HELD copy) v w
+
+-- The room, which the pass had frozen, and which was pinned, is open again, and the pass has it no more. It only met more else.
+pub record Thaws (z : Sizes) (call r : ℕ) (v w : PassState) : Type 0 where
+  pub pinned : FindsPinned z call r v w
+  pub step : StepOfCall z call (on_rooms (thaw_room r)) v w
+  pub last : step.to ≡ w
+  pub beside : StandsBeside call v w
+  pub rooms : w.rooms ≡ record v.rooms { held = without_room r v.rooms.held }
+  pub ended : HadMoment z w
+  -- to a pass that is alone
+  pub alone : Runs Never v w
 
 -- ---- claiming
 

@@ -1,3 +1,4 @@
+pub mod Busy
 pub mod Calls
 pub mod Resting
 pub mod Copies

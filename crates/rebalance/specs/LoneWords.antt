@@ -6,6 +6,7 @@ use Rattle.oak_model.specs.Limits.{Sizes}
 use Rattle.chunk_core.specs.declared.holds.RoomCopy.{RoomCopy}
 use Rattle.chunk_core.specs.declared.states.TheConstants.{FREE, OPEN, FROZEN, HELD}
 use Rattle.chunk_core.specs.CoverSums.{keyless}
+use Rattle.chunk_core.specs.PinnedRooms.{span_of}
 use Rattle.chunk_core.specs.RoomReads.{copy_at}
 use Rattle.chunk_core.specs.RoomRule.{in_room_state}
 use Rattle.chunk_core.specs.Spans.{within}
@@ -14,7 +15,7 @@ use Rattle.oak_core.specs.AloneWords.{Runs}
 use Rattle.oak_core.specs.Memory.{memory}
 use Rattle.oak_core.proofs.AloneRuns.{Then, runs_as, runs_none, runs_then}
 use Rattle.chunk_ops.specs.LoneRooms.{HasNoRoom}
-use Rattle.chunk_ops.specs.PinRecords.{WordsStay}
+use Rattle.chunk_ops.specs.PinRecords.{WordsStay, room_pin}
 use Rattle.rebalance.specs.Copies.{copy_span}
 
 -- ---- rooms in words of the table
@@ -85,9 +86,10 @@ pub record MovesWith (z : Sizes) (r from to : ℕ) (w : RoomCopy) (before after 
   pub moves : MovesRoom z r from to before after
   pub words : room_in z before r ≡ w
 
--- The room is frozen. v is a state of the pass before, which may have had nothing of rooms but a pin.
+-- The room is frozen. v is a state of the pass before, which had a pin of the room, with the range that this found, and may have had nothing of rooms else.
 pub record FreezesWords (z : Sizes) (v : PassState) (r : ℕ) (before after : List ℕ) : Type 0 where
   pub moves : MovesRoom z r OPEN FROZEN before after
+  pub ranged : copy_span (room_in z before r) ≡ span_of (room_pin v)
   pub divided : HasNoRoom v → Divides z before
 
 -- The open room with these words comes to be held, beside those that the pass holds in the state v.

@@ -1,4 +1,4 @@
-//! What a split answers.
+//! What a split answers, and what a call that gives up.
 use thiserror::Error;
 
 /// What became of a chunk that was to be split.
@@ -14,3 +14,9 @@ pub enum Split {
 #[derive(Clone, Copy, Debug, PartialEq, Eq, Error)]
 #[error("no room is free")]
 pub struct NoRoom;
+
+/// The chunk was frozen or held by another pass, or pinned, at each look that the call made at its pin word.
+/// Each room that the call froze is open again, and no key was changed.
+#[derive(Clone, Copy, Debug, PartialEq, Eq, Error)]
+#[error("the chunk is busy")]
+pub struct Busy;

@@ -1,5 +1,5 @@
 //! A chunk that a call holds alone: found by a key, compacted, and opened again.
-ghost use Rattle.std.specs.Prelude.{◌≡◌, ℕ, List, IfErr, IfOk, IfSome, IfNone, MatchBool, None, true, false};
+ghost use Rattle.std.specs.Prelude.{◌≡◌, ℕ, ◌<◌, List, IfErr, IfOk, IfSome, IfNone, MatchBool, None, true, false};
 ghost use Rattle.oak_model.specs.Key.{IsKey};
 ghost use Rattle.oak_model.specs.KeyNumber.{key_number};
 ghost use Rattle.chunk_core.specs.declared.holds.HeldRoom.{HeldRoom};
@@ -7,11 +7,14 @@ ghost use Rattle.chunk_core.specs.declared.holds.MovingRange.{MovingRange};
 ghost use Rattle.chunk_core.specs.declared.holds.RoomCopy.{RoomCopy};
 ghost use Rattle.chunk_core.specs.ChainedRooms.{IsChained};
 ghost use Rattle.chunk_core.specs.Spans.{within};
+ghost use Rattle.oak_core.specs.AloneWords.{Runs};
 ghost use Rattle.oak_core.specs.Passes.{IsPassOf, Stays, state, key as sizes, call_of};
 ghost use Rattle.chunk_ops.specs.AskedRanges.{CoversKey};
+ghost use Rattle.chunk_ops.specs.LoneRooms.{NeverAlone};
 ghost use Rattle.chunk_ops.specs.PinRecords.{HasRoomPin, OnlyMeets};
-ghost use Rattle.chunk_ops.specs.RoomPins.{PinsOpen};
+ghost use Rattle.chunk_ops.specs.RoomPins.{FoundMoved, PinsOpen};
 ghost use Rattle.chunk_ops.specs.Stored.{IsStored};
+ghost use Rattle.rebalance.specs.Busy.{IsBusyFor};
 ghost use Rattle.rebalance.specs.Copies.{copy_span};
 ghost use Rattle.rebalance.specs.Chunks.{ComesBack, HoldsFor, HoldsFront, HoldsPinned, LosesPinned, OpensFront};
 ghost use Rattle.rebalance.specs.HeldTables.{HoldsOnlyRooms, WorksOnRooms};
@@ -25,25 +28,26 @@ use oak_model::GREATEST_ENTRIES;
 use std::sync::Wait;
 use std::thread;
 
-/// Freezes the pinned room, undoes the pin and holds the room alone. `false` comes only where another pass
-/// has frozen it; the pin is undone then too. It waits until no pin stands on the room.
-fn hold_pinned<R: Wait>(rt: &R, table: &OakTable, pass: &mut Pass, pin: RoomPin) -> bool
+/// Freezes the pinned room, undoes the pin and holds the room alone. `false` comes only where the room was
+/// busy: another pass had frozen it, or it was pinned, at each of so many looks; the pin is undone then too,
+/// and the room is open again if the call froze it.
+fn hold_pinned(table: &OakTable, pass: &mut Pass, pin: RoomPin, looks: u32) -> bool
     requires own { IsPassOf table.now pass.old }
     requires pinned { HasRoomPin (sizes table.now) pin.room (state pass.old) }
     requires latch { (state pass.old).rooms.latch ≡ None }
     requires claim { (state pass.old).rooms.claim ≡ None }
+    requires some { 0 < looks }
     ensures own { Stays pass.old pass.new }
     ensures holds { result ≡ true → (w : RoomCopy) × (g : MovingRange) × HoldsPinned (sizes table.now) (call_of pass.old) pin.room w g (state pass.old) (state pass.new) }
     ensures loses { result ≡ false → LosesPinned (sizes table.now) (call_of pass.old) pin.room (state pass.old) (state pass.new) }
 {
     let room = pin.room;
-    if !freeze_pinned(rt, table, pass, &pin) {
+    if !freeze_pinned(table, pass, &pin, looks) {
         unpin(table, pass, pin);
         return false;
     }
     unpin(table, pass, pin);
-    hold_frozen(rt, table, pass, room);
-    true
+    hold_frozen(table, pass, room, looks)
 }
 
 /// Whether the range of the front room has the key.
@@ -98,32 +102,48 @@ fn pin_covering(table: &OakTable, pass: &mut Pass, key: &[u8]) -> Result<RoomPin
     requires free { (state pass.old).rooms.pin ≡ None }
     ensures own { Stays pass.old pass.new }
     ensures pinned { IfOk result (λ p. PinsOpen (sizes table.now) (call_of pass.old) p.room (CoversKey key.now) (state pass.old) (state pass.new)) }
+    ensures moved { IfErr result (λ _. FoundMoved (sizes table.now) (call_of pass.old) (CoversKey key.now) (state pass.old) (state pass.new)) }
     ensures only { IfErr result (λ _. OnlyMeets (call_of pass.old) (state pass.old) (state pass.new)) }
+    ensures alone { IfErr result (λ _. Runs (NeverAlone (state pass.old)) (state pass.old) (state pass.new)) }
 {
     let hint = pass.hint(key);
     pin_for(table, pass, key, hint)
 }
 
-/// Tries to hold the chunk that covers the key. Where another pass has frozen or moved it, the pass has what
-/// it had.
-fn try_hold<R: Wait>(rt: &R, table: &OakTable, pass: &mut Pass, key: &[u8]) -> Option<u32>
+/// Tries to hold the chunk that covers the key. `None` comes only where it was busy, and the pass has what it
+/// had then: another pass had frozen or moved it, or it was pinned, at each of so many looks at its pin word.
+pub(crate) fn try_hold(table: &OakTable, pass: &mut Pass, key: &[u8], looks: u32) -> Option<u32>
     requires own { IsPassOf table.now pass.old }
     requires key { IsKey key.now }
     requires only { HoldsOnlyRooms (state pass.old) }
+    requires some { 0 < looks }
     ensures own { Stays pass.old pass.new }
     ensures holds { IfSome result (λ r. (w : RoomCopy) × (g : MovingRange) × HoldsFor (sizes table.now) (call_of pass.old) key.now r w g (state pass.old) (state pass.new)) }
     ensures back { IfNone result (ComesBack (sizes table.now) (call_of pass.old) (state pass.old) (state pass.new)) }
+    ensures busy { IfNone result (IsBusyFor (sizes table.now) (call_of pass.old) key.now (state pass.old) (state pass.new)) }
+    ensures alone { IfNone result (Runs (NeverAlone (state pass.old)) (state pass.old) (state pass.new)) }
 {
     let Ok(pin) = pin_covering(table, pass, key) else {
         return None;
     };
     let room = pin.room;
-    if !hold_pinned(rt, table, pass, pin) {
+    if !hold_pinned(table, pass, pin, looks) {
         return None;
     }
-    find_inside(rt, table, pass, room, &StoredKey::of(key));
-    Some(room)
+    // A room keeps its range from the pin on until it is held, so the answer is yes. What the pass has of
+    // a frozen room does not say so, and the two bounds are compared with the key for that. A room is opened
+    // with its entries in order alone, so it is compacted where the answer is no.
+    if front_has(table, pass, room, &StoredKey::of(key)) {
+        return Some(room);
+    }
+    compact_front(table, pass, room);
+    open_front(table, pass, room);
+    None
 }
+
+/// How many looks a call that waits makes at a pin word before it opens the room again and lets other threads
+/// run. While a room is frozen no new pin comes to stand on it, so it is soon left to the pass.
+pub(crate) const LOOKS: u32 = 1024;
 
 /// Holds the chunk that covers the key alone, and gives its room. It waits until no pin stands on it, and while other
 /// passes move it. The pass holds nothing but rooms.
@@ -135,7 +155,7 @@ pub(crate) fn hold_for<R: Wait>(rt: &R, table: &OakTable, pass: &mut Pass, key: 
     ensures holds { (w : RoomCopy) × (g : MovingRange) × HoldsFor (sizes table.now) (call_of pass.old) key.now result w g (state pass.old) (state pass.new) }
 {
     for _ in rt.forever() {
-        if let Some(room) = try_hold(rt, table, pass, key) {
+        if let Some(room) = try_hold(table, pass, key, LOOKS) {
             return room;
         }
         thread::yield_now();

@@ -12,32 +12,26 @@ ghost use Rattle.oak_core.specs.Passes.{IsPassOf, Stays, state, key, call_of};
 ghost use Rattle.chunk_ops.specs.PinRecords.{HasRoomPin};
 ghost use Rattle.chunk_ops.specs.RoomPins.{HadMoment};
 ghost use Rattle.rebalance.specs.LoneWords.{IsTaken};
-ghost use Rattle.rebalance.specs.Holding.{Freezes, FindsFrozen, Holds, HasOnly, Claims, ClaimsOthers, FindsUsed, FindsNoneFree, Opens, Retires};
+ghost use Rattle.rebalance.specs.Holding.{Freezes, LeavesUnfrozen, Holds, Thaws, HasOnly, Claims, ClaimsOthers, FindsUsed, FindsNoneFree, Opens, Retires};
 ghost use Rattle.rebalance.specs.Resting.{OnlyTries};
 
 use chunk_core::{FREE, FROZEN, HELD, OPEN};
 use chunk_ops::RoomPin;
 use oak_core::{OakTable, Pass, load, steps};
 use pin_word::pack;
-use std::sync::Wait;
-use std::thread;
 
-/// Freezes the pinned room, and says whether it did: false where another pass has frozen it. It waits
-/// while other passes pin the room and undo their pins.
-pub(crate) fn freeze_pinned<R: Wait>(
-    rt: &R,
-    table: &OakTable,
-    pass: &mut Pass,
-    pin: &RoomPin,
-) -> bool
+/// Freezes the pinned room, and says whether it did: false where another pass has frozen it, or where other
+/// passes pinned it, or undid their pins, behind each of so many looks at its pin word.
+pub(crate) fn freeze_pinned(table: &OakTable, pass: &mut Pass, pin: &RoomPin, looks: u32) -> bool
     requires own { IsPassOf table.now pass.old }
     requires pinned { HasRoomPin (key table.now) pin.now.room (state pass.old) }
+    requires some { 0 < looks }
     ensures own { Stays pass.old pass.new }
     ensures frozen { result ≡ true → Freezes (key table.now) (call_of pass.old) pin.now.room (state pass.old) (state pass.new) }
-    ensures found { result ≡ false → FindsFrozen (key table.now) (call_of pass.old) pin.now.room (state pass.old) (state pass.new) }
+    ensures leaves { result ≡ false → LeavesUnfrozen (key table.now) (call_of pass.old) pin.now.room (state pass.old) (state pass.new) }
 {
     let word = table.room_at(pin.room);
-    for _ in rt.forever() {
+    for _ in 0..looks {
         let open = load(table, pass, word);
         if pin_word::state(open) != OPEN {
             return false;
@@ -47,29 +41,32 @@ pub(crate) fn freeze_pinned<R: Wait>(
             return true;
         }
     }
-    unreachable!()
+    false
 }
 
 /// Holds the room alone that the pass has frozen, and its range with it, once no pin stands on it any
-/// more. It waits until then, so the pass has no pin itself.
-pub(crate) fn hold_frozen<R: Wait>(rt: &R, table: &OakTable, pass: &mut Pass, room: u32)
+/// more, and says whether it does: where pins stood on it at each of so many looks, the room is open again.
+/// The pass has no pin itself.
+pub(crate) fn hold_frozen(table: &OakTable, pass: &mut Pass, room: u32, looks: u32) -> bool
     requires own { IsPassOf table.now pass.old }
     requires inside { room < (key table.now).chunks }
     requires unpinned { (state pass.old).rooms.pin ≡ None }
     requires frozen { in_room_state room FROZEN (state pass.old).rooms ≡ 1 }
+    requires some { 0 < looks }
     ensures own { Stays pass.old pass.new }
-    ensures holds { (w : RoomCopy) × (g : MovingRange) × Holds (key table.now) (call_of pass.old) room w g (state pass.old) (state pass.new) }
+    ensures holds { result ≡ true → (w : RoomCopy) × (g : MovingRange) × Holds (key table.now) (call_of pass.old) room w g (state pass.old) (state pass.new) }
+    ensures thaws { result ≡ false → Thaws (key table.now) (call_of pass.old) room (state pass.old) (state pass.new) }
 {
     let word = table.room_at(room);
     let frozen = pack(0, FROZEN, 0);
     let held = pack(0, HELD, 0);
-    for _ in rt.forever() {
+    for _ in 0..looks {
         if steps::hold_room(table, pass, word, frozen, held) == frozen {
-            return;
+            return true;
         }
-        thread::yield_now();
     }
-    unreachable!()
+    steps::thaw_room(table, pass, word, pack(0, FROZEN - OPEN, 0));
+    false
 }
 
 /// Claims the room, if it is free, and says whether it did.

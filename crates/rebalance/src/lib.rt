@@ -22,8 +22,8 @@ mod settles;
 mod splits;
 mod splitting;
 
-pub use answers::{NoRoom, Split};
-pub use compacts::compact;
+pub use answers::{Busy, NoRoom, Split};
+pub use compacts::{compact, try_compact};
 pub use merges::merge;
 pub use settles::settle;
-pub use splits::split;
+pub use splits::{split, try_split};

@@ -1,12 +1,14 @@
-use Rattle.std.proofs.Common.{ℕ, subst}
+use Rattle.std.proofs.Common.{ℕ, refl, ◌∙◌, subst}
 use Rattle.oak_model.specs.Limits.{Sizes}
 use Rattle.chunk_core.specs.declared.holds.MovingRange.{MovingRange}
 use Rattle.chunk_core.specs.declared.holds.RoomCopy.{RoomCopy}
 use Rattle.oak_core.specs.Passes.{state, key as sizes, call_of}
 use Rattle.oak_core.proofs.SamePass.{stays_both}
 use Rattle.rebalance.specs.Chunks.{ComesBack, HoldsFor}
-use Rattle.rebalance.proofs.ChunkLaws.{back_both, for_since}
+use Rattle.rebalance.proofs.ChunkLaws.{back_both, for_since, back_moved}
 use Rattle.rebalance.proofs.chunks.hold_for.Goals as goal
+use Rattle.rebalance.proofs.TakenChunks.{compacted_still}
+use Rattle.chunk_ops.proofs.MeetingCalls.{only_none}
 
 pub returns-in-Some-try_hold-clause-holds : goal.returns-in-Some-try_hold-clause-holds
 returns-in-Some-try_hold-clause-holds g c = let z : Sizes = sizes c.args.table.now in let r = c.in-Some-try_hold.room in let v = state c.loop.pass in let w = state c.try_hold.new.pass in

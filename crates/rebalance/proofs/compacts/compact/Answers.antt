@@ -1,35 +1,28 @@
-use Rattle.std.proofs.Common.{ℕ, take, ◌∙◌, subst, arith}
-use Rattle.oak_core.specs.Passes.{state, call_of, slots_of, key as sizes}
-use Rattle.chunk_ops.proofs.WordParts.{slice_bytes}
-use Rattle.rebalance.specs.Chunks.{CompactsFront, OpensFront}
-use Rattle.rebalance.proofs.ChainedFronts.{compacted_chained}
-use Rattle.rebalance.proofs.CompactCalls.{compacts_key, no_ranges, no_rows, no_several}
-use Rattle.rebalance.proofs.FrontRewrites.{entries_limited}
+use Rattle.std.proofs.Common.{ℕ, refl, ◌∙◌, subst}
+use Rattle.oak_model.specs.Limits.{Sizes}
+use Rattle.oak_core.specs.Passes.{state, call_of, key as sizes}
+use Rattle.rebalance.specs.Busy.{GivesUp}
+use Rattle.rebalance.specs.Calls.{Compacts}
+use Rattle.rebalance.proofs.GivenUp.{compacts_since, waits_more, waits_none}
+use Rattle.rebalance.proofs.SettledKeys.{idle_still}
 use Rattle.rebalance.proofs.compacts.compact.Goals as goal
 
-pub compact_front-read-requires-clause-front : goal.compact_front-read-requires-clause-front
-compact_front-read-requires-clause-front g c = let v = state c.args.pass.now in let h = c.hold_for-room.ensures.holds in (h.0, h.1, v.rooms.held, v.rooms.moving, h.2.front, no_ranges v c.requires.idle)
+pub loop-init : goal.loop-init
+loop-init g c = record { next = tt; stays = record { table = refl; seat = refl; call = refl; scratch = refl; sorting = refl }; waits = waits_none (call_of c.args.pass.now) (state c.args.pass.now) }
 
-pub open_front-requires-clause-front : goal.open_front-requires-clause-front
-open_front-requires-clause-front g c = let z = sizes c.args.table.now in let v = state c.args.pass.now in let h = c.hold_for-room.ensures.holds in
-    let k = c.compact_front-read.ensures.compacted h.0 h.1 v.rooms.held v.rooms.moving h.2.front (no_ranges v c.requires.idle) (no_rows z v c.requires.idle) (no_several v c.requires.idle) in
-    (k.words, k.range, v.rooms.held, v.rooms.moving, k.front, compacted_chained z (call_of c.hold_for-room.new.pass) c.hold_for-room.result c.compact_front-read.result.dropped (take c.compact_front-read.result.kept (slots_of c.compact_front-read.new.pass)) h.0 v.rooms.held v.rooms.moving (state c.hold_for-room.new.pass) (state c.compact_front-read.new.pass) k)
+pub try_compact-requires-clause-idle : goal.try_compact-requires-clause-idle
+try_compact-requires-clause-idle g c = idle_still (call_of c.args.pass.now) (state c.args.pass.now) (state c.loop.pass) c.requires.idle c.loop.invariant.waits.leaves
 
-pub overflow_cast-result : goal.overflow_cast-result
-overflow_cast-result g c = let z = sizes c.args.table.now in let v = state c.args.pass.now in let h = c.hold_for-room.ensures.holds in
-    let k = c.compact_front-read.ensures.compacted h.0 h.1 v.rooms.held v.rooms.moving h.2.front (no_ranges v c.requires.idle) (no_rows z v c.requires.idle) (no_several v c.requires.idle) in
-    let few = h.2.front.mirrors.few in let limit = entries_limited z (state c.hold_for-room.new.pass) h.2.front.moment in let count = k.count_is in omega arith
+pub returns-in-Ok-clause-compacted : goal.returns-in-Ok-clause-compacted
+returns-in-Ok-clause-compacted g c = let z : Sizes = sizes c.args.table.now in let i = c.loop.invariant in let v = state c.loop.pass in let w = state c.try_compact.new.pass in
+    compacts_since z (call_of c.args.pass.now) (state c.args.pass.now) v w i.waits c.args.key.now c.in-Ok.dropped (subst (λ (k : ℕ). Compacts z k c.args.key.now c.in-Ok.dropped v w) i.stays.call c.in-Ok.ensures.compacted)
 
-pub returns-clause-compacted : goal.returns-clause-compacted
-returns-clause-compacted g c = let z = sizes c.args.table.now in let call = call_of c.args.pass.now in let v = state c.args.pass.now in let r = c.hold_for-room.result in let x = c.compact_front-read.result in
-    let p = c.hold_for-room.new.pass in let q = c.compact_front-read.new.pass in let t = c.open_front.new.pass in let h = c.hold_for-room.ensures.holds in let slots = take x.kept (slots_of q) in
-    let k : CompactsFront z call r x.dropped slots h.0 v.rooms.held v.rooms.moving (state p) (state q) = subst (λ (n : ℕ). CompactsFront z n r x.dropped slots h.0 v.rooms.held v.rooms.moving (state p) (state q)) c.hold_for-room.ensures.own.call
-    (c.compact_front-read.ensures.compacted h.0 h.1 v.rooms.held v.rooms.moving h.2.front (no_ranges v c.requires.idle) (no_rows z v c.requires.idle) (no_several v c.requires.idle)) in
-    let o : OpensFront z call r k.words v.rooms.held v.rooms.moving (state q) (state t) = subst (λ (n : ℕ). OpensFront z n r k.words v.rooms.held v.rooms.moving (state q) (state t)) (c.compact_front-read.ensures.own.call ∙ c.hold_for-room.ensures.own.call)
-    (c.open_front.ensures.opens k.words k.range v.rooms.held v.rooms.moving k.front) in
-    compacts_key z call c.args.key.now c.requires.key (slice_bytes c.args.key.now c.type_inv.key) r x.dropped slots h.0 h.1 v (state p) (state q) (state t) c.requires.idle h.2 k o
+pub returns-in-Ok-clause-unclaimed : goal.returns-in-Ok-clause-unclaimed
+returns-in-Ok-clause-unclaimed g c = c.try_compact.ensures.unclaimed ∙ c.loop.invariant.waits.unclaimed
 
-pub returns-clause-unclaimed : goal.returns-clause-unclaimed
-returns-clause-unclaimed g c = let z = sizes c.args.table.now in let v = state c.args.pass.now in let h = c.hold_for-room.ensures.holds in
-    let k = c.compact_front-read.ensures.compacted h.0 h.1 v.rooms.held v.rooms.moving h.2.front (no_ranges v c.requires.idle) (no_rows z v c.requires.idle) (no_several v c.requires.idle) in
-    (c.open_front.ensures.opens k.words k.range v.rooms.held v.rooms.moving k.front).claims ∙ (k.works.stands.claims ∙ h.2.claims)
+pub loop-preserved : goal.loop-preserved
+loop-preserved g c = let z : Sizes = sizes c.args.table.now in let call = call_of c.args.pass.now in let i = c.loop.invariant in let s = c.try_compact.ensures.own in let v = state c.loop.pass in let w = state c.try_compact.new.pass in record {
+  next = tt;
+  stays = record { table = s.table ∙ i.stays.table; seat = s.seat ∙ i.stays.seat; call = s.call ∙ i.stays.call; scratch = s.scratch ∙ i.stays.scratch; sorting = refl };
+  waits = waits_more z call c.args.key.now (state c.args.pass.now) v w i.waits (subst (λ (k : ℕ). GivesUp z k c.args.key.now v w) i.stays.call c.in_default.ensures.busy);
+}

@@ -1,10 +1,12 @@
-use Rattle.oak_core.specs.Passes.{Stays, state, call_of}
+use Rattle.std.proofs.Common.{◌<◌}
+use Rattle.oak_core.specs.Passes.{Stays, state, key, call_of}
 use Rattle.rebalance.specs.Resting.{OnlyRests}
+use Rattle.rebalance.proofs.HeldAlone.{StaysPinned}
 use Rattle.rebalance.proofs.holding.hold_frozen.Given as goal
 
 abbrev pub invariant-loop : goal.invariant-loop
-invariant-loop g l = record {
-  next : (goal.iterator-loop g).can_next l.iterator';
+invariant-loop l = record {
   stays : Stays l.fn.pass l.pass;
   only : OnlyRests (call_of l.fn.pass) (state l.fn.pass) (state l.pass);
+  pinned : 0 < l.counter → StaysPinned (key l.table) (call_of l.fn.pass) l.room (state l.fn.pass) (state l.pass);
 }

@@ -1,127 +1,39 @@
-use Rattle.std.proofs.Common.{◌≡◌, ℕ, Result, Ok, Err, List, take, sym, ap, ◌∙◌, subst, arith}
-use Rattle.chunk_core.specs.declared.holds.RoomCopy.{RoomCopy}
-use Rattle.chunk_ops.proofs.WordParts.{slice_bytes}
-use Rattle.oak_core.specs.declared.sorting.SortSlot.{SortSlot}
-use Rattle.oak_core.specs.Passes.{state, call_of, slots_of, key as sizes}
-use Rattle.rebalance.specs.declared.answers.NoRoom.{NoRoom}
-use Rattle.rebalance.specs.declared.answers.Split.{Split}
-use Rattle.rebalance.specs.declared.answers.Split.TheVariants.{Halved, Loosened}
-use Rattle.rebalance.specs.Calls.{Halves}
-use Rattle.rebalance.specs.Chunks.{OpensFront, ReadsFront}
-use Rattle.rebalance.specs.Filled.{Fills}
-use Rattle.rebalance.specs.Halving.{HasWhole, OpensHalves}
-use Rattle.rebalance.specs.HeldTables.{WorksOnRooms}
-use Rattle.rebalance.specs.Holding.{Claims, FindsNoneFree}
-use Rattle.rebalance.specs.Mirrors.{held_memory}
-use Rattle.rebalance.proofs.FrontReads.{read_alone, read_few}
-use Rattle.rebalance.proofs.FrontRooms.{front_alone}
-use Rattle.rebalance.proofs.SplitCalls.{none_filled, none_front, none_lacks, split_filled, split_halves, split_loosens, split_only, split_pair, split_whole}
-use Rattle.rebalance.proofs.ChainedFronts.{compacted_chained}
-use Rattle.rebalance.proofs.CompactCalls.{no_ranges}
-use Rattle.rebalance.proofs.ValuedRanges.{read_valued}
-use Rattle.rebalance.specs.HeldRooms.{AllValued}
-use Rattle.oak_model.specs.Counts.{Each}
-use Rattle.chunk_core.specs.declared.holds.RoomHolds.{RoomHolds}
+use Rattle.std.proofs.Common.{ℕ, Result, Ok, Err, IfErr, ap, refl, ◌∙◌, subst}
+use Rattle.oak_model.specs.Limits.{Sizes}
+use Rattle.oak_core.specs.Passes.{state, call_of, key as sizes}
+use Rattle.rebalance.specs.Busy.{GivesUp}
+use Rattle.rebalance.specs.Calls.{FindsNoRoom, Halves, Loosens}
+use Rattle.rebalance.proofs.GivenUp.{halves_since, loosens_since, none_since, waits_more, waits_none}
+use Rattle.rebalance.proofs.SettledKeys.{idle_still}
 use Rattle.rebalance.proofs.splits.split.Goals as goal
 
--- the room of the upper half
-room_of : Result Split NoRoom → ℕ
-room_of (Ok (Halved r)) = r
-room_of (Ok Loosened) = 0
-room_of (Err e) = 0
+pub loop-init : goal.loop-init
+loop-init g c = record { next = tt; stays = record { table = refl; seat = refl; call = refl; scratch = refl; sorting = refl }; waits = waits_none (call_of c.args.pass.now) (state c.args.pass.now) }
 
-pub fill_front-requires-clause-held : goal.fill_front-requires-clause-held
-fill_front-requires-clause-held g c = let z = sizes c.args.table.now in let r = c.hold_for-room.result in let v = state c.hold_for-room.new.pass in let h = c.hold_for-room.ensures.holds in let v0 = state c.args.pass.now in let u = state c.read_front-read.new.pass in
-    read_alone z (call_of c.hold_for-room.new.pass) r h.0 h.1 v0.rooms.held v0.rooms.moving v h.2.front u (slots_of c.read_front-read.new.pass) c.read_front-read.result c.read_front-read.ensures.reads
+pub try_split-requires-clause-idle : goal.try_split-requires-clause-idle
+try_split-requires-clause-idle g c = idle_still (call_of c.args.pass.now) (state c.args.pass.now) (state c.loop.pass) c.requires.idle c.loop.invariant.waits.leaves
 
-pub fill_front-requires-clause-valued : goal.fill_front-requires-clause-valued
-fill_front-requires-clause-valued g c = let z = sizes c.args.table.now in let r = c.hold_for-room.result in let v = state c.hold_for-room.new.pass in let h = c.hold_for-room.ensures.holds in let v0 = state c.args.pass.now in let u = state c.read_front-read.new.pass in
-    read_valued z r h.0 h.1 v0.rooms.held v0.rooms.moving v h.2.front (no_ranges v0 c.requires.idle) (call_of c.hold_for-room.new.pass) (slots_of c.read_front-read.new.pass) c.read_front-read.result u c.read_front-read.ensures.reads
+pub returns-in-Ok-clause-loosened : goal.returns-in-Ok-clause-loosened
+returns-in-Ok-clause-loosened g c is = let z : Sizes = sizes c.args.table.now in let i = c.loop.invariant in let v = state c.loop.pass in let w = state c.try_split.new.pass in
+    loosens_since z (call_of c.args.pass.now) (state c.args.pass.now) v w i.waits c.args.key.now (subst (λ (k : ℕ). Loosens z k c.args.key.now v w) i.stays.call (c.try_split.ensures.loosened (c.in-Ok.is ∙ ap Ok is)))
 
-pub open_front-requires-clause-front : goal.open_front-requires-clause-front
-open_front-requires-clause-front g c = let z = sizes c.args.table.now in let call = call_of c.args.pass.now in let r = c.hold_for-room.result in let v = state c.hold_for-room.new.pass in let h = c.hold_for-room.ensures.holds in let v0 = state c.args.pass.now in let u = state c.read_front-read.new.pass in let t = state c.fill_front.new.pass in
-    let slots = slots_of c.read_front-read.new.pass in let x = c.read_front-read.result in let here = c.hold_for-room.ensures.own.call in let k = c.fill_front.ensures in
-    let reads = subst (λ (n : ℕ). ReadsFront z n r slots x v u) here c.read_front-read.ensures.reads in
-    let filled = split_filled z call r c.args.key.now h.0 h.1 v0 v c.requires.idle c.requires.key (slice_bytes c.args.key.now c.type_inv.key) h.2 u slots x reads t (subst (λ (n : ℕ). WorksOnRooms z n u t) (c.read_front-read.ensures.own.call ∙ here) k.works) k.ranges k.filled in
-    (filled.words, filled.range, v0.rooms.held, v0.rooms.moving, filled.front, compacted_chained z call r x.dropped (take x.kept slots) h.0 v0.rooms.held v0.rooms.moving v t filled)
+pub returns-in-Ok-clause-halved : goal.returns-in-Ok-clause-halved
+returns-in-Ok-clause-halved g c room is = let z : Sizes = sizes c.args.table.now in let i = c.loop.invariant in let v = state c.loop.pass in let w = state c.try_split.new.pass in
+    halves_since z (call_of c.args.pass.now) (state c.args.pass.now) v w i.waits c.args.key.now room (subst (λ (k : ℕ). Halves z k c.args.key.now room v w) i.stays.call (c.try_split.ensures.halved room (c.in-Ok.is ∙ ap Ok is)))
 
-pub returns-then-read-entries-clause-loosened : goal.returns-then-read-entries-clause-loosened
-returns-then-read-entries-clause-loosened g c _ = let z = sizes c.args.table.now in let call = call_of c.args.pass.now in let r = c.hold_for-room.result in let v = state c.hold_for-room.new.pass in let h = c.hold_for-room.ensures.holds in let v0 = state c.args.pass.now in let u = state c.read_front-read.new.pass in let t = state c.fill_front.new.pass in let e = state c.open_front.new.pass in
-    let slots = slots_of c.read_front-read.new.pass in let x = c.read_front-read.result in let here = c.hold_for-room.ensures.own.call in let k = c.fill_front.ensures in let bytes = slice_bytes c.args.key.now c.type_inv.key in
-    let reads = subst (λ (n : ℕ). ReadsFront z n r slots x v u) here c.read_front-read.ensures.reads in
-    let filled = split_filled z call r c.args.key.now h.0 h.1 v0 v c.requires.idle c.requires.key bytes h.2 u slots x reads t (subst (λ (n : ℕ). WorksOnRooms z n u t) (c.read_front-read.ensures.own.call ∙ here) k.works) k.ranges k.filled in
-    let opens = subst (λ (n : ℕ). OpensFront z n r filled.words v0.rooms.held v0.rooms.moving t e) (k.own.call ∙ (c.read_front-read.ensures.own.call ∙ here)) (c.open_front.ensures.opens filled.words filled.range v0.rooms.held v0.rooms.moving filled.front) in
-    split_loosens z call r c.args.key.now h.0 h.1 v0 v c.requires.idle c.requires.key bytes h.2 u slots x reads t e filled opens (let a = c.if-read-entries.true in let b = c.entries.ensures.is in omega arith)
+-- what an error says
+err_as : {A E : Type 0} (P Q : Type 0) → (P → Q) → (r : Result A E) → IfErr r (λ _. P) → IfErr r (λ _. Q)
+err_as P Q f (Ok a) h = h
+err_as P Q f (Err e) h = f h
 
-pub claim_free-requires-clause-only : goal.claim_free-requires-clause-only
-claim_free-requires-clause-only g c = let z = sizes c.args.table.now in let call = call_of c.args.pass.now in let r = c.hold_for-room.result in let v = state c.hold_for-room.new.pass in let h = c.hold_for-room.ensures.holds in let v0 = state c.args.pass.now in let u = state c.read_front-read.new.pass in
-    let slots = slots_of c.read_front-read.new.pass in let x = c.read_front-read.result in let reads = subst (λ (n : ℕ). ReadsFront z n r slots x v u) c.hold_for-room.ensures.own.call c.read_front-read.ensures.reads in
-    let few = read_few z call r h.0 h.1 v0.rooms.held v0.rooms.moving v h.2.front u slots x reads in
-    split_only z call r c.args.key.now h.0 h.1 v0 v c.requires.idle c.requires.key (slice_bytes c.args.key.now c.type_inv.key) h.2 u slots x reads (let a = c.if-read-entries.false in let b = c.entries.ensures.is in omega arith)
+pub returns-in-Ok-clause-none : goal.returns-in-Ok-clause-none
+returns-in-Ok-clause-none g c = let z : Sizes = sizes c.args.table.now in let i = c.loop.invariant in let v = state c.loop.pass in let w = state c.try_split.new.pass in
+    err_as (FindsNoRoom z (call_of c.loop.pass) c.args.key.now v w) (FindsNoRoom z (call_of c.args.pass.now) c.args.key.now (state c.args.pass.now) w)
+    (λ f. none_since z (call_of c.args.pass.now) (state c.args.pass.now) v w i.waits c.args.key.now (subst (λ (k : ℕ). FindsNoRoom z k c.args.key.now v w) i.stays.call f)) c.in-Ok.answer c.in-Ok.ensures.none
 
-pub fill_front-requires-in_default-clause-held : goal.fill_front-requires-in_default-clause-held
-fill_front-requires-in_default-clause-held g c = let z = sizes c.args.table.now in let call = call_of c.args.pass.now in let r = c.hold_for-room.result in let v = state c.hold_for-room.new.pass in let h = c.hold_for-room.ensures.holds in let v0 = state c.args.pass.now in let u = state c.read_front-read.new.pass in let t = state c.claim_free.new.pass in
-    let slots = slots_of c.read_front-read.new.pass in let x = c.read_front-read.result in let here = c.hold_for-room.ensures.own.call in let reads = subst (λ (n : ℕ). ReadsFront z n r slots x v u) here c.read_front-read.ensures.reads in
-    let few = read_few z call r h.0 h.1 v0.rooms.held v0.rooms.moving v h.2.front u slots x reads in
-    let none = subst (λ (n : ℕ). FindsNoneFree z n r u t) (c.read_front-read.ensures.own.call ∙ here) c.in_default.ensures.none in
-    front_alone z r h.0 h.1 v0.rooms.held v0.rooms.moving t (none_front z call r c.args.key.now h.0 h.1 v0 v c.requires.idle c.requires.key (slice_bytes c.args.key.now c.type_inv.key) h.2 u slots x reads (let a = c.if-read-entries.false in let b = c.entries.ensures.is in omega arith) t none)
-
-pub fill_front-requires-in_default-clause-valued : goal.fill_front-requires-in_default-clause-valued
-fill_front-requires-in_default-clause-valued g c = let z = sizes c.args.table.now in let r = c.hold_for-room.result in let v = state c.hold_for-room.new.pass in let h = c.hold_for-room.ensures.holds in let v0 = state c.args.pass.now in let u = state c.read_front-read.new.pass in
-    let none = c.in_default.ensures.none in let valued = read_valued z r h.0 h.1 v0.rooms.held v0.rooms.moving v h.2.front (no_ranges v0 c.requires.idle) (call_of c.hold_for-room.new.pass) (slots_of c.read_front-read.new.pass) c.read_front-read.result u c.read_front-read.ensures.reads in
-    subst (λ (a : RoomHolds). Each AllValued a.moving) (sym none.only.rooms) valued
-
-pub fill_front-requires-in_default-clause-few : goal.fill_front-requires-in_default-clause-few
-fill_front-requires-in_default-clause-few g c = let z = sizes c.args.table.now in let r = c.hold_for-room.result in let v = state c.hold_for-room.new.pass in let h = c.hold_for-room.ensures.holds in let v0 = state c.args.pass.now in
-    read_few z (call_of c.hold_for-room.new.pass) r h.0 h.1 v0.rooms.held v0.rooms.moving v h.2.front (state c.read_front-read.new.pass) (slots_of c.read_front-read.new.pass) c.read_front-read.result c.read_front-read.ensures.reads
-
-pub open_front-requires-in_default-clause-front : goal.open_front-requires-in_default-clause-front
-open_front-requires-in_default-clause-front g c = let z = sizes c.args.table.now in let call = call_of c.args.pass.now in let r = c.hold_for-room.result in let v = state c.hold_for-room.new.pass in let h = c.hold_for-room.ensures.holds in let v0 = state c.args.pass.now in let u = state c.read_front-read.new.pass in let t = state c.claim_free.new.pass in let s = state c.fill_front-in_default.new.pass in
-    let slots = slots_of c.read_front-read.new.pass in let x = c.read_front-read.result in let here = c.hold_for-room.ensures.own.call in let to_read = c.read_front-read.ensures.own.call ∙ here in let k = c.fill_front-in_default.ensures in
-    let reads = subst (λ (n : ℕ). ReadsFront z n r slots x v u) here c.read_front-read.ensures.reads in
-    let few = read_few z call r h.0 h.1 v0.rooms.held v0.rooms.moving v h.2.front u slots x reads in
-    let none = subst (λ (n : ℕ). FindsNoneFree z n r u t) to_read c.in_default.ensures.none in
-    let filled = none_filled z call r c.args.key.now h.0 h.1 v0 v c.requires.idle c.requires.key (slice_bytes c.args.key.now c.type_inv.key) h.2 u slots x reads (let a = c.if-read-entries.false in let b = c.entries.ensures.is in omega arith) t none s
-    (subst (λ (n : ℕ). WorksOnRooms z n t s) (c.claim_free.ensures.own.call ∙ to_read) k.works) k.ranges (subst (λ (xs : List SortSlot). Fills z.entries r (take x.kept xs) x.base (held_memory t.rooms.held) (held_memory s.rooms.held)) c.claim_free.ensures.own.sorting k.filled) in
-    (filled.words, filled.range, v0.rooms.held, v0.rooms.moving, filled.front, compacted_chained z call r 0 (take x.kept slots) h.0 v0.rooms.held v0.rooms.moving t s filled)
-
-pub returns-in_default-clause-none : goal.returns-in_default-clause-none
-returns-in_default-clause-none g c = let z = sizes c.args.table.now in let call = call_of c.args.pass.now in let r = c.hold_for-room.result in let v = state c.hold_for-room.new.pass in let h = c.hold_for-room.ensures.holds in let v0 = state c.args.pass.now in let u = state c.read_front-read.new.pass in let t = state c.claim_free.new.pass in let s = state c.fill_front-in_default.new.pass in let e = state c.open_front-in_default.new.pass in
-    let slots = slots_of c.read_front-read.new.pass in let x = c.read_front-read.result in let here = c.hold_for-room.ensures.own.call in let to_read = c.read_front-read.ensures.own.call ∙ here in let k = c.fill_front-in_default.ensures in let bytes = slice_bytes c.args.key.now c.type_inv.key in
-    let reads = subst (λ (n : ℕ). ReadsFront z n r slots x v u) here c.read_front-read.ensures.reads in
-    let few = read_few z call r h.0 h.1 v0.rooms.held v0.rooms.moving v h.2.front u slots x reads in
-    let full : x.kept ≡ z.entries = (let a = c.if-read-entries.false in let b = c.entries.ensures.is in omega arith) in
-    let none = subst (λ (n : ℕ). FindsNoneFree z n r u t) to_read c.in_default.ensures.none in
-    let filled = none_filled z call r c.args.key.now h.0 h.1 v0 v c.requires.idle c.requires.key bytes h.2 u slots x reads full t none s
-    (subst (λ (n : ℕ). WorksOnRooms z n t s) (c.claim_free.ensures.own.call ∙ to_read) k.works) k.ranges (subst (λ (xs : List SortSlot). Fills z.entries r (take x.kept xs) x.base (held_memory t.rooms.held) (held_memory s.rooms.held)) c.claim_free.ensures.own.sorting k.filled) in
-    let opens = subst (λ (n : ℕ). OpensFront z n r filled.words v0.rooms.held v0.rooms.moving s e) (k.own.call ∙ (c.claim_free.ensures.own.call ∙ to_read)) (c.open_front-in_default.ensures.opens filled.words filled.range v0.rooms.held v0.rooms.moving filled.front) in
-    none_lacks z call r c.args.key.now h.0 h.1 v0 v c.requires.idle c.requires.key bytes h.2 u slots x reads full t none c.claim_free.ensures.others c.read_front-read.ensures.sees s e filled opens
-
-pub halve-requires-clause-pair : goal.halve-requires-clause-pair
-halve-requires-clause-pair g c = let z = sizes c.args.table.now in let call = call_of c.args.pass.now in let r = c.hold_for-room.result in let v = state c.hold_for-room.new.pass in let h = c.hold_for-room.ensures.holds in let v0 = state c.args.pass.now in let u = state c.read_front-read.new.pass in let t = state c.claim_free.new.pass in
-    let slots = slots_of c.read_front-read.new.pass in let x = c.read_front-read.result in let here = c.hold_for-room.ensures.own.call in let to_read = c.read_front-read.ensures.own.call ∙ here in let q = c.in-Some.upper in
-    let reads = subst (λ (n : ℕ). ReadsFront z n r slots x v u) here c.read_front-read.ensures.reads in
-    let few = read_few z call r h.0 h.1 v0.rooms.held v0.rooms.moving v h.2.front u slots x reads in
-    let claim = subst (λ (n : ℕ). (w : RoomCopy) × Claims z n q w u t) to_read c.in-Some.ensures.claims.1 in
-    (h.0, claim.0, h.1, split_pair z call r c.args.key.now h.0 h.1 v0 v c.requires.idle c.requires.key (slice_bytes c.args.key.now c.type_inv.key) h.2 u slots x reads (let a = c.if-read-entries.false in let b = c.entries.ensures.is in omega arith) q c.in-Some.ensures.claims.0 claim.0 t claim.1)
-
-pub halve-requires-clause-whole : goal.halve-requires-clause-whole
-halve-requires-clause-whole g c = let z = sizes c.args.table.now in let call = call_of c.args.pass.now in let r = c.hold_for-room.result in let v = state c.hold_for-room.new.pass in let h = c.hold_for-room.ensures.holds in let v0 = state c.args.pass.now in let u = state c.read_front-read.new.pass in let t = state c.claim_free.new.pass in
-    let slots = slots_of c.read_front-read.new.pass in let x = c.read_front-read.result in let here = c.hold_for-room.ensures.own.call in let to_read = c.read_front-read.ensures.own.call ∙ here in let q = c.in-Some.upper in
-    let reads = subst (λ (n : ℕ). ReadsFront z n r slots x v u) here c.read_front-read.ensures.reads in
-    let few = read_few z call r h.0 h.1 v0.rooms.held v0.rooms.moving v h.2.front u slots x reads in
-    let claim = subst (λ (n : ℕ). (w : RoomCopy) × Claims z n q w u t) to_read c.in-Some.ensures.claims.1 in
-    subst (λ (xs : List SortSlot). HasWhole z r xs x t) (sym c.claim_free.ensures.own.sorting)
-    (split_whole z call r c.args.key.now h.0 h.1 v0 v c.requires.idle c.requires.key (slice_bytes c.args.key.now c.type_inv.key) h.2 u slots x reads (let a = c.if-read-entries.false in let b = c.entries.ensures.is in omega arith) q c.in-Some.ensures.claims.0 claim.0 t claim.1)
-
-pub returns-clause-halved : goal.returns-clause-halved
-unfolding room_of
-returns-clause-halved g c room same = let z = sizes c.args.table.now in let call = call_of c.args.pass.now in let r = c.hold_for-room.result in let v = state c.hold_for-room.new.pass in let h = c.hold_for-room.ensures.holds in let v0 = state c.args.pass.now in let u = state c.read_front-read.new.pass in let t = state c.claim_free.new.pass in let e = state c.halve.new.pass in
-    let slots = slots_of c.read_front-read.new.pass in let x = c.read_front-read.result in let here = c.hold_for-room.ensures.own.call in let to_read = c.read_front-read.ensures.own.call ∙ here in let q = c.in-Some.upper in let bytes = slice_bytes c.args.key.now c.type_inv.key in
-    let reads = subst (λ (n : ℕ). ReadsFront z n r slots x v u) here c.read_front-read.ensures.reads in
-    let few = read_few z call r h.0 h.1 v0.rooms.held v0.rooms.moving v h.2.front u slots x reads in
-    let full : x.kept ≡ z.entries = (let a = c.if-read-entries.false in let b = c.entries.ensures.is in omega arith) in
-    let claim = subst (λ (n : ℕ). (w : RoomCopy) × Claims z n q w u t) to_read c.in-Some.ensures.claims.1 in
-    let pair = split_pair z call r c.args.key.now h.0 h.1 v0 v c.requires.idle c.requires.key bytes h.2 u slots x reads full q c.in-Some.ensures.claims.0 claim.0 t claim.1 in
-    let halves = subst (λ (n : ℕ). OpensHalves z n r q h.0 t e) (c.claim_free.ensures.own.call ∙ to_read) (c.halve.ensures.halves h.0 claim.0 h.1 pair) in
-    subst (λ (j : ℕ). Halves z call c.args.key.now j v0 e) (ap room_of same) (split_halves z call r c.args.key.now h.0 h.1 v0 v c.requires.idle c.requires.key bytes h.2 u slots x reads full q c.in-Some.ensures.claims.0 claim.0 t claim.1 c.claim_free.ensures.others e halves)
+pub loop-preserved : goal.loop-preserved
+loop-preserved g c = let z : Sizes = sizes c.args.table.now in let call = call_of c.args.pass.now in let i = c.loop.invariant in let s = c.try_split.ensures.own in let v = state c.loop.pass in let w = state c.try_split.new.pass in record {
+  next = tt;
+  stays = record { table = s.table ∙ i.stays.table; seat = s.seat ∙ i.stays.seat; call = s.call ∙ i.stays.call; scratch = s.scratch ∙ i.stays.scratch; sorting = refl };
+  waits = waits_more z call c.args.key.now (state c.args.pass.now) v w i.waits (subst (λ (k : ℕ). GivesUp z k c.args.key.now v w) i.stays.call c.in_default.ensures.busy);
+}

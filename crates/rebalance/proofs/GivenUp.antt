@@ -1,0 +1,153 @@
+-- A call that waits: one that answered, behind others that gave up.
+use Rattle.std.proofs.Common.{◌≡◌, ℕ, ◌⊎◌, inl, inr, ⊎_elim, List, length, refl, sym, ap, ◌∙◌, subst, arith, length-append}
+use Rattle.oak_model.specs.KeyNumber.{key_number}
+use Rattle.oak_model.specs.Limits.{Sizes}
+use Rattle.chunk_core.specs.declared.holds.RoomCopy.{RoomCopy}
+use Rattle.chunk_core.specs.RoomStep.{hold_room, open_room}
+use Rattle.oak_core.specs.declared.states.PassState.{PassState}
+use Rattle.oak_core.specs.AloneWords.{Runs}
+use Rattle.oak_core.specs.PassState.{HoldsNothing}
+use Rattle.oak_core.specs.RoomLacks.{ClaimsFull, HeldFull, RoomLackFound}
+use Rattle.oak_core.specs.Step.{on_rooms}
+use Rattle.oak_core.proofs.CallSteps.{step_since}
+use Rattle.oak_core.proofs.FullClaims.{claims_both, claims_none}
+use Rattle.chunk_ops.specs.Latching.{Never}
+use Rattle.chunk_ops.specs.LoneRooms.{NeverAlone}
+use Rattle.rebalance.specs.Busy.{GivesUp, IsBusyFor}
+use Rattle.rebalance.specs.Calls.{ComesToHold, Compacts, FindsNoRoom, Halves, Leaves, Loosens, OpensWith, Rewrites}
+use Rattle.rebalance.specs.Chunks.{ComesBack}
+use Rattle.rebalance.specs.LoneCalls.{AllOpen, Divided, HalvesRoom, RewritesRoom}
+use Rattle.rebalance.proofs.ClaimedRooms.{used_since}
+use Rattle.rebalance.proofs.LoneTakes.{bare_of}
+use Rattle.rebalance.proofs.NeverRuns.{bare_never, never_first, never_so}
+use Rattle.rebalance.proofs.SettledKeys.{leaves_both, leaves_none}
+use Rattle.rebalance.proofs.SweptKeys.{sweeps_since}
+use Rattle.rebalance.proofs.TakenChunks.{leaves_of}
+
+-- a call that could not hold the chunk
+pub gives_up : (z : Sizes) (call : ℕ) (key : List ℕ) (v u : PassState) → HoldsNothing v → ComesBack z call v u → IsBusyFor z call key v u → Runs (NeverAlone v) v u → GivesUp z call key v u
+gives_up z call key v u idle c b a = record { busy = b; leaves = leaves_of call v u c.beside c.rooms; unclaimed = c.claims; alone = bare_never v u (bare_of v idle) a }
+
+-- ---- calls that gave up one behind another
+
+-- there may be none of them
+pub record Waits (call : ℕ) (v w : PassState) : Type 0 where
+  pub leaves : Leaves call v w
+  pub unclaimed : w.findings.rebalances.claims ≡ v.findings.rebalances.claims
+  -- to a pass that is alone
+  pub alone : (v ≡ w) ⊎ Runs Never v w
+
+pub waits_none : (call : ℕ) (v : PassState) → Waits call v v
+waits_none call v = record { leaves = leaves_none call v; unclaimed = refl; alone = inl refl }
+
+-- what is so of a part is so behind them
+pub alone_since : (call : ℕ) (Q : List ℕ → List ℕ → Type 0) (u v w : PassState) → Waits call u v → Runs Q v w → Runs Q u w
+alone_since call Q u v w x r = ⊎_elim (λ (e : u ≡ v). subst (λ (y : PassState). Runs Q y w) (sym e) r) (λ (n : Runs Never u v). never_so Q u w (never_first Q u v w n r)) x.alone
+
+-- one more
+pub waits_more : (z : Sizes) (call : ℕ) (key : List ℕ) (u v w : PassState) → Waits call u v → GivesUp z call key v w → Waits call u w
+waits_more z call key u v w x g = record { leaves = leaves_both call u v w x.leaves g.leaves; unclaimed = g.unclaimed ∙ x.unclaimed; alone = inr (alone_since call Never u v w x g.alone) }
+
+-- ---- what a call answers behind them
+
+module _ (z : Sizes) (call : ℕ) (u v w : PassState) (x : Waits call u v) where
+  holds_since : (r : ℕ) (copy : RoomCopy) → ComesToHold z call r copy v w → ComesToHold z call r copy u w
+  holds_since r copy c = record { old = c.old; step = step_since z call (on_rooms (hold_room r c.old)) u v w x.leaves.met c.step; found_is = c.found_is; copy_is = c.copy_is }
+
+  opens_since : (r : ℕ) (copy : RoomCopy) → OpensWith z call r copy v w → OpensWith z call r copy u w
+  opens_since r copy o = record { step = step_since z call (on_rooms (open_room r)) u v w x.leaves.met o.step; copy_is = o.copy_is }
+
+  claims_since : Leaves call v w → ClaimsFull z v w → ClaimsFull z u w
+  claims_since l c = claims_both z u v w (x.leaves.met.more, x.leaves.met.met) (l.met.more, l.met.met) (claims_none z u v x.unclaimed) c
+
+  rewrites_since : (key : List ℕ) (r : ℕ) (held opened : RoomCopy) → Rewrites z call key r held opened v w → Rewrites z call key r held opened u w
+  rewrites_since key r held opened c = record {
+    holds = holds_since r held c.holds;
+    inside = c.inside;
+    opens = opens_since r opened c.opens;
+    low = c.low;
+    high = c.high;
+    kept = c.kept;
+    base = c.base;
+    sorted = c.sorted;
+    swept = sweeps_since call key u v w x.leaves.swept x.leaves.met c.swept;
+  }
+
+  pub compacts_since : (key : List ℕ) (dropped : ℕ) → Compacts z call key dropped v w → Compacts z call key dropped u w
+  compacts_since key dropped c = record {
+    room = c.room;
+    held = c.held;
+    opened = c.opened;
+    rewrites = rewrites_since key c.room c.held c.opened c.rewrites;
+    count_is = c.count_is;
+    leaves = leaves_both call u v w x.leaves c.leaves;
+    claims = claims_since c.leaves c.claims;
+    alone = alone_since call (Divided z (RewritesRoom z c.room c.held c.opened)) u v w x c.alone;
+  }
+
+  pub loosens_since : (key : List ℕ) → Loosens z call key v w → Loosens z call key u w
+  unfolding compacts_since
+  loosens_since key c = record { dropped = c.dropped; compacts = compacts_since key c.dropped c.compacts; fewer = c.fewer; unclaimed = c.unclaimed ∙ x.unclaimed }
+
+  pub halves_since : (key : List ℕ) (upper : ℕ) → Halves z call key upper v w → Halves z call key upper u w
+  unfolding opens_since
+  halves_since key upper c = record {
+    room = c.room;
+    held = c.held;
+    holds = holds_since c.room c.held c.holds;
+    inside = c.inside;
+    full = c.full;
+    low_copy = c.low_copy;
+    high_copy = c.high_copy;
+    opens_upper = opens_since upper c.high_copy c.opens_upper;
+    opens_lower = opens_since c.room c.low_copy c.opens_lower;
+    first = c.first;
+    cut = c.cut;
+    low = c.low;
+    high = c.high;
+    bases = c.bases;
+    kept = c.kept;
+    lower = c.lower;
+    higher = c.higher;
+    swept = sweeps_since call key u v w x.leaves.swept x.leaves.met c.swept;
+    leaves = leaves_both call u v w x.leaves c.leaves;
+    claims = claims_since c.leaves c.claims;
+    alone = alone_since call (Divided z (HalvesRoom z c.room upper c.held c.low_copy c.high_copy)) u v w x c.alone;
+  }
+
+  -- what a part of the call found of a full room
+  full_since : (to r k : ℕ) → HeldFull z (length v.findings.met) to w.findings.met r k → HeldFull z (length u.findings.met) to w.findings.met r k
+  full_since to r k h = record {
+    held = h.held;
+    after = let a = h.after in let e = ap length x.leaves.met.met in let l = length-append u.findings.met x.leaves.met.more in omega arith;
+    order = h.order;
+    hold = h.hold;
+    there = h.there;
+    word_is = h.word_is;
+    number = h.number;
+    found_is = h.found_is;
+    frozen = h.frozen;
+    unpinned = h.unpinned;
+    left_is = h.left_is;
+    still = h.still;
+    full = h.full;
+  }
+
+  lacks_since : (k : ℕ) → RoomLackFound z (length v.findings.met) (length w.findings.met) w.findings.met k → RoomLackFound z (length u.findings.met) (length w.findings.met) w.findings.met k
+  unfolding full_since
+  lacks_since k c = record {
+    room = c.room;
+    inside = c.inside;
+    whole = record { to = c.whole.to; within = c.whole.within; holds = full_since c.whole.to c.room k c.whole.holds; values = c.whole.values };
+    others = λ r lt ne. used_since z call r u v w x.leaves.met (c.others r lt ne);
+  }
+
+  pub none_since : (key : List ℕ) → FindsNoRoom z call key v w → FindsNoRoom z call key u w
+  unfolding compacts_since
+  none_since key c = record {
+    compacts = compacts_since key 0 c.compacts;
+    full = c.full;
+    base = c.base;
+    lacks = lacks_since (key_number key) c.lacks;
+    all_open = alone_since call (AllOpen z) u v w x c.all_open;
+  }
