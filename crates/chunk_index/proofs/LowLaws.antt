@@ -13,7 +13,7 @@ use Rattle.std.proofs.lemmas.List.{get_or_default}
 use Rattle.std.proofs.lemmas.List.Elements.{All-cons, All-head, All-nil, All-tail, filter_passes}
 use Rattle.std.proofs.lemmas.List.Kept.{AllPairs-cons, AllPairs-filter}
 use Rattle.oak_model.specs.Key.{IsKeyBefore, key_cmp, same_key}
-use Rattle.chunk_index.specs.Lows.{Low, IsOnePerRoom, IsRising, NamesGreatest, comes_before, comes_upto, is_apart, put_low, set_low}
+use Rattle.chunk_index.specs.Lows.{Low, IsOnePerRoom, IsRising, NamesGreatest, comes, comes_before, comes_upto, is_apart, put_low, set_low}
 
 -- ---- orders
 
@@ -138,6 +138,28 @@ upto_come_first key ps up i j d le within passes =
     (λ same. subst (λ n. comes_upto key (get_or ps n d) ≡ true) (sym same) passes)
     (λ apart. upto_from (get_or ps i d).0 (get_or ps j d).0 key (key_cmp (get_or ps j d).0 key) refl passes (up i j d (omega arith) within))
     (cases_eq i j)
+
+pub comes_first : (equal : Bool) (key : List ℕ) (ps : List Low) → IsRising ps → IsPartitionedBy (comes equal key) ps
+comes_first true key ps up = upto_come_first key ps up
+comes_first false key ps up = before_come_first key ps up
+
+-- the two beside a place show that it parts those that pass from the others
+pub point_between : (t : Low → Bool) (ps : List Low) (n : ℕ) (d : Low) → IsPartitionedBy t ps → n ≤ length ps → (0 < n → t (get_or ps (n - 1) d) ≡ true) → (n < length ps → t (get_or ps n d) ≡ false) → IsPartitionPoint (λ p. t p ≡ true) (λ p. t p ≡ false) ps n
+point_between t ps n d parted within below above = (first, λ k e high here. by k e high here (t (get_or ps k e)) refl)
+  where
+    first : (k : ℕ) (e : Low) → 0 ≤ k → k < n → t (get_or ps k e) ≡ true
+    first k e some low =
+        let last = n - 1 in
+        let one : 0 < n = omega (arith, low) in
+        let inside : last < length ps = omega (arith, one) in
+        let upto : k ≤ last = omega (arith, low) in
+        parted k last e upto inside (ap t (sym (get_or_default ps last d e inside)) ∙ below one)
+
+    by : (k : ℕ) (e : Low) → n ≤ k → k < length ps → (b : Bool) → t (get_or ps k e) ≡ b → t (get_or ps k e) ≡ false
+    by k e high here false is = is
+    by k e high here true is =
+        let inside : n < length ps = omega (arith, high, here) in
+        absurd (false≢true (sym (above inside) ∙ ap t (get_or_default ps n d e inside) ∙ parted n k e high here is))
 
 -- the last of those that pass has the greatest minimum of them
 pub last_is_greatest : (t : Low → Bool) (ps : List Low) (n : ℕ) (room : Option ℕ) → IsRising ps → n ≤ length ps → IsPartitionPoint (λ p. t p ≡ true) (λ p. t p ≡ false) ps n

@@ -16,6 +16,11 @@ comes_before k p = is_lt (key_cmp p.0 k)
 abbrev pub comes_upto : List ℕ → Low → Bool
 comes_upto k p = is_le (key_cmp p.0 k)
 
+-- the minimum comes before the key, or is the key where that is asked
+abbrev pub comes : Bool → List ℕ → Low → Bool
+comes true k p = comes_upto k p
+comes false k p = comes_before k p
+
 -- the minimum comes before the bound, where there is one
 abbrev pub comes_under : Option (List ℕ) → Low → Bool
 comes_under None p = true

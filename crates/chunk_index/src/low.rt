@@ -2,7 +2,7 @@
 ghost use Rattle.std.specs.Prelude.{◌≡◌};
 ghost use Rattle.oak_model.specs.Key.{IsKey, key_cmp};
 ghost use Rattle.chunk_index.specs.Heads.{key_head};
-ghost use Rattle.chunk_index.specs.Lows.{is_apart};
+ghost use Rattle.chunk_index.specs.Lows.{comes, is_apart};
 
 use crate::heads::head_of;
 use oak_model::{GREATEST_KEY, cmp_keys};
@@ -84,6 +84,15 @@ impl Low {
             Ordering::Equal => cmp_keys(self.minimum(), key),
             apart => apart,
         }
+    }
+
+    /// Whether the minimum comes before a key with this head, or is the key, where that is asked.
+    pub fn comes(&self, head: u64, key: &[u8], equal: bool) -> bool
+        requires { head ≡ key_head key.now }
+        ensures { result ≡ comes equal key.now self.now }
+    {
+        let order = self.cmp_key(head, key);
+        if equal { order.is_le() } else { order.is_lt() }
     }
 
     /// Whether the other has neither this room nor this minimum.

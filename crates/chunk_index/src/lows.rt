@@ -1,10 +1,11 @@
 //! The minima of the chunks, in their order.
 ghost use Rattle.std.specs.Prelude.{◌≡◌, ◌≤◌, ◌<◌, ◌-◌, IfOk, MatchOption, MatchResult, true, false, filter, length, []};
-ghost use Rattle.std.specs.List.{HoldsAt};
+ghost use Rattle.std.specs.List.{HoldsAt, slice_index_or};
 ghost use Rattle.std.specs.Option.{option_copied};
 ghost use Rattle.std.specs.List.Sorted.{IsPartitionPoint};
 ghost use Rattle.std.specs.Vec.{vec_len, vec_capacity};
-ghost use Rattle.chunk_index.specs.Lows.{IsRising, NamesGreatest, comes_before, comes_under, comes_upto, is_apart, set_low};
+ghost use Rattle.chunk_index.specs.Heads.{key_head};
+ghost use Rattle.chunk_index.specs.Lows.{Low as Pair, IsRising, NamesGreatest, comes, comes_before, comes_under, comes_upto, is_apart, set_low};
 
 use crate::heads::head_of;
 use crate::low::Low;
@@ -68,13 +69,86 @@ impl Lows {
             .partition_point(|low| low.cmp_key(head, key).is_le())
     }
 
+    /// Whether the last of the first so many minima, where there is one, comes before a key with this head, or is not
+    /// above it, where `equal`.
+    fn comes_last(&self, head: u64, key: &[u8], equal: bool, count: usize) -> bool
+        requires head { head ≡ key_head key.now }
+        requires few { count ≤ length self.now }
+        ensures { result ≡ true → 0 < count → (d : Pair) → comes equal key.now (slice_index_or self.now (count - 1) d) ≡ true }
+    {
+        if count == 0 {
+            return true;
+        }
+        self.lows[count - 1].comes(head, key, equal)
+    }
+
+    /// Whether the minimum behind the first so many, where there is one, does not come before a key with this head, or
+    /// is above it, where `equal`.
+    fn stays_behind(&self, head: u64, key: &[u8], equal: bool, count: usize) -> bool
+        requires head { head ≡ key_head key.now }
+        requires few { count ≤ length self.now }
+        ensures { result ≡ true → count < length self.now → (d : Pair) → comes equal key.now (slice_index_or self.now count d) ≡ false }
+    {
+        if count == self.lows.len() {
+            return true;
+        }
+        !self.lows[count].comes(head, key, equal)
+    }
+
+    /// Whether just so many minima come before a key with this head, or are not above it, where `equal`.
+    fn parts(&self, head: u64, key: &[u8], equal: bool, count: usize) -> bool
+        requires head { head ≡ key_head key.now }
+        ensures few { result ≡ true → count ≤ length self.now }
+        ensures point { result ≡ true → IsPartitionPoint (λ p. comes equal key.now p ≡ true) (λ p. comes equal key.now p ≡ false) self.now count }
+    {
+        if count > self.lows.len() {
+            return false;
+        }
+        if !self.comes_last(head, key, equal, count) {
+            return false;
+        }
+        self.stays_behind(head, key, equal, count)
+    }
+
+    /// How many minima are not above the key. It is tried first whether so many are, or one more.
+    fn count_upto_near(&self, key: &[u8], near: usize) -> usize
+        ensures few { result ≤ length self.now }
+        ensures point { IsPartitionPoint (λ p. comes_upto key.now p ≡ true) (λ p. comes_upto key.now p ≡ false) self.now result }
+    {
+        let head = head_of(key);
+        if self.parts(head, key, true, near) {
+            return near;
+        }
+        let next = near.saturating_add(1);
+        if self.parts(head, key, true, next) {
+            return next;
+        }
+        self.count_upto(key)
+    }
+
+    /// How many minima come before the key. It is tried first whether so many do, or one less.
+    fn count_before_near(&self, key: &[u8], near: usize) -> usize
+        ensures few { result ≤ length self.now }
+        ensures point { IsPartitionPoint (λ p. comes_before key.now p ≡ true) (λ p. comes_before key.now p ≡ false) self.now result }
+    {
+        let head = head_of(key);
+        if self.parts(head, key, false, near) {
+            return near;
+        }
+        let next = near.saturating_sub(1);
+        if self.parts(head, key, false, next) {
+            return next;
+        }
+        self.count_before(key)
+    }
+
     /// How many minima come before the bound; without one all do.
-    fn count_under(&self, bound: Option<&[u8]>) -> usize
+    fn count_under(&self, bound: Option<&[u8]>, near: usize) -> usize
         ensures few { result ≤ length self.now }
         ensures point { IsPartitionPoint (λ p. comes_under (option_copied bound.entry) p ≡ true) (λ p. comes_under (option_copied bound.entry) p ≡ false) self.now result }
     {
         match bound {
-            Some(key) => self.count_before(key),
+            Some(key) => self.count_before_near(key, near),
             None => self.lows.len(),
         }
     }
@@ -88,22 +162,24 @@ impl Lows {
         self.lows[..count].last().map(|low| low.room())
     }
 
-    /// The room of the greatest minimum that is not above the key.
-    pub fn hint(&self, key: &[u8]) -> Hint
-        ensures { NamesGreatest (comes_upto key.now) self.now result.room }
+    /// The room of the greatest minimum that is not above the key. It is looked for first where the search before it
+    /// ended, behind so many minima, and it is told where this one did.
+    pub fn hint(&self, key: &[u8], near: usize) -> (Hint, usize)
+        ensures { NamesGreatest (comes_upto key.now) self.now result.0.room }
     {
-        Hint {
-            room: self.room_before(self.count_upto(key)),
-        }
+        let count = self.count_upto_near(key, near);
+        let room = self.room_before(count);
+        (Hint { room }, count)
     }
 
-    /// The room of the greatest minimum that comes before the bound, and without a bound that of the greatest one.
-    pub fn hint_under(&self, bound: Option<&[u8]>) -> Hint
-        ensures { NamesGreatest (comes_under (option_copied bound.entry)) self.now result.room }
+    /// The room of the greatest minimum that comes before the bound, and without a bound that of the greatest one. It is
+    /// looked for first where the search before it ended, as in [`Lows::hint`].
+    pub fn hint_under(&self, bound: Option<&[u8]>, near: usize) -> (Hint, usize)
+        ensures { NamesGreatest (comes_under (option_copied bound.entry)) self.now result.0.room }
     {
-        Hint {
-            room: self.room_before(self.count_under(bound)),
-        }
+        let count = self.count_under(bound, near);
+        let room = self.room_before(count);
+        (Hint { room }, count)
     }
 
     /// Sets a pair: those of its room and of its minimum are taken out, and it stands at its place. Where there is no

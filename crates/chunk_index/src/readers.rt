@@ -5,10 +5,12 @@ use oak_model::{Hint, NO_HINT};
 use std::marker::Model;
 
 /// Gives hints, of which nothing is promised: the copy that it finds may be an old one. It never waits and takes no
-/// memory. Contracts see no part of it, so what holds one looks the same behind a hint.
+/// memory. Contracts see no part of it, so what holds one looks the same behind a hint. A search begins where the one
+/// before it ended, since scans and settlings ask for one chunk behind the other.
 #[derive(Drop)]
 pub struct IndexReader {
     handle: Option<ReadHandle<Lows>>,
+    near: usize,
 }
 
 impl Model for IndexReader {
@@ -19,36 +21,40 @@ impl Model for IndexReader {
     ghost invariant = { λ _. Unit {0} };
 }
 
+/// The copy of the index that is shown, if there is one.
+fn shown(handle: &mut Option<ReadHandle<Lows>>) -> Option<ReadGuard<'_, Lows>> {
+    handle.as_mut()?.enter()
+}
+
 impl IndexReader {
     pub(crate) fn new(handle: Option<ReadHandle<Lows>>) -> IndexReader {
-        IndexReader { handle }
+        IndexReader { handle, near: 0 }
     }
 
     /// A reader of no index: its hints have no room.
     pub fn none() -> IndexReader {
-        IndexReader { handle: None }
-    }
-
-    /// The copy of the index that is shown, if there is one.
-    fn enter(&mut self) -> Option<ReadGuard<'_, Lows>> {
-        self.handle.as_mut()?.enter()
+        IndexReader::new(None)
     }
 
     /// Where to look for the key first: the room of the greatest minimum that is not above it, in some copy of the
     /// index.
     pub fn hint(&mut self, key: &[u8]) -> Hint {
-        match self.enter() {
-            Some(lows) => lows.hint(key),
-            None => NO_HINT,
-        }
+        let Some(lows) = shown(&mut self.handle) else {
+            return NO_HINT;
+        };
+        let (hint, near) = lows.hint(key, self.near);
+        self.near = near;
+        hint
     }
 
     /// Where to look first for the keys next below the bound, and without one for the last keys: the room of the
     /// greatest minimum that comes before it.
     pub fn hint_under(&mut self, bound: Option<&[u8]>) -> Hint {
-        match self.enter() {
-            Some(lows) => lows.hint_under(bound),
-            None => NO_HINT,
-        }
+        let Some(lows) = shown(&mut self.handle) else {
+            return NO_HINT;
+        };
+        let (hint, near) = lows.hint_under(bound, self.near);
+        self.near = near;
+        hint
     }
 }
