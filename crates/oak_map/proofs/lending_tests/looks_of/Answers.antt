@@ -17,6 +17,4 @@ returns-in-Present-clause-ready g c = let z = sizes c.args.map.now in let call =
 -- from its begin until the pin was undone it was quiet
 pub returns-in-Present-clause-quiet : goal.returns-in-Present-clause-quiet
 returns-in-Present-clause-quiet g c = let z = sizes c.args.map.now in let call = call_of c.args.pass.now in let v = table_state c.args.pass.now in let r = c.in-Present.reading in let q = c.copy_if-len.new.reading in let w = table_state c.done.new.self.1.0 in
-    let f = c.in-Present.ensures.present in let on = c.copy_if-len.ensures.reads in let first : table_sizes r.table.now ≡ z = ap table_sizes f.2 in
-    let all : Quiet v w = life_quiet z call c.args.view.now v w r q c.requires.ready.idle f.4 first f.3.call on c.done.ensures.undone in
-    subst (λ (y : PassState). Quiet v y) (search rules) all
+    subst (λ (y : PassState). Quiet v y) (search rules) (life_quiet z call c.args.view.now v w r q c.requires.ready.idle c.in-Present.ensures.present.4 (ap table_sizes c.in-Present.ensures.present.2) c.in-Present.ensures.present.3.call c.copy_if-len.ensures.reads c.done.ensures.undone)
