@@ -1,7 +1,8 @@
 use Rattle.std.proofs.Common.{rules, ◌≡◌, ℕ, IfOk, sym, ap, ◌∙◌, subst}
 use Rattle.oak_core.specs.declared.table.Pass.{Pass}
-use Rattle.oak_core.specs.Passes.{call_of as table_call, key as table_sizes, state as table_state}
+use Rattle.oak_core.specs.Passes.{Stays, call_of as table_call, key as table_sizes, state as table_state}
 use Rattle.oak_core.specs.PassState.{HoldsNothing}
+use Rattle.oak_core.proofs.SamePass.{stays_both}
 use Rattle.value_ops.specs.Reading.{stamp, value}
 use Rattle.oak_map.specs.Maps.{sizes}
 use Rattle.oak_map.specs.Rests.{RestsOver}
@@ -21,6 +22,13 @@ pub returns-in-Gone-clause-looked : goal.returns-in-Gone-clause-looked
 returns-in-Gone-clause-looked g c =
     let rest : RestsOver (sizes c.args.map.now) c.args.held.now.view c.args.pass.now c.look_of.follows.lender-at-none = search rules in
     gone_did (sizes c.args.map.now) (table_call c.args.pass.now) (table_state c.args.pass.now) (table_state c.look_of.follows.lender-at-none) c.args.held.now rest.finds
+
+pub returns-in-Present-clause-own : goal.returns-in-Present-clause-own
+returns-in-Present-clause-own g c =
+    let f = c.in-Present.ensures.present in let x = c.done.new.self.1.0 in
+    let ends : c.pass-in-Present-1.given.0 ≡ x = c.pass-in-Present-1.given.1 (sym (c.copy_value-copy.ensures.same_reference ∙ f.0)) in
+    let all : Stays c.args.pass.now x = stays_both (stays_both f.3 c.copy_value-copy.ensures.reads.stays) c.done.ensures.own in
+    subst (λ (p : Pass). Stays c.args.pass.now p) (sym ends) all
 
 pub returns-in-Present-clause-idle : goal.returns-in-Present-clause-idle
 returns-in-Present-clause-idle g c = let z = sizes c.args.map.now in let v = table_state c.args.pass.now in
