@@ -22,6 +22,7 @@ use Rattle.chunk_core.specs.LinkedEntries.{entries_in, prefix_in}
 use Rattle.chunk_core.specs.PinnedRooms.{IsGoodRoom, span_of, found_key}
 use Rattle.chunk_core.specs.RoomRule.{AreBounds, room_pins, latches_on, in_room_state}
 use Rattle.chunk_core.specs.RoomStep.{RoomStep, pin_room, unpin_room, latch_room, store_entry, publish_entry, unlatch_room, set_value, unlink_entry, freeze_room, thaw_room, hold_room, claim_room, store_room, open_room, retire_room}
+use Rattle.chunk_core.specs.ChainedRooms.{IsChained}
 use Rattle.chunk_core.specs.RoomCopies.{copy_of, entries_held, word_held}
 use Rattle.chunk_core.specs.MovingRanges.{takes, upper_of, ranges_without, range_of, is_below}
 

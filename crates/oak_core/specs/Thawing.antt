@@ -1,9 +1,12 @@
 -- What a step finds, leaves and changes that opens a frozen room again.
 use Rattle.std.specs.Prelude.{◌≡◌, ◌≢◌, ℕ, [], ◌∷◌, ◌++◌, map, Some}
+use mathlib.Core.Option.{some}
+use lib.ListN.{get_elem?}
 use Rattle.pin_word.specs.PinWord.{state_of, count_of, generation_of}
 use Rattle.oak_model.specs.Limits.{Sizes}
 use Rattle.arena_core.specs.Place.{content}
 use Rattle.chunk_core.specs.declared.states.TheConstants.{OPEN, FROZEN}
+use Rattle.chunk_core.specs.declared.holds.PinnedRoom.{PinnedRoom}
 use Rattle.chunk_core.specs.Covers.{Cover}
 use Rattle.chunk_core.specs.CoverSums.{all_of}
 use Rattle.chunk_core.specs.PinnedRooms.{IsGoodRoom, OnRoomPin, RoomPinHolds}

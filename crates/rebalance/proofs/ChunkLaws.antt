@@ -33,7 +33,7 @@ use Rattle.chunk_ops.specs.RoomPins.{AddsRoomPin, DropsRoomPin, PinsOpen, Unpins
 use Rattle.chunk_ops.proofs.MeetingCalls.{stays_then}
 use Rattle.chunk_ops.proofs.PinSteps.{pin_found, undone}
 use Rattle.rebalance.specs.Copies.{copy_span}
-use Rattle.rebalance.specs.Chunks.{ComesBack, HoldsFor, HoldsFront, HoldsPinned, LosesPinned, WorksBeside, held_row}
+use Rattle.rebalance.specs.Chunks.{ComesBack, CompactsFront, HoldsFor, HoldsFront, HoldsPinned, LosesPinned, OpensFront, WorksBeside, held_row}
 use Rattle.rebalance.specs.HeldTables.{AwayFromPins, HoldsOnlyRooms, WorksOnRooms}
 use Rattle.rebalance.specs.Holding.{FindsFrozen, Freezes, Holds, StandsBeside, SweepsBeside, TriesBeside, with_moving, FindsChanged, FindsPinned, LeavesUnfrozen, Thaws}
 use Rattle.rebalance.specs.LoneWords.{FreezesWords, LeavesBut, MovesWith, TakesRoom, held_by, leaves_same, no_room, runs_leave_both, stay_leaves}
@@ -341,33 +341,38 @@ module _ (z : Sizes) (call r : ℕ) (key : List ℕ) (v x : PassState) (only : H
         alone = looked_alone;
       }
 
-      -- it was opened again
-      pub back_opened : (u : PassState) → OpensFront z call r w v.rooms.held v.rooms.moving q u → ComesBack z call v u
-      back_opened u o = record {
-        beside = works_both call v q u looked_beside o.beside;
-        claims = o.claims ∙ (works.stands.claims ∙ front_beside.stands.claims);
-        rooms = o.rooms ∙ (ap (λ (a : RoomHolds). record a { held = v.rooms.held; moving = v.rooms.moving }) (same ∙ front_rooms) ∙ pin_gone v only);
-        alone = runs_as (Then (TakesRoom z v r w) (MovesWith z r HELD OPEN w)) (LeavesBut z no_room (held_by v)) v u (λ a b s. takes_back z v r w a s.0 b s.1 s.2) (runs_then (TakesRoom z v r w) (MovesWith z r HELD OPEN w) v q u looked_alone o.alone);
-      }
+      -- its range had not the key, and it was opened again, compacted
+      module _ (xs : List SortSlot) (dropped : ℕ) (t u : PassState) (c : CompactsFront z call r dropped xs w v.rooms.held v.rooms.moving q t) (o : OpensFront z call r c.words v.rooms.held v.rooms.moving t u) (off : within (copy_span w) (key_number key) ≡ 1 → ⊥) where
+        later : WorksBeside call y u
+        later = works_both call y q u (works_of_rooms z call y q works) (works_both call q t u (works_of_rooms z call q t c.works) o.beside)
 
-      module _ (u : PassState) (o : OpensFront z call r w v.rooms.held v.rooms.moving q u) (off : within (copy_span w) (key_number key) ≡ 1 → ⊥) where
-        -- its range had not the key
+        -- to a pass that is alone it has the range that the pin found
+        ranged_off : Runs Never x y
+        ranged_off = runs_as (λ _ _. copy_span w ≡ span_of (room_pin x)) Never x y (λ a b e. off (subst (λ (s : Span). within s (key_number key) ≡ 1) (sym e) p.range)) h.ranged
+
+        never_off : Runs Never v u
+        never_off = never_first (MovesWith z r HELD OPEN c.words) v t u (never_first (LeavesBut z no_room (held_by q)) v q t (never_first (LeavesBut z no_room (held_by y)) v y q (never_last (AddsRoomPin z r) v x y p.still ranged_off) works.words) c.works.words) o.alone
+
+        pub alone_off : Runs (NeverAlone v) v u
+        alone_off = never_so (NeverAlone v) v u never_off
+
         pub busy_off : IsBusyFor z call key v u
         busy_off = inr (
           r,
           inr record {
             copy = w;
-            came = record { old = h.came.old; step = step_in z call (on_rooms (hold_room r h.came.old)) v x y u p.stands.met (met_both call y q u works.stands.met o.beside.met) h.came.step; found_is = h.came.found_is; copy_is = h.came.copy_is };
+            came = record { old = h.came.old; step = step_in z call (on_rooms (hold_room r h.came.old)) v x y u p.stands.met later.met h.came.step; found_is = h.came.found_is; copy_is = h.came.copy_is };
             off = off;
           },
         )
 
-        -- to a pass that is alone it has the range that the pin found
-        pub alone_off : Runs Never v u
-        alone_off = never_first (MovesWith z r HELD OPEN w) v q u (never_first (LeavesBut z no_room (held_by y)) v y q (never_last (AddsRoomPin z r) v x y p.still ranged_off) works.words) o.alone
-          where
-            ranged_off : Runs Never x y
-            ranged_off = runs_as (λ _ _. copy_span w ≡ span_of (room_pin x)) Never x y (λ a b e. off (subst (λ (s : Span). within s (key_number key) ≡ 1) (sym e) p.range)) h.ranged
+        pub back_off : ComesBack z call v u
+        back_off = record {
+          beside = works_both call v y u (works_of_stands call v y front_beside) later;
+          claims = o.claims ∙ (c.works.stands.claims ∙ (works.stands.claims ∙ front_beside.stands.claims));
+          rooms = o.rooms ∙ (λ i. record { pin = (c.front.only.pin ∙ sym only.pin) i; latch = (c.front.only.latch ∙ sym only.latch) i; claim = (c.front.only.claim ∙ sym only.claim) i; held = v.rooms.held; moving = v.rooms.moving });
+          alone = never_so (LeavesBut z no_room (held_by v)) v u never_off;
+        }
 
 -- a pass does not hold a room that is none of its own
 held_apart : (v : PassState) (r : ℕ) → total (λ (h : HeldRoom). one_at h.room r) v.rooms.held ≡ 0 → held_by v r → ⊥

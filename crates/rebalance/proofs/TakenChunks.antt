@@ -45,6 +45,21 @@ idle_compacted z v idle = let n = idle.rooms in record {
   apart = subst (λ (a : RoomHolds). Apart a.held) (sym n) tt;
 }
 
+-- so it is behind a call that left it what it had
+pub compacted_still : (z : Sizes) (call : ℕ) (u v : PassState) → HoldsCompacted z u → ComesBack z call u v → HoldsCompacted z v
+compacted_still z call u v c b = record {
+  only = record {
+    blocks = b.beside.blocks ∙ c.only.blocks;
+    headers = b.beside.headers ∙ c.only.headers;
+    pin = ap (λ (a : RoomHolds). a.pin) b.rooms ∙ c.only.pin;
+    latch = ap (λ (a : RoomHolds). a.latch) b.rooms ∙ c.only.latch;
+    claim = ap (λ (a : RoomHolds). a.claim) b.rooms ∙ c.only.claim;
+  };
+  valued = subst (λ (a : RoomHolds). Each AllValued a.moving) (sym b.rooms) c.valued;
+  rows = subst (λ (a : RoomHolds). Each (IsHeldRow z) a.held) (sym b.rooms) c.rows;
+  apart = subst (λ (a : RoomHolds). Apart a.held) (sym b.rooms) c.apart;
+}
+
 -- a step by which the call came to hold a room, in a longer part of the call
 pub held_in : (z : Sizes) (call r : ℕ) (w : RoomCopy) (u v t s : PassState) → WorksBeside call u v → WorksBeside call t s → ComesToHold z call r w v t → ComesToHold z call r w u s
 held_in z call r w u v t s a b h = record { old = h.old; step = step_in z call (on_rooms (hold_room r h.old)) u v t s a.met b.met h.step; found_is = h.found_is; copy_is = h.copy_is }

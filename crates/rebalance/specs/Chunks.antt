@@ -1,6 +1,6 @@
 -- A chunk that a pass holds alone, as the last one that it came to hold, and what the parts of a rebalance do to it.
 use Rattle.std.specs.Prelude.{◌≡◌, ℕ, ◌+◌, ◌*◌, ◌<◌, List, [], ◌∷◌, ◌++◌, length, take, None}
-use Rattle.oak_model.specs.Counts.{one_at, total, Begins, Each}
+use Rattle.oak_model.specs.Counts.{one_at, total, Begins}
 use Rattle.oak_model.specs.Key.{AreBytes, IsKey}
 use Rattle.oak_model.specs.KeyNumber.{key_number}
 use Rattle.oak_model.specs.Limits.{Sizes}

@@ -9,6 +9,7 @@ ghost use Rattle.chunk_core.specs.ChainedRooms.{IsChained};
 ghost use Rattle.chunk_core.specs.Spans.{within};
 ghost use Rattle.oak_core.specs.AloneWords.{Runs};
 ghost use Rattle.oak_core.specs.Passes.{IsPassOf, Stays, state, key as sizes, call_of};
+ghost use Rattle.oak_core.specs.Scratch.{StaysButSlots};
 ghost use Rattle.chunk_ops.specs.AskedRanges.{CoversKey};
 ghost use Rattle.chunk_ops.specs.LoneRooms.{NeverAlone};
 ghost use Rattle.chunk_ops.specs.PinRecords.{HasRoomPin, OnlyMeets};
@@ -17,8 +18,10 @@ ghost use Rattle.chunk_ops.specs.Stored.{IsStored};
 ghost use Rattle.rebalance.specs.Busy.{IsBusyFor};
 ghost use Rattle.rebalance.specs.Copies.{copy_span};
 ghost use Rattle.rebalance.specs.Chunks.{ComesBack, HoldsFor, HoldsFront, HoldsPinned, LosesPinned, OpensFront};
-ghost use Rattle.rebalance.specs.HeldTables.{HoldsOnlyRooms, WorksOnRooms};
+ghost use Rattle.rebalance.specs.HeldTables.{WorksOnRooms};
+ghost use Rattle.rebalance.specs.Merging.{HoldsCompacted};
 
+use crate::fronts::compact_front;
 use crate::held::HeldTable;
 use crate::holding::{freeze_pinned, hold_frozen, open_held};
 use crate::ranges::has_key;
@@ -66,25 +69,6 @@ fn front_has(table: &OakTable, pass: &mut Pass, room: u32, key: &StoredKey) -> b
     has
 }
 
-/// Finds the key inside the range of the front room, which had it when the room was pinned. A room keeps its
-/// range from then on until it is held, so the first look finds it. What the pass has of a frozen room does
-/// not say so, and the two bounds are compared with the key for that.
-fn find_inside<R: Wait>(rt: &R, table: &OakTable, pass: &mut Pass, room: u32, key: &StoredKey)
-    requires own { IsPassOf table.now pass.old }
-    requires front { (w : RoomCopy) × (g : MovingRange) × (hs : List HeldRoom) × (gs : List MovingRange) × HoldsFront (sizes table.now) room w g hs gs (state pass.old) }
-    ensures own { Stays pass.old pass.new }
-    ensures works { WorksOnRooms (sizes table.now) (call_of pass.old) (state pass.old) (state pass.new) }
-    ensures rooms { (state pass.new).rooms ≡ (state pass.old).rooms }
-    ensures inside { (w : RoomCopy) (g : MovingRange) (hs : List HeldRoom) (gs : List MovingRange) (b : List ℕ) → HoldsFront (sizes table.now) room w g hs gs (state pass.old) → IsStored key.now b → within (copy_span w) (key_number b) ≡ 1 }
-{
-    for _ in rt.forever() {
-        if front_has(table, pass, room, key) {
-            return;
-        }
-    }
-    unreachable!()
-}
-
 /// Opens the front room, whose entries links name in turn, over all of its range.
 pub(crate) fn open_front(table: &OakTable, pass: &mut Pass, room: u32)
     requires own { IsPassOf table.now pass.old }
@@ -115,9 +99,9 @@ fn pin_covering(table: &OakTable, pass: &mut Pass, key: &[u8]) -> Result<RoomPin
 pub(crate) fn try_hold(table: &OakTable, pass: &mut Pass, key: &[u8], looks: u32) -> Option<u32>
     requires own { IsPassOf table.now pass.old }
     requires key { IsKey key.now }
-    requires only { HoldsOnlyRooms (state pass.old) }
+    requires compacted { HoldsCompacted (sizes table.now) (state pass.old) }
     requires some { 0 < looks }
-    ensures own { Stays pass.old pass.new }
+    ensures own { StaysButSlots pass.old pass.new }
     ensures holds { IfSome result (λ r. (w : RoomCopy) × (g : MovingRange) × HoldsFor (sizes table.now) (call_of pass.old) key.now r w g (state pass.old) (state pass.new)) }
     ensures back { IfNone result (ComesBack (sizes table.now) (call_of pass.old) (state pass.old) (state pass.new)) }
     ensures busy { IfNone result (IsBusyFor (sizes table.now) (call_of pass.old) key.now (state pass.old) (state pass.new)) }
@@ -146,12 +130,12 @@ pub(crate) fn try_hold(table: &OakTable, pass: &mut Pass, key: &[u8], looks: u32
 pub(crate) const LOOKS: u32 = 1024;
 
 /// Holds the chunk that covers the key alone, and gives its room. It waits until no pin stands on it, and while other
-/// passes move it. The pass holds nothing but rooms.
+/// passes move it. The pass holds nothing but rooms, compacted.
 pub(crate) fn hold_for<R: Wait>(rt: &R, table: &OakTable, pass: &mut Pass, key: &[u8]) -> u32
     requires own { IsPassOf table.now pass.old }
     requires key { IsKey key.now }
-    requires only { HoldsOnlyRooms (state pass.old) }
-    ensures own { Stays pass.old pass.new }
+    requires compacted { HoldsCompacted (sizes table.now) (state pass.old) }
+    ensures own { StaysButSlots pass.old pass.new }
     ensures holds { (w : RoomCopy) × (g : MovingRange) × HoldsFor (sizes table.now) (call_of pass.old) key.now result w g (state pass.old) (state pass.new) }
 {
     for _ in rt.forever() {

@@ -2,15 +2,20 @@ use Rattle.std.proofs.Common.{ℕ, take, ◌∙◌, subst, arith}
 use Rattle.oak_core.specs.Passes.{state, call_of, slots_of, key as sizes}
 use Rattle.chunk_ops.proofs.WordParts.{slice_bytes}
 use Rattle.rebalance.specs.Chunks.{CompactsFront, OpensFront}
+use Rattle.rebalance.proofs.ChainedFronts.{compacted_chained}
 use Rattle.rebalance.proofs.CompactCalls.{compacts_key, no_ranges, no_rows, no_several}
 use Rattle.rebalance.proofs.GivenUp.{gives_up}
+use Rattle.rebalance.proofs.TakenChunks.{idle_compacted}
 use Rattle.rebalance.proofs.FrontRewrites.{entries_limited}
 use Rattle.rebalance.proofs.compacts.try_compact.Goals as goal
+
+pub compact_front-read-requires-clause-front : goal.compact_front-read-requires-clause-front
+compact_front-read-requires-clause-front c = let v = state c.args.pass.now in let h = c.in-Some.ensures.holds in (h.0, h.1, v.rooms.held, v.rooms.moving, h.2.front, no_ranges v c.requires.idle)
 
 pub open_front-requires-clause-front : goal.open_front-requires-clause-front
 open_front-requires-clause-front c = let z = sizes c.args.table.now in let v = state c.args.pass.now in let h = c.in-Some.ensures.holds in
     let k = c.compact_front-read.ensures.compacted h.0 h.1 v.rooms.held v.rooms.moving h.2.front (no_ranges v c.requires.idle) (no_rows z v c.requires.idle) (no_several v c.requires.idle) in
-    (k.words, k.range, v.rooms.held, v.rooms.moving, k.front)
+    (k.words, k.range, v.rooms.held, v.rooms.moving, k.front, compacted_chained z (call_of c.try_hold.new.pass) c.in-Some.room c.compact_front-read.result.dropped (take c.compact_front-read.result.kept (slots_of c.compact_front-read.new.pass)) h.0 v.rooms.held v.rooms.moving (state c.try_hold.new.pass) (state c.compact_front-read.new.pass) k)
 
 pub overflow_cast-result : goal.overflow_cast-result
 overflow_cast-result c = let z = sizes c.args.table.now in let v = state c.args.pass.now in let h = c.in-Some.ensures.holds in
@@ -36,3 +41,6 @@ returns-in_default-clause-busy c = let x = c.in_default.ensures in gives_up (siz
 
 pub returns-in_default-clause-unclaimed : goal.returns-in_default-clause-unclaimed
 returns-in_default-clause-unclaimed c = c.in_default.ensures.back.claims
+
+pub try_hold-requires-clause-compacted : goal.try_hold-requires-clause-compacted
+try_hold-requires-clause-compacted c = idle_compacted (sizes c.args.table.now) (state c.args.pass.now) c.requires.idle
