@@ -1,0 +1,9 @@
+mod GivenPairs
+mod LookedKeys
+mod NextCalls
+mod PresentPairs
+mod ReadKeys
+mod ReadLives
+mod CursorCalls
+mod ScannedCalls
+mod StoppedScans

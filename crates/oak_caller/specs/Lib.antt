@@ -1,0 +1,6 @@
+pub mod Callers
+pub mod Given
+pub mod Looks
+pub mod Puts
+pub mod Reads
+pub mod Scans

@@ -1,0 +1,107 @@
+//! The pairs of a cursor, given to a closure, and counted.
+ghost use Rattle.std.specs.Prelude.{◌≡◌, ◌-◌, ◌^◌, ◌≤◌, IfNone, IfSome, IsSome, List, [], MatchBool, length, min, take, true};
+ghost use Rattle.oak_model.specs.declared.limits.TheConstants.{GREATEST_KEY, GREATEST_VALUE};
+ghost use Rattle.oak_model.specs.declared.replies.Pair.{Pair};
+ghost use Rattle.scan_cursor.specs.Cursors.{IsCursor, key_of, value_of};
+ghost use Rattle.oak_caller.specs.Given.{FindsEnd, FindsPair, GivesAll, GivesUntil};
+ghost use Rattle.oak_caller.specs.Scans.{GivesOn, GoesOn, KeepsPair, present};
+
+use oak_map::Cursor;
+use oak_model::{GREATEST_KEY, GREATEST_VALUE};
+use std::sync::Wait;
+
+/// Gives all pairs, until the closure says no more: whether it never did.
+pub(crate) fn give_pairs<R: Wait, F: FnMut(&[u8], &[u8]) -> bool>(
+    rt: &R,
+    cursor: &mut Cursor<'_>,
+    mut f: F,
+) -> bool
+    requires cursor { IsCursor cursor.old }
+    requires calls { (g : _) (x : _) (y : _) → F.pre g x y }
+    ensures same_reference { cursor.new.pass.ghost_name ≡ cursor.old.pass.ghost_name }
+    ensures on { GoesOn cursor.old cursor.new }
+    ensures gives { MatchBool result (GivesAll F.FnMut f cursor.old cursor.new) (GivesUntil F.FnMut f cursor.old cursor.new) }
+{
+    let mut key = [0; GREATEST_KEY];
+    let mut value = [0; GREATEST_VALUE];
+    for _ in rt.forever() {
+        let Some((long, len)) = next_pair(rt, cursor, &mut key, &mut value) else {
+            return true;
+        };
+        if !f(&key[..long], &value[..len]) {
+            return false;
+        }
+    }
+    unreachable!()
+}
+
+/// Goes to the next pair, and copies it: the lengths of its key and its value; none where the scan has ended.
+pub(crate) fn next_pair<R: Wait>(
+    rt: &R,
+    cursor: &mut Cursor<'_>,
+    key: &mut [u8; GREATEST_KEY],
+    value: &mut [u8; GREATEST_VALUE],
+) -> Option<(usize, usize)>
+    requires { IsCursor cursor.old }
+    ensures same_reference { cursor.new.pass.ghost_name ≡ cursor.old.pass.ghost_name }
+    ensures on { GoesOn cursor.old cursor.new }
+    ensures ended { IfNone result (FindsEnd cursor.old cursor.new) }
+    ensures given { IfSome result (λ _. FindsPair cursor.old cursor.new) }
+    ensures key { IfSome result (λ n. (n.0 ≤ length key.new) × (take n.0 key.new ≡ key_of cursor.new)) }
+    ensures value { IfSome result (λ n. (n.1 ≤ length value.new) × (take n.1 value.new ≡ value_of cursor.new)) }
+{
+    if !cursor.advance(rt) {
+        return None;
+    }
+    let long = copy_key(cursor, key);
+    let len = copy_value(cursor, value);
+    Some((long, len))
+}
+
+/// Copies the present key to the begin of `out`, and tells its length.
+fn copy_key(cursor: &Cursor<'_>, out: &mut [u8; GREATEST_KEY]) -> usize
+    requires cursor { IsCursor cursor.now }
+    requires given { IsSome cursor.now.value }
+    ensures long { result ≤ length out.new }
+    ensures key { take result out.new ≡ key_of cursor.now }
+{
+    let long = cursor.key_len();
+    for i in 0..long {
+        out[i] = cursor.key_byte(i);
+    }
+    long
+}
+
+/// Copies the present value to the begin of `out`, and tells its length.
+fn copy_value(cursor: &mut Cursor<'_>, out: &mut [u8; GREATEST_VALUE]) -> usize
+    requires cursor { IsCursor cursor.old }
+    requires given { IsSome cursor.old.value }
+    ensures same_reference { cursor.new.pass.ghost_name ≡ cursor.old.pass.ghost_name }
+    ensures keeps { KeepsPair cursor.old cursor.new }
+    ensures same { present cursor.new ≡ present cursor.old }
+    ensures value_stays { cursor.new.value ≡ cursor.old.value }
+    ensures long { result ≤ length out.new }
+    ensures value { take result out.new ≡ value_of cursor.old }
+{
+    let len = cursor.len();
+    cursor.copy_into(&mut out[..len]);
+    len
+}
+
+/// How many pairs are left. The count stands still at 2^64 - 1.
+pub(crate) fn count_pairs<R: Wait>(rt: &R, cursor: &mut Cursor<'_>) -> u64
+    requires { IsCursor cursor.old }
+    ensures same_reference { cursor.new.pass.ghost_name ≡ cursor.old.pass.ghost_name }
+    ensures on { GoesOn cursor.old cursor.new }
+    ensures ended { cursor.new.walk.mark.ended ≡ true }
+    ensures counts { (pairs : List Pair) × GivesOn cursor.old cursor.new [] pairs × (result ≡ min (length pairs) (2 ^ 64 - 1)) }
+{
+    let mut count = 0u64;
+    for _ in rt.forever() {
+        if !cursor.advance(rt) {
+            return count;
+        }
+        count = count.saturating_add(1);
+    }
+    unreachable!()
+}

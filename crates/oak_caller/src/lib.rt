@@ -1,0 +1,26 @@
+//! The map for callers that need no proof: a pass on a map, with the map, whose calls ask for a key and a value alone.
+#![tactic(auto)]
+
+mod caller;
+mod changing;
+mod computing;
+mod ends;
+mod giving;
+mod joining;
+mod looking;
+mod putting;
+mod reading;
+mod scanning;
+mod store;
+mod turns;
+mod viewing;
+
+pub use caller::Caller;
+pub use computing::NotAdded;
+pub use oak_core::SplitFault;
+pub use oak_map::{MapPass, OakMap, ValueView, Way};
+pub use oak_model::{Lack, OutOfMemory, RecipeKind, Shape, Wrote, is_key, is_value};
+pub use reading::{Copied, Number};
+pub use store::Store;
+pub use turns::WornOut;
+pub use value_ops::{Recipe, StepRecipe};

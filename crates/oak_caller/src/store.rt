@@ -1,0 +1,65 @@
+//! A map that owns its words, from which callers come.
+ghost use Rattle.std.specs.Prelude.{◌≡◌, IfOk};
+ghost use Rattle.oak_core.specs.Opening.{first_state};
+ghost use Rattle.oak_map.specs.Maps.{call_of};
+ghost use Rattle.oak_caller.specs.Callers.{last_of, sizes_of, state_of};
+
+use crate::caller::Caller;
+use oak_core::SplitFault;
+use oak_map::{MapPass, OakMap};
+use oak_model::{OutOfMemory, Shape};
+use std::marker::Model;
+use std::sync::Wait;
+
+/// A map, with a pass of its own from which its callers' passes are split. It is spent by [`Store::free`], and can't be
+/// dropped.
+pub struct Store<R: Wait + Drop + Send> {
+    map: OakMap<R>,
+    pass: MapPass,
+}
+
+impl<R: Wait + Drop + Send> Model for Store<R> {
+    ghost use Rattle.oak_map.specs.Maps.{table_of};
+    ghost use Rattle.oak_caller.specs.Callers.{Called, IsIdle};
+
+    ghost Value = { Called };
+
+    ghost view = { λ s. record { table = table_of s.map; pass = s.pass } };
+
+    ghost invariant = { λ s. IsIdle (table_of s.map) s.pass 0 };
+}
+
+impl<R: Wait + Drop + Send> Store<R> {
+    /// An empty map of this shape, one of whose passes is the store's own.
+    pub fn create(rt: &R, shape: &Shape) -> Result<Store<R>, OutOfMemory>
+    where
+        R: Clone + AllocGlobal,
+        ensures sizes { IfOk result (λ s. sizes_of s ≡ shape.now) }
+        ensures first { IfOk result (λ s. state_of s ≡ first_state (sizes_of s) 0) }
+    {
+        let (map, pass) = OakMap::create(rt, shape)?;
+        Ok(Store { map, pass })
+    }
+
+    /// A caller, which borrows the store.
+    pub fn caller<'m>(&'m mut self, rt: &R) -> Result<Caller<'m, R>, SplitFault>
+    where
+        R: AllocGlobal,
+        ensures table { IfOk result (λ c. c.table ≡ self.old.table) }
+        ensures new { IfOk result (λ c. last_of c ≡ 0) }
+    {
+        let pass = self.map.split(rt, &mut self.pass)?;
+        Ok(Caller {
+            map: &self.map,
+            pass,
+            last: 0,
+        })
+    }
+
+    /// Gives back the words of the map.
+    pub fn free(self) {
+        let Store { map, pass } = self;
+        pass.leave();
+        map.free();
+    }
+}
