@@ -12,6 +12,8 @@ mod putting;
 mod reading;
 mod scanning;
 mod store;
+#[cfg(test)]
+mod tests;
 mod turns;
 mod viewing;
 
