@@ -1,5 +1,5 @@
 -- A key that a call looked at.
-use Rattle.std.proofs.Common.{◌≡◌, ℕ, Bool, true, false, List, Option, sym, subst}
+use Rattle.std.proofs.Common.{ℕ, Bool, true, false, List, Option, sym, subst}
 use Rattle.std.specs.Prelude.{IfSome}
 use Rattle.oak_model.specs.Limits.{Sizes}
 use Rattle.oak_model.specs.Counts.{Begins}

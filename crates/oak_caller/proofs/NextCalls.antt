@@ -1,5 +1,5 @@
 -- What a call leaves of its caller, which gave it the next number: p is the pass before, m with that number, and x the one behind the call.
-use Rattle.std.proofs.Common.{◌≡◌, ℕ, ◌+◌, ◌≤◌, List, Ok, sym, ap, ◌∙◌, refl, subst, arith}
+use Rattle.std.proofs.Common.{◌≡◌, ℕ, ◌+◌, List, Ok, sym, ap, ◌∙◌, refl, subst, arith}
 use Rattle.oak_model.specs.declared.cells.CellCall.{CellCall}
 use Rattle.oak_model.specs.declared.replies.Wrote.{Wrote}
 use Rattle.oak_core.specs.declared.states.PassState.{PassState}

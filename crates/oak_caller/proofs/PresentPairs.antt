@@ -1,5 +1,5 @@
 -- The lengths of what is read.
-use Rattle.std.proofs.Common.{◌≡◌, ℕ, zero, suc, ◌*◌, ◌/◌, ◌^◌, ◌<◌, ◌≤◌, false, List, Option, Some, None, arith}
+use Rattle.std.proofs.Common.{◌≡◌, ℕ, zero, suc, ◌*◌, ◌/◌, ◌^◌, ◌<◌, ◌≤◌, false, Option, Some, None, arith}
 use Rattle.std.specs.Prelude.{IsSome}
 use Rattle.oak_model.specs.declared.limits.TheConstants.{CLASSES, CLASS_GROWTH, GREATEST_VALUE, LEAST_BLOCK}
 use Rattle.oak_model.specs.Key.{IsKey}

@@ -1,8 +1,7 @@
 -- A key that a call read, from its begin until its pin was undone.
-use Rattle.std.proofs.Common.{◌≡◌, ℕ, ◌<◌, ◌≤◌, ◌⊎◌, List, ◌++◌, drop, length, inl, inr, refl, sym, ap, ◌∙◌, subst, arith}
+use Rattle.std.proofs.Common.{◌≡◌, ℕ, ◌<◌, ◌≤◌, List, ◌++◌, drop, length, sym, subst, arith}
 use mathlib.Core.Logic.{dite}
 use native.Mathlib.Decide.{dec_lt}
-use Rattle.oak_model.specs.declared.cells.CellReply.TheVariants as replies
 use Rattle.oak_model.specs.Limits.{Sizes}
 use Rattle.oak_model.specs.Value.{IsValue}
 use Rattle.oak_core.specs.declared.states.PassState.{PassState}

@@ -1,27 +1,24 @@
 -- A scan that is ended at a pair has read its range up to there.
-use Rattle.std.proofs.Common.{◌≡◌, ℕ, suc, ◌<◌, Bool, true, false, List, [], ◌∷◌, ◌++◌, Option, Some, None, refl, sym, ap, ◌∙◌, subst, arith}
-use Rattle.std.specs.Prelude.{◌&&◌, IsSome, nat_lt}
+use Rattle.std.proofs.Common.{◌≡◌, ℕ, suc, Bool, true, false, List, [], ◌∷◌, ◌++◌, Option, Some, None, refl, ap, ◌∙◌, subst, arith}
+use Rattle.std.specs.Prelude.{◌&&◌, IsSome}
 use Rattle.std.specs.List.{AllByRecursion}
 use Rattle.std.proofs.lemmas.Bool.{ltb-true, leb-true}
 use Rattle.oak_model.specs.declared.replies.Pair.{Pair}
 use Rattle.oak_model.specs.Key.{is_key}
 use Rattle.oak_model.specs.KeyNumber.{key_number}
 use Rattle.oak_model.specs.Limits.{Sizes}
-use Rattle.oak_core.specs.declared.states.PassState.{PassState}
 use Rattle.oak_core.specs.declared.table.Pass.{Pass}
 use Rattle.oak_core.specs.AloneWords.{Runs}
 use Rattle.oak_core.specs.Passes.{key as sizes, state}
 use Rattle.chunk_ops.specs.PinRecords.{WordsStay}
-use Rattle.value_ops.specs.declared.pinned_value.PinnedValue.{PinnedValue}
 use Rattle.scan_cursor.specs.declared.cursor.Cursor.{Cursor}
-use Rattle.scan_cursor.specs.declared.marks.Mark.{Mark}
 use Rattle.scan_cursor.specs.declared.walking.Walk.{Walk}
 use Rattle.scan_cursor.specs.declared.ways.Way.{Way}
 use Rattle.scan_cursor.specs.declared.ways.Way.TheVariants.{Up, Down}
-use Rattle.scan_cursor.specs.Cursors.{HasGiven, HasPair, IsCursor, course, key_of, under, view_under}
+use Rattle.scan_cursor.specs.Cursors.{HasGiven, IsCursor, key_of, under, view_under}
 use Rattle.scan_cursor.specs.Leaving.{LeavesValue}
 use Rattle.scan_cursor.specs.Marks.{Come}
-use Rattle.scan_cursor.specs.Scanned.{HasScanned, greatest_of, least_of, within}
+use Rattle.scan_cursor.specs.Scanned.{greatest_of, least_of, within}
 use Rattle.scan_cursor.specs.Views.{Later, View}
 use Rattle.scan_cursor.specs.Walks.{Course, HasWalked, view_at}
 use Rattle.scan_cursor.proofs.EndLaws.{scan_leaves, walk_ends}

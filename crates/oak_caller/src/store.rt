@@ -1,7 +1,9 @@
 //! A map that owns its words, from which callers come.
-ghost use Rattle.std.specs.Prelude.{◌≡◌, IfOk};
+ghost use Rattle.std.specs.Prelude.{◌≡◌, ℕ, Err, IfOk};
+ghost use Rattle.oak_core.specs.declared.passes.SplitFault.TheVariants as SplitFault;
+ghost use Rattle.oak_core.specs.declared.states.PassState.{PassState};
 ghost use Rattle.oak_core.specs.Opening.{first_state};
-ghost use Rattle.oak_map.specs.Maps.{call_of};
+ghost use Rattle.oak_core.specs.Splitting.{SplitsOff};
 ghost use Rattle.oak_caller.specs.Callers.{last_of, sizes_of, state_of};
 
 use crate::caller::Caller;
@@ -41,19 +43,24 @@ impl<R: Wait + Drop + Send> Store<R> {
         Ok(Store { map, pass })
     }
 
-    /// A caller, which borrows the store.
+    /// A caller, which borrows the store, by a pass that is split off the store's own. `Limit` comes only where all passes
+    /// of the shape were made.
     pub fn caller<'m>(&'m mut self, rt: &R) -> Result<Caller<'m, R>, SplitFault>
     where
         R: AllocGlobal,
         ensures table { IfOk result (λ c. c.table ≡ self.old.table) }
         ensures new { IfOk result (λ c. last_of c ≡ 0) }
+        ensures split { IfOk result (λ c. (w : PassState) × SplitsOff (sizes_of self.old) (last_of self.old) (state_of self.old) w (state_of c)) }
+        ensures limit { (made : ℕ) → result ≡ Err (SplitFault.Limit made) → made ≡ (sizes_of self.old).passes }
     {
-        let pass = self.map.split(rt, &mut self.pass)?;
-        Ok(Caller {
-            map: &self.map,
-            pass,
-            last: 0,
-        })
+        match self.map.split(rt, &mut self.pass) {
+            Ok(pass) => Ok(Caller {
+                map: &self.map,
+                pass,
+                last: 0,
+            }),
+            Err(fault) => Err(fault),
+        }
     }
 
     /// Gives back the words of the map.

@@ -1,4 +1,4 @@
-use Rattle.std.proofs.Common.{rules, ap, subst, ℕ, None, []}
+use Rattle.std.proofs.Common.{rules, ap, subst, None, []}
 use Rattle.std.specs.Prelude.{IfNone, IfSome}
 use Rattle.oak_core.specs.declared.table.Pass.{Pass}
 use Rattle.oak_core.specs.Passes.{key as table_sizes, state}

@@ -1,4 +1,4 @@
-use Rattle.std.proofs.Common.{rules, ◌≡◌, true, false, [], ◌∷◌, ◌++◌, ◌∙◌}
+use Rattle.std.proofs.Common.{rules, true, false, [], ◌∷◌, ◌++◌, ◌∙◌}
 use Rattle.std.specs.Fn.{CalledAtTwo}
 use Rattle.scan_cursor.specs.Cursors.{key_of, value_of}
 use Rattle.oak_caller.specs.Given.{FindsEnd, FindsPair}

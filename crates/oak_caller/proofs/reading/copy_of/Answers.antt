@@ -1,4 +1,4 @@
-use Rattle.std.proofs.Common.{rules, ◌≡◌, ℕ, List, sym, ap, ◌∙◌, subst, refl}
+use Rattle.std.proofs.Common.{rules, ◌≡◌, ℕ, sym, ap, ◌∙◌, subst, refl}
 use Rattle.oak_core.specs.declared.table.Pass.{Pass}
 use Rattle.oak_core.specs.Passes.{call_of as table_call, key as table_sizes, state as table_state}
 use Rattle.value_ops.specs.Reading.{value}
@@ -7,7 +7,7 @@ use Rattle.oak_map.specs.Rests.{RestsAbsent}
 use Rattle.oak_map.proofs.LentEnds.{value_refuses}
 use Rattle.oak_caller.specs.Reads.{CopyFits, ReadsValue}
 use Rattle.oak_caller.proofs.PresentPairs.{read_value}
-use Rattle.oak_caller.proofs.ReadKeys.{absent_reads, copy_fits, copy_lies, value_reads}
+use Rattle.oak_caller.proofs.ReadKeys.{absent_reads, copy_fits, value_reads}
 use Rattle.oak_caller.specs.Callers.{PassKeepsViews}
 use Rattle.oak_caller.proofs.LookedKeys.{views_kept}
 use Rattle.oak_caller.proofs.reading.copy_of.Goals as goal

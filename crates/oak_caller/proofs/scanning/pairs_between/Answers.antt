@@ -1,4 +1,4 @@
-use Rattle.std.proofs.Common.{rules, ap, refl, subst}
+use Rattle.std.proofs.Common.{rules, ap, subst}
 use Rattle.oak_core.specs.declared.table.Pass.{Pass}
 use Rattle.oak_core.specs.Passes.{key as table_sizes, state}
 use Rattle.oak_core.specs.Scratch.{StaysButSlots}

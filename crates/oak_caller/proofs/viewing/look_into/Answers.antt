@@ -9,7 +9,6 @@ use Rattle.oak_caller.specs.Looks.{CopyLooks, ShowsLife}
 use Rattle.oak_caller.proofs.PresentPairs.{read_value}
 use Rattle.oak_caller.proofs.ReadLives.{life_shows, looks_fit}
 use Rattle.oak_core.specs.PassState.{HoldsNothing}
-use Rattle.point_ops.specs.TestStates.{HasView}
 use Rattle.value_ops.proofs.LoadedViews.{view_known}
 use Rattle.oak_caller.specs.Callers.{PassKeepsViews}
 use Rattle.oak_caller.proofs.LookedKeys.{views_kept}
