@@ -7,9 +7,9 @@
 # A chunk has four entries, and the map in turn 3, 139, 577 and 1,965 keys, each of eight bytes with a value of eight, which
 # were put in a scrambled order: so 1, 50, 200 and 800 chunks are open. A run gets each key, or scans the whole map up or
 # down and reads each value, again and again, until it has read READS values, or 2000000; or it settles the map of 200 or
-# 800 chunks fifty times, which merges none of them, as no two neighbours have few entries. The program is
+# 800 chunks 2,000 times, which merges none of them, as no two neighbours have few entries. The program is
 # crates/scan_rounds, proved and built by `rt run` there (minutes, where nothing is proved yet), and makes seven runs of
-# each kind. Printed are the nanoseconds of processor time of a get and of a pair, and the seconds of settling once, in
+# each kind. Printed are the nanoseconds of processor time of a get and of a pair, and the microseconds of settling once, in
 # the fastest run, without the time of filling the map.
 #
 # Then 1,600 keys in that order stand in 668 chunks of four entries, and in 16 of 160, and the same is printed of these.
@@ -25,7 +25,7 @@ RUNS=7
 ENTRIES=4
 MANY_ENTRIES=160
 entries=$ENTRIES
-SETTLINGS=50
+SETTLINGS=2000
 RISING_KEYS=3200
 
 # The fewest seconds of processor time of a run with so many keys and rounds of this work, which has to tell so many
@@ -57,7 +57,7 @@ time_chunks() {
         function nanoseconds(seconds) { return (seconds - filled) * 1e9 / pairs }
         BEGIN {
             printf "%6d %8.0f %12.0f %14.0f", chunks, nanoseconds(got), nanoseconds(up), nanoseconds(down)
-            if (settled != "-") printf " %12.4f", (settled - filled) / settlings
+            if (settled != "-") printf " %12.0f", (settled - filled) * 1e6 / settlings
             print ""
         }'
 }
@@ -75,7 +75,7 @@ write_rising() {
 "$home/bin/oakmap" run <"$home/examples/first.oak" >"$room/text" || fail "the program does not run"
 cmp -s "$room/text" "$home/examples/first.txt" || fail "the first example has another text"
 
-echo "chunks   get, ns  pair up, ns  pair down, ns  settling, s"
+echo "chunks   get, ns  pair up, ns  pair down, ns  settling, us"
 time_chunks 3 1
 time_chunks 139 50
 time_chunks 577 200
