@@ -45,7 +45,6 @@ fn run<R: Threads + Wait + Clone + Drop + Send + Sync + AllocGlobal>(
     let shape = Shape::make(3, 16, 64, 1024, [2048, 0, 0, 0])?;
     let mut store = Store::create(rt, &shape)?;
     let found = fill_and_read(rt, &mut store);
-    store.free();
     found
 }
 

@@ -13,8 +13,8 @@ use oak_model::{OutOfMemory, Shape};
 use std::marker::Model;
 use std::sync::Wait;
 
-/// A map, with a pass of its own from which its callers' passes are split. It is spent by [`Store::free`], and can't be
-/// dropped.
+/// A map, with a pass of its own from which its callers' passes are split. One that is dropped gives back
+/// its words.
 pub struct Store<R: Wait + Drop + Send> {
     map: OakMap<R>,
     pass: MapPass,
@@ -62,11 +62,11 @@ impl<R: Wait + Drop + Send> Store<R> {
             Err(fault) => Err(fault),
         }
     }
+}
 
-    /// Gives back the words of the map.
-    pub fn free(self) {
-        let Store { map, pass } = self;
+impl<R: Wait + Drop + Send> Drop for Store<R> {
+    fn drop(self) {
+        let Store { map: _, pass } = self;
         pass.leave();
-        map.free();
     }
 }

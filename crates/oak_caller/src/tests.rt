@@ -39,7 +39,6 @@ fn goes_through_a_life<R: Abort + Wait + Drop + Send + AllocGlobal>(
 fn a_life(rt: HostRuntime) -> Result<(), Fail> {
     let mut store = Store::create(&rt, &Shape::make(2, 4, 4, 16, [16, 0, 0, 0])?)?;
     let done = goes_through_a_life(&rt, &mut store);
-    store.free();
     done
 }
 
@@ -73,7 +72,6 @@ fn adds_up<R: Abort + Wait + Drop + Send + AllocGlobal>(
 fn a_sum(rt: HostRuntime) -> Result<(), Fail> {
     let mut store = Store::create(&rt, &Shape::make(2, 4, 4, 16, [16, 0, 0, 0])?)?;
     let done = adds_up(&rt, &mut store);
-    store.free();
     done
 }
 
@@ -111,7 +109,6 @@ fn applies<R: Abort + Wait + Drop + Send + AllocGlobal>(
 fn a_recipe(rt: HostRuntime) -> Result<(), Fail> {
     let mut store = Store::create(&rt, &Shape::make(2, 4, 4, 16, [16, 0, 0, 0])?)?;
     let done = applies(&rt, &mut store);
-    store.free();
     done
 }
 
@@ -149,6 +146,5 @@ fn goes_over<R: Abort + Wait + Drop + Send + AllocGlobal>(
 fn a_scan(rt: HostRuntime) -> Result<(), Fail> {
     let mut store = Store::create(&rt, &Shape::make(3, 4, 4, 16, [16, 0, 0, 0])?)?;
     let done = goes_over(&rt, &mut store);
-    store.free();
     done
 }

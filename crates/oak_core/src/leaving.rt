@@ -1,6 +1,6 @@
-//! Passes and tables of which nothing is asked any more. Whoever wants to know what a table's passes wrote and found joins
-//! and closes instead.
-use crate::table::{OakTable, Pass};
+//! A pass of which nothing is asked any more. Whoever wants to know what a table's passes wrote and found joins and closes
+//! instead.
+use crate::table::Pass;
 
 impl Pass {
     /// Gives up the pass. What it saw, met and wrote is told to nobody, its number is never given again, and what it
@@ -17,17 +17,5 @@ impl Pass {
             reader: _,
         } = self;
         drop(seat);
-    }
-}
-
-impl OakTable {
-    /// Gives back the table's words. What stood in them is told to nobody. Passes of it may be left later.
-    pub fn free(self) {
-        let OakTable {
-            table,
-            shape: _,
-            offsets: _,
-        } = self;
-        drop(table);
     }
 }

@@ -31,7 +31,9 @@ impl TableRule<(), PassState, Opened> for OakRule {
     ghost first = { λ o. first_state o.shape o.generation };
 }
 
-/// A table of words, shared by its passes.
+/// A table of words, shared by its passes. One that is dropped gives back its words; what stood in them is told to
+/// nobody, and passes of it may be left later.
+#[derive(Drop)]
 pub struct OakTable {
     pub(crate) table: Table<(), PassState, Opened, OakRule, Global>,
     pub(crate) shape: Shape,

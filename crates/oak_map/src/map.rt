@@ -24,7 +24,8 @@ use oak_model::{OutOfMemory, Shape};
 use std::sync::Wait;
 
 /// A map, shared by its passes, with an index of the minima of its chunks. `R` is the handle by which callers wait, of
-/// which the index keeps a clone.
+/// which the index keeps a clone. One that is dropped gives back its words, as an [`OakTable`] does, and its index.
+#[derive(Drop)]
 pub struct OakMap<R: Wait + Drop + Send> {
     pub(crate) table: OakTable,
     pub(crate) index: ChunkIndex<R>,

@@ -67,7 +67,7 @@ fn passes_are_left_and_their_map_is_freed(rt: HostRuntime) -> Result<(), Fail> {
     pass.turn(1);
     let new = map.put(&rt, &mut pass, b"k", b"one");
     pass.leave();
-    map.free();
+    drop(map);
     assert!(rt; split);
     assert!(rt; new == Wrote::New { at: 1 });
     Ok(())

@@ -3,6 +3,7 @@ ghost use Rattle.std.specs.Prelude.{◌≡◌};
 use crate::classes::Class;
 use crate::keys::Key;
 use crate::values::Value;
+use std::fmt;
 use std::marker::Model;
 
 /// What a call lacked.
@@ -11,6 +12,16 @@ pub enum Lack {
     Block(Class),
     Header,
     Room,
+}
+
+impl fmt::Display for Lack {
+    fn fmt<W: fmt::Write>(&self, f: &mut fmt::Formatter<W>) -> fmt::Result {
+        match self {
+            Lack::Block(class) => write!(f, "no block of {} bytes is free", class.bytes()),
+            Lack::Header => write!(f, "no header is free"),
+            Lack::Room => write!(f, "no chunk is free"),
+        }
+    }
 }
 
 /// The answer of a call that writes. `at` is the stamp of its write, or for an answer that wrote
@@ -24,6 +35,20 @@ pub enum Wrote {
     Removed { at: u64 },
     Absent { at: u64 },
     Full(Lack),
+}
+
+impl fmt::Display for Wrote {
+    fn fmt<W: fmt::Write>(&self, f: &mut fmt::Formatter<W>) -> fmt::Result {
+        match self {
+            Wrote::New { at } => write!(f, "put as new at {at}"),
+            Wrote::Over { at } => write!(f, "put over another value at {at}"),
+            Wrote::Kept { at } => write!(f, "kept as it was at {at}"),
+            Wrote::Done { at } => write!(f, "computed at {at}"),
+            Wrote::Removed { at } => write!(f, "removed at {at}"),
+            Wrote::Absent { at } => write!(f, "absent at {at}"),
+            Wrote::Full(lack) => write!(f, "refused: {lack}"),
+        }
+    }
 }
 
 /// A key that was read present, its value, and a number as that of [`Wrote`].

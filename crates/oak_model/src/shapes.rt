@@ -1,10 +1,10 @@
-ghost use Rattle.std.specs.Prelude.{◌≡◌, ◌<◌, true, false, MatchOption, MatchResult, IsOkAnd, IfOk};
+ghost use Rattle.std.specs.Prelude.{◌≡◌, ◌<◌, ◌≤◌, true, false, MatchOption, MatchResult, IsOkAnd, IfOk};
 ghost use Rattle.oak_model.specs.Limits.{IsInLimits};
 
 use crate::classes::Class;
 use crate::limits::{
-    CLASSES, GREATEST_BLOCKS, GREATEST_CHUNKS, GREATEST_ENTRIES, GREATEST_HEADERS, GREATEST_PASSES,
-    LEAST_ENTRIES,
+    CLASSES, DEFAULT_BLOCKS, DEFAULT_CHUNKS, DEFAULT_ENTRIES, DEFAULT_HEADERS, GREATEST_BLOCKS,
+    GREATEST_CHUNKS, GREATEST_ENTRIES, GREATEST_HEADERS, GREATEST_PASSES, LEAST_ENTRIES,
 };
 use std::marker::Model;
 use thiserror::Error;
@@ -93,6 +93,22 @@ pub struct Usage {
 
 impl Shape {
     ghost use Rattle.oak_model.specs.Shape.{first_bad_field};
+    ghost use Rattle.oak_model.specs.declared.limits.TheConstants.{DEFAULT_BLOCKS, DEFAULT_CHUNKS, DEFAULT_ENTRIES, DEFAULT_HEADERS, GREATEST_PASSES};
+
+    /// The usual shape, with so many passes: that of a script without a `shape` line.
+    pub fn standard(passes: u32) -> Shape
+        requires some { 0 < passes }
+        requires few { passes ≤ GREATEST_PASSES }
+        ensures is { result ≡ record { passes = passes; chunks = DEFAULT_CHUNKS; entries = DEFAULT_ENTRIES; headers = DEFAULT_HEADERS; blocks = DEFAULT_BLOCKS } }
+    {
+        Shape {
+            passes,
+            chunks: DEFAULT_CHUNKS,
+            entries: DEFAULT_ENTRIES,
+            headers: DEFAULT_HEADERS,
+            blocks: DEFAULT_BLOCKS,
+        }
+    }
 
     /// A shape of these sizes. It is refused exactly where one is outside its limits, and the first
     /// such one in the order of the arguments is named.

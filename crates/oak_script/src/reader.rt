@@ -13,7 +13,7 @@ use crate::lines::{Lines, cut_words};
 use crate::scripts::{Call, Script, Threads};
 use crate::stages::{Stage, take_line};
 use crate::stops::Stop;
-use oak_model::{DEFAULT_BLOCKS, DEFAULT_CHUNKS, DEFAULT_ENTRIES, DEFAULT_HEADERS, Shape};
+use oak_model::Shape;
 use std::alloc::Global;
 
 /// The shape that a script without a `shape` line asks for.
@@ -23,13 +23,7 @@ pub fn default_shape(threads: u32) -> Shape
     ensures is { result ≡ default_sizes threads }
     ensures fit { SizesFit result }
 {
-    Shape {
-        passes: threads + 1,
-        chunks: DEFAULT_CHUNKS,
-        entries: DEFAULT_ENTRIES,
-        headers: DEFAULT_HEADERS,
-        blocks: DEFAULT_BLOCKS,
-    }
+    Shape::standard(threads + 1)
 }
 
 /// The shape that a script asks for by its `shape` line, or without one.
