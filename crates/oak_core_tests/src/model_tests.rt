@@ -1,8 +1,8 @@
 //! The model: classes, shapes, recipes, keys, and the answers of a cell.
 
 use oak_model::{
-    Answer, BadShape, CellCall, Class, Key, Name, RecipeKind, Shape, ShapeField, Value,
-    answer_call, apply_kind, class_of, cmp_keys, is_key, is_value,
+    Answer, BadShape, CellCall, Class, Key, Lack, Name, RecipeKind, Shape, ShapeField, Value,
+    Wrote, answer_call, apply_kind, class_of, cmp_keys, is_key, is_value,
 };
 use std::cmp::Ordering;
 use std::test::Fail;
@@ -43,6 +43,58 @@ fn shapes_within_limits(rt: HostRuntime) {
         value: 4_097,
     };
     assert!(rt; Shape::make(1, 1, 4, 1, [65_536, 65_536, 16_384, 4_097]) == Err(blocks));
+}
+
+#[test]
+fn shapes_for_keys(rt: HostRuntime) -> Result<(), Fail> {
+    let one_chunk = Shape::make(1, 1, 64, 64, [128, 0, 0, 0])?;
+    assert!(rt; Shape::for_keys(64, 8, 16, 1) == Ok(one_chunk));
+    let five_chunks = Shape::make(2, 5, 64, 65, [130, 130, 65, 0])?;
+    assert!(rt; Shape::for_keys(65, 64, 100, 2) == Ok(five_chunks));
+    let greater_chunks = Shape::make(4, 256, 256, 16_385, [32_770, 16_385, 0, 0])?;
+    assert!(rt; Shape::for_keys(16_385, 8, 64, 4) == Ok(greater_chunks));
+    let blocks = BadShape {
+        field: ShapeField::Blocks(Class::B256),
+        value: 16_385,
+    };
+    assert!(rt; Shape::for_keys(16_385, 8, 100, 4) == Err(blocks));
+    for count in [0, 65_537] {
+        let headers = BadShape {
+            field: ShapeField::Headers,
+            value: count,
+        };
+        assert!(rt;
+            Shape::for_keys(count, 8, 8, 1) == Err(headers),
+            "for {count}"
+        );
+    }
+    let standard = Shape::make(3, 256, 64, 8_192, [16_384, 4_096, 1_024, 512])?;
+    assert!(rt; Shape::standard(3) == standard);
+    Ok(())
+}
+
+#[test]
+fn answers_for_people(rt: HostRuntime) -> Result<(), Fail> {
+    let alloc = rt.alloc();
+    let rows = [
+        (Wrote::New { at: 1 }, "put as new at 1"),
+        (Wrote::Over { at: 2 }, "put over another value at 2"),
+        (Wrote::Kept { at: 2 }, "kept as it was at 2"),
+        (Wrote::Done { at: 3 }, "computed at 3"),
+        (Wrote::Removed { at: 4 }, "removed at 4"),
+        (Wrote::Absent { at: 4 }, "absent at 4"),
+        (
+            Wrote::Full(Lack::Block(Class::B64)),
+            "refused: no block of 64 bytes is free",
+        ),
+        (Wrote::Full(Lack::Header), "refused: no header is free"),
+        (Wrote::Full(Lack::Room), "refused: no chunk is free"),
+    ];
+    for (answer, text) in rows {
+        let printed = format!(in alloc; "{answer}")?;
+        assert!(rt; printed.as_str() == text, "{text}");
+    }
+    Ok(())
 }
 
 #[test]

@@ -16,3 +16,4 @@ pub mod Counts
 pub mod KeyNumber
 pub mod Kept
 pub mod WordBytes
+pub mod KeyShapes

@@ -6,6 +6,7 @@
 
 mod cells;
 mod classes;
+mod key_shapes;
 mod keys;
 mod limits;
 mod memory;
