@@ -89,6 +89,7 @@ found_shut z call r n v w u t shut b = record {
   shut = shut;
   only = round z call r v w w u n t (only_none call w) b;
   begun = had_moment z call r n v w t;
+  ended = b.ended;
   still = tried_alone z call r n v w w u t (IsShut z r) (only_none call w) b (λ e. shut (ap state_of (sym (pin_found z call r (pin_room r) refl v n w t t.may.inside.0)) ∙ e));
 }
 

@@ -16,7 +16,7 @@ use Rattle.chunk_core.specs.declared.states.TheConstants.{OPEN, FROZEN}
 use Rattle.chunk_core.specs.declared.holds.HeldRoom.{HeldRoom}
 use Rattle.chunk_core.specs.declared.holds.MovingRange.{MovingRange}
 use Rattle.chunk_core.specs.declared.holds.RoomHolds.{RoomHolds}
-use Rattle.chunk_core.specs.Covers.{Cover, cover_at, cover_from, span_in}
+use Rattle.chunk_core.specs.Covers.{Cover, cover_at, cover_from, moving_of, span_in}
 use Rattle.chunk_core.specs.CoverSums.{weight, is_in}
 use Rattle.chunk_core.specs.RoomRule.{room_state, in_room_state}
 use Rattle.chunk_core.specs.RoomStep.{pin_room}
@@ -34,8 +34,8 @@ use Rattle.oak_core.proofs.Alone.{others_are}
 use Rattle.oak_core.proofs.AloneRuns.{DoesStep, Keeps, Then, step_runs, step_starts, words_stand, moment_before, runs_then, runs_as}
 use Rattle.chunk_ops.specs.declared.ranges.Asked.{Asked}
 use Rattle.chunk_ops.specs.declared.ranges.Asked.TheVariants.{Covering, Under, Last}
-use Rattle.chunk_ops.specs.AskedRanges.{EndsUnder, IsLast, IsAsked, IsAskable}
-use Rattle.chunk_ops.specs.LoneRooms.{IsOff, LoneMoment, LoneTry, LoneTries, NeverAlone}
+use Rattle.chunk_ops.specs.AskedRanges.{CoversKey, EndsUnder, IsLast, IsAsked, IsAskable}
+use Rattle.chunk_ops.specs.LoneRooms.{HasElsewhere, HasNoRoom, IsOff, LoneMoment, LoneTry, LoneTries, NeverAlone, NeverElsewhere}
 use Rattle.chunk_ops.specs.PinRecords.{OnlyMeets, WordsStay}
 use Rattle.chunk_ops.specs.RoomPins.{DropsRoomPin, Unpins}
 use Rattle.chunk_ops.proofs.MeetingCalls.{stays_then}
@@ -106,7 +106,18 @@ no_ranges : (F : Cover → ℕ) (a : RoomHolds) → a.moving ≡ [] → moves F 
 unfolding total
 no_ranges F a e = ap (λ (l : List MovingRange). total F (map cover_from l)) e
 
-module _ (z : Sizes) (words : List ℕ) (u : PassState) (m : Moment z words u) (alone : IsAlone u) (held : u.rooms.held ≡ []) (moving : u.rooms.moving ≡ []) where
+-- a pass without rooms has each key elsewhere
+pub bare_elsewhere : (k : ℕ) (v : PassState) → HasNoRoom v → HasElsewhere k v
+bare_elsewhere k v n = record { frozen = λ r. no_rooms_held r FROZEN v.rooms n.held; moving = no_ranges (is_in k) v.rooms n.moving }
+
+-- so has one with the same rooms
+pub elsewhere_still : (k : ℕ) (v u : PassState) → HasElsewhere k v → u.rooms ≡ v.rooms → HasElsewhere k u
+elsewhere_still k v u has same = record {
+  frozen = λ r. ap (in_room_state r FROZEN) same ∙ has.frozen r;
+  moving = ap (λ (a : RoomHolds). total (is_in k) (moving_of a)) same ∙ has.moving;
+}
+
+module _ (z : Sizes) (words : List ℕ) (u : PassState) (m : Moment z words u) (alone : IsAlone u) where
   abbrev mem : Memory
   mem = memory z words
 
@@ -116,19 +127,21 @@ module _ (z : Sizes) (words : List ℕ) (u : PassState) (m : Moment z words u) (
   abbrev hs : List RoomHolds
   hs = map rooms_held m.states
 
-  -- no pass has a room
-  bare : (j : ℕ) (a : RoomHolds) → get_elem? hs j ≡ some a → (a.held ≡ []) × (a.moving ≡ [])
-  bare j a e = let o = at_unmap rooms_held m.states j a e in dite (ℕ_discrete j m.seat)
-      (λ same. let is : u ≡ o.0 = some-injective u o.0 (sym m.here ∙ (ap (get_elem? m.states) (sym same) ∙ o.1)) in
-      subst (λ (b : RoomHolds). (b.held ≡ []) × (b.moving ≡ [])) o.2 (subst (λ (y : PassState). (y.rooms.held ≡ []) × (y.rooms.moving ≡ [])) is (held, moving)))
-      (λ ne. let is : o.0 ≡ spent_state = others_are z table m.rule m.seat u m.here alone j o.0 ne o.1 in
-      subst (λ (b : RoomHolds). (b.held ≡ []) × (b.moving ≡ [])) o.2 (subst (λ (y : PassState). (y.rooms.held ≡ []) × (y.rooms.moving ≡ [])) (sym is) (refl, refl)))
+  -- no pass has the key
+  each_elsewhere : (k : ℕ) → HasElsewhere k u → (j : ℕ) (a : RoomHolds) → get_elem? hs j ≡ some a → ((r : ℕ) → in_room_state r FROZEN a ≡ 0) × (moves (is_in k) a ≡ 0)
+  each_elsewhere k has j a e = let o = at_unmap rooms_held m.states j a e in
+      subst (λ (b : RoomHolds). ((r : ℕ) → in_room_state r FROZEN b ≡ 0) × (moves (is_in k) b ≡ 0)) o.2 (of_state o.0 (dite (ℕ_discrete j m.seat)
+      (λ same. let is : u ≡ o.0 = some-injective u o.0 (sym m.here ∙ (ap (get_elem? m.states) (sym same) ∙ o.1)) in subst (HasElsewhere k) is has)
+      (λ ne. let is : o.0 ≡ spent_state = others_are z table m.rule m.seat u m.here alone j o.0 ne o.1 in subst (HasElsewhere k) (sym is) (bare_elsewhere k spent_state (record { held = refl; moving = refl })))))
+    where
+      of_state : (y : PassState) → HasElsewhere k y → ((r : ℕ) → in_room_state r FROZEN y.rooms ≡ 0) × (moves (is_in k) y.rooms ≡ 0)
+      of_state y h = (h.frozen, h.moving)
 
-  -- each key lies in the range of an open room
-  pub lone_room : (k : ℕ) → (r : ℕ) × (r < z.chunks) × (state_of (mem.rooms.pin r) ≡ OPEN) × (within (span_in mem.rooms r) k ≡ 1)
-  lone_room k = let F : ℕ → ℕ = λ r. weight (mem.rooms.pin r) * within (span_in mem.rooms r) k in
+  -- the key lies in the range of an open room
+  pub room_elsewhere : (k : ℕ) → HasElsewhere k u → (r : ℕ) × (r < z.chunks) × (state_of (mem.rooms.pin r) ≡ OPEN) × (within (span_in mem.rooms r) k ≡ 1)
+  room_elsewhere k has = let F : ℕ → ℕ = λ r. weight (mem.rooms.pin r) * within (span_in mem.rooms r) k in
       let parts = covers_parts z.chunks mem.rooms.pin (cover_at mem.rooms (content mem.arena.bytes)) hs (is_in k) in
-      let none = total_zero (moves (is_in k)) hs (λ j a e. no_ranges (is_in k) a (bare j a e).1) in
+      let none = total_zero (moves (is_in k)) hs (λ j a e. (each_elsewhere k has j a e).1) in
       let one = m.rule.covers.covered k in
       let s = below_some F z.chunks (omega arith) in (s.0, s.1, open_is s.0 s.2, in_range s.0 s.2)
     where
@@ -140,8 +153,12 @@ module _ (z : Sizes) (words : List ℕ) (u : PassState) (m : Moment z words u) (
       in_range r l = let q = times-one (weight (mem.rooms.pin r)) (within (span_in mem.rooms r) k) (weighs r l) in let b = within-le (span_in mem.rooms r) k in omega arith
 
       open_is : (r : ℕ) → 0 < weight (mem.rooms.pin r) * within (span_in mem.rooms r) k → state_of (mem.rooms.pin r) ≡ OPEN
-      open_is r l = let w = weighs r l in let f = m.rule.rooms.held r FROZEN (inl refl) in let none = total_zero (in_room_state r FROZEN) hs (λ j a e. no_rooms_held r FROZEN a (bare j a e).0) in
+      open_is r l = let w = weighs r l in let f = m.rule.rooms.held r FROZEN (inl refl) in let none = total_zero (in_room_state r FROZEN) hs (λ j a e. (each_elsewhere k has j a e).0 r) in
           one_at-true (state_of (mem.rooms.pin r)) OPEN (omega arith)
+
+-- so does each one where the pass has no room
+pub lone_room : (z : Sizes) (words : List ℕ) (u : PassState) → Moment z words u → IsAlone u → u.rooms.held ≡ [] → u.rooms.moving ≡ [] → (k : ℕ) → (r : ℕ) × (r < z.chunks) × (state_of ((memory z words).rooms.pin r) ≡ OPEN) × (within (span_in (memory z words).rooms r) k ≡ 1)
+lone_room z words u m alone held moving k = room_elsewhere z words u m alone k (bare_elsewhere k u (record { held = held; moving = moving }))
 
 -- ---- so there is a room with each range that is asked for
 
@@ -179,4 +196,12 @@ never_off z asked key v w some_room askable runs = runs_as (LoneTries z z.chunks
     let r = asked_room z.chunks (span_in (memory z a).rooms) (λ j. state_of ((memory z a).rooms.pin j) ≡ OPEN)
     (lone_room z a first.state first.moment first.alone (ap (λ (h : RoomHolds). h.held) first.rooms ∙ bare.held) (ap (λ (h : RoomHolds). h.moving) first.rooms ∙ bare.moving)) asked key askable in
     ⊎_elim (λ (ne : state_of ((memory z a).rooms.pin r.0) ≢ OPEN). ne r.2) (λ (off : IsAsked asked key (span_in (memory z a).rooms r.0) → ⊥). off r.3) (t.each r.0 r.1).says)
+    runs
+
+-- nor does one that is alone, and has the key elsewhere, find no range with it
+pub never_elsewhere : (z : Sizes) (key : List ℕ) (v w : PassState) → 0 < z.chunks → Runs (LoneTries z z.chunks (CoversKey key) v.rooms) v w → Runs (NeverElsewhere (key_number key) v) v w
+never_elsewhere z key v w some_room runs = runs_as (LoneTries z z.chunks (CoversKey key) v.rooms) (NeverElsewhere (key_number key) v) v w
+    (λ a b t has. let first = t.each 0 some_room in
+    let r = room_elsewhere z a first.state first.moment first.alone (key_number key) (elsewhere_still (key_number key) v first.state has first.rooms) in
+    ⊎_elim (λ (ne : state_of ((memory z a).rooms.pin r.0) ≢ OPEN). ne r.2) (λ (off : CoversKey key (span_in (memory z a).rooms r.0) → ⊥). off r.3) (t.each r.0 r.1).says)
     runs

@@ -1,10 +1,13 @@
 -- What calls that look for a room do where their pass is alone: at a moment at which the rule held, each room was off.
 use Rattle.std.specs.Prelude.{◌≡◌, ◌≢◌, ℕ, ◌<◌, ◌⊎◌, List, []}
 use Rattle.pin_word.specs.PinWord.{state_of}
+use Rattle.oak_model.specs.Counts.{total}
 use Rattle.oak_model.specs.Limits.{Sizes}
-use Rattle.chunk_core.specs.declared.states.TheConstants.{OPEN}
+use Rattle.chunk_core.specs.declared.states.TheConstants.{FROZEN, OPEN}
 use Rattle.chunk_core.specs.declared.holds.RoomHolds.{RoomHolds}
-use Rattle.chunk_core.specs.Covers.{span_in}
+use Rattle.chunk_core.specs.CoverSums.{is_in}
+use Rattle.chunk_core.specs.Covers.{moving_of, span_in}
+use Rattle.chunk_core.specs.RoomRule.{in_room_state}
 use Rattle.chunk_core.specs.Spans.{Span}
 use Rattle.oak_core.specs.declared.states.PassState.{PassState}
 use Rattle.oak_core.specs.AloneWords.{Moment}
@@ -44,3 +47,20 @@ pub record HasNoRoom (v : PassState) : Type 0 where
 -- this does not come about where the pass is alone and has no room
 abbrev pub NeverAlone : PassState → List ℕ → List ℕ → Type 0
 NeverAlone v before after = HasNoRoom v → ⊥
+
+-- the pass has no room frozen
+abbrev pub FreezesNone : PassState → Type 0
+FreezesNone v = (r : ℕ) → in_room_state r FROZEN v.rooms ≡ 0
+
+-- this does not come about where the pass is alone and has no room frozen
+abbrev pub NeverUnfrozen : PassState → List ℕ → List ℕ → Type 0
+NeverUnfrozen v before after = FreezesNone v → ⊥
+
+-- the pass has no room frozen, and no range that moves with it has the key of the number; it may hold rooms
+pub record HasElsewhere (k : ℕ) (v : PassState) : Type 0 where
+  pub frozen : FreezesNone v
+  pub moving : total (is_in k) (moving_of v.rooms) ≡ 0
+
+-- this does not come about where the pass is alone and has the key elsewhere
+abbrev pub NeverElsewhere : ℕ → PassState → List ℕ → List ℕ → Type 0
+NeverElsewhere k v before after = HasElsewhere k v → ⊥

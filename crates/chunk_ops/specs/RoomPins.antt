@@ -52,6 +52,7 @@ pub record FoundShut (z : Sizes) (call r : ℕ) (v w : PassState) : Type 0 where
   pub shut : state_of step.number ≢ OPEN
   pub only : OnlyMeets call v w
   pub begun : HadMoment z v
+  pub ended : HadMoment z w
   -- to a pass that is alone
   pub still : Runs (LoneTry z (IsShut z r) v.rooms) v w
 

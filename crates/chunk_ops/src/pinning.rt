@@ -2,12 +2,13 @@
 ghost use Rattle.std.specs.Prelude.{◌≡◌, ℕ, ◌≤◌, ◌<◌, None, IfOk, IfErr, IfSome, IfNone, length};
 ghost use Rattle.oak_model.specs.declared.limits.TheConstants.{GREATEST_KEY};
 ghost use Rattle.oak_model.specs.Key.{IsKey};
+ghost use Rattle.oak_model.specs.KeyNumber.{key_number};
 ghost use Rattle.oak_core.specs.AloneWords.{Runs};
 ghost use Rattle.oak_core.specs.Passes.{IsPassOf, Stays, state, key as sizes, call_of};
 ghost use Rattle.oak_core.specs.Tries.{PinsRooms};
 ghost use Rattle.chunk_ops.specs.AskedRanges.{CoversKey, IsAskable, IsAsked, IsLastFor, IsKeyOrNone, bytes_in_option};
 ghost use Rattle.chunk_ops.specs.Hints.{TriesFirst, first_room};
-ghost use Rattle.chunk_ops.specs.LoneRooms.{IsOff, LoneTry, NeverAlone};
+ghost use Rattle.chunk_ops.specs.LoneRooms.{IsOff, LoneTry, NeverAlone, NeverElsewhere};
 ghost use Rattle.chunk_ops.specs.PinRecords.{OnlyMeets};
 ghost use Rattle.chunk_ops.specs.RoomPins.{PinsFirst, PinsOpen, MissesFirst, FoundMoved, HadMoment};
 
@@ -41,6 +42,7 @@ fn try_room(
     ensures off { IfNone result (MissesFirst (sizes table.now) (call_of pass.old) room (IsAsked asked key.now) (state pass.old) (state pass.new)) }
     ensures only { IfNone result (OnlyMeets (call_of pass.old) (state pass.old) (state pass.new)) }
     ensures begun { IfNone result (HadMoment (sizes table.now) (state pass.old)) }
+    ensures ended { IfNone result (HadMoment (sizes table.now) (state pass.new)) }
     ensures alone { IfNone result (Runs (LoneTry (sizes table.now) (IsOff (sizes table.now) room (IsAsked asked key.now)) (state pass.old).rooms) (state pass.old) (state pass.new)) }
 {
     let Some(pin) = pin_open(table, pass, room) else {
@@ -83,7 +85,9 @@ fn pin_asked(
     ensures pinned { IfOk result (λ p. PinsOpen (sizes table.now) (call_of pass.old) p.room (IsAsked asked key.now) (state pass.old) (state pass.new)) }
     ensures moved { IfErr result (λ _. FoundMoved (sizes table.now) (call_of pass.old) (IsAsked asked key.now) (state pass.old) (state pass.new)) }
     ensures only { IfErr result (λ _. OnlyMeets (call_of pass.old) (state pass.old) (state pass.new)) }
+    ensures ended { IfErr result (λ _. HadMoment (sizes table.now) (state pass.new)) }
     ensures alone { IfErr result (λ _. Runs (NeverAlone (state pass.old)) (state pass.old) (state pass.new)) }
+    ensures elsewhere { asked ≡ Asked.Covering → IfErr result (λ _. Runs (NeverElsewhere (key_number key.now) (state pass.old)) (state pass.old) (state pass.new)) }
 {
     let first = first_room(table, hint);
     if let Some(pin) = try_room(table, pass, first, asked, key) {
@@ -98,11 +102,11 @@ fn pin_asked(
 }
 
 /// Pins the room whose range has the key. `Moved` comes only where each room was found in this call not
-/// open, or open with a range without the key, so it never comes to a pass that is alone and has no room
-/// frozen or held. The hint promises nothing: the room that it names is tried first, and room 0 where it
-/// names none that the table has, since its range is the lowest. The pass has no pin of a room. The call
-/// makes loads, pins and their undoing alone. The pass's tries are raised by how many rooms it pinned,
-/// duds among them: by 1 where the room tried first was found open with the key in its range.
+/// open, or open with a range without the key, so it never comes to a pass that is alone, has no room
+/// frozen, and holds no room with the key. The hint promises nothing: the room that it names is tried first,
+/// and room 0 where it names none that the table has, since its range is the lowest. The pass has no pin of
+/// a room. The call makes loads, pins and their undoing alone. The pass's tries are raised by how many rooms
+/// it pinned, duds among them: by 1 where the room tried first was found open with the key in its range.
 pub fn pin_for(table: &OakTable, pass: &mut Pass, key: &[u8], hint: Hint) -> Result<RoomPin, Moved>
     requires own { IsPassOf table.now pass.old }
     requires key { IsKey key.now }
@@ -113,7 +117,9 @@ pub fn pin_for(table: &OakTable, pass: &mut Pass, key: &[u8], hint: Hint) -> Res
     ensures pinned { IfOk result (λ p. PinsOpen (sizes table.now) (call_of pass.old) p.room (CoversKey key.now) (state pass.old) (state pass.new)) }
     ensures moved { IfErr result (λ _. FoundMoved (sizes table.now) (call_of pass.old) (CoversKey key.now) (state pass.old) (state pass.new)) }
     ensures only { IfErr result (λ _. OnlyMeets (call_of pass.old) (state pass.old) (state pass.new)) }
+    ensures ended { IfErr result (λ _. HadMoment (sizes table.now) (state pass.new)) }
     ensures alone { IfErr result (λ _. Runs (NeverAlone (state pass.old)) (state pass.old) (state pass.new)) }
+    ensures elsewhere { IfErr result (λ _. Runs (NeverElsewhere (key_number key.now) (state pass.old)) (state pass.old) (state pass.new)) }
 {
     pin_asked(table, pass, hint, Asked::Covering, key)
 }

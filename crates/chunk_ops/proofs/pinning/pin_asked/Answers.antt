@@ -3,11 +3,12 @@ use Rattle.oak_model.specs.Limits.{Sizes}
 use Rattle.oak_core.specs.AloneWords.{Runs}
 use Rattle.oak_core.specs.Passes.{state, key, call_of}
 use Rattle.oak_core.proofs.SamePass.{stays_both}
+use Rattle.chunk_ops.specs.declared.ranges.Asked.{Asked}
 use Rattle.chunk_ops.specs.AskedRanges.{IsAsked}
 use Rattle.chunk_ops.specs.Hints.{TriesFirst}
 use Rattle.chunk_ops.specs.LoneRooms.{LoneTries}
 use Rattle.chunk_ops.proofs.FoundRooms.{opens_since, opens_in, off_since, off_in, off_more, off_first, misses_until, missed_first}
-use Rattle.chunk_ops.proofs.LoneRoomLaws.{tries_none, tries_more, never_off}
+use Rattle.chunk_ops.proofs.LoneRoomLaws.{tries_none, tries_more, never_elsewhere, never_off}
 use Rattle.chunk_ops.proofs.MeetingCalls.{only_both, only_in}
 use Rattle.chunk_ops.proofs.RoomTries.{pins_both}
 use Rattle.chunk_ops.proofs.pinning.pin_asked.Goals as goal
@@ -26,6 +27,7 @@ loop-room-preserved c = let z : Sizes = key c.args.table.now in let call = call_
       first = misses_until z call c.first_room-first.result (IsAsked c.args.asked c.args.key.now) v w x only.stands.met i.first;
       tries = (i.tries.0 + 1, pins_both z i.tries.0 1 c.args.pass.now c.loop-room.pass c.try_room-in-loop-room.new.pass i.tries.1 e.tries);
       begun = i.begun;
+      ended = e.ended;
       alone = tries_more z k (IsAsked c.args.asked c.args.key.now) v.rooms w.rooms v w x i.only.rooms i.alone e.alone;
     }
 
@@ -37,12 +39,17 @@ loop-room-init c = let z : Sizes = key c.args.table.now in let v = state c.args.
   first = e.off;
   tries = (1, e.tries);
   begun = e.begun;
+  ended = e.ended;
   alone = tries_none z (IsAsked c.args.asked c.args.key.now) v.rooms v w e.only.still;
 }
 
 pub returns-clause-alone : goal.returns-clause-alone
 returns-clause-alone c = let z : Sizes = key c.args.table.now in let v = state c.args.pass.now in let w = state c.loop-room.pass in let i = c.loop-room.invariant in let is = c.rooms-room-end.ensures.is in let some_room = c.rooms-room-end.ensures.some in let over = c.loop-room-test.false in let most = c.loop-room.auto.room-end in
     never_off z c.args.asked c.args.key.now v w (omega arith) c.requires.askable (subst (λ (k : ℕ). Runs (LoneTries z k (IsAsked c.args.asked c.args.key.now) v.rooms) v w) (let e : c.loop-room.room ≡ z.chunks = omega arith in e) i.alone)
+
+pub returns-clause-elsewhere : goal.returns-clause-elsewhere
+returns-clause-elsewhere c covering = let z : Sizes = key c.args.table.now in let v = state c.args.pass.now in let w = state c.loop-room.pass in let i = c.loop-room.invariant in let is = c.rooms-room-end.ensures.is in let some_room = c.rooms-room-end.ensures.some in let over = c.loop-room-test.false in let most = c.loop-room.auto.room-end in
+    never_elsewhere z c.args.key.now v w (omega arith) (subst (λ (p : ℕ × Asked). Runs (LoneTries z p.0 (IsAsked p.1 c.args.key.now) v.rooms) v w) (λ j. ((let e : c.loop-room.room ≡ z.chunks = omega arith in e) j, covering j)) i.alone)
 
 pub returns-in-Some-clause-tries : goal.returns-in-Some-clause-tries
 returns-in-Some-clause-tries c = (1, c.in-Some.ensures.tries)

@@ -16,5 +16,6 @@ invariant-loop-room l = record {
   first : MissesFirst (key l.table) (call_of l.fn.pass) l.first (IsAsked l.asked l.key) (state l.fn.pass) (state l.pass);
   tries : (n : ℕ) × PinsRooms (key l.table) n l.fn.pass l.pass;
   begun : HadMoment (key l.table) (state l.fn.pass);
+  ended : HadMoment (key l.table) (state l.pass);
   alone : Runs (LoneTries (key l.table) l.room (IsAsked l.asked l.key) (state l.fn.pass).rooms) (state l.fn.pass) (state l.pass);
 }
