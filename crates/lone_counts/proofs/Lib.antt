@@ -10,9 +10,9 @@ mod Exact
 mod Gathered
 mod LoneSums
 mod LoneBlocks
-mod LoneHeaders
+pub mod LoneHeaders
 mod LoneTables
-mod ValuedRooms
+pub mod ValuedRooms
 pub mod TableCounts
 pub mod MapChanges
 pub mod LoneMaps

@@ -16,23 +16,28 @@ use Rattle.oak_core.specs.PassState.{HoldsNothing}
 use Rattle.oak_core.specs.Passes.{Stays, call_of, key as sizes, slots_of, state}
 use Rattle.oak_core.proofs.CallSteps.{stands_learns}
 use Rattle.oak_core.proofs.QuietCalls.{quiet_loads}
+use Rattle.chunk_ops.specs.Latching.{Never}
 use Rattle.chunk_ops.proofs.MeetingCalls.{stays_then, then_stays}
 use Rattle.value_ops.specs.declared.pinned_value.PinnedValue.{PinnedValue}
 use Rattle.value_ops.specs.Pinning.{EndsPin}
 use Rattle.value_ops.specs.PinnedValues.{ReadsPinned, stamp_under, value_under}
 use Rattle.value_ops.proofs.ValueFacts.{long}
 use Rattle.scan_cursor.specs.declared.cursor.Cursor.{Cursor}
+use Rattle.point_ops.proofs.LoneChanges.{then_never}
+use Rattle.scan_cursor.specs.declared.walking.Stepped.TheVariants.{Again}
 use Rattle.scan_cursor.specs.declared.walking.Walk.{Walk}
 use Rattle.scan_cursor.specs.declared.ways.Way.{Way}
-use Rattle.scan_cursor.specs.Cursors.{Advances, HasGiven, HasPair, IsCursor, ReadsPair, course, under, value_of, view_under}
+use Rattle.scan_cursor.specs.Busy.{AreInVain}
+use Rattle.scan_cursor.specs.Cursors.{Advances, GivesUp, HasGiven, HasPair, IsCursor, ReadsPair, course, under, value_of, view_under}
 use Rattle.scan_cursor.specs.Holding.{HasValue}
 use Rattle.scan_cursor.specs.Leaving.{LeavesValue}
 use Rattle.scan_cursor.specs.Views.{Later, View}
-use Rattle.scan_cursor.specs.Walks.{HasWalked, IsWalk, WalksOrEnds, course_of, view_at}
+use Rattle.scan_cursor.specs.Walks.{HasWalked, IsWalk, WalkSteps, WalksOrEnds, course_of, view_at}
 use Rattle.scan_cursor.proofs.EndLaws.{scan_leaves}
 use Rattle.scan_cursor.proofs.LeavingLaws.{left_leaves}
 use Rattle.scan_cursor.proofs.ReadingViews.{later_both}
 use Rattle.scan_cursor.proofs.StepLaws.{later_at, same_left}
+use Rattle.scan_cursor.proofs.VainLooks.{in_vain_since, vain_stays}
 use Rattle.scan_cursor.proofs.WalkLaws.{walk_stays, walked_stays}
 
 -- ---- a walk, while the slots stay and the pass only met and learned more
@@ -162,6 +167,34 @@ module _ (c n : Cursor) (i : IsCursor c) (table : n.table ≡ c.table) (low : n.
     pub on_later : (o : Option PinnedValue) → WalksOrEnds o n.way (key_number n.low) (key_number n.high) (course n) (course_of n.way (sizes n.table.now) w q.now) → Later (view_under c) (view_under (gone_on o))
     on_later (Some x) g = later_both (view_under c) (view_under n) (view_at (sizes n.table.now) q.now) l g.1.later
     on_later None g = later_both (view_under c) (view_under n) (view_at (sizes n.table.now) q.now) l g.1.later
+
+    -- or it gave up
+    abbrev pub given_up : Cursor
+    given_up = record n { pass = q; walk = w }
+
+    module _ (waits : WalkSteps Again n.way (key_number n.low) (key_number n.high) (course n) (course_of n.way (sizes n.table.now) w q.now)) where
+      pub up_later : Later (view_under c) (view_under given_up)
+      up_later = later_both (view_under c) (view_under n) (view_at (sizes n.table.now) q.now) l waits.1.later
+
+      module _ (never : Runs Never (under n) (state q.now)) where
+        pub up_never : Runs Never (under c) (state q.now)
+        up_never = then_never (LeavesValue (sizes c.table.now) c.value None) Never (under c) (under n) (state q.now) s never
+
+        up_given : (a : View) (ps : List Pair) → HasGiven c a ps → HasGiven given_up a ps
+        up_given a ps h = let z = sizes n.table.now in let m = left_given a ps h in record {
+          walked = waits.1.goes a ps m.walked;
+          still = subst (λ (o : Option PinnedValue). Runs (LeavesValue z None o) a.state (state q.now)) (sym none) (on_given None a ps m (vain_stays (under n) (state q.now) never));
+        }
+
+        pub up_gives : (looks : ℕ) → AreInVain looks (key_number n.low) (key_number n.high) (view_under n) (view_at (sizes n.table.now) q.now) → GivesUp looks c given_up
+        up_gives looks vain = record {
+          value = none;
+          going = waits.2;
+          goes = up_given;
+          vain = in_vain_since looks (key_number c.low) (key_number c.high) (view_under c) (view_under n) (view_at (sizes n.table.now) q.now) l
+              (subst (λ (p : List ℕ × List ℕ). AreInVain looks (key_number p.0) (key_number p.1) (view_under n) (view_at (sizes n.table.now) q.now)) (λ j. (low j, high j)) vain);
+          alone = up_never;
+        }
 
 -- ---- a pin is undone
 

@@ -20,8 +20,12 @@ mod TakeLaws
 mod SlotLaws
 mod StepLaws
 mod FillLaws
+mod RemainingLaws
+mod LoneReads
+mod VainLooks
 mod LifeLaws
 mod LeavingLaws
 pub mod EndLaws
 pub mod FitLaws
 mod CursorLaws
+mod TriedLaws

@@ -40,7 +40,7 @@ use Rattle.scan_cursor.proofs.ReadingViews.{later_both, later_by, read_before, s
 use Rattle.scan_cursor.proofs.RemovedLives.{removed_read}
 
 -- a life that was loaded is known in every later state
-known_later : (h g : ℕ) (k : List ℕ) (m b : View) → KnowsLast k h g m → Later m b → KnowsLife h g k b.state.knowledge
+pub known_later : (h g : ℕ) (k : List ℕ) (m b : View) → KnowsLast k h g m → Later m b → KnowsLife h g k b.state.knowledge
 known_later h g k m b x l = ap (λ (o : Option (List ℕ)). first_of o (key_in_logs h g b.state.knowledge.seen))
     (ap (key_in_loaded h g) l.learns.all.loaded.1 ∙ loaded_still h g k m.state.knowledge.loaded l.learns.all.loaded.0 x.loaded)
 

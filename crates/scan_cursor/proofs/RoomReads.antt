@@ -31,12 +31,13 @@ use Rattle.chunk_ops.specs.declared.entries.Content.TheVariants.{Floor, Value}
 use Rattle.chunk_ops.specs.declared.entries.Found.{Found}
 use Rattle.chunk_ops.proofs.MeetingCalls.{both_stay, stays_then}
 use Rattle.chunk_ops.proofs.PinSteps.{undone}
-use Rattle.value_ops.specs.Pinning.{AddsPin}
+use Rattle.value_ops.specs.Pinning.{AddsPin, KnowsLife}
 use Rattle.value_ops.proofs.LoadedViews.{known_loaded, names_home}
 use Rattle.scan_cursor.specs.declared.reading.Here.{Here}
 use Rattle.scan_cursor.specs.declared.reading.Here.TheVariants.{Present, Absent, Again}
 use Rattle.scan_cursor.specs.Reading.{LeavesHere, LooksUp, ReadsHere}
 use Rattle.scan_cursor.specs.Views.{IsKnown, KnowsLast, Later, ReadsKey, View, view_of}
+use Rattle.scan_cursor.proofs.LifeReads.{known_later}
 use Rattle.scan_cursor.proofs.ReadingViews.{here_before, later_both, later_by, read_before, read_behind}
 
 -- ---- under the pin: from v to u the key was searched, and from u to w an entry's value word loaded
@@ -131,6 +132,9 @@ module _ (z : Sizes) (call r : ℕ) (P : Span → Type 0) (v u w x : PassState) 
 
     pub room_known : IsKnown h g (view_of z c4 x)
     room_known = record { key = key; moment = view_of z c4 w; knows = last; since = since }
+
+    pub room_knows : KnowsLife h g key x.knowledge
+    room_knows = known_later h g key (view_of z c4 w) (view_of z c4 x) last since
 
     -- which was then read
     module _ (result : Here) (y : PassState) where

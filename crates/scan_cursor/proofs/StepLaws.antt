@@ -124,7 +124,7 @@ module _ (way : Way) (lo hi : ℕ) (z : Sizes) (w x : Walk) (p : Pass) (slot : S
       still_going,
     )
 
-    pub slot_waits : ((k : List ℕ) (m : View) → KnowsLast k slot.key slot.value m → Later m (view_at z p) → ReadsHere Again k m (view_of z (call_of p) (state q))) → WalkSteps TriesAgain way lo hi (course_of way z w p) (course_of way z (at_slot false) q)
+    pub slot_waits : ((k : List ℕ) (m : View) → KnowsLast k slot.key slot.value m → Later m (view_at z p) → ReadsHere Again k m (view_of z (call_of p) (state q))) → WalkSteps Passed way lo hi (course_of way z w p) (course_of way z (at_slot false) q)
     slot_waits f = let k = slot_is_known in (
       told Again f k.key k.moment k.knows k.since,
       subst (WalkPasses way lo hi (course_of way z w p)) (same_at false false refl)

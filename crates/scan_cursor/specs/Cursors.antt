@@ -9,10 +9,12 @@ use Rattle.oak_core.specs.AloneWords.{Runs}
 use Rattle.oak_core.specs.PassState.{HoldsNothing}
 use Rattle.oak_core.specs.Passes.{IsPassOf, Stays, call_of, key as sizes, state}
 use Rattle.oak_core.specs.QuietSteps.{Quiet}
+use Rattle.chunk_ops.specs.Latching.{Never}
 use Rattle.value_ops.specs.declared.pinned_value.PinnedValue.{PinnedValue}
 use Rattle.value_ops.specs.PinnedValues.{OnlyLoads, stamp_under, value_under}
 use Rattle.scan_cursor.specs.declared.cursor.Cursor.{Cursor}
 use Rattle.scan_cursor.specs.declared.marks.Mark.{Mark}
+use Rattle.scan_cursor.specs.Busy.{AreInVain}
 use Rattle.scan_cursor.specs.Holding.{HasValue}
 use Rattle.scan_cursor.specs.Leaving.{LeavesValue}
 use Rattle.scan_cursor.specs.Views.{View}
@@ -71,6 +73,15 @@ pub record GoesToEnd (c d : Cursor) : Type 0 where
 abbrev pub Advances : Bool → Cursor → Cursor → Type 0
 Advances true c d = GoesToPair c d
 Advances false c d = GoesToEnd c d
+
+-- So many looks at keys of the range were in vain. The cursor keeps its place: what it had given it has given still, and it has no present pair.
+pub record GivesUp (looks : ℕ) (c d : Cursor) : Type 0 where
+  pub value : d.value ≡ None
+  pub going : d.walk.mark.ended ≡ false
+  pub goes : (before : View) (pairs : List Pair) → HasGiven c before pairs → HasGiven d before pairs
+  pub vain : AreInVain looks (key_number c.low) (key_number c.high) (view_under c) (view_under d)
+  -- to a pass that is alone
+  pub alone : Runs Never (under c) (under d)
 
 -- the later cursor is at the same pair, of which its pass only made loads since
 pub record ReadsPair (c d : Cursor) : Type 0 where

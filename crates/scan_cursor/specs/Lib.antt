@@ -6,6 +6,8 @@ pub mod Reading
 pub mod Scanned
 pub mod Fitting
 pub mod Marks
+pub mod Busy
 pub mod Walks
+pub mod Remaining
 pub mod Leaving
 pub mod Cursors

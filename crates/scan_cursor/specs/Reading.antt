@@ -5,8 +5,11 @@ use Rattle.oak_core.specs.declared.states.PassState.{PassState}
 use Rattle.oak_core.specs.AloneWords.{Runs}
 use Rattle.oak_core.specs.PassState.{HoldsNothing}
 use Rattle.chunk_ops.specs.PinRecords.{WordsStay}
+use Rattle.chunk_ops.specs.declared.entries.Content.TheVariants.{Value}
+use Rattle.chunk_ops.specs.declared.entries.EntryNo.{EntryNo}
 use Rattle.value_ops.specs.Pinning.{AddsPin}
 use Rattle.value_ops.specs.PinnedValues.{stamp_under, value_under}
+use Rattle.point_ops.specs.LoneLives.{EntrySays}
 use Rattle.scan_cursor.specs.declared.reading.Here.{Here}
 use Rattle.scan_cursor.specs.declared.reading.Here.TheVariants.{Present, Absent, Again}
 use Rattle.scan_cursor.specs.Holding.{HasValue}
@@ -28,3 +31,7 @@ LeavesHere Again z v w = Runs WordsStay v w
 abbrev pub LooksUp : Option (ℕ × ℕ) → List ℕ → View → View → Type 0
 LooksUp (Some life) k a b = KnowsLast k life.0 life.1 b
 LooksUp None k a b = (at : ℕ) × ReadsKey a b k at None
+
+-- to a pass that is alone: the words stay, and in them an entry of the room has the key and names the life
+abbrev pub NamesLife : Sizes → (r : ℕ) → (key : List ℕ) → (h g : ℕ) → PassState → PassState → Type 0
+NamesLife z r key h g v w = (i : EntryNo) × Runs (EntrySays i (Value h g) z r key) v w

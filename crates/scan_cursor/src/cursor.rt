@@ -1,5 +1,5 @@
 //! The cursor of a scan.
-ghost use Rattle.std.specs.Prelude.{◌≡◌, ◌↔◌, ◌+◌, ◌*◌, ◌<◌, ◌≤◌, IfSome, IsSome, IsTrue, List, MatchOption, [], None, length, slice_index, slice_range, true};
+ghost use Rattle.std.specs.Prelude.{◌≡◌, ◌↔◌, ◌+◌, ◌*◌, ◌<◌, ◌≤◌, IfErr, IfOk, IfSome, IsSome, IsTrue, List, MatchOption, [], None, length, slice_index, slice_range, true};
 ghost use Rattle.std.specs.Int.{w64, from_be_bytes};
 ghost use Rattle.oak_model.specs.declared.replies.Pair.{Pair};
 ghost use Rattle.oak_model.specs.Key.{IsKey, is_key};
@@ -8,18 +8,20 @@ ghost use Rattle.oak_core.specs.PassState.{HoldsNothing};
 ghost use Rattle.oak_core.specs.Passes.{IsPassOf, Stays, state, key as sizes};
 ghost use Rattle.oak_core.specs.QuietSteps.{Quiet};
 ghost use Rattle.oak_core.specs.Scratch.{StaysButSlots};
-ghost use Rattle.scan_cursor.specs.Cursors.{Advances, HasGiven, IsCursor, ReadsPair, key_of, stamp_of, under, value_of, view_under};
+ghost use Rattle.scan_cursor.specs.Cursors.{Advances, GivesUp, HasGiven, IsCursor, ReadsPair, key_of, stamp_of, under, value_of, view_under};
 ghost use Rattle.scan_cursor.specs.Holding.{greatest_key};
 ghost use Rattle.scan_cursor.specs.Leaving.{LeavesValue};
 ghost use Rattle.scan_cursor.specs.Scanned.{least_key};
 ghost use Rattle.scan_cursor.specs.Views.{Later, View};
 ghost use Rattle.scan_cursor.specs.Walks.{view_at};
 
-use crate::walking::{Walk, walk_on};
+use crate::busy::Busy;
+use crate::walking::{Walk, try_walk};
 use crate::ways::Way;
 use chunk_ops::KeyBytes;
 use oak_core::{OakTable, Pass};
 use std::sync::Wait;
+use std::thread;
 use value_ops::PinnedValue;
 
 /// The bytes of a key, copied.
@@ -96,6 +98,49 @@ impl<'p> Cursor<'p> {
 }
 
 impl Cursor<'_> {
+    /// Goes to the next pair of the scan: false where there is none left. It makes loads, pins and their undoing alone, as
+    /// the whole scan does so far, and takes no block. It waits for nobody: `Busy` comes only where so many looks at keys,
+    /// one behind the other, were in vain, since another pass had moved the key's room, or was writing its value or
+    /// putting its header to another use; to a pass that is alone it never comes. The present value is given back in any
+    /// case, so behind `Busy` there is no present pair. The scan keeps its place: no pair is lost or given twice, and what
+    /// was read is not read again.
+    pub fn try_advance(&mut self, looks: u32) -> Result<bool, Busy>
+        requires cursor { IsCursor self.old }
+        requires some { 0 < looks }
+        ensures same_reference { self.new.pass.ghost_name ≡ self.old.pass.ghost_name }
+        ensures table { self.new.table ≡ self.old.table }
+        ensures low { self.new.low ≡ self.old.low }
+        ensures high { self.new.high ≡ self.old.high }
+        ensures way { self.new.way ≡ self.old.way }
+        ensures own { StaysButSlots self.old.pass.now self.new.pass.now }
+        ensures cursor { IsCursor self.new }
+        ensures later { Later (view_under self.old) (view_under self.new) }
+        ensures advances { IfOk result (λ more. Advances more self.old self.new) }
+        ensures busy { IfErr result (λ _. GivesUp looks self.old self.new) }
+        ensures still { Runs (LeavesValue (sizes self.old.table.now) self.old.value self.new.value) (under self.old) (under self.new) }
+    {
+        self.leave_pair();
+        if self.walk.mark.ended {
+            return Ok(false);
+        }
+        let found = try_walk(
+            self.table,
+            self.pass,
+            &mut self.walk,
+            self.low.as_slice(),
+            self.high.as_slice(),
+            self.way,
+            looks,
+        );
+        match found {
+            Ok(value) => {
+                self.value = value;
+                Ok(value.is_some())
+            }
+            Err(busy) => Err(busy),
+        }
+    }
+
     /// Goes to the next pair of the scan: false where there is none left. It waits where a room was moved or a value
     /// is being written. It makes loads, pins and their undoing alone, as the whole scan does so far, and takes no block.
     pub fn advance<R: Wait>(&mut self, rt: &R) -> bool
@@ -111,20 +156,13 @@ impl Cursor<'_> {
         ensures advances { Advances result self.old self.new }
         ensures still { Runs (LeavesValue (sizes self.old.table.now) self.old.value self.new.value) (under self.old) (under self.new) }
     {
-        self.leave_pair();
-        if self.walk.mark.ended {
-            return false;
+        for _ in rt.forever() {
+            if let Ok(more) = self.try_advance(1) {
+                return more;
+            }
+            thread::yield_now();
         }
-        self.value = walk_on(
-            rt,
-            self.table,
-            self.pass,
-            &mut self.walk,
-            self.low.as_slice(),
-            self.high.as_slice(),
-            self.way,
-        );
-        self.value.is_some()
+        unreachable!()
     }
 
     /// Undoes the pin of the present value, if there is one.
@@ -146,6 +184,13 @@ impl Cursor<'_> {
             value.unpin(self.table, self.pass);
             self.value = None;
         }
+    }
+
+    /// The bytes of the present key.
+    pub fn key(&self) -> &[u8]
+        ensures { result.now ≡ key_of self.now }
+    {
+        self.walk.mark.key.as_slice()
     }
 
     /// The length of the present key in bytes, which is at least 1.

@@ -6,7 +6,7 @@ ghost use Rattle.oak_core.specs.Passes.{IsPassOf, Stays, state, key as sizes, ca
 ghost use Rattle.chunk_ops.specs.AskedRanges.{CoversKey, EndsUnder};
 ghost use Rattle.chunk_ops.specs.LoneRooms.{NeverAlone};
 ghost use Rattle.chunk_ops.specs.PinRecords.{OnlyMeets};
-ghost use Rattle.chunk_ops.specs.RoomPins.{PinsOpen};
+ghost use Rattle.chunk_ops.specs.RoomPins.{FoundMoved, PinsOpen};
 
 use chunk_ops::{Moved, RoomPin, pin_for, pin_last};
 use oak_core::{OakTable, Pass};
@@ -18,6 +18,7 @@ pub(crate) fn pin_covering(table: &OakTable, pass: &mut Pass, key: &[u8]) -> Res
     requires free { (state pass.old).rooms.pin ≡ None }
     ensures own { Stays pass.old pass.new }
     ensures pinned { IfOk result (λ p. PinsOpen (sizes table.now) (call_of pass.old) p.room (CoversKey key.now) (state pass.old) (state pass.new)) }
+    ensures moved { IfErr result (λ _. FoundMoved (sizes table.now) (call_of pass.old) (CoversKey key.now) (state pass.old) (state pass.new)) }
     ensures only { IfErr result (λ _. OnlyMeets (call_of pass.old) (state pass.old) (state pass.new)) }
     ensures alone { IfErr result (λ _. Runs (NeverAlone (state pass.old)) (state pass.old) (state pass.new)) }
 {
@@ -32,6 +33,7 @@ pub(crate) fn pin_below(table: &OakTable, pass: &mut Pass, key: &[u8]) -> Result
     requires free { (state pass.old).rooms.pin ≡ None }
     ensures own { Stays pass.old pass.new }
     ensures pinned { IfOk result (λ p. PinsOpen (sizes table.now) (call_of pass.old) p.room (EndsUnder key.now) (state pass.old) (state pass.new)) }
+    ensures moved { IfErr result (λ _. FoundMoved (sizes table.now) (call_of pass.old) (EndsUnder key.now) (state pass.old) (state pass.new)) }
     ensures only { IfErr result (λ _. OnlyMeets (call_of pass.old) (state pass.old) (state pass.new)) }
     ensures alone { IfErr result (λ _. Runs (NeverAlone (state pass.old)) (state pass.old) (state pass.new)) }
 {

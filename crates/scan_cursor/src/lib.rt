@@ -1,6 +1,7 @@
 //! Scans of the table in key order, up and down.
 #![tactic(auto)]
 
+mod busy;
 mod cursor;
 mod gathering;
 mod hinted;
@@ -10,5 +11,6 @@ mod spots;
 mod walking;
 mod ways;
 
+pub use busy::Busy;
 pub use cursor::Cursor;
 pub use ways::Way;

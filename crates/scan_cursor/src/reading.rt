@@ -1,5 +1,5 @@
 //! One key that is read: through its room, or by the life that its entry named.
-ghost use Rattle.std.specs.Prelude.{List, ℕ};
+ghost use Rattle.std.specs.Prelude.{◌≡◌, IfSome, List, ℕ};
 ghost use Rattle.oak_model.specs.Key.{IsKey, AreBytes};
 ghost use Rattle.chunk_core.specs.PinnedRooms.{span_of};
 ghost use Rattle.oak_core.specs.AloneWords.{Runs};
@@ -8,7 +8,8 @@ ghost use Rattle.oak_core.specs.Passes.{IsPassOf, Stays, state, key as sizes, ca
 ghost use Rattle.oak_core.specs.QuietSteps.{Quiet};
 ghost use Rattle.chunk_ops.specs.AskedRanges.{CoversKey};
 ghost use Rattle.chunk_ops.specs.PinRecords.{HasRoomPin, UnderPin, WordsStay, room_pin};
-ghost use Rattle.scan_cursor.specs.Reading.{LeavesHere, LooksUp, ReadsHere};
+ghost use Rattle.scan_cursor.specs.Busy.{FindsTaken, LooksInVain};
+ghost use Rattle.scan_cursor.specs.Reading.{LeavesHere, LooksUp, NamesLife, ReadsHere};
 ghost use Rattle.scan_cursor.specs.Views.{IsKnown, KnowsLast, Later, View, view_of};
 
 use crate::hinted::pin_covering;
@@ -34,11 +35,13 @@ pub(crate) fn read_life(table: &OakTable, pass: &mut Pass, header: u32, generati
     ensures later { let z = sizes table.now in let call = call_of pass.old in Later (view_of z call (state pass.old)) (view_of z call (state pass.new)) }
     ensures here { let z = sizes table.now in let call = call_of pass.old in (k : List ℕ) (m : View) → KnowsLast k header generation m → Later m (view_of z call (state pass.old)) → ReadsHere result k m (view_of z call (state pass.new)) }
     ensures still { LeavesHere result (sizes table.now) (state pass.old) (state pass.new) }
+    ensures taken { result ≡ Here.Again → FindsTaken (sizes table.now) (call_of pass.old) header generation (state pass.old) (state pass.new) }
 {
     match pin_at(table, pass, header, generation) {
         Ok(pin) => Here::Present(pin.value(table, pass)),
         Err(BadPin::Dead { stamp: _ }) => Here::Absent,
-        Err(BadPin::Locked) | Err(BadPin::Other) => Here::Again,
+        Err(BadPin::Locked) => Here::Again,
+        Err(BadPin::Other) => Here::Again,
     }
 }
 
@@ -53,6 +56,7 @@ fn look_up(table: &OakTable, pass: &mut Pass, pin: &RoomPin, key: &[u8]) -> Opti
     ensures found { let z = sizes table.now in let call = call_of pass.old in LooksUp result key.now (view_of z call (state pass.old)) (view_of z call (state pass.new)) }
     ensures quiet { Quiet (state pass.old) (state pass.new) }
     ensures still { Runs WordsStay (state pass.old) (state pass.new) }
+    ensures named { IfSome result (λ life. NamesLife (sizes table.now) pin.now.room key.now life.0 life.1 (state pass.old) (state pass.new)) }
 {
     match find(table, pass, pin, key) {
         Found::Entry(entry) => match content(table, pass, pin, entry) {
@@ -63,7 +67,8 @@ fn look_up(table: &OakTable, pass: &mut Pass, pin: &RoomPin, key: &[u8]) -> Opti
     }
 }
 
-/// Reads the key through the room that covers it. The pin of the room is undone before the value is pinned.
+/// Reads the key through the room that covers it. The pin of the room is undone before the value is pinned. To a pass
+/// that is alone the answer is never `Again`.
 pub(crate) fn read_key(table: &OakTable, pass: &mut Pass, key: &[u8]) -> Here
     requires own { IsPassOf table.now pass.old }
     requires key { IsKey key.now × AreBytes key.now }
@@ -72,6 +77,7 @@ pub(crate) fn read_key(table: &OakTable, pass: &mut Pass, key: &[u8]) -> Here
     ensures later { let z = sizes table.now in let call = call_of pass.old in Later (view_of z call (state pass.old)) (view_of z call (state pass.new)) }
     ensures here { let z = sizes table.now in let call = call_of pass.old in ReadsHere result key.now (view_of z call (state pass.old)) (view_of z call (state pass.new)) }
     ensures still { LeavesHere result (sizes table.now) (state pass.old) (state pass.new) }
+    ensures again { let z = sizes table.now in let call = call_of pass.old in result ≡ Here.Again → LooksInVain key.now (view_of z call (state pass.old)) (view_of z call (state pass.new)) }
 {
     let Ok(pin) = pin_covering(table, pass, key) else {
         return Here::Again;

@@ -6,6 +6,7 @@ ghost use Rattle.oak_core.specs.PassState.{HoldsNothing};
 ghost use Rattle.oak_core.specs.Passes.{IsPassOf, Stays, state, key as sizes, call_of};
 ghost use Rattle.chunk_ops.specs.PinRecords.{OnlyMeets, WordsStay};
 ghost use Rattle.chunk_ops.specs.RoomPins.{AddsRoomPin};
+ghost use Rattle.scan_cursor.specs.Busy.{LooksInVain};
 ghost use Rattle.scan_cursor.specs.Holding.{HasRoom, IsAhead, bound_in, room_at};
 ghost use Rattle.scan_cursor.specs.Views.{Later, view_of};
 
@@ -30,6 +31,7 @@ pub(crate) fn pin_ahead(
     ensures later { let z = sizes table.now in let call = call_of pass.old in Later (view_of z call (state pass.old)) (view_of z call (state pass.new)) }
     ensures ahead { IfOk result (λ p. IsAhead (sizes table.now) p.room way mark.now.past mark.now.key (state pass.new)) }
     ensures moved { IfErr result (λ _. HoldsNothing (state pass.new)) }
+    ensures vain { let z = sizes table.now in let call = call_of pass.old in IfErr result (λ _. LooksInVain mark.now.key (view_of z call (state pass.old)) (view_of z call (state pass.new))) }
     ensures still { IfOk result (λ p. Runs (AddsRoomPin (sizes table.now) p.room) (state pass.old) (state pass.new)) }
     ensures stays { IfErr result (λ _. Runs WordsStay (state pass.old) (state pass.new)) }
 {

@@ -1,5 +1,5 @@
 //! A scan that loads the entries of each room once.
-ghost use Rattle.std.specs.Prelude.{◌≡◌, ◌<◌, ◌≤◌, ℕ, MatchBool, None, Some, [], true, false};
+ghost use Rattle.std.specs.Prelude.{◌≡◌, ◌≢◌, ◌-◌, ◌<◌, ◌≤◌, ℕ, suc, IfErr, IfOk, MatchBool, None, Some, [], true, false};
 ghost use Rattle.oak_model.specs.declared.limits.TheConstants.{GREATEST_ENTRIES};
 ghost use Rattle.oak_model.specs.Key.{is_key};
 ghost use Rattle.oak_model.specs.KeyNumber.{key_number};
@@ -7,12 +7,16 @@ ghost use Rattle.oak_core.specs.AloneWords.{Runs};
 ghost use Rattle.oak_core.specs.PassState.{HoldsNothing};
 ghost use Rattle.oak_core.specs.Passes.{IsPassOf, state, key as sizes, slots_of};
 ghost use Rattle.oak_core.specs.Scratch.{StaysButSlots};
+ghost use Rattle.chunk_ops.specs.Latching.{Never};
+ghost use Rattle.scan_cursor.specs.Busy.{AreInVain, IsInVain, LooksInVain};
 ghost use Rattle.scan_cursor.specs.Gathered.{in_slot};
 ghost use Rattle.scan_cursor.specs.Holding.{IsBound};
 ghost use Rattle.scan_cursor.specs.Leaving.{LeavesValue, given_by};
 ghost use Rattle.scan_cursor.specs.Marks.{InBounds, IsBeyond, Leaves};
-ghost use Rattle.scan_cursor.specs.Walks.{IsTaken, IsWalk, WalkSteps, WalksOrEnds, course_of};
+ghost use Rattle.scan_cursor.specs.Remaining.{steps_left};
+ghost use Rattle.scan_cursor.specs.Walks.{IsTaken, IsWalk, WalkSteps, WalksOrEnds, course_of, view_at};
 
+use crate::busy::Busy;
 use crate::gathering::gather;
 use crate::marks::Mark;
 use crate::reading::{Here, read_key, read_life};
@@ -22,8 +26,6 @@ use arena_core::words::put_word;
 use chunk_ops::{KEY_WORDS, KeyBytes, unpin};
 use oak_core::{OakTable, Pass, SortSlot};
 use oak_model::{GREATEST_KEY, cmp_keys};
-use std::sync::Wait;
-use std::thread;
 use value_ops::PinnedValue;
 
 /// How far a scan has come, and what it keeps of the room that it is in. Where it has loaded the entries, those that are
@@ -71,8 +73,8 @@ impl Walk {
     }
 }
 
-/// What a step of a scan came to: a pair, whose value is pinned; the end; neither yet; or nothing was read, so that it is
-/// to be tried again.
+/// What a step of a scan came to: a pair, whose value is pinned; the end; neither yet; or nothing was read, since another
+/// pass has the room of the key or its value, so that it is to be tried again.
 #[derive(Clone, Copy, Debug)]
 pub(crate) enum Stepped {
     Given(PinnedValue),
@@ -149,9 +151,12 @@ fn refill(table: &OakTable, pass: &mut Pass, walk: &mut Walk, way: Way) -> Stepp
     requires key { is_key walk.old.mark.key ≡ true }
     requires past { walk.old.mark.past ≡ true }
     requires going { walk.old.mark.ended ≡ false }
+    requires unloaded { walk.old.gathered ≡ false }
     ensures own { StaysButSlots pass.old pass.new }
     ensures steps { let z = sizes table.now in (low high : ℕ) → IsWalk way low high (course_of way z walk.old pass.old) → WalkSteps result way low high (course_of way z walk.old pass.old) (course_of way z walk.new pass.new) }
     ensures still { Runs (LeavesValue (sizes table.now) None (given_by result)) (state pass.old) (state pass.new) }
+    ensures nearer { (high : ℕ) → key_number walk.old.mark.key ≤ high → result ≡ Stepped.Passed → steps_left way high walk.new < steps_left way high walk.old }
+    ensures again { let z = sizes table.now in result ≡ Stepped.Again → LooksInVain walk.old.mark.key (view_at z pass.old) (view_at z pass.new) }
 {
     let Ok(pin) = pin_ahead(table, pass, &walk.mark, way) else {
         return Stepped::Again;
@@ -174,6 +179,8 @@ fn read_mark(table: &OakTable, pass: &mut Pass, walk: &mut Walk) -> Stepped
     ensures own { StaysButSlots pass.old pass.new }
     ensures steps { let z = sizes table.now in (way : Way) (low high : ℕ) → IsWalk way low high (course_of way z walk.old pass.old) → WalkSteps result way low high (course_of way z walk.old pass.old) (course_of way z walk.new pass.new) }
     ensures still { Runs (LeavesValue (sizes table.now) None (given_by result)) (state pass.old) (state pass.new) }
+    ensures nearer { (way : Way) (high : ℕ) → result ≡ Stepped.Passed → steps_left way high walk.new < steps_left way high walk.old }
+    ensures again { let z = sizes table.now in result ≡ Stepped.Again → LooksInVain walk.old.mark.key (view_at z pass.old) (view_at z pass.new) }
 {
     match read_key(table, pass, walk.mark.key.as_slice()) {
         Here::Present(value) => {
@@ -208,6 +215,7 @@ fn next_slot(pass: &Pass, walk: &mut Walk, way: Way) -> SortSlot
     ensures gathered { walk.new.gathered ≡ walk.old.gathered }
     ensures bound { walk.new.bound ≡ walk.old.bound }
     ensures few { walk.new.to ≤ GREATEST_ENTRIES }
+    ensures fewer { suc (walk.new.to - walk.new.from) ≡ walk.old.to - walk.old.from }
     ensures taken { IsTaken way walk.old walk.new (slots_of pass.now) (in_slot result) }
 {
     let slots = pass.sorting().slots();
@@ -246,6 +254,8 @@ fn take_slot(
     ensures own { StaysButSlots pass.old pass.new }
     ensures steps { let z = sizes table.now in WalkSteps result way (key_number low.now) (key_number high.now) (course_of way z walk.old pass.old) (course_of way z walk.new pass.new) }
     ensures still { Runs (LeavesValue (sizes table.now) None (given_by result)) (state pass.old) (state pass.new) }
+    ensures nearer { result ≡ Stepped.Passed → steps_left way (key_number high.now) walk.new < steps_left way (key_number high.now) walk.old }
+    ensures on { result ≢ Stepped.Again }
 {
     let slot = next_slot(pass, walk, way);
     let key = key_of(&slot);
@@ -260,7 +270,7 @@ fn take_slot(
         Here::Absent => Stepped::Passed,
         Here::Again => {
             walk.mark.past = false;
-            Stepped::Again
+            Stepped::Passed
         }
     }
 }
@@ -285,6 +295,8 @@ fn go_ahead(
     ensures own { StaysButSlots pass.old pass.new }
     ensures steps { let z = sizes table.now in WalkSteps result way (key_number low.now) (key_number high.now) (course_of way z walk.old pass.old) (course_of way z walk.new pass.new) }
     ensures still { Runs (LeavesValue (sizes table.now) None (given_by result)) (state pass.old) (state pass.new) }
+    ensures nearer { result ≡ Stepped.Passed → steps_left way (key_number high.now) walk.new < steps_left way (key_number high.now) walk.old }
+    ensures on { result ≢ Stepped.Again }
 {
     if walk.from < walk.to {
         return take_slot(table, pass, walk, low, high, way);
@@ -315,6 +327,8 @@ fn step(
     ensures own { StaysButSlots pass.old pass.new }
     ensures steps { let z = sizes table.now in WalkSteps result way (key_number low.now) (key_number high.now) (course_of way z walk.old pass.old) (course_of way z walk.new pass.new) }
     ensures still { Runs (LeavesValue (sizes table.now) None (given_by result)) (state pass.old) (state pass.new) }
+    ensures nearer { result ≡ Stepped.Passed → steps_left way (key_number high.now) walk.new < steps_left way (key_number high.now) walk.old }
+    ensures again { let z = sizes table.now in result ≡ Stepped.Again → LooksInVain walk.old.mark.key (view_at z pass.old) (view_at z pass.new) }
 {
     if !walk.mark.past {
         read_mark(table, pass, walk)
@@ -326,16 +340,15 @@ fn step(
 }
 
 /// Goes to the next key that is read present, whose value is then pinned; none where there is no such key, and the scan
-/// has ended. It waits where a room was moved or a value is being written.
-pub(crate) fn walk_on<R: Wait>(
-    rt: &R,
+/// has ended. It gives up at the first key that is looked at in vain, and keeps its place there.
+fn walk_to(
     table: &OakTable,
     pass: &mut Pass,
     walk: &mut Walk,
     low: &[u8],
     high: &[u8],
     way: Way,
-) -> Option<PinnedValue>
+) -> Result<Option<PinnedValue>, Busy>
     requires own { IsPassOf table.now pass.old }
     requires idle { HoldsNothing (state pass.old) }
     requires low { is_key low.now ≡ true }
@@ -343,16 +356,50 @@ pub(crate) fn walk_on<R: Wait>(
     requires walk { IsWalk way (key_number low.now) (key_number high.now) (course_of way (sizes table.now) walk.old pass.old) }
     requires going { walk.old.mark.ended ≡ false }
     ensures own { StaysButSlots pass.old pass.new }
-    ensures goes { let z = sizes table.now in WalksOrEnds result way (key_number low.now) (key_number high.now) (course_of way z walk.old pass.old) (course_of way z walk.new pass.new) }
-    ensures still { Runs (LeavesValue (sizes table.now) None result) (state pass.old) (state pass.new) }
+    ensures goes { let z = sizes table.now in IfOk result (λ o. WalksOrEnds o way (key_number low.now) (key_number high.now) (course_of way z walk.old pass.old) (course_of way z walk.new pass.new)) }
+    ensures still { IfOk result (λ o. Runs (LeavesValue (sizes table.now) None o) (state pass.old) (state pass.new)) }
+    ensures waits { let z = sizes table.now in IfErr result (λ _. WalkSteps Stepped.Again way (key_number low.now) (key_number high.now) (course_of way z walk.old pass.old) (course_of way z walk.new pass.new)) }
+    ensures vain { let z = sizes table.now in IfErr result (λ _. IsInVain (key_number low.now) (key_number high.now) (view_at z pass.old) (view_at z pass.new)) }
 {
-    for _ in rt.forever() {
+    loop {
         match step(table, pass, walk, low, high, way) {
-            Stepped::Given(value) => return Some(value),
-            Stepped::Ended => return None,
+            Stepped::Given(value) => return Ok(Some(value)),
+            Stepped::Ended => return Ok(None),
             Stepped::Passed => {}
-            Stepped::Again => thread::yield_now(),
+            Stepped::Again => return Err(Busy),
         }
     }
-    unreachable!()
+}
+
+/// Goes to the next key that is read present as [`walk_to`] does, and gives up only after so many looks in vain. It keeps
+/// its place then: what was read is not read again.
+pub(crate) fn try_walk(
+    table: &OakTable,
+    pass: &mut Pass,
+    walk: &mut Walk,
+    low: &[u8],
+    high: &[u8],
+    way: Way,
+    looks: u32,
+) -> Result<Option<PinnedValue>, Busy>
+    requires own { IsPassOf table.now pass.old }
+    requires idle { HoldsNothing (state pass.old) }
+    requires low { is_key low.now ≡ true }
+    requires high { is_key high.now ≡ true }
+    requires walk { IsWalk way (key_number low.now) (key_number high.now) (course_of way (sizes table.now) walk.old pass.old) }
+    requires going { walk.old.mark.ended ≡ false }
+    requires some { 0 < looks }
+    ensures own { StaysButSlots pass.old pass.new }
+    ensures goes { let z = sizes table.now in IfOk result (λ o. WalksOrEnds o way (key_number low.now) (key_number high.now) (course_of way z walk.old pass.old) (course_of way z walk.new pass.new)) }
+    ensures still { IfOk result (λ o. Runs (LeavesValue (sizes table.now) None o) (state pass.old) (state pass.new)) }
+    ensures waits { let z = sizes table.now in IfErr result (λ _. WalkSteps Stepped.Again way (key_number low.now) (key_number high.now) (course_of way z walk.old pass.old) (course_of way z walk.new pass.new)) }
+    ensures vain { let z = sizes table.now in IfErr result (λ _. AreInVain looks (key_number low.now) (key_number high.now) (view_at z pass.old) (view_at z pass.new)) }
+    ensures alone { IfErr result (λ _. Runs Never (state pass.old) (state pass.new)) }
+{
+    for _ in 0..looks {
+        if let Ok(value) = walk_to(table, pass, walk, low, high, way) {
+            return Ok(value);
+        }
+    }
+    Err(Busy)
 }

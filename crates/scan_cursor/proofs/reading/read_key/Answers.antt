@@ -3,6 +3,7 @@ use Rattle.oak_core.specs.Passes.{state, key as sizes, call_of}
 use Rattle.oak_core.proofs.CallSteps.{stands_learns}
 use Rattle.chunk_ops.specs.AskedRanges.{CoversKey}
 use Rattle.scan_cursor.proofs.RoomReads.{room_absent, room_here, room_known, room_later, room_leaves, room_nothing, room_stays, room_then}
+use Rattle.scan_cursor.proofs.VainLooks.{moved_covering, room_vain}
 use Rattle.scan_cursor.proofs.reading.read_key.Goals as goal
 
 pub read_life-requires-clause-idle : goal.read_life-requires-clause-idle
@@ -43,3 +44,11 @@ returns-in-None-clause-still c = room_stays (sizes c.args.table.now) (call_of c.
 
 pub returns-in_default-clause-later : goal.returns-in_default-clause-later
 returns-in_default-clause-later c = let o = c.in_default.ensures.only in record { sizes = refl; call = refl; learns = stands_learns (call_of c.args.pass.now) (state c.args.pass.now) (state c.pin_covering.new.pass) o.stands; quiet = o.quiet }
+
+pub returns-in_default-clause-again : goal.returns-in_default-clause-again
+returns-in_default-clause-again c is = moved_covering (sizes c.args.table.now) (call_of c.args.pass.now) c.args.key.now (state c.args.pass.now) (state c.pin_covering.new.pass) c.requires.idle c.in_default.ensures.moved c.in_default.ensures.alone
+
+pub returns-in-Some-clause-again : goal.returns-in-Some-clause-again
+returns-in-Some-clause-again c is = room_vain (sizes c.args.table.now) (call_of c.args.pass.now) c.in-Ok.pin.room (CoversKey c.args.key.now) (state c.args.pass.now) (state c.pin_covering.new.pass) (state c.look_up-life.new.pass) (state c.unpin.new.pass) c.requires.idle c.in-Ok.ensures.pinned
+    _ _ c.pin_covering.ensures.own.call (c.look_up-life.ensures.own.call ∙ c.pin_covering.ensures.own.call) c.look_up-life.ensures.under c.look_up-life.ensures.quiet c.unpin.ensures.unpinned c.args.key.now c.in-Some.header c.in-Some.generation c.in-Some.ensures.found
+    _ (c.unpin.ensures.own.call ∙ (c.look_up-life.ensures.own.call ∙ c.pin_covering.ensures.own.call)) c.in-Some.ensures.named (state c.read_life.new.pass) (c.read_life.ensures.taken is)

@@ -1,4 +1,4 @@
-use Rattle.std.proofs.Common.{◌∙◌, subst}
+use Rattle.std.proofs.Common.{◌∙◌, inl, inr, subst}
 use Rattle.oak_core.specs.Passes.{state, key as sizes, call_of}
 use Rattle.value_ops.specs.declared.pinning.BadPin.{BadPin}
 use Rattle.value_ops.specs.Pinning.{PinsDud}
@@ -30,5 +30,11 @@ returns-in-Err-Dead-clause-still c = dud_stays (sizes c.args.table.now) (call_of
 pub returns-in-Err-Locked-clause-still : goal.returns-in-Err-Locked-clause-still
 returns-in-Err-Locked-clause-still c = dud_stays (sizes c.args.table.now) (call_of c.args.pass.now) c.args.header c.args.generation _ (state c.args.pass.now) (state c.pin_at.new.pass) c.in-Err-Locked.ensures.bad
 
-pub returns-in-Err-Locked-2-clause-still : goal.returns-in-Err-Locked-2-clause-still
-returns-in-Err-Locked-2-clause-still c = dud_stays (sizes c.args.table.now) (call_of c.args.pass.now) c.args.header c.args.generation _ (state c.args.pass.now) (state c.pin_at.new.pass) c.in-Err-Locked.ensures.bad
+pub returns-in-Err-Other-clause-still : goal.returns-in-Err-Other-clause-still
+returns-in-Err-Other-clause-still c = dud_stays (sizes c.args.table.now) (call_of c.args.pass.now) c.args.header c.args.generation _ (state c.args.pass.now) (state c.pin_at.new.pass) c.in-Err-Other.ensures.bad
+
+pub returns-in-Err-Locked-clause-taken : goal.returns-in-Err-Locked-clause-taken
+returns-in-Err-Locked-clause-taken c is = inl (subst (λ (why : BadPin). PinsDud (sizes c.args.table.now) (call_of c.args.pass.now) c.args.header c.args.generation why (state c.args.pass.now) (state c.pin_at.new.pass)) c.in-Err-Locked.field-0-is c.in-Err-Locked.ensures.bad)
+
+pub returns-in-Err-Other-clause-taken : goal.returns-in-Err-Other-clause-taken
+returns-in-Err-Other-clause-taken c is = inr (subst (λ (why : BadPin). PinsDud (sizes c.args.table.now) (call_of c.args.pass.now) c.args.header c.args.generation why (state c.args.pass.now) (state c.pin_at.new.pass)) c.in-Err-Other.field-0-is c.in-Err-Other.ensures.bad)

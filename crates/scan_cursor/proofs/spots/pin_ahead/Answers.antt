@@ -1,13 +1,14 @@
-use Rattle.std.proofs.Common.{Bool, List, ℕ, IfOk, sym, subst}
+use Rattle.std.proofs.Common.{Bool, List, ℕ, IfErr, IfOk, sym, subst}
 use Rattle.std.proofs.lemmas.Result.{IfOk-weaker}
 use Rattle.oak_model.specs.Limits.{Sizes}
 use Rattle.oak_core.specs.Passes.{state, key, call_of}
 use Rattle.chunk_ops.specs.AskedRanges.{CoversKey, EndsUnder}
-use Rattle.chunk_ops.specs.RoomPins.{PinsOpen}
+use Rattle.chunk_ops.specs.RoomPins.{FoundMoved, PinsOpen}
 use Rattle.scan_cursor.specs.declared.ways.Way.{Way}
 use Rattle.scan_cursor.specs.declared.ways.Way.TheVariants.{Down}
 use Rattle.scan_cursor.specs.Holding.{IsAhead}
 use Rattle.scan_cursor.proofs.RoomSpots.{below_ahead, up_ahead, down_ahead, spot_later}
+use Rattle.scan_cursor.proofs.VainLooks.{below_vain, covering_vain}
 use Rattle.scan_cursor.proofs.spots.pin_ahead.Goals.{in_default-via-in-Down+else-mark, in_default-via-in_default}
 use Rattle.scan_cursor.proofs.spots.pin_ahead.Goals as goal
 
@@ -31,3 +32,11 @@ returns-in-Down-clause-later c = spot_later (key c.args.table.now) (call_of c.ar
 
 pub returns-in_default-clause-later : goal.returns-in_default-clause-later
 returns-in_default-clause-later c = spot_later (key c.args.table.now) (call_of c.args.pass.now) _ (state c.args.pass.now) (state c.pin_covering.new.pass) c.pin_covering.result c.pin_covering.ensures.pinned c.pin_covering.ensures.only
+
+pub returns-in-Down-clause-vain : goal.returns-in-Down-clause-vain
+returns-in-Down-clause-vain c = let z : Sizes = key c.args.table.now in let call = call_of c.args.pass.now in let v = state c.args.pass.now in let w = state c.pin_below.new.pass in
+    below_vain z call c.args.mark.now.key v w c.requires.idle c.pin_below.result (subst (λ (q : List ℕ). IfErr c.pin_below.result (λ _. FoundMoved z call (EndsUnder q) v w)) c.as_slice.ensures c.pin_below.ensures.moved) c.pin_below.ensures.alone
+
+pub returns-in_default-clause-vain : goal.returns-in_default-clause-vain
+returns-in_default-clause-vain c = let z : Sizes = key c.args.table.now in let call = call_of c.args.pass.now in let v = state c.args.pass.now in let w = state c.pin_covering.new.pass in
+    covering_vain z call c.args.mark.now.key v w c.requires.idle c.pin_covering.result (subst (λ (q : List ℕ). IfErr c.pin_covering.result (λ _. FoundMoved z call (CoversKey q) v w)) c.as_slice-in_default.ensures c.pin_covering.ensures.moved) c.pin_covering.ensures.alone

@@ -1,8 +1,9 @@
-use Rattle.std.proofs.Common.{List, ℕ, ◌^◌, ◌<◌, ◌∙◌, subst, arith}
+use Rattle.std.proofs.Common.{false, List, ℕ, ◌^◌, ◌<◌, ◌∙◌, subst, arith}
 use Rattle.oak_model.specs.KeyNumber.{key_number}
 use Rattle.oak_core.specs.Passes.{key as sizes}
 use Rattle.scan_cursor.specs.Marks.{IsBeyond}
 use Rattle.scan_cursor.proofs.LifeLaws.{known_small}
+use Rattle.scan_cursor.proofs.RemainingLaws.{take_nearer}
 use Rattle.scan_cursor.proofs.StepLaws.{slot_ends, slot_given, slot_is_known, slot_passed, slot_waits}
 use Rattle.scan_cursor.specs.Walks.{view_at}
 use Rattle.scan_cursor.proofs.walking.take_slot.Goals as goal
@@ -34,3 +35,11 @@ pub returns-in-Again-clause-steps : goal.returns-in-Again-clause-steps
 returns-in-Again-clause-steps c = let q = c.requires in let n = c.next_slot-slot.ensures in let e = c.in-Again.ensures in let key = c.as_slice.ensures ∙ c.key_of-key.ensures in
     slot_waits c.args.way _ _ (sizes c.args.table.now) c.args.walk.now c.next_slot-slot.new.walk c.args.pass.now c.next_slot-slot.result n.mark n.gathered n.bound n.few n.taken q.walk q.going q.past q.gathered c.read_life.new.pass c.key_of-key.result c.key_of-key.ensures
     e.own e.later (subst (λ (k : List ℕ). IsBeyond c.args.way (key_number c.args.low.now) (key_number c.args.high.now) k → ⊥) key c.if-is_beyond.ensures) e.here
+
+pub returns-in-Absent-clause-nearer : goal.returns-in-Absent-clause-nearer
+returns-in-Absent-clause-nearer c is = let q = c.requires in let n = c.next_slot-slot.ensures in let x = c.next_slot-slot.new.walk in
+    take_nearer c.args.way (key_number c.args.high.now) c.args.walk.now x x.mark.past c.key_of-key.result n.gathered n.bound q.gathered q.past n.fewer
+
+pub returns-in-Again-clause-nearer : goal.returns-in-Again-clause-nearer
+returns-in-Again-clause-nearer c is = let q = c.requires in let n = c.next_slot-slot.ensures in
+    take_nearer c.args.way (key_number c.args.high.now) c.args.walk.now c.next_slot-slot.new.walk false c.key_of-key.result n.gathered n.bound q.gathered q.past n.fewer

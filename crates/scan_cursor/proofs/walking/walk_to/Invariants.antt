@@ -5,14 +5,18 @@ use Rattle.oak_core.specs.PassState.{HoldsNothing}
 use Rattle.oak_core.specs.Passes.{key as sizes, state}
 use Rattle.oak_core.specs.Scratch.{StaysButSlots}
 use Rattle.chunk_ops.specs.PinRecords.{WordsStay}
+use Rattle.scan_cursor.specs.Remaining.{steps_left}
 use Rattle.scan_cursor.specs.Walks.{WalkPasses, course_of}
-use Rattle.scan_cursor.proofs.walking.walk_on.Given as goal
+use Rattle.scan_cursor.proofs.walking.walk_to.Given as goal
 
-abbrev pub invariant-loop : goal.invariant-loop
-invariant-loop g l = let z = sizes l.fn.table in record {
+abbrev pub invariant-loop-value : goal.invariant-loop-value
+invariant-loop-value l = let z = sizes l.fn.table in record {
   stays : StaysButSlots l.fn.pass l.pass;
   idle : HoldsNothing (state l.pass);
   going : l.walk.mark.ended ≡ false;
   passes : WalkPasses l.fn.way (key_number l.fn.low) (key_number l.fn.high) (course_of l.fn.way z l.fn.walk l.fn.pass) (course_of l.fn.way z l.walk l.pass);
   still : Runs WordsStay (state l.fn.pass) (state l.pass);
 }
+
+abbrev pub decreases-loop-value : goal.decreases-loop-value
+decreases-loop-value l = steps_left l.fn.way (key_number l.fn.high) l.walk

@@ -1,0 +1,12 @@
+use Rattle.std.proofs.Common.{◌≡◌}
+use Rattle.scan_cursor.specs.Cursors.{IsCursor}
+use Rattle.scan_cursor.proofs.TriedLaws.{HasTried}
+use Rattle.scan_cursor.proofs.cursor.Cursor.advance.Given as goal
+
+abbrev pub invariant-loop : goal.invariant-loop
+invariant-loop g l = record {
+  next : (goal.iterator-loop g).can_next l.iterator';
+  same_reference : l.self.pass.ghost_name ≡ l.fn.self.pass.ghost_name;
+  cursor : IsCursor l.self;
+  tried : HasTried l.fn.self l.self;
+}
