@@ -1,6 +1,7 @@
 //! The map, whose calls try again until they have an answer.
 #![tactic(auto)]
 
+mod answers;
 mod changing;
 mod chunks;
 #[cfg(test)]
@@ -31,6 +32,7 @@ mod thread_tests;
 #[cfg(test)]
 mod worn_tests;
 
+pub use answers::Busy;
 pub use lending::{Lent, Looked, get_of, look_of, scan_of};
 pub use map::{MapPass, OakMap};
 pub use oak_model::Wrote;
