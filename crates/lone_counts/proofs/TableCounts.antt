@@ -2,7 +2,7 @@
 use Rattle.std.proofs.Common.{◌≡◌, ℕ, ◌+◌, ◌*◌, ◌≢◌, ◌<◌, ◌≤◌, List, length, map, Some, None, true, sym, refl, ap, ◌∙◌, subst, arith}
 use mathlib.Core.Logic.{dite}
 use native.Mathlib.Decide.{ℕ_discrete}
-use Rattle.pin_word.specs.PinWord.{state_of}
+use Rattle.pin_word.specs.PinWord.{generation_of, state_of}
 use Rattle.oak_model.specs.declared.classes.Class.{Class}
 use Rattle.oak_model.specs.declared.replies.Pair.{Pair}
 use Rattle.oak_model.specs.Class.{blocks_of, class_number}
@@ -19,16 +19,19 @@ use Rattle.chunk_core.specs.Covers.{Entry, cover_at, entry_at, key_at, span_in}
 use Rattle.chunk_core.specs.CoverSums.{naming, stray, weight}
 use Rattle.chunk_core.specs.LinkedEntries.{entries_in, linked}
 use Rattle.chunk_core.specs.Spans.{within}
-use Rattle.chunk_core.specs.ValueWord.{header_in, names_header}
+use Rattle.chunk_core.specs.ValueWord.{generation_in, header_in, names_header}
 use Rattle.chunk_core.proofs.CoverFacts.{entry_adds, entry_word}
 use Rattle.chunk_core.proofs.EntryNumbers.{number_below, numbers_once}
 use Rattle.chunk_core.proofs.SpanLaws.{within-le}
 use Rattle.header_core.specs.declared.states.TheConstants.{LIVE, LOCKED}
 use Rattle.oak_core.specs.declared.states.PassState.{PassState}
-use Rattle.oak_core.specs.KeyReads.{value_in, word_now}
+use Rattle.oak_core.specs.KeyHistories.{home_behind}
+use Rattle.oak_core.specs.KeyReads.{history_now, shown_by, value_in, word_now}
+use Rattle.oak_core.specs.KeyStates.{IsHome}
 use Rattle.oak_core.specs.Memory.{Memory, memory}
-use Rattle.oak_core.specs.PassState.{rooms_held}
+use Rattle.oak_core.specs.PassState.{rooms_held, seen_of}
 use Rattle.oak_core.specs.Usage.{used_blocks, used_headers}
+use Rattle.oak_core.proofs.Alone.{history_seen}
 use Rattle.lone_counts.specs.Entries.{at_key, entries_of, header_named}
 use Rattle.lone_counts.specs.Exactly.{BlocksExactly, HeadersExactly}
 use Rattle.lone_counts.specs.LoneTable.{AllValued, HasValue, LoneTable, retired_in}
@@ -37,7 +40,7 @@ use Rattle.lone_counts.proofs.ByClass.{valued-le}
 use Rattle.lone_counts.proofs.Exact.{headers_counted, map_blocks, map_fits, map_headers, map_usage}
 use Rattle.lone_counts.proofs.Gathered.{gathered_total}
 use Rattle.lone_counts.proofs.LoneHeaders.{not_so}
-use Rattle.lone_counts.proofs.LoneSums.{entries_sum}
+use Rattle.lone_counts.proofs.LoneSums.{entries_sum, table}
 use Rattle.lone_counts.proofs.LoneTables.{state_at, table_stands}
 use Rattle.lone_counts.proofs.LoneHeaders.{named_at}
 use Rattle.lone_counts.proofs.ValuedRooms.{is_open, no_floors, open_weight}
@@ -98,6 +101,13 @@ module _ (z : Sizes) (words : List ℕ) (k : ℕ) where
         key_is = ap (λ (e : Entry). e.key) u.2 ∙ one_at-true t.1.key k t.3;
       }
 
+-- a value word that names a live header at its generation, in the last life of the key
+pub record NamesLive (z : Sizes) (words : List ℕ) (v : PassState) (key : List ℕ) : Type 0 where
+  pub word : ℕ
+  pub home : home_behind (seen_of (key_number key) v.knowledge) ≡ word
+  pub generation : generation_of ((memory z words).headers.pin (header_in word)) ≡ generation_in word
+  pub live : state_of ((memory z words).headers.pin (header_in word)) ≡ LIVE
+
 module _ (z : Sizes) (words : List ℕ) (v : PassState) (key : List ℕ) (l : LoneTable z words v) (is : is_key key ≡ true) where
   abbrev mem : Memory
   mem = memory z words
@@ -132,15 +142,25 @@ module _ (z : Sizes) (words : List ℕ) (v : PassState) (key : List ℕ) (l : Lo
             (λ ne. omega arith);
       })
 
-  is_present : HasValue z words key → (b : List ℕ) × (last_states v key ≡ Some b)
-  is_present has = let r : ℕ = has.room in let i : ℕ = has.entry in let w = open_weight z words v l r has.open_is in
-      let word = word_there r i has.inside w has.used has.key_is in let x : ℕ = mem.rooms.value r i in let h : ℕ = header_in x in
-      let home = (l.moment.rule.keys.states k).named x word has.named in
+  abbrev word_of : HasValue z words key → ℕ
+  word_of has = mem.rooms.value has.room has.entry
+
+  -- the header that its entry names there is live, and is the home of the key
+  live_home : (has : HasValue z words key) → IsHome z mem.headers (shown_by mem) (word_of has) (history_now l.moment.states k) × (state_of (mem.headers.pin (header_in (word_of has))) ≡ LIVE)
+  live_home has = let r : ℕ = has.room in let i : ℕ = has.entry in let w = open_weight z words v l r has.open_is in
+      let word = word_there r i has.inside w has.used has.key_is in let x : ℕ = word_of has in let h : ℕ = header_in x in
       let adds = entry_adds z mem.rooms (content mem.arena.bytes) (map rooms_held l.moment.states) (naming h) r i has.inside w (numbers_once (entries_in (mem.rooms.count r)) i has.used) in
       let all = entries_sum z words v l (header_named h) in let n = named_at z words v l h in
       let one : names_header x * one_at h h ≡ 1 = times-one (names_header x) (one_at h h) has.named ∙ one_at-same h h refl in
-      let live = one_at-true (state_of (mem.headers.pin h)) LIVE (omega arith) in
-      (value_in (mem.headers.place h) (content mem.arena.bytes (mem.headers.place h)), state_at z words v l key is ∙ (home.live live).0)
+      ((l.moment.rule.keys.states k).named x word has.named, one_at-true (state_of (mem.headers.pin h)) LIVE (omega arith))
+
+  is_present : HasValue z words key → (b : List ℕ) × (last_states v key ≡ Some b)
+  is_present has = let h : ℕ = header_in (word_of has) in let f = live_home has in
+      (value_in (mem.headers.place h) (content mem.arena.bytes (mem.headers.place h)), state_at z words v l key is ∙ (f.0.live f.1).0)
+
+  names_live : HasValue z words key → NamesLive z words v key
+  names_live has = let f = live_home has in let seen = history_seen z (table z words v l) l.moment.rule l.moment.seat v l.moment.here l.alone k in
+      record { word = word_of has; home = ap home_behind (sym seen) ∙ f.0.home; generation = f.0.generation; live = f.1 }
 
 -- a key that holds something has its value in an open room
 pub present_has_value : (z : Sizes) (words : List ℕ) (v : PassState) (key b : List ℕ) → LoneTable z words v → is_key key ≡ true → last_states v key ≡ Some b → HasValue z words key
@@ -149,6 +169,10 @@ present_has_value z words v key b l is held = has_value z words v key l is b hel
 -- and a key that has one there holds something
 pub value_is_present : (z : Sizes) (words : List ℕ) (v : PassState) (key : List ℕ) → LoneTable z words v → is_key key ≡ true → HasValue z words key → (b : List ℕ) × (last_states v key ≡ Some b)
 value_is_present z words v key l is has = is_present z words v key l is has
+
+-- and its header is live, in its last life
+pub present_is_live : (z : Sizes) (words : List ℕ) (v : PassState) (key b : List ℕ) → LoneTable z words v → is_key key ≡ true → last_states v key ≡ Some b → NamesLive z words v key
+present_is_live z words v key b l is held = names_live z words v key l is (has_value z words v key l is b held)
 
 -- ---- headers
 

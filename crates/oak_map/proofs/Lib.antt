@@ -2,6 +2,8 @@ pub mod LoneViews
 pub mod ClosedMaps
 mod RepliesSince
 mod LoneRetries
+mod LiveViews
+mod RepeatedTries
 mod SameScratch
 mod Trying
 mod AnsweredPuts
@@ -34,6 +36,7 @@ mod FoundLives
 mod LentValues
 mod LentLives
 mod Through
+mod TriedThrough
 mod Bounds
 pub mod LentEnds
 mod LendingTests

@@ -46,11 +46,11 @@ module _ {M : Type 1} {𝓤 : Ura M} (𝓛 : Logic 𝓤) (R T U : RattleType) (F
 
 -- ---- a key
 
-last_through : (m : MapPass) (y : Lent) (w t : Pass) → LentLast y w t → MapLast m y w (with_pass m t)
+pub last_through : (m : MapPass) (y : Lent) (w t : Pass) → LentLast y w t → MapLast m y w (with_pass m t)
 last_through m (lent.Absent at) w t p = tt
 last_through m (lent.Present r) w t p = ap (with_pass m) p
 
-back_through : (z : Sizes) (m : MapPass) (k : List ℕ) (y : Lent) (t : Pass) → LentBack z m.pass k y t → MapBack z m k y (with_pass m t)
+pub back_through : (z : Sizes) (m : MapPass) (k : List ℕ) (y : Lent) (t : Pass) → LentBack z m.pass k y t → MapBack z m k y (with_pass m t)
 back_through z m k (lent.Absent at) t p = p
 back_through z m k (lent.Present r) t p = tt
 
@@ -66,11 +66,11 @@ rests_through 𝓛 z p r k y e = through 𝓛 the_row pass.the_row pass.the_row 
 
 -- ---- the life of a view
 
-looked_last : (m : MapPass) (y : Looked) (w t : Pass) → LookedLast y w t → MapLookedLast m y w (with_pass m t)
+pub looked_last : (m : MapPass) (y : Looked) (w t : Pass) → LookedLast y w t → MapLookedLast m y w (with_pass m t)
 looked_last m looked.Gone w t p = tt
 looked_last m (looked.Present r) w t p = ap (with_pass m) p
 
-looked_back : (z : Sizes) (m : MapPass) (v : Viewed) (y : Looked) (t : Pass) → LookedBack z m.pass v y t → MapLookedBack z m v y (with_pass m t)
+pub looked_back : (z : Sizes) (m : MapPass) (v : Viewed) (y : Looked) (t : Pass) → LookedBack z m.pass v y t → MapLookedBack z m v y (with_pass m t)
 looked_back z m v looked.Gone t p = p
 looked_back z m v (looked.Present r) t p = tt
 

@@ -1,26 +1,27 @@
 -- What the searches of the calls that lend find: v is the state of the pass at the search, w the one at its end.
-use Rattle.std.specs.Prelude.{◌≡◌, ◌⊎◌, ℕ, List}
+use Rattle.std.specs.Prelude.{ℕ, List}
 use Rattle.oak_model.specs.Limits.{Sizes}
 use Rattle.oak_core.specs.declared.states.PassState.{PassState}
 use Rattle.oak_core.specs.AloneWords.{Runs}
 use Rattle.oak_core.specs.PassState.{IsAlone}
 use Rattle.oak_core.specs.QuietSteps.{Quiet}
+use Rattle.chunk_ops.specs.Latching.{Never}
 use Rattle.chunk_ops.specs.RoomPins.{HadMoment}
 use Rattle.value_ops.specs.Pinning.{AddsPin, KnowsLife, MeetsMore, PinsLive}
 use Rattle.value_ops.specs.Views.{Viewed}
 use Rattle.point_ops.specs.LoneReplies.{SeesWhole}
 use Rattle.point_ops.specs.Replies.{Refuses}
+use Rattle.oak_map.specs.GivingUp.{NotLent}
 use Rattle.oak_map.specs.Lending.{FindsAbsent}
-use Rattle.oak_map.specs.Maps.{StayAll}
 use Rattle.oak_map.specs.declared.finding.Tried.{Tried}
 use Rattle.oak_map.specs.declared.finding.Tried.TheVariants.{Absent, Pinned, Again}
 
--- the pass was refused only, by loads, pins and their undoing alone, and to one that is alone the words stay
-pub record TriesAgain (z : Sizes) (call : ℕ) (v w : PassState) : Type 0 where
+-- the try came to nothing: the pass was refused only, by loads, pins and their undoing alone, and to one that is alone it never comes
+pub record TriesAgain (z : Sizes) (call : ℕ) (key : List ℕ) (v w : PassState) : Type 0 where
+  pub nothing : NotLent z call key v w
   pub refused : Refuses call v w
   pub quiet : Quiet v w
-  pub begun : IsAlone v → SeesWhole z v
-  pub alone : Runs StayAll v w
+  pub alone : Runs Never v w
 
 -- The header was pinned, live at its generation, in a life of the key that the pass knows, after tries that only taught it. All steps were loads, pins and their undoing.
 pub record PinsKey (z : Sizes) (call : ℕ) (key : List ℕ) (h g : ℕ) (v w : PassState) : Type 0 where
@@ -36,14 +37,7 @@ pub record PinsKey (z : Sizes) (call : ℕ) (key : List ℕ) (h g : ℕ) (v w : 
 abbrev pub TriesKey : Tried → Sizes → ℕ → List ℕ → PassState → PassState → Type 0
 TriesKey (Absent at) z call key v w = FindsAbsent z call key at v w
 TriesKey (Pinned p) z call key v w = PinsKey z call key p.header p.generation v w
-TriesKey Again z call key v w = TriesAgain z call v w
-
--- the search goes on, which began at u
-pub record Searches (z : Sizes) (call : ℕ) (u v : PassState) : Type 0 where
-  pub refused : Refuses call u v
-  pub quiet : Quiet u v
-  pub begun : (v ≡ u) ⊎ (IsAlone u → SeesWhole z u)
-  pub alone : Runs StayAll u v
+TriesKey Again z call key v w = TriesAgain z call key v w
 
 -- the header of the view was pinned, after tries that only met more, and all steps were loads, pins and their undoing
 pub record PinsView (z : Sizes) (call : ℕ) (x : Viewed) (v w : PassState) : Type 0 where
@@ -53,10 +47,3 @@ pub record PinsView (z : Sizes) (call : ℕ) (x : Viewed) (v w : PassState) : Ty
   pub quiet : Quiet v w
   pub begun : HadMoment z v
   pub alone : Runs (AddsPin z x.header x.generation) v w
-
--- the search for the view's life goes on, which began at u
-pub record SearchesLife (z : Sizes) (call : ℕ) (u v : PassState) : Type 0 where
-  pub tries : MeetsMore z call u v
-  pub quiet : Quiet u v
-  pub begun : (v ≡ u) ⊎ HadMoment z u
-  pub alone : Runs StayAll u v

@@ -1,5 +1,6 @@
 pub mod Closings
 pub mod Finding
+pub mod GivingUp
 pub mod Lending
 pub mod LonePuts
 pub mod LoneRetrying
@@ -8,3 +9,4 @@ pub mod Maps
 pub mod Putting
 pub mod Replying
 pub mod Rests
+pub mod TriedRests

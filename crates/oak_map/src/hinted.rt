@@ -1,5 +1,5 @@
 //! One try of each call, which looks first where the pass's hint says: the hint is asked for in each try.
-ghost use Rattle.std.specs.Prelude.{◌≡◌, ◌<◌, ◌+◌, ◌-◌, ◌^◌, IfErr, IfOk};
+ghost use Rattle.std.specs.Prelude.{◌≡◌, ◌⊎◌, ◌<◌, ◌+◌, ◌-◌, ◌^◌, IfErr, IfOk};
 ghost use Rattle.chunk_ops.specs.Latching.{Never};
 ghost use Rattle.chunk_ops.specs.RoomPins.{HadMoment};
 ghost use Rattle.oak_core.specs.AloneWords.{Runs};
@@ -10,8 +10,9 @@ ghost use Rattle.oak_core.specs.QuietSteps.{Quiet};
 ghost use Rattle.oak_core.specs.Scratch.{StaysButScratch};
 ghost use Rattle.oak_model.specs.Key.{IsKey};
 ghost use Rattle.oak_model.specs.Value.{IsValue};
-ghost use Rattle.oak_model.specs.declared.cells.CellCall.TheVariants.{Compute, Put, PutNew, Remove, Upsert};
+ghost use Rattle.oak_model.specs.declared.cells.CellCall.TheVariants.{Compute, Get, Put, PutNew, Remove, Upsert};
 ghost use Rattle.point_ops.specs.Counted.{Feeds, times_done};
+ghost use Rattle.point_ops.specs.declared.halts.Halt.TheVariants as halts;
 ghost use Rattle.point_ops.specs.Gets.{GotFits};
 ghost use Rattle.point_ops.specs.Halting.{Halts};
 ghost use Rattle.point_ops.specs.LoneLeft.{LeavesBy};
@@ -36,6 +37,8 @@ pub(crate) fn try_get(table: &OakTable, pass: &mut Pass, key: &[u8]) -> Result<G
     ensures got { IfOk result (λ x. GotFits x (sizes table.now) (call_of pass.old) key.now (state pass.old) (state pass.new)) }
     ensures alone_reply { IfOk result (λ x. IsAlone (state pass.old) → GotAlone x (sizes table.now) key.now (state pass.old) (state pass.new)) }
     ensures refused { IfErr result (λ _. Refuses (call_of pass.old) (state pass.old) (state pass.new)) }
+    ensures halted { IfErr result (λ why. Halts why (sizes table.now) (call_of pass.old) key.now Get (state pass.old) (state pass.new)) }
+    ensures either { IfErr result (λ why. (why ≡ halts.Busy) ⊎ (why ≡ halts.Moved)) }
     ensures alone_same { IfErr result (λ _. SameAlone (sizes table.now) (state pass.old) (state pass.new)) }
     ensures alone { Runs (GetsIn result) (state pass.old) (state pass.new) }
 {
@@ -109,6 +112,8 @@ pub(crate) fn try_compute(
     ensures wrote { IfOk result (λ x. WroteFits x (call_of pass.old) key.now (Compute (told_kind recipe.old) (told_argument recipe.old)) (state pass.old) (state pass.new)) }
     ensures alone_reply { IfOk result (λ x. IsAlone (state pass.old) → WroteAlone x (sizes table.now) key.now (Compute (told_kind recipe.old) (told_argument recipe.old)) (state pass.old) (state pass.new)) }
     ensures refused { IfErr result (λ _. Refuses (call_of pass.old) (state pass.old) (state pass.new)) }
+    ensures halted { IfErr result (λ why. Halts why (sizes table.now) (call_of pass.old) key.now (Compute (told_kind recipe.old) (told_argument recipe.old)) (state pass.old) (state pass.new)) }
+    ensures either { IfErr result (λ why. (why ≡ halts.Busy) ⊎ (why ≡ halts.Moved)) }
     ensures alone { IfErr result (λ _. Runs Never (state pass.old) (state pass.new)) }
     ensures alone_left { IfOk result (λ x. Runs (LeavesBy x (sizes table.now) key.now) (state pass.old) (state pass.new)) }
     ensures counted { calls recipe.new ≡ calls recipe.old + times_done result }
@@ -159,6 +164,8 @@ pub(crate) fn try_remove(table: &OakTable, pass: &mut Pass, key: &[u8]) -> Resul
     ensures wrote { IfOk result (λ x. WroteFits x (call_of pass.old) key.now Remove (state pass.old) (state pass.new)) }
     ensures alone_reply { IfOk result (λ x. IsAlone (state pass.old) → WroteAlone x (sizes table.now) key.now Remove (state pass.old) (state pass.new)) }
     ensures refused { IfErr result (λ _. Refuses (call_of pass.old) (state pass.old) (state pass.new)) }
+    ensures halted { IfErr result (λ why. Halts why (sizes table.now) (call_of pass.old) key.now Remove (state pass.old) (state pass.new)) }
+    ensures either { IfErr result (λ why. (why ≡ halts.Busy) ⊎ (why ≡ halts.Moved)) }
     ensures alone { IfErr result (λ _. Runs Never (state pass.old) (state pass.new)) }
     ensures alone_left { IfOk result (λ x. Runs (LeavesBy x (sizes table.now) key.now) (state pass.old) (state pass.new)) }
 {

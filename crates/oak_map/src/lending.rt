@@ -1,5 +1,5 @@
 //! Calls that lend the pass: to a reading, or to a cursor.
-ghost use Rattle.std.specs.Prelude.{◌≡◌, [], IfSome, MatchOption, None};
+ghost use Rattle.std.specs.Prelude.{◌≡◌, ◌<◌, [], IfSome, MatchOption, None};
 ghost use Rattle.std.specs.Borrow.{Lends, sem};
 ghost use Rattle.oak_model.specs.Key.{IsKey};
 ghost use Rattle.oak_core.specs.PassState.{HoldsNothing};
@@ -12,8 +12,11 @@ ghost use Rattle.scan_cursor.specs.Scanned.{least_key};
 ghost use Rattle.scan_cursor.specs.Walks.{view_at};
 ghost use Rattle.oak_map.specs.Maps.{IsReady, sizes, state, table_of};
 ghost use Rattle.oak_map.specs.Rests.{LentFits, LentRests, LookedFits, LookedRests, MapFits, MapLookedFits, MapLookedRests, MapRests, with_pass};
+ghost use Rattle.oak_map.specs.TriedRests.{MapTriedFits, MapTriedLookFits, MapTriedLookRests, MapTriedRests, TriedFits, TriedLookFits, TriedLookRests, TriedRests};
 ghost use Rattle.oak_map.specs.contracts.map.MapPass.{the_row};
 
+use crate::answers::Busy;
+use crate::bare;
 use crate::finding::{find_life, find_value};
 use crate::map::{MapPass, OakMap};
 use oak_core::Pass;
@@ -70,6 +73,40 @@ pub fn look_of<'p, R: Wait + Drop + Send>(
         None => Looked::Gone,
         Some(pin) => Looked::Present(pin.reading(&map.table, pass)),
     }
+}
+
+/// [`OakMap::try_get`] by the pass on the map's table, which it takes first, as [`get_of`] does.
+pub fn try_get_of<'p, R: Wait + Drop + Send>(
+    pass: &'p mut Pass,
+    map: &'p OakMap<R>,
+    key: &[u8],
+    looks: u32,
+) -> Result<Lent<'p>, Busy>
+    requires own { IsPassOf (table_of map.now) pass.old }
+    requires idle { HoldsNothing (table_state pass.old) }
+    requires key { IsKey key.now }
+    requires some { 0 < looks }
+    ensures* rests { sem 𝓛 (TriedRests (sizes map.now) pass.entry key.now looks result) }
+    ensures present { TriedFits (table_of map.now) pass.entry key.now result }
+{
+    bare::try_get(pass, &map.table, key, looks)
+}
+
+/// [`OakMap::try_look`] by the pass on the map's table, which it takes first, as [`get_of`] does.
+pub fn try_look_of<'p, R: Wait + Drop + Send>(
+    pass: &'p mut Pass,
+    map: &'p OakMap<R>,
+    view: &ValueView,
+    looks: u32,
+) -> Result<Looked<'p>, Busy>
+    requires own { IsPassOf (table_of map.now) pass.old }
+    requires idle { HoldsNothing (table_state pass.old) }
+    requires known { KnowsView (sizes map.now) view.now (table_state pass.old) }
+    requires some { 0 < looks }
+    ensures* rests { sem 𝓛 (TriedLookRests (sizes map.now) pass.entry view.now looks result) }
+    ensures present { TriedLookFits (table_of map.now) pass.entry view.now result }
+{
+    bare::try_look(pass, &map.table, view, looks)
 }
 
 /// [`OakMap::scan`] by the pass on the map's table, with bounds that it copies.
@@ -145,6 +182,40 @@ impl<R: Wait + Drop + Send> OakMap<R> {
         ensures present { MapLookedFits (table_of self.now) pass.entry view.now result }
     {
         look_of(pass.pass_mut(), rt, self, view)
+    }
+
+    /// Looks for a key as [`OakMap::get`] does, or gives up: `Busy` comes only where each of so many tries found another
+    /// pass at work on the key, or moving its room. To a pass that is alone it never comes.
+    pub fn try_get<'p>(
+        &'p self,
+        pass: &'p mut MapPass,
+        key: &[u8],
+        looks: u32,
+    ) -> Result<Lent<'p>, Busy>
+        requires ready { IsReady self.now pass.old }
+        requires key { IsKey key.now }
+        requires some { 0 < looks }
+        ensures* rests { sem 𝓛 (MapTriedRests (sizes self.now) pass.entry key.now looks result) }
+        ensures present { MapTriedFits (table_of self.now) pass.entry key.now result }
+    {
+        try_get_of(pass.pass_mut(), self, key, looks)
+    }
+
+    /// Reads the value that the life of a view has as [`OakMap::look`] does, or gives up: `Busy` comes only where a pass
+    /// was writing it at each of so many tries. To a pass that is alone it never comes.
+    pub fn try_look<'p>(
+        &'p self,
+        pass: &'p mut MapPass,
+        view: &ValueView,
+        looks: u32,
+    ) -> Result<Looked<'p>, Busy>
+        requires ready { IsReady self.now pass.old }
+        requires known { KnowsView (sizes self.now) view.now (state pass.old) }
+        requires some { 0 < looks }
+        ensures* rests { sem 𝓛 (MapTriedLookRests (sizes self.now) pass.entry view.now looks result) }
+        ensures present { MapTriedLookFits (table_of self.now) pass.entry view.now result }
+    {
+        try_look_of(pass.pass_mut(), self, view, looks)
     }
 
     /// Begins a scan of the keys between the bounds, which belong to the range; none is no bound. What the scan

@@ -2,6 +2,7 @@
 #![tactic(auto)]
 
 mod answers;
+pub mod bare;
 mod changing;
 mod chunks;
 #[cfg(test)]
@@ -29,11 +30,12 @@ mod test_calls;
 mod tests;
 #[cfg(test)]
 mod thread_tests;
+mod waiting;
 #[cfg(test)]
 mod worn_tests;
 
 pub use answers::Busy;
-pub use lending::{Lent, Looked, get_of, look_of, scan_of};
+pub use lending::{Lent, Looked, get_of, look_of, scan_of, try_get_of, try_look_of};
 pub use map::{MapPass, OakMap};
 pub use oak_model::Wrote;
 pub use scan_cursor::{Cursor, Way};

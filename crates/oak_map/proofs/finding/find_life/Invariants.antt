@@ -1,6 +1,6 @@
 use Rattle.oak_core.specs.Passes.{Stays, call_of, key as sizes, state}
 use Rattle.value_ops.specs.Views.{KnowsView}
-use Rattle.oak_map.specs.Finding.{SearchesLife}
+use Rattle.oak_map.proofs.FoundLives.{SearchesLife}
 use Rattle.oak_map.proofs.finding.find_life.Given as goal
 
 abbrev pub invariant-loop : goal.invariant-loop

@@ -40,12 +40,12 @@ loop-preserved g c = let call = call_of c.args.pass.now in let u = state c.args.
     let first = c.args.recipe.now in let now = c.loop.recipe in let next = c.try_compute.new.recipe in let x = goal.Recipe-dyn g (first.vtable, first.value) in let y = goal.Recipe-dyn g (now.vtable, now.value) in let t = goal.Recipe-dyn g (next.vtable, next.value) in record {
       next = tt;
       stays = scratch_both (pass_of c.args.pass.now) (pass_of c.loop.pass) c.try_compute.new.pass i.stays c.try_compute.ensures.own;
-      refused = refuses_both call u v w i.refused (subst (λ (k : ℕ). Refuses k v w) i.stays.call c.in_default.ensures.refused);
-      waits = waits_again u v w i.waits c.in_default.ensures.alone;
-      counted = let e = c.in_default.ensures.counted in let f = i.counted in omega arith;
+      refused = refuses_both call u v w i.refused (subst (λ (k : ℕ). Refuses k v w) i.stays.call c.in_default.ensures.busy.refused);
+      waits = waits_again u v w i.waits c.in_default.ensures.busy.alone;
+      counted = let e = c.in_default.ensures.uncounted in let f = i.counted in omega arith;
       kind = same_both RecipeKind (t.told_kind next.value) (y.told_kind now.value) (x.told_kind first.value) c.try_compute.ensures.told.0 i.kind;
       argument = same_both ℕ (t.told_argument next.value) (y.told_argument now.value) (x.told_argument first.value) c.try_compute.ensures.told.1 i.argument;
-      fed = says_both (x.fed first.value) (y.fed now.value) (t.fed next.value) i.fed c.in_default.ensures.fed;
+      fed = says_both (x.fed first.value) (y.fed now.value) (t.fed next.value) i.fed c.in_default.ensures.unfed;
     }
 
 -- what the recipe was fed

@@ -32,6 +32,6 @@ pub loop-preserved : goal.loop-preserved
 loop-preserved g c = let call = call_of c.args.pass.now in let u = state c.args.pass.now in let v = state c.loop.pass in let w = table_state c.try_remove.new.pass in let i = c.loop.invariant in record {
   next = tt;
   stays = stays_both i.stays c.try_remove.ensures.own;
-  refused = refuses_both call u v w i.refused (subst (λ (k : ℕ). Refuses k v w) i.stays.call c.in_default.ensures.refused);
-  waits = waits_again u v w i.waits c.in_default.ensures.alone;
+  refused = refuses_both call u v w i.refused (subst (λ (k : ℕ). Refuses k v w) i.stays.call c.in_default.ensures.busy.refused);
+  waits = waits_again u v w i.waits c.in_default.ensures.busy.alone;
 }
