@@ -6,3 +6,14 @@ use thiserror::Error;
 #[derive(Clone, Copy, Debug, PartialEq, Eq, Error)]
 #[error("other passes were at work there")]
 pub struct Busy;
+
+/// Why a call lends no value of a key.
+#[derive(Clone, Copy, Debug, PartialEq, Eq, Error)]
+pub enum NoValue {
+    /// The key was absent at the number.
+    #[error("the key is absent")]
+    Absent { at: u64 },
+    /// As [`Busy`].
+    #[error("other passes were at work there")]
+    Busy,
+}

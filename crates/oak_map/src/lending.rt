@@ -1,6 +1,6 @@
 //! Calls that lend the pass: to a reading, or to a cursor.
-ghost use Rattle.std.specs.Prelude.{◌≡◌, ◌<◌, [], IfSome, MatchOption, None};
-ghost use Rattle.std.specs.Borrow.{Lends, sem};
+ghost use Rattle.std.specs.Prelude.{◌≡◌, ◌<◌, [], IfErr, IfOk, IfSome, MatchOption, None};
+ghost use Rattle.std.specs.Borrow.{Lends, RestsIfErr, sem};
 ghost use Rattle.oak_model.specs.Key.{IsKey};
 ghost use Rattle.oak_core.specs.PassState.{HoldsNothing};
 ghost use Rattle.oak_core.specs.Passes.{IsPassOf, state as table_state};
@@ -12,17 +12,17 @@ ghost use Rattle.scan_cursor.specs.Scanned.{least_key};
 ghost use Rattle.scan_cursor.specs.Walks.{view_at};
 ghost use Rattle.oak_map.specs.Maps.{IsReady, sizes, state, table_of};
 ghost use Rattle.oak_map.specs.Rests.{LentFits, LentRests, LookedFits, LookedRests, MapFits, MapLookedFits, MapLookedRests, MapRests, with_pass};
-ghost use Rattle.oak_map.specs.TriedRests.{MapTriedFits, MapTriedLookFits, MapTriedLookRests, MapTriedRests, TriedFits, TriedLookFits, TriedLookRests, TriedRests};
+ghost use Rattle.oak_map.specs.TriedRests.{LendsFor, LendsLifeFor, MapTriedLookRests, MapTriedRests, RestsUnseen, RestsWithout};
 ghost use Rattle.oak_map.specs.contracts.map.MapPass.{the_row};
 
-use crate::answers::Busy;
+use crate::answers::NoValue;
 use crate::bare;
 use crate::finding::{find_life, find_value};
 use crate::map::{MapPass, OakMap};
 use oak_core::Pass;
 use scan_cursor::{Cursor, Way};
 use std::sync::Wait;
-use value_ops::{Reading, ValueView};
+use value_ops::{NoRead, Reading, ValueView};
 
 /// What a key holds: nothing at the number `at`, or a value, which is read under a pin.
 pub enum Lent<'p> {
@@ -81,13 +81,14 @@ pub fn try_get_of<'p, R: Wait + Drop + Send>(
     map: &'p OakMap<R>,
     key: &[u8],
     looks: u32,
-) -> Result<Lent<'p>, Busy>
+) -> Result<Reading<'p>, NoValue>
     requires own { IsPassOf (table_of map.now) pass.old }
     requires idle { HoldsNothing (table_state pass.old) }
     requires key { IsKey key.now }
     requires some { 0 < looks }
-    ensures* rests { sem 𝓛 (TriedRests (sizes map.now) pass.entry key.now looks result) }
-    ensures present { TriedFits (table_of map.now) pass.entry key.now result }
+    ensures* rests { sem 𝓛 (RestsIfErr table_pass.the_row pass.entry (λ r. r.pass.ghost_name) result (λ n. IfErr result (λ why. RestsWithout (sizes map.now) key.now looks why pass.old n))) }
+    ensures same_reference { IfOk result (λ r. r.pass.ghost_name ≡ pass.entry.ghost_name) }
+    ensures lends { IfOk result (λ r. LendsFor (table_of map.now) key.now pass.old r) }
 {
     bare::try_get(pass, &map.table, key, looks)
 }
@@ -98,13 +99,14 @@ pub fn try_look_of<'p, R: Wait + Drop + Send>(
     map: &'p OakMap<R>,
     view: &ValueView,
     looks: u32,
-) -> Result<Looked<'p>, Busy>
+) -> Result<Reading<'p>, NoRead>
     requires own { IsPassOf (table_of map.now) pass.old }
     requires idle { HoldsNothing (table_state pass.old) }
     requires known { KnowsView (sizes map.now) view.now (table_state pass.old) }
     requires some { 0 < looks }
-    ensures* rests { sem 𝓛 (TriedLookRests (sizes map.now) pass.entry view.now looks result) }
-    ensures present { TriedLookFits (table_of map.now) pass.entry view.now result }
+    ensures* rests { sem 𝓛 (RestsIfErr table_pass.the_row pass.entry (λ r. r.pass.ghost_name) result (λ n. IfErr result (λ why. RestsUnseen (sizes map.now) view.now looks why pass.old n))) }
+    ensures same_reference { IfOk result (λ r. r.pass.ghost_name ≡ pass.entry.ghost_name) }
+    ensures lends { IfOk result (λ r. LendsLifeFor (table_of map.now) view.now pass.old r) }
 {
     bare::try_look(pass, &map.table, view, looks)
 }
@@ -184,19 +186,20 @@ impl<R: Wait + Drop + Send> OakMap<R> {
         look_of(pass.pass_mut(), rt, self, view)
     }
 
-    /// Looks for a key as [`OakMap::get`] does, or gives up: `Busy` comes only where each of so many tries found another
-    /// pass at work on the key, or moving its room. To a pass that is alone it never comes.
+    /// Looks for a key, and reads its value where it has one, as [`OakMap::get`] does, or gives up: `Busy` comes only where
+    /// each of so many tries found another pass at work on the key, or moving its room. To a pass that is alone it never
+    /// comes.
     pub fn try_get<'p>(
         &'p self,
         pass: &'p mut MapPass,
         key: &[u8],
         looks: u32,
-    ) -> Result<Lent<'p>, Busy>
+    ) -> Result<Reading<'p>, NoValue>
         requires ready { IsReady self.now pass.old }
         requires key { IsKey key.now }
         requires some { 0 < looks }
         ensures* rests { sem 𝓛 (MapTriedRests (sizes self.now) pass.entry key.now looks result) }
-        ensures present { MapTriedFits (table_of self.now) pass.entry key.now result }
+        ensures lends { IfOk result (λ r. LendsFor (table_of self.now) key.now pass.old.pass r) }
     {
         try_get_of(pass.pass_mut(), self, key, looks)
     }
@@ -208,12 +211,12 @@ impl<R: Wait + Drop + Send> OakMap<R> {
         pass: &'p mut MapPass,
         view: &ValueView,
         looks: u32,
-    ) -> Result<Looked<'p>, Busy>
+    ) -> Result<Reading<'p>, NoRead>
         requires ready { IsReady self.now pass.old }
         requires known { KnowsView (sizes self.now) view.now (state pass.old) }
         requires some { 0 < looks }
         ensures* rests { sem 𝓛 (MapTriedLookRests (sizes self.now) pass.entry view.now looks result) }
-        ensures present { MapTriedLookFits (table_of self.now) pass.entry view.now result }
+        ensures lends { IfOk result (λ r. LendsLifeFor (table_of self.now) view.now pass.old.pass r) }
     {
         try_look_of(pass.pass_mut(), self, view, looks)
     }

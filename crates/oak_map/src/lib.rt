@@ -34,9 +34,9 @@ mod waiting;
 #[cfg(test)]
 mod worn_tests;
 
-pub use answers::Busy;
+pub use answers::{Busy, NoValue};
 pub use lending::{Lent, Looked, get_of, look_of, scan_of, try_get_of, try_look_of};
 pub use map::{MapPass, OakMap};
 pub use oak_model::Wrote;
 pub use scan_cursor::{Cursor, Way};
-pub use value_ops::{Reading, ValueView};
+pub use value_ops::{NoRead, Reading, ValueView};
