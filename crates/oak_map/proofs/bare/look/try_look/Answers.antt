@@ -1,18 +1,20 @@
-use Rattle.std.proofs.Common.{◌≡◌, ℕ, List, sym, refl, ap, subst, Bor}
+use Rattle.std.proofs.Common.{◌≡◌, ℕ, List, Option, IfSome, sym, refl, ap, subst, Bor}
 use mathlib.Core.Option.{some}
 use Rattle.oak_core.specs.declared.table.OakTable.{OakTable}
 use Rattle.oak_core.specs.Passes.{call_of, key as sizes, state}
 use Rattle.oak_core.proofs.SamePass.{stays_both}
+use Rattle.value_ops.specs.declared.pinning.HeaderPin.{HeaderPin}
 use Rattle.value_ops.specs.Pinning.{KnowsLife}
 use Rattle.value_ops.specs.PinnedValues.{FindsStamp, LearnsByLoads, ReadsLife}
 use Rattle.value_ops.specs.Reading.{stamp, value}
 use Rattle.value_ops.specs.Views.{Viewed}
+use Rattle.oak_map.specs.Finding.{PinsView}
 use Rattle.oak_map.proofs.LentLives.{lends_life}
 use Rattle.oak_map.proofs.bare.look.try_look.Goals as goal
 
 pub returns-in-Ok-Some : goal.returns-in-Ok-Some
 returns-in-Ok-Some c = let z = sizes c.args.table.now in let call = call_of c.args.pass.now in let x : Viewed = c.args.view.now in let v = state c.args.pass.now in let w = state c.try_find_life.new.pass in let r = c.reading.result in let u = state r.pass.now in
-    let good = c.in-Ok-Some.ensures.pinned in let same : call_of c.try_find_life.new.pass ≡ call = c.try_find_life.ensures.own.call in (
+    let good = subst (λ (o : Option HeaderPin). IfSome o (λ (q : HeaderPin). (q.header ≡ x.header) × (q.generation ≡ x.generation) × PinsView z call x v w)) c.in-Ok-Some.field-0-is c.in-Ok-Some.ensures.pinned in let same : call_of c.try_find_life.new.pass ≡ call = c.try_find_life.ensures.own.call in (
       (ap some (sym c.reading.ensures.same_reference), (λ w. refl), tt),
       record {
         rests = tt;
