@@ -16,3 +16,5 @@ pub mod ValuedRooms
 pub mod TableCounts
 pub mod MapChanges
 pub mod LoneMaps
+pub mod RoomCounts
+pub mod KeyBlocks
