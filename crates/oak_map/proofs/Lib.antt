@@ -41,3 +41,7 @@ mod Bounds
 pub mod LentEnds
 mod LendingTests
 pub mod TestLaws
+mod NeighbourSums
+mod KeyLacks
+mod NeighbourRooms
+mod RoomForKeys

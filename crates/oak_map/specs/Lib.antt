@@ -10,3 +10,4 @@ pub mod Putting
 pub mod Replying
 pub mod Rests
 pub mod TriedRests
+pub mod RoomForKeys

@@ -11,6 +11,7 @@ mod finding;
 mod hinted;
 #[cfg(test)]
 mod index_tests;
+mod laws;
 mod leaving;
 mod lending;
 #[cfg(test)]
@@ -35,6 +36,7 @@ mod waiting;
 mod worn_tests;
 
 pub use answers::{Busy, NoValue};
+pub use laws::keys_have_room;
 pub use lending::{Lent, Looked, get_of, look_of, scan_of, try_get_of, try_look_of};
 pub use map::{MapPass, OakMap};
 pub use oak_model::Wrote;
