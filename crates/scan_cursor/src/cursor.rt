@@ -197,7 +197,7 @@ impl Cursor<'_> {
     pub fn key_len(&self) -> usize
         ensures { result ≡ length (key_of self.now) }
     {
-        self.walk.mark.key.as_slice().len()
+        self.key().len()
     }
 
     /// The byte of the present key at `i`.
@@ -205,7 +205,7 @@ impl Cursor<'_> {
         requires { i < length (key_of self.now) }
         ensures { result ≡ slice_index (key_of self.now) i }
     {
-        self.walk.mark.key.as_slice()[i]
+        self.key()[i]
     }
 
     /// Where the present pair's value lies, which is pinned.
