@@ -1,6 +1,6 @@
 -- A chunk that a call comes to hold alone, and that it opens again.
 use Rattle.std.proofs.Common.{◌≡◌, ℕ, ◌<◌, cond, Bool, List, [], ◌∷◌, length, map, sym, refl, ap, ◌∙◌, subst, inl, inr, arith, eq-eqb, ne_eqb, Option, Some, None, ⊎_elim}
-use Rattle.pin_word.specs.PinWord.{state_of, count_of}
+use Rattle.pin_word.specs.PinWord.{state_of}
 use Rattle.oak_model.specs.Counts.{one_at, total}
 use Rattle.oak_model.specs.KeyNumber.{key_number}
 use Rattle.oak_model.specs.Limits.{Sizes}
@@ -14,38 +14,38 @@ use Rattle.chunk_core.specs.declared.holds.RoomHolds.{RoomHolds}
 use Rattle.chunk_core.specs.declared.states.TheConstants.{OPEN, FROZEN, HELD}
 use Rattle.chunk_core.specs.RoomCopies.{copy_of, without_room}
 use Rattle.chunk_core.specs.RoomRule.{in_room_state}
-use Rattle.chunk_core.specs.Rooms.{at_room_pin}
 use Rattle.chunk_core.specs.RoomStep.{freeze_room, hold_room}
 use Rattle.chunk_core.specs.Spans.{within, Span}
 use Rattle.chunk_core.proofs.HeldRooms.{room_rows}
 use Rattle.chunk_core.proofs.Weights.{open_none}
 use Rattle.oak_core.specs.declared.states.PassState.{PassState}
 use Rattle.oak_core.specs.AloneWords.{Runs}
-use Rattle.oak_core.specs.Memory.{in_rooms, memory}
+use Rattle.oak_core.specs.Memory.{memory}
 use Rattle.oak_core.specs.PassState.{rooms_held}
-use Rattle.oak_core.specs.Step.{load, on_rooms}
+use Rattle.oak_core.specs.Step.{on_rooms}
 use Rattle.oak_core.specs.Sweeping.{sweep}
 use Rattle.oak_core.proofs.AloneRuns.{Then, runs_as, runs_then}
-use Rattle.oak_core.proofs.CallSteps.{begins_same, met_both, met_none, step_in, step_since, step_until}
+use Rattle.oak_core.proofs.CallSteps.{begins_same, met_both, met_none, step_in, step_since}
 use Rattle.chunk_ops.specs.AskedRanges.{CoversKey}
 use Rattle.chunk_ops.specs.PinRecords.{OnlyMeets, with_room_pin, room_pin}
-use Rattle.chunk_ops.specs.RoomPins.{AddsRoomPin, DropsRoomPin, PinsOpen, Unpins}
+use Rattle.chunk_ops.specs.RoomPins.{AddsRoomPin, DropsRoomPin, HadMoment, PinsOpen, Unpins}
 use Rattle.chunk_ops.proofs.MeetingCalls.{stays_then}
-use Rattle.chunk_ops.proofs.PinSteps.{pin_found, undone}
+use Rattle.chunk_ops.proofs.PinSteps.{pin_found}
 use Rattle.rebalance.specs.Copies.{copy_span}
 use Rattle.rebalance.specs.Chunks.{ComesBack, CompactsFront, HoldsFor, HoldsFront, HoldsPinned, LosesPinned, OpensFront, WorksBeside, held_row}
 use Rattle.rebalance.specs.HeldTables.{AwayFromPins, HoldsOnlyRooms, WorksOnRooms}
-use Rattle.rebalance.specs.Holding.{FindsFrozen, Freezes, Holds, StandsBeside, SweepsBeside, TriesBeside, with_moving, FindsChanged, FindsPinned, LeavesUnfrozen, Thaws}
-use Rattle.rebalance.specs.LoneWords.{FreezesWords, LeavesBut, MovesWith, TakesRoom, held_by, leaves_same, no_room, runs_leave_both, stay_leaves}
+use Rattle.rebalance.specs.Holding.{FindsChanged, FindsFrozen, FindsPinned, Freezes, Holds, LeavesUnfrozen, Repeats, StandsBeside, SweepsBeside, Thaws, TriesBeside, with_moving}
+use Rattle.rebalance.specs.LoneWords.{FreezesWords, LeavesBut, MovesWith, TakesRoom, held_by, no_room}
+use Rattle.rebalance.proofs.BusyParts.{repeats_since, room_busy}
 use Rattle.rebalance.proofs.ListedRows.{rows_total}
-use Rattle.rebalance.proofs.LoneTakes.{front_or, pin_takes, pinned_takes, taken_works, works_takes}
+use Rattle.rebalance.proofs.LoneTakes.{front_or, pin_takes, pinned_takes, taken_works}
 use Rattle.rebalance.specs.Resting.{rests_both, rests_of, tries_of}
 use Rattle.oak_core.specs.declared.sorting.SortSlot.{SortSlot}
 use Rattle.chunk_core.specs.PinnedRooms.{span_of}
 use Rattle.chunk_ops.specs.Latching.{Never}
-use Rattle.chunk_ops.specs.LoneRooms.{HasNoRoom, NeverAlone}
+use Rattle.chunk_ops.specs.LoneRooms.{FreezesNone, HasElsewhere, NeverElsewhere, NeverUnfrozen}
 use Rattle.rebalance.specs.Busy.{IsBusyFor}
-use Rattle.rebalance.proofs.NeverRuns.{never_alone_first, never_alone_last, never_first, never_last, never_so}
+use Rattle.rebalance.proofs.NeverRuns.{never_first, never_last, never_so, unless_first, unless_last}
 
 -- ---- what a pass does beside its rooms
 
@@ -168,12 +168,9 @@ holds_pinned z call r v a b u f n h = let w : RoomCopy = h.0 in let g : MovingRa
 )
 
 -- another pass had frozen it, or pinned it
-pub loses_unfrozen : (z : Sizes) (call r : ℕ) (v a u : PassState) → LeavesUnfrozen z call r v a → Unpins z call r a u → LosesPinned z call r v u
-loses_unfrozen z call r v a u f n = record {
-  why = ⊎_elim
-      (λ (x : FindsFrozen z call r v a). inl record { step = step_until z call (load (in_rooms (at_room_pin r))) v a u n.stands.met x.step; frozen = x.frozen })
-      (λ (x : FindsChanged z call r v a). inr (inl record { word = x.word; step = step_until z call (on_rooms (freeze_room r x.word)) v a u n.stands.met x.step; changed = x.changed }))
-      f.why;
+pub loses_unfrozen : (z : Sizes) (call looks r : ℕ) (v a u : PassState) → LeavesUnfrozen z call looks r v a → Unpins z call r a u → LosesPinned z call looks r v u
+loses_unfrozen z call looks r v a u f n = record {
+  why = room_busy z call looks v v a u (met_none call v) n.stands.met r (⊎_elim (λ (x : FindsFrozen z call r v a). inl x) (λ (x : Repeats call looks (FindsChanged z call r) v a). inr (inl x)) f.why);
   unpins = record {
     stands = rests_both call v a u f.only.stands (rests_of call a u n.stands);
     blocks = n.blocks ∙ f.only.blocks;
@@ -182,14 +179,14 @@ loses_unfrozen z call r v a u f n = record {
     ended = n.ended;
     still = stays_then (DropsRoomPin z r) v a u f.only.still n.still;
   };
-  alone = never_alone_first (DropsRoomPin z r) v a u f.alone n.still;
+  alone = unless_first (DropsRoomPin z r) (FreezesNone v) v a u f.alone n.still;
 }
 
 -- it was frozen, and pinned, and is open again
-pub loses_thawed : (z : Sizes) (call r : ℕ) (v a b u : PassState) → Freezes z call r v a → Unpins z call r a b → Thaws z call r b u → LosesPinned z call r v u
-loses_thawed z call r v a b u f n p = let met = met_both call v a b f.beside.stands.met n.stands.met in
+pub loses_thawed : (z : Sizes) (call looks r : ℕ) (v a b u : PassState) → Freezes z call r v a → Unpins z call r a b → Thaws z call looks r b u → LosesPinned z call looks r v u
+loses_thawed z call looks r v a b u f n p = let met = met_both call v a b f.beside.stands.met n.stands.met in
     let never : Runs Never v u = never_last (Then (FreezesWords z v r) (DropsRoomPin z r)) v b u (runs_then (FreezesWords z v r) (DropsRoomPin z r) v a b f.alone n.still) p.alone in record {
-      why = inr (inr record { word = p.pinned.word; step = step_since z call (on_rooms (hold_room r p.pinned.word)) v b u met p.pinned.step; frozen = p.pinned.frozen; pinned = p.pinned.pinned });
+      why = inr (inr (repeats_since call looks (FindsPinned z call r) v b u met p.pinned));
       unpins = record {
         stands = rests_both call v b u (rests_both call v a b f.beside.stands (rests_of call a b n.stands)) p.beside.stands;
         blocks = p.beside.blocks ∙ (n.blocks ∙ f.beside.blocks);
@@ -200,65 +197,44 @@ loses_thawed z call r v a b u f n p = let met = met_both call v a b f.beside.sta
         ended = p.ended;
         still = never_so (DropsRoomPin z r) v u never;
       };
-      alone = never_so (NeverAlone v) v u never;
+      alone = never_so (NeverUnfrozen v) v u never;
     }
 
 -- ---- a try to hold the chunk of a key
 
 -- no room was found that has it
-pub back_moved : (z : Sizes) (call : ℕ) (v u : PassState) → OnlyMeets call v u → ComesBack z call v u
-back_moved z call v u o = record {
+pub back_moved : (z : Sizes) (call : ℕ) (v u : PassState) → OnlyMeets call v u → HadMoment z u → ComesBack z call v u
+back_moved z call v u o had = record {
   beside = works_of_stands call v u (record { stands = rests_of call v u o.stands; blocks = o.blocks; headers = o.headers });
   claims = (rests_of call v u o.stands).claims;
   rooms = o.rooms;
-  alone = stay_leaves z no_room (held_by v) v u o.still;
-}
-
--- one try behind others
-pub back_both : (z : Sizes) (call : ℕ) (u v w : PassState) → ComesBack z call u v → ComesBack z call v w → ComesBack z call u w
-back_both z call u v w a b = record {
-  beside = works_both call u v w a.beside b.beside;
-  claims = b.claims ∙ a.claims;
-  rooms = b.rooms ∙ a.rooms;
-  alone = runs_leave_both z no_room (held_by u) u v w a.alone (subst (λ (o : RoomHolds). Runs (LeavesBut z no_room (λ q. 0 < in_room_state q HELD o)) v w) a.rooms b.alone);
+  ended = had;
 }
 
 -- the pass has of rooms what it had, and that is no pin
 pin_gone : (v : PassState) → HoldsOnlyRooms v → record v.rooms { pin = None } ≡ v.rooms
 pin_gone v only = ap (λ (o : Option _). record v.rooms { pin = o }) (sym only.pin)
 
-module _ (z : Sizes) (call r : ℕ) (key : List ℕ) (v x : PassState) (only : HoldsOnlyRooms v) (p : PinsOpen z call r (CoversKey key) v x) where
+module _ (z : Sizes) (call looks r : ℕ) (key : List ℕ) (v x : PassState) (only : HoldsOnlyRooms v) (p : PinsOpen z call r (CoversKey key) v x) where
   pinned_beside : StandsBeside call v x
   pinned_beside = record { stands = rests_of call v x p.stands; blocks = p.blocks; headers = p.headers }
 
   -- the room was found, and another pass froze it
-  pub back_lost : (u : PassState) → LosesPinned z call r x u → ComesBack z call v u
+  pub back_lost : (u : PassState) → LosesPinned z call looks r x u → ComesBack z call v u
   back_lost u l = record {
     beside = works_both call v x u (works_of_stands call v x pinned_beside) (works_of_stands call x u (record { stands = l.unpins.stands; blocks = l.unpins.blocks; headers = l.unpins.headers }));
     claims = l.unpins.stands.claims ∙ pinned_beside.stands.claims;
     rooms = l.unpins.rooms ∙ (ap (with_room_pin None) p.rooms ∙ pin_gone v only);
-    alone = runs_as (Then (AddsRoomPin z r) (DropsRoomPin z r)) (LeavesBut z no_room (held_by v)) v u
-        (λ a b s. leaves_same z no_room (held_by v) a b (undone z r p.has.inside a s.0 b (λ n. state_of n ≡ OPEN) (λ n. 0 < count_of n) s.1 s.2)) (runs_then (AddsRoomPin z r) (DropsRoomPin z r) v x u p.still l.unpins.still);
+    ended = l.unpins.ended;
   }
 
   -- why it could not be held
-  pub busy_lost : (u : PassState) → LosesPinned z call r x u → IsBusyFor z call key v u
-  busy_lost u l = inr (
-    r,
-    inl (⊎_elim
-        (λ (b : FindsFrozen z call r x u). inl record { step = step_since z call (load (in_rooms (at_room_pin r))) v x u p.stands.met b.step; frozen = b.frozen })
-        (⊎_elim
-        (λ (b : FindsChanged z call r x u). inr (inl record { word = b.word; step = step_since z call (on_rooms (freeze_room r b.word)) v x u p.stands.met b.step; changed = b.changed }))
-        (λ (b : FindsPinned z call r x u). inr (inr record { word = b.word; step = step_since z call (on_rooms (hold_room r b.word)) v x u p.stands.met b.step; frozen = b.frozen; pinned = b.pinned })))
-        l.why),
-  )
+  pub busy_lost : (u : PassState) → LosesPinned z call looks r x u → IsBusyFor z call looks key v u
+  busy_lost u l = inr (r, inl (room_busy z call looks v x u u p.stands.met (met_none call u) r l.why))
 
-  bare_pinned : HasNoRoom v → HasNoRoom x
-  bare_pinned n = record { held = ap (λ (o : RoomHolds). o.held) p.rooms ∙ n.held; moving = ap (λ (o : RoomHolds). o.moving) p.rooms ∙ n.moving }
-
-  -- a pass that is alone and has no room loses none
-  pub alone_lost : (u : PassState) → LosesPinned z call r x u → Runs (NeverAlone v) v u
-  alone_lost u l = never_alone_last (AddsRoomPin z r) v x u bare_pinned p.still l.alone
+  -- a pass that is alone, and has no room frozen, loses none
+  pub alone_lost : (u : PassState) → LosesPinned z call looks r x u → Runs (NeverElsewhere (key_number key) v) v u
+  alone_lost u l = unless_last (AddsRoomPin z r) (HasElsewhere (key_number key) v) (FreezesNone x) v x u (λ has q. ap (in_room_state q FROZEN) p.rooms ∙ has.frozen q) p.still l.alone
 
   -- the room is held in front of what the pass held
 
@@ -353,10 +329,10 @@ module _ (z : Sizes) (call r : ℕ) (key : List ℕ) (v x : PassState) (only : H
         never_off : Runs Never v u
         never_off = never_first (MovesWith z r HELD OPEN c.words) v t u (never_first (LeavesBut z no_room (held_by q)) v q t (never_first (LeavesBut z no_room (held_by y)) v y q (never_last (AddsRoomPin z r) v x y p.still ranged_off) works.words) c.works.words) o.alone
 
-        pub alone_off : Runs (NeverAlone v) v u
-        alone_off = never_so (NeverAlone v) v u never_off
+        pub alone_off : Runs (NeverElsewhere (key_number key) v) v u
+        alone_off = never_so (NeverElsewhere (key_number key) v) v u never_off
 
-        pub busy_off : IsBusyFor z call key v u
+        pub busy_off : IsBusyFor z call looks key v u
         busy_off = inr (
           r,
           inr record {
@@ -371,30 +347,5 @@ module _ (z : Sizes) (call r : ℕ) (key : List ℕ) (v x : PassState) (only : H
           beside = works_both call v y u (works_of_stands call v y front_beside) later;
           claims = o.claims ∙ (c.works.stands.claims ∙ (works.stands.claims ∙ front_beside.stands.claims));
           rooms = o.rooms ∙ (λ i. record { pin = (c.front.only.pin ∙ sym only.pin) i; latch = (c.front.only.latch ∙ sym only.latch) i; claim = (c.front.only.claim ∙ sym only.claim) i; held = v.rooms.held; moving = v.rooms.moving });
-          alone = never_so (LeavesBut z no_room (held_by v)) v u never_off;
+          ended = o.moment;
         }
-
--- a pass does not hold a room that is none of its own
-held_apart : (v : PassState) (r : ℕ) → total (λ (h : HeldRoom). one_at h.room r) v.rooms.held ≡ 0 → held_by v r → ⊥
-unfolding room_rows
-held_apart v r e h = let t = rows_total r v.rooms.held in omega arith
-
--- a room that is held for a key behind tries that failed
-pub for_since : (z : Sizes) (call r : ℕ) (key : List ℕ) (u v w : PassState) → ComesBack z call u v → (x : RoomCopy) × (g : MovingRange) × HoldsFor z call key r x g v w → (x : RoomCopy) × (g : MovingRange) × HoldsFor z call key r x g u w
-for_since z call r key u v w b h = let p = h.2 in (
-  h.0,
-  h.1,
-  record {
-    came = record { old = p.came.old; step = step_since z call (on_rooms (hold_room r p.came.old)) u v w b.beside.met p.came.step; found_is = p.came.found_is; copy_is = p.came.copy_is };
-    copied = p.copied;
-    still = p.still;
-    inside = p.inside;
-    beside = works_both call u v w b.beside p.beside;
-    claims = p.claims ∙ b.claims;
-    front = subst (λ (a : RoomHolds). HoldsFront z r h.0 h.1 a.held a.moving w) b.rooms p.front;
-    origin = p.origin;
-    alone = runs_as (Then (LeavesBut z no_room (held_by u)) (TakesRoom z v r h.0)) (TakesRoom z u r h.0) u w
-        (λ x y s. works_takes z u v r h.0 b.rooms (held_apart u r (subst (λ (a : RoomHolds). total (λ (k : HeldRoom). one_at k.room r) a.held ≡ 0) b.rooms p.front.apart)) x s.0 y s.1 s.2)
-        (runs_then (LeavesBut z no_room (held_by u)) (TakesRoom z v r h.0) u v w b.alone p.alone);
-  },
-)

@@ -1,12 +1,12 @@
 -- A pass freezes a room on which it has a pin, or finds it frozen.
-use Rattle.std.proofs.Common.{◌≡◌, ◌≢◌, ℕ, ◌+◌, map, sym, refl, ap, ◌∙◌, subst, arith, inl, List, get_or, ⊎_elim, inr}
+use Rattle.std.proofs.Common.{◌≡◌, ◌≢◌, ℕ, ◌+◌, map, sym, refl, ap, ◌∙◌, subst, arith, inl, List, get_or, inr}
 use Rattle.pin_word.specs.PinWord.{state_of}
 use Rattle.oak_model.specs.Limits.{Sizes}
 use Rattle.oak_model.proofs.Counting.{one_at-same, one_at-other, one_at-true, total_at}
 use Rattle.oak_model.proofs.Lists.{at_map}
 use Rattle.chunk_core.specs.declared.holds.RoomHeldAs.TheVariants.{Frozen}
 use Rattle.chunk_core.specs.declared.holds.RoomHolds.{RoomHolds}
-use Rattle.chunk_core.specs.declared.states.TheConstants.{OPEN, FROZEN, FREE}
+use Rattle.chunk_core.specs.declared.states.TheConstants.{OPEN, FROZEN}
 use Rattle.chunk_core.specs.CoverSums.{weight}
 use Rattle.chunk_core.specs.RoomRule.{in_room_state}
 use Rattle.chunk_core.specs.RoomStep.{freeze_room}
@@ -21,24 +21,23 @@ use Rattle.oak_core.specs.RoomCalls.{NamesRoomPin, FreezesRoom}
 use Rattle.oak_core.specs.Splitting.{Loads}
 use Rattle.oak_core.specs.Step.{Step, load, on_rooms, Told}
 use Rattle.oak_core.proofs.AloneRuns.{moment_after, runs_as, DoesStep, Then, load_runs, runs_then, step_runs}
-use Rattle.oak_core.proofs.CallSteps.{step_alone, step_since, met_both, step_met}
+use Rattle.oak_core.proofs.CallSteps.{step_alone, step_since, step_met}
 use Rattle.chunk_ops.specs.PinRecords.{HasRoomPin, RoomPinned, pin_or, room_pin}
 use Rattle.chunk_ops.proofs.MeetingCalls.{stays_then}
 use Rattle.chunk_ops.proofs.PinSteps.{pin_found}
 use Rattle.chunk_ops.proofs.WordLoads.{load_at, load_reads, only_loaded, pin_holds}
-use Rattle.rebalance.specs.Holding.{Freezes, with_frozen, FindsChanged, LeavesUnfrozen}
-use Rattle.rebalance.specs.LoneWords.{FreezesWords, room_in, state_in}
-use Rattle.rebalance.proofs.LoneChunks.{lone_divides}
+use Rattle.rebalance.specs.Holding.{Freezes, with_frozen, FindsChanged, LeavesUnfrozen, Repeats}
+use Rattle.rebalance.specs.LoneWords.{FreezesWords, room_in}
+use Rattle.rebalance.proofs.LoneChunks.{lone_divides, none_frozen}
 use Rattle.rebalance.proofs.LoneSteps.{StepAt, moment_at, moves_at, step_at}
 use Rattle.rebalance.proofs.RoomExchanges.{beside_since, exchanged_state, freeze_beside, freeze_takes}
 use Rattle.rebalance.specs.Resting.{OnlyRests, only_rests, resting_both}
 use Rattle.chunk_ops.specs.Latching.{Never}
-use Rattle.chunk_ops.specs.LoneRooms.{NeverAlone}
+use Rattle.chunk_ops.specs.LoneRooms.{NeverUnfrozen}
 use Rattle.chunk_core.specs.Covers.{span_in}
 use Rattle.chunk_core.specs.KeyWords.{low_number, high_number}
 use Rattle.chunk_core.specs.PinnedRooms.{span_of}
 use Rattle.rebalance.specs.Copies.{copy_span}
-use Rattle.rebalance.proofs.LoneTakes.{bare_still}
 use Rattle.rebalance.proofs.NeverRuns.{never_so}
 
 -- the load of a room's pin word
@@ -57,24 +56,23 @@ not_open : (w : ℕ) → weight w ≡ 1 → state_of w ≢ OPEN → state_of w �
 not_open w weighs ne = let o = one_at-other (state_of w) OPEN ne in one_at-true (state_of w) FROZEN (omega arith)
 
 -- a pinned room that is found not open
-module _ (z : Sizes) (call r word n : ℕ) (u v w : PassState) (names : NamesRoomPin z r word) (pin : HasRoomPin z r v) (only : OnlyRests call u v) (l : Loads z call word v n w) (shut : state_of n ≢ OPEN) where
+module _ (z : Sizes) (call looks r word n : ℕ) (u v w : PassState) (names : NamesRoomPin z r word) (pin : HasRoomPin z r v) (only : OnlyRests call u v) (l : Loads z call word v n w) (shut : state_of n ≢ OPEN) where
   told : Told z call (load (in_rooms (at_room_pin r))) v n w
   told = pin_load z call r word n v w names l
 
   frozen : state_of n ≡ FROZEN
   frozen = not_open n (subst (λ (k : ℕ). weight k ≡ 1) (ap (memory z told.table.words).rooms.pin pin.pin.room ∙ load_reads z call n v w (in_rooms (at_room_pin r)) told) (pin_holds z call r (load (in_rooms (at_room_pin r))) v n w pin told).cover) shut
 
-  -- each room is free or open to a pass that is alone and has none
-  never_frozen : (a b : List ℕ) → StepAt z call (load (in_rooms (at_room_pin r))) v n w told a b → NeverAlone u a b
-  never_frozen a b s bare = let d = lone_divides z a v (moment_at z call (load (in_rooms (at_room_pin r))) v n w told a b s) s.alone (bare_still u v bare only.rooms) in
-      let is : state_in z a r ≡ FROZEN = ap state_of (ap (λ (ws : List ℕ). (memory z ws).rooms.pin r) s.was ∙ load_reads z call n v w (in_rooms (at_room_pin r)) told) ∙ frozen in
-      ⊎_elim (λ (e : state_in z a r ≡ FREE). let f : FREE ≡ FROZEN = sym e ∙ is in absurd (omega arith)) (λ (e : state_in z a r ≡ OPEN). let f : OPEN ≡ FROZEN = sym e ∙ is in absurd (omega arith)) (d.states r names.inside)
+  -- no room is frozen where the pass is alone and has none so
+  never_frozen : (a b : List ℕ) → StepAt z call (load (in_rooms (at_room_pin r))) v n w told a b → NeverUnfrozen u a b
+  never_frozen a b s none = none_frozen z a v (moment_at z call (load (in_rooms (at_room_pin r))) v n w told a b s) s.alone (λ q. ap (in_room_state q FROZEN) only.rooms ∙ none q) r
+      (ap state_of (ap (λ (ws : List ℕ). (memory z ws).rooms.pin r) s.was ∙ load_reads z call n v w (in_rooms (at_room_pin r)) told) ∙ frozen)
 
-  pub finds_frozen : LeavesUnfrozen z call r u w
+  pub finds_frozen : LeavesUnfrozen z call looks r u w
   finds_frozen = record {
     why = inl record { step = step_since z call (load (in_rooms (at_room_pin r))) u v w only.stands.met (step_alone z call (load (in_rooms (at_room_pin r))) v n w told); frozen = frozen };
     only = resting_both call u v w only (pin_load_only z call r word n v w names l);
-    alone = stays_then (NeverAlone u) u v w only.still (runs_as (StepAt z call (load (in_rooms (at_room_pin r))) v n w told) (NeverAlone u) v w never_frozen (step_at z call (load (in_rooms (at_room_pin r))) v n w tt told));
+    alone = stays_then (NeverUnfrozen u) u v w only.still (runs_as (StepAt z call (load (in_rooms (at_room_pin r))) v n w told) (NeverUnfrozen u) v w never_frozen (step_at z call (load (in_rooms (at_room_pin r))) v n w tt told));
   }
 
 -- an exchange behind a look finds what that found
@@ -83,25 +81,17 @@ never_changed z call r old n k u v w l found t ne = let i : ℕ = index z (in_ro
     runs_as (Then (λ a b. (k ≡ get_or a i 0) × (b ≡ a)) (DoesStep z (on_rooms (freeze_room r old)) n)) Never u w (λ a b d. ne (d.2.0 ∙ (ap (λ (ws : List ℕ). get_or ws i 0) d.1.1 ∙ (sym d.1.0 ∙ found))))
     (runs_then (λ a b. (k ≡ get_or a i 0) × (b ≡ a)) (DoesStep z (on_rooms (freeze_room r old)) n) u v w (load_runs z call (in_rooms (at_room_pin r)) u k v l) (step_runs z call (on_rooms (freeze_room r old)) v n w tt t))
 
--- so many exchanges that found another word
-pub record Changed (z : Sizes) (call r : ℕ) (v w : PassState) : Type 0 where
-  pub why : FindsChanged z call r v w
-  pub alone : Runs Never v w
-
--- one of them, behind others
-pub changed_since : (z : Sizes) (call r old n k : ℕ) (u v x w : PassState) → OnlyRests call u v → Told z call (load (in_rooms (at_room_pin r))) v k x → k ≡ old → FreezesRoom z call r old x n w → n ≢ old → Changed z call r u w
-changed_since z call r old n k u v x w only l found t ne = record {
-  why = record {
-    word = old;
-    step = step_since z call (on_rooms (freeze_room r old)) u x w (met_both call u v x only.stands.met (step_met z call (load (in_rooms (at_room_pin r))) v k x l)) (step_alone z call (on_rooms (freeze_room r old)) x n w t);
-    changed = ne;
-  };
-  alone = stays_then Never u v w only.still (never_changed z call r old n k v x w l found t ne);
+-- or another word
+pub finds_changed : (z : Sizes) (call r old n k : ℕ) (v x w : PassState) → Told z call (load (in_rooms (at_room_pin r))) v k x → FreezesRoom z call r old x n w → n ≢ old → FindsChanged z call r v w
+finds_changed z call r old n k v x w l t ne = record {
+  word = old;
+  step = step_since z call (on_rooms (freeze_room r old)) v x w (step_met z call (load (in_rooms (at_room_pin r))) v k x l) (step_alone z call (on_rooms (freeze_room r old)) x n w t);
+  changed = ne;
 }
 
--- the pass gives up behind them
-pub leaves_changed : (z : Sizes) (call r : ℕ) (v w : PassState) → Changed z call r v w → OnlyRests call v w → LeavesUnfrozen z call r v w
-leaves_changed z call r v w c only = record { why = inr c.why; only = only; alone = never_so (NeverAlone v) v w c.alone }
+-- the pass gives up behind so many that did
+pub leaves_changed : (z : Sizes) (call looks r : ℕ) (v w : PassState) → Repeats call looks (FindsChanged z call r) v w → Runs Never v w → OnlyRests call v w → LeavesUnfrozen z call looks r v w
+leaves_changed z call looks r v w c never only = record { why = inr c; only = only; alone = never_so (NeverUnfrozen v) v w never }
 
 -- a room that is found open is frozen once
 frozen_once : (z : Sizes) (call r old n : ℕ) (v w : PassState) → (t : FreezesRoom z call r old v n w) → n ≡ old → in_room_state r FROZEN (with_frozen r v.rooms) ≡ 1

@@ -3,30 +3,36 @@ use Rattle.std.proofs.Common.{◌≡◌, ℕ, ◌⊎◌, inl, inr, ⊎_elim, Lis
 use Rattle.oak_model.specs.KeyNumber.{key_number}
 use Rattle.oak_model.specs.Limits.{Sizes}
 use Rattle.chunk_core.specs.declared.holds.RoomCopy.{RoomCopy}
-use Rattle.chunk_core.specs.RoomStep.{hold_room, open_room}
+use Rattle.chunk_core.specs.RoomStep.{hold_room, open_room, retire_room}
 use Rattle.oak_core.specs.declared.states.PassState.{PassState}
 use Rattle.oak_core.specs.AloneWords.{Runs}
 use Rattle.oak_core.specs.PassState.{HoldsNothing}
 use Rattle.oak_core.specs.RoomLacks.{ClaimsFull, HeldFull, RoomLackFound}
 use Rattle.oak_core.specs.Step.{on_rooms}
-use Rattle.oak_core.proofs.CallSteps.{step_since}
+use Rattle.oak_core.proofs.CallSteps.{met_none, step_since}
 use Rattle.oak_core.proofs.FullClaims.{claims_both, claims_none}
 use Rattle.chunk_ops.specs.Latching.{Never}
-use Rattle.chunk_ops.specs.LoneRooms.{NeverAlone}
-use Rattle.rebalance.specs.Busy.{GivesUp, IsBusyFor}
-use Rattle.rebalance.specs.Calls.{ComesToHold, Compacts, FindsNoRoom, Halves, Leaves, Loosens, OpensWith, Rewrites}
+use Rattle.chunk_ops.specs.LoneRooms.{HasElsewhere, NeverElsewhere}
+use Rattle.chunk_ops.proofs.LoneRoomLaws.{bare_elsewhere}
+use Rattle.rebalance.specs.Busy.{GivesUp, GivesUpMerging, IsBusyAbove, IsBusyAt, IsBusyFor}
+use Rattle.rebalance.specs.Calls.{ComesToHold, Compacts, FindsNoRoom, Halves, HasMuchAbove, IsLast, Leaves, Loosens, Merges, OpensWith, Rewrites, StaysApart}
 use Rattle.rebalance.specs.Chunks.{ComesBack}
-use Rattle.rebalance.specs.LoneCalls.{AllOpen, Divided, HalvesRoom, RewritesRoom}
+use Rattle.rebalance.specs.LoneCalls.{AllOpen, Divided, HalvesRoom, JoinsRooms, RewritesBoth, RewritesRoom}
+use Rattle.rebalance.proofs.BusyParts.{chunk_busy}
 use Rattle.rebalance.proofs.ClaimedRooms.{used_since}
 use Rattle.rebalance.proofs.LoneTakes.{bare_of}
-use Rattle.rebalance.proofs.NeverRuns.{bare_never, never_first, never_so}
+use Rattle.rebalance.proofs.NeverRuns.{never_first, never_so, unless_never}
 use Rattle.rebalance.proofs.SettledKeys.{leaves_both, leaves_none}
 use Rattle.rebalance.proofs.SweptKeys.{sweeps_since}
 use Rattle.rebalance.proofs.TakenChunks.{leaves_of}
 
 -- a call that could not hold the chunk
-pub gives_up : (z : Sizes) (call : ℕ) (key : List ℕ) (v u : PassState) → HoldsNothing v → ComesBack z call v u → IsBusyFor z call key v u → Runs (NeverAlone v) v u → GivesUp z call key v u
-gives_up z call key v u idle c b a = record { busy = b; leaves = leaves_of call v u c.beside c.rooms; unclaimed = c.claims; alone = bare_never v u (bare_of v idle) a }
+pub gives_up : (z : Sizes) (call looks : ℕ) (key : List ℕ) (v u : PassState) → HoldsNothing v → ComesBack z call v u → IsBusyFor z call looks key v u → Runs (NeverElsewhere (key_number key) v) v u → GivesUp z call looks key v u
+gives_up z call looks key v u idle c b a = record { busy = b; leaves = leaves_of call v u c.beside c.rooms; unclaimed = c.claims; alone = unless_never (HasElsewhere (key_number key) v) v u (bare_elsewhere (key_number key) v (bare_of v idle)) a }
+
+-- or the lower one of two
+pub gives_up_lower : (z : Sizes) (call looks : ℕ) (key : List ℕ) (v u : PassState) → GivesUp z call looks key v u → GivesUpMerging z call looks key v u
+gives_up_lower z call looks key v u g = record { busy = inl g.busy; leaves = g.leaves; unclaimed = g.unclaimed; alone = g.alone }
 
 -- ---- calls that gave up one behind another
 
@@ -45,22 +51,19 @@ pub alone_since : (call : ℕ) (Q : List ℕ → List ℕ → Type 0) (u v w : P
 alone_since call Q u v w x r = ⊎_elim (λ (e : u ≡ v). subst (λ (y : PassState). Runs Q y w) (sym e) r) (λ (n : Runs Never u v). never_so Q u w (never_first Q u v w n r)) x.alone
 
 -- one more
-pub waits_more : (z : Sizes) (call : ℕ) (key : List ℕ) (u v w : PassState) → Waits call u v → GivesUp z call key v w → Waits call u w
-waits_more z call key u v w x g = record { leaves = leaves_both call u v w x.leaves g.leaves; unclaimed = g.unclaimed ∙ x.unclaimed; alone = inr (alone_since call Never u v w x g.alone) }
+pub waits_more : (call : ℕ) (u v w : PassState) → Waits call u v → Leaves call v w → w.findings.rebalances.claims ≡ v.findings.rebalances.claims → Runs Never v w → Waits call u w
+waits_more call u v w x l unclaimed never = record { leaves = leaves_both call u v w x.leaves l; unclaimed = unclaimed ∙ x.unclaimed; alone = inr (alone_since call Never u v w x never) }
 
--- ---- what a call answers behind them
+-- ---- what a part of a call did, behind another that left all else
 
-module _ (z : Sizes) (call : ℕ) (u v w : PassState) (x : Waits call u v) where
-  holds_since : (r : ℕ) (copy : RoomCopy) → ComesToHold z call r copy v w → ComesToHold z call r copy u w
-  holds_since r copy c = record { old = c.old; step = step_since z call (on_rooms (hold_room r c.old)) u v w x.leaves.met c.step; found_is = c.found_is; copy_is = c.copy_is }
+module _ (z : Sizes) (call : ℕ) (u v w : PassState) (first : Leaves call u v) where
+  pub holds_since : (r : ℕ) (copy : RoomCopy) → ComesToHold z call r copy v w → ComesToHold z call r copy u w
+  holds_since r copy c = record { old = c.old; step = step_since z call (on_rooms (hold_room r c.old)) u v w first.met c.step; found_is = c.found_is; copy_is = c.copy_is }
 
-  opens_since : (r : ℕ) (copy : RoomCopy) → OpensWith z call r copy v w → OpensWith z call r copy u w
-  opens_since r copy o = record { step = step_since z call (on_rooms (open_room r)) u v w x.leaves.met o.step; copy_is = o.copy_is }
+  pub opens_since : (r : ℕ) (copy : RoomCopy) → OpensWith z call r copy v w → OpensWith z call r copy u w
+  opens_since r copy o = record { step = step_since z call (on_rooms (open_room r)) u v w first.met o.step; copy_is = o.copy_is }
 
-  claims_since : Leaves call v w → ClaimsFull z v w → ClaimsFull z u w
-  claims_since l c = claims_both z u v w (x.leaves.met.more, x.leaves.met.met) (l.met.more, l.met.met) (claims_none z u v x.unclaimed) c
-
-  rewrites_since : (key : List ℕ) (r : ℕ) (held opened : RoomCopy) → Rewrites z call key r held opened v w → Rewrites z call key r held opened u w
+  pub rewrites_since : (key : List ℕ) (r : ℕ) (held opened : RoomCopy) → Rewrites z call key r held opened v w → Rewrites z call key r held opened u w
   rewrites_since key r held opened c = record {
     holds = holds_since r held c.holds;
     inside = c.inside;
@@ -70,15 +73,34 @@ module _ (z : Sizes) (call : ℕ) (u v w : PassState) (x : Waits call u v) where
     kept = c.kept;
     base = c.base;
     sorted = c.sorted;
-    swept = sweeps_since call key u v w x.leaves.swept x.leaves.met c.swept;
+    swept = sweeps_since call key u v w first.swept first.met c.swept;
   }
+
+  -- it found one of two chunks busy
+  pub busy_since : (looks : ℕ) (key : List ℕ) → IsBusyAt z call looks key v w → IsBusyAt z call looks key u w
+  busy_since looks key = ⊎_elim (λ (b : IsBusyFor z call looks key v w). inl (chunk_busy z call looks u v w w first.met (met_none call w) key b))
+      (λ (b : IsBusyAbove z call looks key v w). inr record {
+        room = b.room;
+        held = b.held;
+        opened = b.opened;
+        rewrites = rewrites_since key b.room b.held b.opened b.rewrites;
+        above = b.above;
+        begins = b.begins;
+        busy = chunk_busy z call looks u v w w first.met (met_none call w) b.above b.busy;
+      })
+
+-- ---- what a call answers behind others that gave up
+
+module _ (z : Sizes) (call : ℕ) (u v w : PassState) (x : Waits call u v) where
+  claims_since : Leaves call v w → ClaimsFull z v w → ClaimsFull z u w
+  claims_since l c = claims_both z u v w (x.leaves.met.more, x.leaves.met.met) (l.met.more, l.met.met) (claims_none z u v x.unclaimed) c
 
   pub compacts_since : (key : List ℕ) (dropped : ℕ) → Compacts z call key dropped v w → Compacts z call key dropped u w
   compacts_since key dropped c = record {
     room = c.room;
     held = c.held;
     opened = c.opened;
-    rewrites = rewrites_since key c.room c.held c.opened c.rewrites;
+    rewrites = rewrites_since z call u v w x.leaves key c.room c.held c.opened c.rewrites;
     count_is = c.count_is;
     leaves = leaves_both call u v w x.leaves c.leaves;
     claims = claims_since c.leaves c.claims;
@@ -94,13 +116,13 @@ module _ (z : Sizes) (call : ℕ) (u v w : PassState) (x : Waits call u v) where
   halves_since key upper c = record {
     room = c.room;
     held = c.held;
-    holds = holds_since c.room c.held c.holds;
+    holds = holds_since z call u v w x.leaves c.room c.held c.holds;
     inside = c.inside;
     full = c.full;
     low_copy = c.low_copy;
     high_copy = c.high_copy;
-    opens_upper = opens_since upper c.high_copy c.opens_upper;
-    opens_lower = opens_since c.room c.low_copy c.opens_lower;
+    opens_upper = opens_since z call u v w x.leaves upper c.high_copy c.opens_upper;
+    opens_lower = opens_since z call u v w x.leaves c.room c.low_copy c.opens_lower;
     first = c.first;
     cut = c.cut;
     low = c.low;
@@ -150,4 +172,56 @@ module _ (z : Sizes) (call : ℕ) (u v w : PassState) (x : Waits call u v) where
     base = c.base;
     lacks = lacks_since (key_number key) c.lacks;
     all_open = alone_since call (AllOpen z) u v w x c.all_open;
+  }
+
+  pub merges_since : (key : List ℕ) → Merges z call key v w → Merges z call key u w
+  unfolding holds_since opens_since
+  merges_since key m = record {
+    room = m.room;
+    other = m.other;
+    held = m.held;
+    next = m.next;
+    holds = holds_since z call u v w x.leaves m.room m.held m.holds;
+    holds_next = holds_since z call u v w x.leaves m.other m.next m.holds_next;
+    inside = m.inside;
+    above = m.above;
+    few = m.few;
+    retires = step_since z call (on_rooms (retire_room m.other)) u v w x.leaves.met m.retires;
+    opened = m.opened;
+    opens = opens_since z call u v w x.leaves m.room m.opened m.opens;
+    low = m.low;
+    high = m.high;
+    base = m.base;
+    kept = m.kept;
+    sorted = m.sorted;
+    swept = sweeps_since call key u v w x.leaves.swept x.leaves.met m.swept;
+    leaves = leaves_both call u v w x.leaves m.leaves;
+    unclaimed = m.unclaimed ∙ x.unclaimed;
+    claims = claims_since m.leaves m.claims;
+    alone = alone_since call (Divided z (JoinsRooms z m.room m.other m.held m.next m.opened)) u v w x m.alone;
+  }
+
+  pub stays_since : (key : List ℕ) → StaysApart z call key v w → StaysApart z call key u w
+  stays_since key s = record {
+    room = s.room;
+    held = s.held;
+    opened = s.opened;
+    rewrites = rewrites_since z call u v w x.leaves key s.room s.held s.opened s.rewrites;
+    leaves = leaves_both call u v w x.leaves s.leaves;
+    unclaimed = s.unclaimed ∙ x.unclaimed;
+    claims = claims_since s.leaves s.claims;
+    ended = s.ended;
+    why = ⊎_elim (λ (l : IsLast z s.room s.held s.opened v w). inl record { last = l.last; alone = alone_since call (Divided z (RewritesRoom z s.room s.held s.opened)) u v w x l.alone })
+        (λ (m : HasMuchAbove z call s.room s.held s.opened v w). inr record {
+          other = m.other;
+          next = m.next;
+          reopened = m.reopened;
+          key = m.key;
+          begins = m.begins;
+          rewrites = rewrites_since z call u v w x.leaves m.key m.other m.next m.reopened m.rewrites;
+          above = m.above;
+          many = m.many;
+          alone = alone_since call (Divided z (RewritesBoth z s.room m.other s.held s.opened m.next m.reopened)) u v w x m.alone;
+        })
+        s.why;
   }

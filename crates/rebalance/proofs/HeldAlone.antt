@@ -25,11 +25,12 @@ use Rattle.oak_core.specs.PassState.{rooms_held}
 use Rattle.oak_core.specs.RoomCalls.{HoldsRoomWord}
 use Rattle.oak_core.specs.Step.{on_rooms, Told}
 use Rattle.oak_core.proofs.AloneRuns.{moment_after, DoesStep, runs_as, step_runs}
-use Rattle.oak_core.proofs.CallSteps.{step_alone, step_since, step_until}
+use Rattle.oak_core.proofs.CallSteps.{step_alone, step_since}
 use Rattle.chunk_ops.specs.RoomPins.{HadMoment}
 use Rattle.chunk_ops.proofs.MeetingCalls.{stays_then}
 use Rattle.chunk_ops.proofs.PinSteps.{pin_found}
-use Rattle.rebalance.specs.Holding.{HasHeld, Holds, with_moving, FindsPinned, StandsBeside, Thaws}
+use Rattle.rebalance.specs.Holding.{HasHeld, Holds, with_moving, FindsPinned, Repeats, StandsBeside, Thaws}
+use Rattle.rebalance.proofs.BusyParts.{pinned_until, repeats_until}
 use Rattle.rebalance.specs.LoneWords.{MovesWith}
 use Rattle.rebalance.specs.Mirrors.{Mirrors}
 use Rattle.rebalance.proofs.LoneSteps.{room_moves_with, StepAt, moment_at, step_at}
@@ -136,28 +137,15 @@ module _ (z : Sizes) (call r old n : ℕ) (v w : PassState) (t : HoldsRoomWord z
       (λ some. omega arith)
 
   -- a pass that is alone and has no pin finds none
-  never_pinned : v.rooms.pin ≡ None → Runs Never v w
+  pub never_pinned : v.rooms.pin ≡ None → Runs Never v w
   never_pinned none = runs_as (StepAt z call (on_rooms (hold_room r old)) v n w t) Never v w
       (λ a b s. let c = lone_count z a v (moment_at z call (on_rooms (hold_room r old)) v n w t a b s) s.alone none r in
       let e : count_of ((memory z a).rooms.pin r) ≡ count_of n = ap (λ (ws : List ℕ). count_of ((memory z ws).rooms.pin r)) s.was ∙ ap count_of found_is in let p = found_pinned in absurd (omega arith))
       (step_at z call (on_rooms (hold_room r old)) v n w tt t)
 
--- so many looks that found it so
-pub record StaysPinned (z : Sizes) (call r : ℕ) (v w : PassState) : Type 0 where
-  pub why : FindsPinned z call r v w
-  pub alone : Runs Never v w
-
--- one of them, behind others
-pub pinned_since : (z : Sizes) (call r old n : ℕ) (u v w : PassState) → OnlyRests call u v → HoldsRoomWord z call r old v n w → generation_of old ≡ 0 → n ≢ old → u.rooms.pin ≡ None → StaysPinned z call r u w
-pinned_since z call r old n u v w only t first ne none = record {
-  why = record {
-    word = old;
-    step = step_since z call (on_rooms (hold_room r old)) u v w only.stands.met (step_alone z call (on_rooms (hold_room r old)) v n w t);
-    frozen = found_frozen z call r old n v w t first ne;
-    pinned = found_pinned z call r old n v w t first ne;
-  };
-  alone = stays_then Never u v w only.still (never_pinned z call r old n v w t first ne (ap (λ (a : RoomHolds). a.pin) only.rooms ∙ none));
-}
+  -- a look that found it so
+  pub finds_pinned : FindsPinned z call r v w
+  finds_pinned = record { word = old; step = step_alone z call (on_rooms (hold_room r old)) v n w t; frozen = found_frozen; pinned = found_pinned }
 
 -- ---- a frozen room that is opened again
 
@@ -168,14 +156,14 @@ thaw_beside z call r n v w t = subst (StandsBeside call v) (sym t.after) (record
   headers = refl;
 })
 
--- behind looks that found it pinned
-pub thaws : (z : Sizes) (call r n : ℕ) (u v w : PassState) → StaysPinned z call r u v → OnlyRests call u v → ThawsRoom z call r v n w → Thaws z call r u w
-thaws z call r n u v w p only t = let b = thaw_beside z call r n v w t.told in record {
-  pinned = record { word = p.why.word; step = step_until z call (on_rooms (hold_room r p.why.word)) u v w b.stands.met p.why.step; frozen = p.why.frozen; pinned = p.why.pinned };
+-- behind so many looks that found it pinned
+pub thaws : (z : Sizes) (call looks r n : ℕ) (u v w : PassState) → Repeats call looks (FindsPinned z call r) u v → Runs Never u v → OnlyRests call u v → ThawsRoom z call r v n w → Thaws z call looks r u w
+thaws z call looks r n u v w pinned never only t = let b = thaw_beside z call r n v w t.told in record {
+  pinned = repeats_until call looks (FindsPinned z call r) (pinned_until z call r) u v w b.stands.met pinned;
   step = step_since z call (on_rooms (thaw_room r)) u v w only.stands.met (step_alone z call (on_rooms (thaw_room r)) v n w t.told);
   last = refl;
   beside = beside_since call u v w only b;
   rooms = t.rooms ∙ ap (λ (a : RoomHolds). record a { held = without_room r a.held }) only.rooms;
   ended = (_, moment_after z call (on_rooms (thaw_room r)) v n w t.told);
-  alone = never_first (DoesStep z (on_rooms (thaw_room r)) n) u v w p.alone (step_runs z call (on_rooms (thaw_room r)) v n w tt t.told);
+  alone = never_first (DoesStep z (on_rooms (thaw_room r)) n) u v w never (step_runs z call (on_rooms (thaw_room r)) v n w tt t.told);
 }

@@ -58,6 +58,7 @@ pub mod LoneChunks
 mod LonePins
 mod LoneTakes
 mod SettledCalls
+mod CountedChunks
 pub mod SweptRooms
 pub mod FrontRooms
 pub mod FrontCompacts
@@ -65,6 +66,7 @@ pub mod KeysCleared
 pub mod TakenRanges
 pub mod FrontRewrites
 pub mod ListedRows
+pub mod BusyParts
 pub mod ChunkLaws
 pub mod FrontLaws
 pub mod CompactCalls

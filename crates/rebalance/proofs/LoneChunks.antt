@@ -31,8 +31,9 @@ use Rattle.oak_core.specs.PassState.{IsAlone, rooms_held, spent_state}
 use Rattle.oak_core.specs.Step.{Step, load, give_number, on_arena, on_headers, on_rooms, store_locked, note_full, state_after}
 use Rattle.oak_core.specs.TableState.{TableState}
 use Rattle.oak_core.proofs.Alone.{others_are}
+use Rattle.oak_core.proofs.AloneRuns.{runs_as}
 use Rattle.oak_core.proofs.OneOwner.{below_two}
-use Rattle.chunk_ops.specs.LoneRooms.{HasNoRoom}
+use Rattle.chunk_ops.specs.LoneRooms.{FreezesNone, HasNoRoom}
 use Rattle.chunk_ops.specs.RoomPins.{HadMoment}
 use Rattle.chunk_ops.proofs.LoneRoomLaws.{lone_room}
 use Rattle.rebalance.specs.Copies.{copy_span}
@@ -62,6 +63,11 @@ each_so z words u m alone P mine none j a e = let o = at_unmap rooms_held m.stat
 -- where such a pass has no pin, no room has one
 pub lone_count : (z : Sizes) (words : List ℕ) (u : PassState) → Moment z words u → IsAlone u → u.rooms.pin ≡ None → (r : ℕ) → count_of ((memory z words).rooms.pin r) ≡ 0
 lone_count z words u m alone none r = sym (m.rule.rooms.counted r) ∙ total_zero (room_pins r) (map rooms_held m.states) (λ j a e. ap (pins_of r) (each_so z words u m alone (λ b. b.pin ≡ None) none refl j a e))
+
+-- no room is frozen where such a pass has none so
+pub none_frozen : (z : Sizes) (words : List ℕ) (u : PassState) → Moment z words u → IsAlone u → FreezesNone u → (r : ℕ) → state_in z words r ≡ FROZEN → ⊥
+none_frozen z words u m alone none r is = let a = m.rule.rooms.held r FROZEN (inl refl) in let o = one_at-same (state_in z words r) FROZEN is in
+    let t = total_zero (in_room_state r FROZEN) (map rooms_held m.states) (each_so z words u m alone (λ b. in_room_state r FROZEN b ≡ 0) (none r) (none_held r FROZEN no_rooms refl)) in absurd (omega arith)
 
 -- a moment at which the pass was alone, and had no room
 module _ (z : Sizes) (words : List ℕ) (u : PassState) (m : Moment z words u) (alone : IsAlone u) (bare : HasNoRoom u) where
@@ -133,16 +139,19 @@ divides_before z a b d l = record {
 pub ended_at : (z : Sizes) (w : PassState) (b : List ℕ) → HadMoment z w → LeavesWords b w → Moment z b w × IsAlone w
 ended_at z w b had l = let m = had.1 in let a = m.rule.alone m.seat w m.here l.met l.finding l.last l.alone in (subst (λ (ws : List ℕ). Moment z ws w) (a.0 ∙ l.are) m, a.1)
 
--- what a call did that left its pass no room, and before which the rooms divided the keys
-pub divided_runs : (z : Sizes) (P : List ℕ → List ℕ → Type 0) (v w : PassState) → (v ≡ w → ⊥) → HasNoRoom w → HadMoment z w → Runs (λ a b. Divides z a × P a b) v w → Runs (Divided z P) v w
-divided_runs z P v w apart bare had r = record {
+-- behind a call that left its pass no room, the rooms divide the keys
+pub ends_divided : (z : Sizes) (P : List ℕ → List ℕ → Type 0) (v w : PassState) → (v ≡ w → ⊥) → HasNoRoom w → HadMoment z w → Runs P v w → Runs (λ a b. P a b × Divides z b) v w
+ends_divided z P v w apart bare had r = record {
   goes = λ before l. behind before (r.goes before l);
-  starts = λ alone. ⊎_elim (λ (n : (v ≡ w) × ((words : List ℕ) → Divides z words × P words words)). absurd (apart n.0))
-      (λ (s : (before : List ℕ) × RunsTo (λ a b. Divides z a × P a b) before w). inr (s.0, behind s.0 s.1)) (r.starts alone);
+  starts = λ alone. ⊎_elim (λ (n : (v ≡ w) × ((words : List ℕ) → P words words)). absurd (apart n.0)) (λ (s : (before : List ℕ) × RunsTo P before w). inr (s.0, behind s.0 s.1)) (r.starts alone);
 }
   where
-    behind : (before : List ℕ) → RunsTo (λ a b. Divides z a × P a b) before w → RunsTo (Divided z P) before w
-    behind before t = let e = ended_at z w t.after had t.leaves in record { after = t.after; leaves = t.leaves; does = record { divided = t.does.0; does = t.does.1; divides = lone_divides z t.after w e.0 e.1 bare } }
+    behind : (before : List ℕ) → RunsTo P before w → RunsTo (λ a b. P a b × Divides z b) before w
+    behind before t = let e = ended_at z w t.after had t.leaves in record { after = t.after; leaves = t.leaves; does = (t.does, lone_divides z t.after w e.0 e.1 bare) }
+
+-- so they do on both sides where they did before it
+pub divided_runs : (z : Sizes) (P : List ℕ → List ℕ → Type 0) (v w : PassState) → (v ≡ w → ⊥) → HasNoRoom w → HadMoment z w → Runs (λ a b. Divides z a × P a b) v w → Runs (Divided z P) v w
+divided_runs z P v w apart bare had r = runs_as (λ a b. (Divides z a × P a b) × Divides z b) (Divided z P) v w (λ a b d. record { divided = d.0.0; does = d.0.1; divides = d.1 }) (ends_divided z (λ a b. Divides z a × P a b) v w apart bare had r)
 
 -- a step adds what it met
 grown : (z : Sizes) (call : ℕ) (x : Step) (s : TableState) (v : PassState) → (f : Finding) × ((state_after z call x s v).findings.met ≡ v.findings.met ++ f ∷ [])

@@ -7,7 +7,6 @@ use Rattle.oak_model.specs.Limits.{Sizes}
 use Rattle.chunk_core.specs.declared.holds.RoomCopy.{RoomCopy}
 use Rattle.chunk_core.specs.declared.holds.RoomHolds.{RoomHolds}
 use Rattle.chunk_core.specs.declared.states.TheConstants.{FROZEN, HELD, OPEN}
-use Rattle.chunk_core.specs.RoomRule.{in_room_state}
 use Rattle.chunk_core.proofs.HeldRooms.{room_rows, row_else}
 use Rattle.oak_core.specs.declared.states.PassState.{PassState}
 use Rattle.oak_core.specs.AloneWords.{Runs}
@@ -70,16 +69,6 @@ takes_works z v y r w more a b c t l = record {
 pub none_by : (v : PassState) → HasNoRoom v → (q : ℕ) → held_by v q → ⊥
 unfolding room_rows total
 none_by v n q h = let e : room_rows q HELD v.rooms.held ≡ 0 = ap (room_rows q HELD) n.held in absurd (omega arith)
-
--- and before, on others that it held
-pub works_takes : (z : Sizes) (u v : PassState) (r : ℕ) (w : RoomCopy) → v.rooms ≡ u.rooms → (held_by u r → ⊥) → (a b c : List ℕ) → LeavesBut z no_room (held_by u) a b → TakesRoom z v r w b c → TakesRoom z u r w a c
-works_takes z u v r w same apart a b c l t = record {
-  leaves = leaves_both z (this_room r) (or_held r u) a b c (leaves_more z no_room (held_by u) (this_room r) (or_held r u) a b (λ q n. absurd n) (λ q h. inr h) l)
-      (leaves_more z (this_room r) (or_held r v) (this_room r) (or_held r u) b c (λ q m. m) (λ q. ⊎_elim (λ (e : q ≡ r). inl e) (λ (h : held_by v q). inr (subst (λ (o : RoomHolds). 0 < in_room_state q HELD o) same h))) t.leaves);
-  was = sym (l.states r (λ n. n)) ∙ t.was;
-  words = sym (l.words r apart) ∙ t.words;
-  divided = λ n. divides_before z a b (t.divided (bare_still u v n same)) (leaves_more z no_room (held_by u) no_room no_room a b (λ q m. m) (none_by u n) l);
-}
 
 -- where the state of the one room that was moved is what it was, none was moved
 moved_back : (z : Sizes) (r : ℕ) (S : ℕ → Type 0) (a b : List ℕ) → LeavesBut z (this_room r) S a b → state_in z b r ≡ state_in z a r → LeavesBut z no_room S a b

@@ -1,5 +1,5 @@
 -- What becomes of two chunks that a call took: they stay apart, or they are one.
-use Rattle.std.proofs.Common.{◌≡◌, ◌≢◌, ℕ, ◌+◌, ◌*◌, ◌/◌, ◌<◌, ◌≤◌, inl, inr, List, [], sym, refl, ap, ◌∙◌, subst, arith, Option, Some, None}
+use Rattle.std.proofs.Common.{◌≡◌, ◌≢◌, ℕ, ◌+◌, ◌*◌, ◌/◌, ◌<◌, ◌≤◌, inl, inr, List, [], sym, refl, ap, ◌∙◌, subst, arith, Option, Some, None, Result, Ok, Err}
 use lib.ListN.{get_elem?}
 use Rattle.oak_model.specs.Key.{AreBytes, IsKey}
 use Rattle.oak_model.specs.KeyNumber.{key_number}
@@ -8,6 +8,7 @@ use Rattle.oak_model.specs.Counts.{total}
 use Rattle.oak_model.proofs.Counting.{one_at-same, total_append}
 use Rattle.chunk_core.specs.declared.holds.Carried.{Carried}
 use Rattle.chunk_core.specs.declared.holds.EntryWords.{EntryWords}
+use Rattle.chunk_core.specs.declared.states.TheConstants.{HELD, OPEN}
 use Rattle.chunk_core.specs.KeyWords.{high_bytes, high_number, low_number}
 use Rattle.chunk_core.specs.MovingRanges.{greater, joined_by}
 use Rattle.chunk_core.specs.RoomCopies.{entries_held}
@@ -22,28 +23,32 @@ use Rattle.oak_core.specs.PassState.{HoldsNothing}
 use Rattle.oak_core.specs.Step.{on_rooms}
 use Rattle.oak_core.proofs.CallSteps.{step_in}
 use Rattle.oak_core.proofs.FullClaims.{claims_none}
+use Rattle.rebalance.specs.declared.answers.Busy.{Busy}
 use Rattle.rebalance.specs.declared.merging.Merged.{Merged}
 use Rattle.rebalance.specs.declared.merging.Merged.TheVariants.{Joined, Apart}
 use Rattle.rebalance.specs.declared.merging.Taken.{Taken}
-use Rattle.chunk_ops.specs.LoneRooms.{HasNoRoom}
+use Rattle.chunk_ops.specs.LoneRooms.{HasElsewhere, HasNoRoom, NeverElsewhere}
+use Rattle.rebalance.specs.Busy.{GivesUpMerging, IsBusyFor}
 use Rattle.rebalance.specs.Calls.{IsSorted, Merges, Rewrites}
 use Rattle.rebalance.specs.Copies.{base_without, copy_span}
-use Rattle.rebalance.specs.Chunks.{HoldsFront, OpensFront, WorksBeside}
+use Rattle.rebalance.specs.Chunks.{ComesBack, HoldsFront, OpensFront, WorksBeside}
 use Rattle.rebalance.specs.HeldTables.{WorksOnRooms}
 use Rattle.rebalance.specs.LoneCalls.{JoinsRooms, RewritesBoth}
-use Rattle.rebalance.specs.LoneWords.{TakesRoom}
+use Rattle.rebalance.specs.LoneWords.{MovesWith, TakesRoom}
 use Rattle.rebalance.specs.Merging.{ApartUpTo, JoinsPair, TakesChunk}
 use Rattle.rebalance.specs.Mirrors.{range_span}
+use Rattle.rebalance.proofs.BusyParts.{chunk_busy}
 use Rattle.rebalance.proofs.ChunkLaws.{works_both, works_none, works_of_rooms}
 use Rattle.rebalance.proofs.JoinedRanges.{spans}
 use Rattle.rebalance.proofs.LoneChunks.{divided_runs, step_apart}
 use Rattle.rebalance.proofs.LoneTakes.{bare_of, bare_still, front_or, lone_rewrites, taken_works}
+use Rattle.rebalance.proofs.NeverRuns.{never_first, never_last, unless_never}
 use Rattle.rebalance.proofs.NeighbourChunks.{pair_above, pair_below, pair_front}
 use Rattle.rebalance.proofs.RangeKeys.{high_number-is, number_of}
 use Rattle.rebalance.proofs.RangesStand.{range_stands}
 use Rattle.rebalance.proofs.SweptKeys.{high_are_bytes, sweeps_since, sweeps_until}
 use Rattle.rebalance.proofs.SweptRooms.{mirrors_valued}
-use Rattle.rebalance.proofs.TakenChunks.{end_is_key, front_back, held_in, inside_still, leaves_of, none_left, opened_rewrites, opened_sweeps, opens_since}
+use Rattle.rebalance.proofs.TakenChunks.{end_elsewhere, end_is_key, front_back, front_kept, held_in, inside_still, leaves_of, none_left, opened_rewrites, opened_sweeps, opens_since}
 use Rattle.rebalance.proofs.TwoHeldRooms.{joins_rooms, rewrites_both}
 
 -- what is no key is none
@@ -52,9 +57,10 @@ none_of None n = refl
 none_of (Some x) n = absurd (n x refl)
 
 -- the key at which the chunk above begins, where the two stay apart
-abbrev pub apart_of : Merged → Option (List ℕ)
-apart_of Joined = None
-apart_of (Apart high) = high
+abbrev pub apart_of : Result Merged Busy → Option (List ℕ)
+apart_of (Ok Joined) = None
+apart_of (Ok (Apart high)) = high
+apart_of (Err b) = None
 
 module _ (z : Sizes) (call : ℕ) (key : List ℕ) (low : Taken) (ys : List SortSlot) (v a : PassState) (idle : HoldsNothing v) (lower : TakesChunk z call key low ys v a) (q : PassState) (works : WorksOnRooms z call a q) (front : HoldsFront z low.room lower.words lower.range [] [] q) (bytes : AreBytes key) (is : IsKey key) where
   looked : WorksBeside call a q
@@ -88,6 +94,30 @@ module _ (z : Sizes) (call : ℕ) (key : List ℕ) (low : Taken) (ys : List Sort
       };
       ends = ap high_bytes (sym lower.rewritten.high) ∙ end;
       sweeps = opened_sweeps z call key low ys v a idle lower q front looked u o bytes is None end;
+    }
+
+  -- the one above it was busy, and the first one was opened again
+  module _ (looks : ℕ) (h : List ℕ) (end : high_bytes lower.words.high ≡ Some h) (b u : PassState) (back : ComesBack z call q b) (busy : IsBusyFor z call looks h q b) (never : Runs (NeverElsewhere (key_number h) q) q b) (o : OpensFront z call low.room lower.words [] [] b u) where
+    to_back : WorksBeside call a b
+    to_back = works_both call a q b looked back.beside
+
+    pub busy_above : GivesUpMerging z call looks key v u
+    busy_above = let k = opened_rewrites z call key low ys v a idle lower b (front_kept z call low.room lower.words lower.range [] [] q b front back) to_back u o bytes is in record {
+      busy = inr (record {
+        room = low.room;
+        held = lower.held;
+        opened = lower.words;
+        rewrites = k.0;
+        above = h;
+        begins = ap high_bytes (sym lower.rewritten.high) ∙ end;
+        busy = chunk_busy z call looks v q b u (works_both call v a q lower.beside looked).met o.beside.met h busy;
+      });
+      leaves = k.1;
+      unclaimed = o.claims ∙ (back.claims ∙ (works.stands.claims ∙ lower.claims));
+      alone = never_first (MovesWith z low.room HELD OPEN lower.words) v b u
+          (never_last (TakesRoom z v low.room lower.held) v q b takes
+          (unless_never (HasElsewhere (key_number h) q) q b (end_elsewhere z low.room lower.words lower.range q (key_number h) front (ap high_number (sym front.mirrors.high) ∙ (high_number-is lower.words.high ∙ ap number_of end))) never))
+          o.alone;
     }
 
   -- the one above it was taken too

@@ -4,7 +4,6 @@ use Rattle.oak_core.specs.declared.states.PassState.{PassState}
 use Rattle.oak_core.specs.AloneWords.{Runs}
 use Rattle.oak_core.proofs.AloneRuns.{Then, runs_as, runs_then}
 use Rattle.chunk_ops.specs.Latching.{Never}
-use Rattle.chunk_ops.specs.LoneRooms.{HasNoRoom, NeverAlone}
 
 -- all is so of what never comes
 pub never_so : (Q : List ℕ → List ℕ → Type 0) (v w : PassState) → Runs Never v w → Runs Q v w
@@ -18,14 +17,14 @@ never_first P u v w a b = runs_as (Then Never P) Never u w (λ x y s. s.1) (runs
 pub never_last : (P : List ℕ → List ℕ → Type 0) (u v w : PassState) → Runs P u v → Runs Never v w → Runs Never u w
 never_last P u v w a b = runs_as (Then P Never) Never u w (λ x y s. s.2) (runs_then P Never u v w a b)
 
--- what never comes to a pass that has no room, where it has none
-pub bare_never : (v w : PassState) → HasNoRoom v → Runs (NeverAlone v) v w → Runs Never v w
-bare_never v w bare a = runs_as (NeverAlone v) Never v w (λ x y n. n bare) a
+-- what never comes to a pass of which A is so, where A is so
+pub unless_never : (A : Type 0) (v w : PassState) → A → Runs (λ _ _. A → ⊥) v w → Runs Never v w
+unless_never A v w a r = runs_as (λ _ _. A → ⊥) Never v w (λ x y n. n a) r
 
--- and behind a part of a call that kept the rooms
-pub never_alone_last : (P : List ℕ → List ℕ → Type 0) (u v w : PassState) → (HasNoRoom u → HasNoRoom v) → Runs P u v → Runs (NeverAlone v) v w → Runs (NeverAlone u) u w
-never_alone_last P u v w bare a b = runs_as (Then P (NeverAlone v)) (NeverAlone u) u w (λ x y s n. s.2 (bare n)) (runs_then P (NeverAlone v) u v w a b)
+-- and behind a part of a call, where A before makes B behind it
+pub unless_last : (P : List ℕ → List ℕ → Type 0) (A B : Type 0) (u v w : PassState) → (A → B) → Runs P u v → Runs (λ _ _. B → ⊥) v w → Runs (λ _ _. A → ⊥) u w
+unless_last P A B u v w f a b = runs_as (Then P (λ _ _. B → ⊥)) (λ _ _. A → ⊥) u w (λ x y s n. s.2 (f n)) (runs_then P (λ _ _. B → ⊥) u v w a b)
 
 -- or before others
-pub never_alone_first : (P : List ℕ → List ℕ → Type 0) (u v w : PassState) → Runs (NeverAlone u) u v → Runs P v w → Runs (NeverAlone u) u w
-never_alone_first P u v w a b = runs_as (Then (NeverAlone u) P) (NeverAlone u) u w (λ x y s n. s.1 n) (runs_then (NeverAlone u) P u v w a b)
+pub unless_first : (P : List ℕ → List ℕ → Type 0) (A : Type 0) (u v w : PassState) → Runs (λ _ _. A → ⊥) u v → Runs P v w → Runs (λ _ _. A → ⊥) u w
+unless_first P A u v w a b = runs_as (Then (λ _ _. A → ⊥) P) (λ _ _. A → ⊥) u w (λ x y s n. s.1 n) (runs_then (λ _ _. A → ⊥) P u v w a b)

@@ -57,7 +57,7 @@ none_lacks : (z : Sizes) (call : ℕ) (key : List ℕ) (r : ℕ) (held opened : 
 none_lacks z call key r held opened v w h = h.kept (λ _ n. 1 - names_header n) ∙ lacks_none (entries_held held)
 
 -- so it has the range that it had, no fewer values, and no more entries without one
-still_kept : (z : Sizes) (call : ℕ) (key : List ℕ) (r : ℕ) (held opened : RoomCopy) (v w : PassState) → Rewrites z call key r held opened v w → IsStill held opened
+pub still_kept : (z : Sizes) (call : ℕ) (key : List ℕ) (r : ℕ) (held opened : RoomCopy) (v w : PassState) → Rewrites z call key r held opened v w → IsStill held opened
 still_kept z call key r held opened v w h = let e = values_kept z call key r held opened v w h in let n = none_lacks z call key r held opened v w h in record { low = h.low; high = h.high; values = omega arith; lacks = omega arith }
 
 -- it has the key
@@ -97,7 +97,7 @@ rewritten_still z b c r held opened still j y = dite (ℕ_discrete y r)
     (λ no. still_same (room_in z b y) (room_in z c y) (j.leaves.words y no))
 
 -- so it is where two were
-both_still : (z : Sizes) (b c : List ℕ) (r q : ℕ) (held opened next reopened : RoomCopy) → IsStill held opened → IsStill next reopened → RewritesBoth z r q held opened next reopened b c → (y : ℕ) → IsStill (room_in z b y) (room_in z c y)
+pub both_still : (z : Sizes) (b c : List ℕ) (r q : ℕ) (held opened next reopened : RoomCopy) → IsStill held opened → IsStill next reopened → RewritesBoth z r q held opened next reopened b c → (y : ℕ) → IsStill (room_in z b y) (room_in z c y)
 both_still z b c r q held opened next reopened low up j y = dite (ℕ_discrete y r)
     (λ same. subst (λ (x : ℕ). IsStill (room_in z b x) (room_in z c x)) (sym same) (subst (λ (p : RoomCopy × RoomCopy). IsStill p.0 p.1) (λ i. (sym j.was i, sym j.is i)) low))
     (λ ne. dite (ℕ_discrete y q)

@@ -22,7 +22,7 @@ use Rattle.rebalance.proofs.SweptKeys.{begins_by}
 -- ---- ranges and their ends
 
 -- no key is past a bound that lies behind it
-not_past : (h k : ℕ) → (h ≢ 0 → k + 1 < h) → past_high h k ≡ 0
+pub not_past : (h k : ℕ) → (h ≢ 0 → k + 1 < h) → past_high h k ≡ 0
 not_past h k f = dite (ℕ_discrete h 0) (λ e. ap (λ (t : ℕ). past_high t k) e ∙ high-none k) (λ ne. let l = f ne in high-some h k ne ∙ past-cases (h - 1) k (λ (t : ℕ). t ≡ 0) (λ le. absurd (omega arith)) (λ _. refl))
 
 -- a range that begins at or before k, and does not end there, has it
@@ -30,19 +30,19 @@ inside_when : (s : Span) (k : ℕ) → s.low ≤ k → (s.high ≢ 0 → k + 1 <
 inside_when s k l h = let n = not_past s.high k h in past-cases s.low k (λ (t : ℕ). t - past_high s.high k ≡ 1) (λ _. omega arith) (λ lt. absurd (omega arith))
 
 -- and where it has k, it ends behind that
-ends_after : (s : Span) (k : ℕ) → within s k ≡ 1 → s.high ≢ 0 → k + 1 < s.high
+pub ends_after : (s : Span) (k : ℕ) → within s k ≡ 1 → s.high ≢ 0 → k + 1 < s.high
 ends_after s k i ne = let p = past-le s.low k in let q = high-some s.high k ne in past-cases (s.high - 1) k (λ (t : ℕ). past (s.high - 1) k ≡ t → k + 1 < s.high) (λ _ e. absurd (omega arith)) (λ lt _. omega arith) refl
 
 -- where k is past a high bound, there is one
-past_some : (h k : ℕ) → past_high h k ≡ 1 → h ≢ 0
+pub past_some : (h k : ℕ) → past_high h k ≡ 1 → h ≢ 0
 past_some h k e z = let p = ap (λ (t : ℕ). past_high t k) z in let q = high-none k in absurd (omega arith)
 
 -- at or before k
-past_by : (h k : ℕ) → past_high h k ≡ 1 → h ≤ k + 1
+pub past_by : (h k : ℕ) → past_high h k ≡ 1 → h ≤ k + 1
 past_by h k e = let q = high-some h k (past_some h k e) in past-cases (h - 1) k (λ (t : ℕ). past (h - 1) k ≡ t → h ≤ k + 1) (λ le _. omega arith) (λ lt c. absurd (omega arith)) refl
 
 -- and then only
-past_when : (h k : ℕ) → h ≢ 0 → h ≤ k + 1 → past_high h k ≡ 1
+pub past_when : (h k : ℕ) → h ≢ 0 → h ≤ k + 1 → past_high h k ≡ 1
 past_when h k ne le = high-some h k ne ∙ past-cases (h - 1) k (λ (t : ℕ). t ≡ 1) (λ _. refl) (λ lt. absurd (omega arith))
 
 -- ---- entries and their values

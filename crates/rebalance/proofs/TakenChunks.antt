@@ -1,18 +1,25 @@
 -- A chunk that a call takes, and opens again.
-use Rattle.std.proofs.Common.{◌≡◌, ℕ, ◌+◌, List, [], ◌∷◌, length, sym, refl, ap, ◌∙◌, subst, arith, Option, Some}
-use Rattle.oak_model.specs.Counts.{Each, total}
+use Rattle.std.proofs.Common.{◌≡◌, ℕ, ◌+◌, ◌*◌, List, [], ◌∷◌, length, map, sym, refl, ap, ◌∙◌, subst, arith, Option, Some}
+use Rattle.oak_model.specs.Counts.{Each, one_at, total}
 use Rattle.oak_model.specs.Key.{AreBytes, IsKey}
 use Rattle.oak_model.specs.KeyNumber.{key_number}
 use Rattle.oak_model.specs.Limits.{Sizes}
+use Rattle.oak_model.proofs.Counting.{one_at-other}
 use Rattle.chunk_core.specs.declared.holds.Carried.{Carried}
 use Rattle.chunk_core.specs.declared.holds.HeldRoom.{HeldRoom}
 use Rattle.chunk_core.specs.declared.holds.MovingRange.{MovingRange}
 use Rattle.chunk_core.specs.declared.holds.RoomCopy.{RoomCopy}
 use Rattle.chunk_core.specs.declared.holds.RoomHolds.{RoomHolds}
-use Rattle.chunk_core.specs.KeyWords.{high_bytes, low_bytes}
+use Rattle.chunk_core.specs.declared.states.TheConstants.{FROZEN, HELD}
+use Rattle.chunk_core.specs.CoverSums.{is_in}
+use Rattle.chunk_core.specs.Covers.{cover_from}
+use Rattle.chunk_core.specs.KeyWords.{high_bytes, high_number, low_bytes, low_number}
+use Rattle.chunk_core.specs.RoomRule.{room_state}
 use Rattle.chunk_core.specs.RoomStep.{hold_room, open_room}
 use Rattle.chunk_core.specs.Spans.{within}
 use Rattle.chunk_core.specs.ValueWord.{names_header}
+use Rattle.chunk_core.proofs.SpanLaws.{past-le}
+use Rattle.chunk_ops.specs.LoneRooms.{HasElsewhere}
 use Rattle.oak_core.specs.declared.sorting.SortSlot.{SortSlot}
 use Rattle.oak_core.specs.declared.states.PassState.{PassState}
 use Rattle.oak_core.specs.Lack.{IsBelow}
@@ -28,11 +35,12 @@ use Rattle.rebalance.specs.Chunks.{CompactsFront, HoldsFor, HoldsFront, OpensFro
 use Rattle.rebalance.specs.HeldRooms.{AllValued}
 use Rattle.rebalance.specs.HeldTables.{Apart, IsHeldRow, WorksOnRooms}
 use Rattle.rebalance.specs.Merging.{HoldsCompacted, SweepsUpTo, TakesChunk}
-use Rattle.rebalance.specs.Mirrors.{copy_or, held_memory}
+use Rattle.rebalance.specs.Mirrors.{copy_or, held_memory, range_span}
 use Rattle.rebalance.proofs.ChunkLaws.{works_both, works_none, works_of_rooms}
 use Rattle.rebalance.proofs.FrontLaws.{front_copy, opening_longer}
 use Rattle.rebalance.proofs.LoneTakes.{front_or, taken_works}
 use Rattle.rebalance.proofs.MirroredEntries.{each_of}
+use Rattle.rebalance.proofs.SettledWords.{past_when}
 use Rattle.rebalance.proofs.SweptKeys.{high_is_key, sweeps_since, swept_behind}
 use Rattle.rebalance.proofs.SweptRooms.{mirrors_valued}
 
@@ -43,21 +51,6 @@ idle_compacted z v idle = let n = idle.rooms in record {
   valued = subst (λ (a : RoomHolds). Each AllValued a.moving) (sym n) tt;
   rows = subst (λ (a : RoomHolds). Each (IsHeldRow z) a.held) (sym n) tt;
   apart = subst (λ (a : RoomHolds). Apart a.held) (sym n) tt;
-}
-
--- so it is behind a call that left it what it had
-pub compacted_still : (z : Sizes) (call : ℕ) (u v : PassState) → HoldsCompacted z u → ComesBack z call u v → HoldsCompacted z v
-compacted_still z call u v c b = record {
-  only = record {
-    blocks = b.beside.blocks ∙ c.only.blocks;
-    headers = b.beside.headers ∙ c.only.headers;
-    pin = ap (λ (a : RoomHolds). a.pin) b.rooms ∙ c.only.pin;
-    latch = ap (λ (a : RoomHolds). a.latch) b.rooms ∙ c.only.latch;
-    claim = ap (λ (a : RoomHolds). a.claim) b.rooms ∙ c.only.claim;
-  };
-  valued = subst (λ (a : RoomHolds). Each AllValued a.moving) (sym b.rooms) c.valued;
-  rows = subst (λ (a : RoomHolds). Each (IsHeldRow z) a.held) (sym b.rooms) c.rows;
-  apart = subst (λ (a : RoomHolds). Apart a.held) (sym b.rooms) c.apart;
 }
 
 -- a step by which the call came to hold a room, in a longer part of the call
@@ -111,6 +104,39 @@ front_looked z call r w g hs gs v q f works same = record {
   mirrors = f.mirrors;
   moment = works.moment f.moment;
 }
+
+-- so it does where the pass came back to what it had of rooms
+pub front_kept : (z : Sizes) (call r : ℕ) (w : RoomCopy) (g : MovingRange) (hs : List HeldRoom) (gs : List MovingRange) (v q : PassState) → HoldsFront z r w g hs gs v → ComesBack z call v q → HoldsFront z r w g hs gs q
+front_kept z call r w g hs gs v q f back = record {
+  inside = f.inside;
+  held = ap (λ (a : RoomHolds). a.held) back.rooms ∙ f.held;
+  moving = ap (λ (a : RoomHolds). a.moving) back.rooms ∙ f.moving;
+  apart = f.apart;
+  only = record {
+    blocks = back.beside.blocks ∙ f.only.blocks;
+    headers = back.beside.headers ∙ f.only.headers;
+    pin = ap (λ (a : RoomHolds). a.pin) back.rooms ∙ f.only.pin;
+    latch = ap (λ (a : RoomHolds). a.latch) back.rooms ∙ f.only.latch;
+    claim = ap (λ (a : RoomHolds). a.claim) back.rooms ∙ f.only.claim;
+  };
+  whole = f.whole;
+  mirrors = f.mirrors;
+  moment = back.ended;
+}
+
+-- The pass has the key at which the range of its one room ends elsewhere.
+pub end_elsewhere : (z : Sizes) (r : ℕ) (w : RoomCopy) (g : MovingRange) (v : PassState) (k : ℕ) → HoldsFront z r w g [] [] v → high_number g.high ≡ k + 1 → HasElsewhere k v
+unfolding total
+end_elsewhere z r w g v k f ends = record {
+  frozen = λ s. ap (λ (hs : List HeldRoom). total (λ (h : HeldRoom). one_at h.room s * one_at (room_state h.held_as) FROZEN) hs) f.held ∙ held_none s;
+  moving = ap (λ (gs : List MovingRange). total (is_in k) (map cover_from gs)) f.moving ∙ outside;
+}
+  where
+    held_none : (s : ℕ) → one_at r s * one_at HELD FROZEN + 0 ≡ 0
+    held_none s = let n = one_at-other HELD FROZEN (λ e. absurd (omega arith)) in let t = ap (λ (m : ℕ). one_at r s * m) n in omega arith
+
+    outside : within (range_span g) k + 0 ≡ 0
+    outside = let p = past-le (low_number g.low) k in let q = past_when (high_number g.high) k (λ e. absurd (omega arith)) (omega arith) in omega arith
 
 -- a room behind the front one is the front one again once that is opened
 pub front_back : (z : Sizes) (call r s : ℕ) (w x : RoomCopy) (g h : MovingRange) (hs : List HeldRoom) (gs : List MovingRange) (v b d : PassState) → HoldsFront z r w g hs gs v → HoldsFront z s x h v.rooms.held v.rooms.moving b → OpensFront z call s x v.rooms.held v.rooms.moving b d → HoldsFront z r w g hs gs d

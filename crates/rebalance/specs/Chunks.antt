@@ -23,7 +23,7 @@ use Rattle.oak_core.specs.AloneWords.{Runs}
 use Rattle.oak_core.specs.CallSteps.{MetMore}
 use Rattle.oak_core.specs.Memory.{memory}
 use Rattle.oak_core.specs.Sweeping.{valueless}
-use Rattle.chunk_ops.specs.LoneRooms.{NeverAlone}
+use Rattle.chunk_ops.specs.LoneRooms.{NeverUnfrozen}
 use Rattle.chunk_ops.specs.PinRecords.{room_pin}
 use Rattle.chunk_ops.specs.RoomPins.{HadMoment}
 use Rattle.rebalance.specs.Calls.{ComesToHold, IsSorted, OpensWith, SweepsKey}
@@ -36,7 +36,7 @@ use Rattle.rebalance.specs.Filled.{IsFilled}
 use Rattle.rebalance.specs.HeldTables.{AwayFromPins, HoldsOnlyRooms, WorksOnRooms, key_of_entry, valued, with_word}
 use Rattle.rebalance.specs.Holding.{IsBusy, StandsBeside}
 use Rattle.rebalance.specs.Resting.{RestsUnpinned}
-use Rattle.rebalance.specs.LoneWords.{LeavesBut, MovesWith, TakesRoom, held_by, no_room}
+use Rattle.rebalance.specs.LoneWords.{MovesWith, TakesRoom}
 use Rattle.rebalance.specs.Mirrors.{Mirrors, held_memory}
 use Rattle.rebalance.specs.SlotRanges.{SlotsHave}
 use Rattle.rebalance.specs.Slots.{AllNamed}
@@ -100,19 +100,18 @@ pub record HoldsPinned (z : Sizes) (call r : ℕ) (w : RoomCopy) (g : MovingRang
   pub ranged : Runs (λ _ _. copy_span w ≡ span_of (room_pin v)) v u
 
 -- The pass had a pin of the room, which it found busy, and undid it. It only met more else.
-pub record LosesPinned (z : Sizes) (call r : ℕ) (v u : PassState) : Type 0 where
-  pub why : IsBusy z call r v u
+pub record LosesPinned (z : Sizes) (call looks r : ℕ) (v u : PassState) : Type 0 where
+  pub why : IsBusy z call looks r v u
   pub unpins : RestsUnpinned z call r v u
   -- to a pass that is alone
-  pub alone : Runs (NeverAlone v) v u
+  pub alone : Runs (NeverUnfrozen v) v u
 
 -- The pass has of rooms what it had. It only met more else, and may have swept ranges.
 pub record ComesBack (z : Sizes) (call : ℕ) (v u : PassState) : Type 0 where
   pub beside : WorksBeside call v u
   pub claims : u.findings.rebalances.claims ≡ v.findings.rebalances.claims
   pub rooms : u.rooms ≡ v.rooms
-  -- to a pass that is alone
-  pub alone : Runs (LeavesBut z no_room (held_by v)) v u
+  pub ended : HadMoment z u
 
 -- The call opened the front room, which had the words w, over all of its range, and the pass has the rooms and ranges behind it. The range is swept where each of its entries has a value.
 pub record OpensFront (z : Sizes) (call r : ℕ) (w : RoomCopy) (hs : List HeldRoom) (gs : List MovingRange) (v u : PassState) : Type 0 where

@@ -11,9 +11,9 @@ ghost use Rattle.oak_core.specs.AloneWords.{Runs};
 ghost use Rattle.oak_core.specs.Passes.{IsPassOf, Stays, state, key as sizes, call_of};
 ghost use Rattle.oak_core.specs.Scratch.{StaysButSlots};
 ghost use Rattle.chunk_ops.specs.AskedRanges.{CoversKey};
-ghost use Rattle.chunk_ops.specs.LoneRooms.{NeverAlone};
+ghost use Rattle.chunk_ops.specs.LoneRooms.{NeverElsewhere};
 ghost use Rattle.chunk_ops.specs.PinRecords.{HasRoomPin, OnlyMeets};
-ghost use Rattle.chunk_ops.specs.RoomPins.{FoundMoved, PinsOpen};
+ghost use Rattle.chunk_ops.specs.RoomPins.{FoundMoved, HadMoment, PinsOpen};
 ghost use Rattle.chunk_ops.specs.Stored.{IsStored};
 ghost use Rattle.rebalance.specs.Busy.{IsBusyFor};
 ghost use Rattle.rebalance.specs.Copies.{copy_span};
@@ -28,8 +28,6 @@ use crate::ranges::has_key;
 use chunk_ops::{Moved, RoomPin, StoredKey, pin_for, unpin};
 use oak_core::{OakTable, Pass};
 use oak_model::GREATEST_ENTRIES;
-use std::sync::Wait;
-use std::thread;
 
 /// Freezes the pinned room, undoes the pin and holds the room alone. `false` comes only where the room was
 /// busy: another pass had frozen it, or it was pinned, at each of so many looks; the pin is undone then too,
@@ -42,7 +40,7 @@ fn hold_pinned(table: &OakTable, pass: &mut Pass, pin: RoomPin, looks: u32) -> b
     requires some { 0 < looks }
     ensures own { Stays pass.old pass.new }
     ensures holds { result ≡ true → (w : RoomCopy) × (g : MovingRange) × HoldsPinned (sizes table.now) (call_of pass.old) pin.room w g (state pass.old) (state pass.new) }
-    ensures loses { result ≡ false → LosesPinned (sizes table.now) (call_of pass.old) pin.room (state pass.old) (state pass.new) }
+    ensures loses { result ≡ false → LosesPinned (sizes table.now) (call_of pass.old) looks pin.room (state pass.old) (state pass.new) }
 {
     let room = pin.room;
     if !freeze_pinned(table, pass, &pin, looks) {
@@ -88,7 +86,8 @@ fn pin_covering(table: &OakTable, pass: &mut Pass, key: &[u8]) -> Result<RoomPin
     ensures pinned { IfOk result (λ p. PinsOpen (sizes table.now) (call_of pass.old) p.room (CoversKey key.now) (state pass.old) (state pass.new)) }
     ensures moved { IfErr result (λ _. FoundMoved (sizes table.now) (call_of pass.old) (CoversKey key.now) (state pass.old) (state pass.new)) }
     ensures only { IfErr result (λ _. OnlyMeets (call_of pass.old) (state pass.old) (state pass.new)) }
-    ensures alone { IfErr result (λ _. Runs (NeverAlone (state pass.old)) (state pass.old) (state pass.new)) }
+    ensures ended { IfErr result (λ _. HadMoment (sizes table.now) (state pass.new)) }
+    ensures elsewhere { IfErr result (λ _. Runs (NeverElsewhere (key_number key.now) (state pass.old)) (state pass.old) (state pass.new)) }
 {
     let hint = pass.hint(key);
     pin_for(table, pass, key, hint)
@@ -104,8 +103,8 @@ pub(crate) fn try_hold(table: &OakTable, pass: &mut Pass, key: &[u8], looks: u32
     ensures own { StaysButSlots pass.old pass.new }
     ensures holds { IfSome result (λ r. (w : RoomCopy) × (g : MovingRange) × HoldsFor (sizes table.now) (call_of pass.old) key.now r w g (state pass.old) (state pass.new)) }
     ensures back { IfNone result (ComesBack (sizes table.now) (call_of pass.old) (state pass.old) (state pass.new)) }
-    ensures busy { IfNone result (IsBusyFor (sizes table.now) (call_of pass.old) key.now (state pass.old) (state pass.new)) }
-    ensures alone { IfNone result (Runs (NeverAlone (state pass.old)) (state pass.old) (state pass.new)) }
+    ensures busy { IfNone result (IsBusyFor (sizes table.now) (call_of pass.old) looks key.now (state pass.old) (state pass.new)) }
+    ensures alone { IfNone result (Runs (NeverElsewhere (key_number key.now) (state pass.old)) (state pass.old) (state pass.new)) }
 {
     let Ok(pin) = pin_covering(table, pass, key) else {
         return None;
@@ -128,21 +127,3 @@ pub(crate) fn try_hold(table: &OakTable, pass: &mut Pass, key: &[u8], looks: u32
 /// How many looks a call that waits makes at a pin word before it opens the room again and lets other threads
 /// run. While a room is frozen no new pin comes to stand on it, so it is soon left to the pass.
 pub(crate) const LOOKS: u32 = 1024;
-
-/// Holds the chunk that covers the key alone, and gives its room. It waits until no pin stands on it, and while other
-/// passes move it. The pass holds nothing but rooms, compacted.
-pub(crate) fn hold_for<R: Wait>(rt: &R, table: &OakTable, pass: &mut Pass, key: &[u8]) -> u32
-    requires own { IsPassOf table.now pass.old }
-    requires key { IsKey key.now }
-    requires compacted { HoldsCompacted (sizes table.now) (state pass.old) }
-    ensures own { StaysButSlots pass.old pass.new }
-    ensures holds { (w : RoomCopy) × (g : MovingRange) × HoldsFor (sizes table.now) (call_of pass.old) key.now result w g (state pass.old) (state pass.new) }
-{
-    for _ in rt.forever() {
-        if let Some(room) = try_hold(table, pass, key, LOOKS) {
-            return room;
-        }
-        thread::yield_now();
-    }
-    unreachable!()
-}

@@ -26,7 +26,7 @@ pub fn try_compact(table: &OakTable, pass: &mut Pass, key: &[u8], looks: u32) ->
     requires some { 0 < looks }
     ensures own { StaysButSlots pass.old pass.new }
     ensures compacted { IfOk result (λ n. Compacts (sizes table.now) (call_of pass.old) key.now n (state pass.old) (state pass.new)) }
-    ensures busy { IfErr result (λ _. GivesUp (sizes table.now) (call_of pass.old) key.now (state pass.old) (state pass.new)) }
+    ensures busy { IfErr result (λ _. GivesUp (sizes table.now) (call_of pass.old) looks key.now (state pass.old) (state pass.new)) }
     ensures unclaimed { (state pass.new).findings.rebalances.claims ≡ (state pass.old).findings.rebalances.claims }
 {
     let Some(room) = try_hold(table, pass, key, looks) else {

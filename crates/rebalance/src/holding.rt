@@ -28,7 +28,7 @@ pub(crate) fn freeze_pinned(table: &OakTable, pass: &mut Pass, pin: &RoomPin, lo
     requires some { 0 < looks }
     ensures own { Stays pass.old pass.new }
     ensures frozen { result ≡ true → Freezes (key table.now) (call_of pass.old) pin.now.room (state pass.old) (state pass.new) }
-    ensures leaves { result ≡ false → LeavesUnfrozen (key table.now) (call_of pass.old) pin.now.room (state pass.old) (state pass.new) }
+    ensures leaves { result ≡ false → LeavesUnfrozen (key table.now) (call_of pass.old) looks pin.now.room (state pass.old) (state pass.new) }
 {
     let word = table.room_at(pin.room);
     for _ in 0..looks {
@@ -55,7 +55,7 @@ pub(crate) fn hold_frozen(table: &OakTable, pass: &mut Pass, room: u32, looks: u
     requires some { 0 < looks }
     ensures own { Stays pass.old pass.new }
     ensures holds { result ≡ true → (w : RoomCopy) × (g : MovingRange) × Holds (key table.now) (call_of pass.old) room w g (state pass.old) (state pass.new) }
-    ensures thaws { result ≡ false → Thaws (key table.now) (call_of pass.old) room (state pass.old) (state pass.new) }
+    ensures thaws { result ≡ false → Thaws (key table.now) (call_of pass.old) looks room (state pass.old) (state pass.new) }
 {
     let word = table.room_at(room);
     let frozen = pack(0, FROZEN, 0);

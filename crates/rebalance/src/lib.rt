@@ -24,6 +24,6 @@ mod splitting;
 
 pub use answers::{Busy, NoRoom, Split};
 pub use compacts::{compact, try_compact};
-pub use merges::merge;
-pub use settles::settle;
+pub use merges::{merge, try_merge};
+pub use settles::{settle, try_settle};
 pub use splits::{split, try_split};

@@ -1,21 +1,27 @@
 //! A chunk and the one above it, taken and merged.
-ghost use Rattle.std.specs.Prelude.{◌≡◌, ℕ, List, take, Option};
+ghost use Rattle.std.specs.Prelude.{◌≡◌, ℕ, ◌<◌, List, take, Option, IfErr, IfNone, IfOk, IfSome};
 ghost use Rattle.oak_model.specs.Key.{IsKey};
+ghost use Rattle.oak_model.specs.KeyNumber.{key_number};
 ghost use Rattle.chunk_core.specs.declared.holds.HeldRoom.{HeldRoom};
 ghost use Rattle.chunk_core.specs.declared.holds.MovingRange.{MovingRange};
 ghost use Rattle.chunk_core.specs.declared.holds.RoomCopy.{RoomCopy};
 ghost use Rattle.chunk_core.specs.KeyWords.{high_bytes};
+ghost use Rattle.oak_core.specs.AloneWords.{Runs};
 ghost use Rattle.oak_core.specs.Passes.{IsPassOf, Stays, state, key as sizes, call_of, slots_of};
 ghost use Rattle.oak_core.specs.PassState.{HoldsNothing};
 ghost use Rattle.oak_core.specs.Scratch.{StaysButSlots};
+ghost use Rattle.chunk_ops.specs.LoneRooms.{NeverElsewhere};
+ghost use Rattle.chunk_ops.specs.RoomPins.{HadMoment};
+ghost use Rattle.rebalance.specs.Busy.{GivesUpMerging, IsBusyFor};
 ghost use Rattle.rebalance.specs.Calls.{Merges};
-ghost use Rattle.rebalance.specs.Chunks.{HoldsFront};
+ghost use Rattle.rebalance.specs.Chunks.{ComesBack, HoldsFront};
 ghost use Rattle.rebalance.specs.HeldTables.{WorksOnRooms};
 ghost use Rattle.rebalance.specs.Ranges.{IsHighKey};
 ghost use Rattle.rebalance.specs.Merging.{ApartUpTo, HoldsCompacted, HoldsPair, JoinsPair, TakesChunk};
 
+use crate::answers::Busy;
 use crate::bounds::copy_high;
-use crate::chunks::{hold_for, open_front};
+use crate::chunks::{open_front, try_hold};
 use crate::filling::append_slots;
 use crate::fronts::compact_front;
 use crate::held::HeldTable;
@@ -24,7 +30,6 @@ use crate::ranges::load_high;
 use chunk_ops::{KeyBytes, StoredKey};
 use oak_core::{OakTable, Pass};
 use oak_model::GREATEST_ENTRIES;
-use std::sync::Wait;
 
 /// What became of a chunk that was to be merged with the one above it: both are one chunk, or they stay
 /// apart, with the key at which the one above begins, if there is one.
@@ -42,21 +47,26 @@ struct Taken {
     base: u64,
 }
 
-/// Holds the chunk that covers the key alone, and compacts it. Its entries are in the first slots too.
-fn take_chunk<R: Wait>(rt: &R, table: &OakTable, pass: &mut Pass, key: &[u8]) -> Taken
+/// Tries to hold the chunk that covers the key alone, and compacts it. Its entries are in the first slots too.
+/// `None` comes where it was busy, as [`try_hold`] says, and the pass has what it had then.
+fn try_take_chunk(table: &OakTable, pass: &mut Pass, key: &[u8], looks: u32) -> Option<Taken>
     requires own { IsPassOf table.now pass.old }
     requires key { IsKey key.now }
     requires compacted { HoldsCompacted (sizes table.now) (state pass.old) }
+    requires some { 0 < looks }
     ensures own { StaysButSlots pass.old pass.new }
-    ensures takes { TakesChunk (sizes table.now) (call_of pass.old) key.now result (take result.kept (slots_of pass.new)) (state pass.old) (state pass.new) }
+    ensures takes { IfSome result (λ t. TakesChunk (sizes table.now) (call_of pass.old) key.now t (take t.kept (slots_of pass.new)) (state pass.old) (state pass.new)) }
+    ensures back { IfNone result (ComesBack (sizes table.now) (call_of pass.old) (state pass.old) (state pass.new)) }
+    ensures busy { IfNone result (IsBusyFor (sizes table.now) (call_of pass.old) looks key.now (state pass.old) (state pass.new)) }
+    ensures alone { IfNone result (Runs (NeverElsewhere (key_number key.now) (state pass.old)) (state pass.old) (state pass.new)) }
 {
-    let room = hold_for(rt, table, pass, key);
+    let room = try_hold(table, pass, key, looks)?;
     let read = compact_front(table, pass, room);
-    Taken {
+    Some(Taken {
         room,
         kept: read.kept,
         base: read.base,
-    }
+    })
 }
 
 /// Loads the key before which the range of the front room ends; none where no range is above it.
@@ -104,27 +114,41 @@ fn join_above(table: &OakTable, pass: &mut Pass, low: &Taken, up: &Taken)
 }
 
 /// Merges the chunk that covers the key with the one above it, where the two have at most half as many
-/// entries with a value as a room has entries. Else both are opened again, compacted.
-pub(crate) fn merge_chunk<R: Wait>(rt: &R, table: &OakTable, pass: &mut Pass, key: &[u8]) -> Merged
+/// entries with a value as a room has entries. Else both are opened again, compacted. `Busy` comes where the
+/// one or the other was busy; where it is the other, the one is opened again, compacted.
+pub(crate) fn try_merge_chunk(
+    table: &OakTable,
+    pass: &mut Pass,
+    key: &[u8],
+    looks: u32,
+) -> Result<Merged, Busy>
     requires own { IsPassOf table.now pass.old }
     requires key { IsKey key.now }
     requires idle { HoldsNothing (state pass.old) }
+    requires some { 0 < looks }
     ensures own { StaysButSlots pass.old pass.new }
-    ensures joined { result ≡ Merged.Joined → Merges (sizes table.now) (call_of pass.old) key.now (state pass.old) (state pass.new) }
-    ensures apart { (high : Option (List ℕ)) → result ≡ Merged.Apart high → ApartUpTo (sizes table.now) (call_of pass.old) key.now high (state pass.old) (state pass.new) }
+    ensures joined { result ≡ Ok Merged.Joined → Merges (sizes table.now) (call_of pass.old) key.now (state pass.old) (state pass.new) }
+    ensures apart { (high : Option (List ℕ)) → result ≡ Ok (Merged.Apart high) → ApartUpTo (sizes table.now) (call_of pass.old) key.now high (state pass.old) (state pass.new) }
+    ensures ended { IfOk result (λ _. HadMoment (sizes table.now) (state pass.new)) }
+    ensures busy { IfErr result (λ _. GivesUpMerging (sizes table.now) (call_of pass.old) looks key.now (state pass.old) (state pass.new)) }
 {
-    let low = take_chunk(rt, table, pass, key);
+    let Some(low) = try_take_chunk(table, pass, key, looks) else {
+        return Err(Busy);
+    };
     let Some(high) = high_of(table, pass, low.room) else {
         open_front(table, pass, low.room);
-        return Merged::Apart(None);
+        return Ok(Merged::Apart(None));
     };
-    let up = take_chunk(rt, table, pass, high.as_slice());
+    let Some(up) = try_take_chunk(table, pass, high.as_slice(), looks) else {
+        open_front(table, pass, low.room);
+        return Err(Busy);
+    };
     if low.kept + up.kept > table.entries() as usize / 2 {
         open_front(table, pass, up.room);
         open_front(table, pass, low.room);
-        return Merged::Apart(Some(high));
+        return Ok(Merged::Apart(Some(high)));
     }
     join_above(table, pass, &low, &up);
     open_front(table, pass, low.room);
-    Merged::Joined
+    Ok(Merged::Joined)
 }

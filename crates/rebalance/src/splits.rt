@@ -37,7 +37,7 @@ pub fn try_split(
     ensures loosened { result ≡ Ok (Ok Split.Loosened) → Loosens (sizes table.now) (call_of pass.old) key.now (state pass.old) (state pass.new) }
     ensures halved { (room : ℕ) → result ≡ Ok (Ok (Split.Halved room)) → Halves (sizes table.now) (call_of pass.old) key.now room (state pass.old) (state pass.new) }
     ensures none { IfOk result (λ answer. IfErr answer (λ _. FindsNoRoom (sizes table.now) (call_of pass.old) key.now (state pass.old) (state pass.new))) }
-    ensures busy { IfErr result (λ _. GivesUp (sizes table.now) (call_of pass.old) key.now (state pass.old) (state pass.new)) }
+    ensures busy { IfErr result (λ _. GivesUp (sizes table.now) (call_of pass.old) looks key.now (state pass.old) (state pass.new)) }
 {
     let Some(room) = try_hold(table, pass, key, looks) else {
         return Err(Busy);

@@ -8,8 +8,12 @@ use Rattle.oak_core.specs.Splitting.{Loads}
 use Rattle.oak_core.proofs.PinExchanges.{next_small}
 use Rattle.oak_core.proofs.RoomNames.{room_pin_below}
 use Rattle.oak_core.proofs.SamePass.{stays_both}
-use Rattle.rebalance.proofs.FrozenRooms.{pin_load, pin_load_only, pinned_still, finds_frozen, freezes, changed_since, leaves_changed}
+use Rattle.rebalance.proofs.BusyParts.{repeats_more}
+use Rattle.rebalance.proofs.FrozenRooms.{pin_load, pin_load_only, pinned_still, finds_changed, finds_frozen, freezes, leaves_changed, never_changed}
 use Rattle.rebalance.proofs.RoomExchanges.{packed_states, freeze_misses}
+use Rattle.chunk_ops.specs.Latching.{Never}
+use Rattle.chunk_ops.proofs.MeetingCalls.{stays_then}
+use Rattle.rebalance.specs.Holding.{FindsChanged, Repeats}
 use Rattle.rebalance.specs.Resting.{OnlyRests, resting_both}
 use Rattle.rebalance.proofs.holding.freeze_pinned.Goals as goal
 
@@ -18,7 +22,7 @@ load-open-requires-clause-inside c = room_pin_below (key c.args.table.now) c.arg
 
 pub returns-then-state-ne-OPEN-clause-leaves : goal.returns-then-state-ne-OPEN-clause-leaves
 returns-then-state-ne-OPEN-clause-leaves c _ = let z : Sizes = key c.args.table.now in let call = call_of c.args.pass.now in let r = c.args.pin.now.room in let u = state c.args.pass.now in let v = state c.loop.pass in let i = c.loop.invariant in
-    finds_frozen z call r c.room_at-word.result c.load-open.result u v (state c.load-open.new.pass) record { inside = c.requires.pinned.inside; word_is = c.room_at-word.ensures } (pinned_still z call r u v i.only c.requires.pinned) i.only
+    finds_frozen z call c.args.looks r c.room_at-word.result c.load-open.result u v (state c.load-open.new.pass) record { inside = c.requires.pinned.inside; word_is = c.room_at-word.ensures } (pinned_still z call r u v i.only c.requires.pinned) i.only
     (subst (λ (k : ℕ). Loads z k c.room_at-word.result v c.load-open.result (state c.load-open.new.pass)) i.stays.call c.load-open.ensures.loaded) (λ e. c.if-state-ne-OPEN.true (c.state.ensures ∙ e))
 
 pub overflow_add-frozen : goal.overflow_add-frozen
@@ -41,13 +45,14 @@ loop-preserved c = let z : Sizes = key c.args.table.now in let call = call_of c.
     let names : NamesRoomPin z r c.room_at-word.result = record { inside = c.requires.pinned.inside; word_is = c.room_at-word.ensures } in
     let loaded : OnlyRests call v x = pin_load_only z call r c.room_at-word.result c.load-open.result v x names (subst (λ (k : ℕ). Loads z k c.room_at-word.result v c.load-open.result x) i.stays.call c.load-open.ensures.loaded) in
     let tells = subst (λ (k : ℕ). FreezesRoom z k r c.load-open.result x c.freeze.result w) (c.load-open.ensures.own.call ∙ i.stays.call) (c.freeze.ensures.told r names) in
-    record {
+    let looked = pin_load z call r c.room_at-word.result c.load-open.result v x names (subst (λ (k : ℕ). Loads z k c.room_at-word.result v c.load-open.result x) i.stays.call c.load-open.ensures.loaded) in record {
       stays = stays_both i.stays (stays_both c.load-open.ensures.own c.freeze.ensures.own);
       only = resting_both call u x w (resting_both call u v x i.only loaded) (freeze_misses z call r c.load-open.result c.freeze.result x w tells c.if-freeze-open.false);
-      changed = λ _. changed_since z call r c.load-open.result c.freeze.result c.load-open.result u v x w i.only
-          (pin_load z call r c.room_at-word.result c.load-open.result v x names (subst (λ (k : ℕ). Loads z k c.room_at-word.result v c.load-open.result x) i.stays.call c.load-open.ensures.loaded)) refl tells c.if-freeze-open.false;
+      changed = repeats_more call c.loop.counter (FindsChanged z call r) u v w i.changed (finds_changed z call r c.load-open.result c.freeze.result c.load-open.result v x w looked tells c.if-freeze-open.false);
+      alone = λ _. stays_then Never u v w i.only.still (never_changed z call r c.load-open.result c.freeze.result c.load-open.result v x w looked refl tells c.if-freeze-open.false);
     }
 
 pub returns-clause-leaves : goal.returns-clause-leaves
 returns-clause-leaves c _ = let z : Sizes = key c.args.table.now in let i = c.loop.invariant in
-    leaves_changed z (call_of c.args.pass.now) c.args.pin.now.room (state c.args.pass.now) (state c.loop.pass) (i.changed (let no = c.loop-test.false in let some = c.requires.some in omega arith)) i.only
+    let no = c.loop-test.false in let most = c.loop.auto.counter-end in let some = c.requires.some in let call = call_of c.args.pass.now in let r = c.args.pin.now.room in let v = state c.args.pass.now in let w = state c.loop.pass in
+    leaves_changed z call c.args.looks r v w (subst (λ (n : ℕ). Repeats call n (FindsChanged z call r) v w) (let e : c.loop.counter ≡ c.args.looks = omega arith in e) i.changed) (i.alone (omega arith)) i.only
