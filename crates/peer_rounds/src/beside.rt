@@ -19,15 +19,26 @@ pub struct Measured {
     pub took: Duration,
 }
 
-/// The greatest shape with chunks of this size, for so many threads and for two callers beside them.
-fn shape_of(threads: u16) -> Result<Shape, BadShape> {
-    let passes = u32::from(threads) + 2;
+/// A shape with twice as many headers, and blocks of all classes but the greatest, as there are keys, or counters, and with
+/// four times as many entries and least blocks, as far as the limits go; for the threads, and two callers beside them.
+fn shape_of(asked: &Asked) -> Result<Shape, BadShape> {
+    let twice = asked
+        .keys
+        .max(1_024)
+        .saturating_mul(2)
+        .min(GREATEST_HEADERS);
+    let [least, small, large, _greatest] = GREATEST_BLOCKS;
     Shape::make(
-        passes,
-        GREATEST_CHUNKS,
+        u32::from(asked.threads) + 2,
+        (twice / (ENTRIES / 2)).min(GREATEST_CHUNKS),
         ENTRIES,
-        GREATEST_HEADERS,
-        GREATEST_BLOCKS,
+        twice,
+        [
+            twice.saturating_mul(2).min(least),
+            twice.min(small),
+            twice.min(large),
+            0,
+        ],
     )
 }
 
@@ -66,7 +77,7 @@ fn measure_map<R: Threads + Wait + Clone + Drop + Send + Sync + AllocGlobal + Cl
     asked: &Asked,
     measured: &mut Measured,
 ) -> anyhow::Result<()> {
-    let mut store = Store::create(rt, &shape_of(asked.threads)?)?;
+    let mut store = Store::create(rt, &shape_of(asked)?)?;
     let mut first = Worker::make(0, store.caller(rt)?);
     if asked.work.needs_keys() {
         first.put(rt, asked, 1, 0);
