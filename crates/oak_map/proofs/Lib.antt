@@ -11,6 +11,9 @@ mod LackingCalls
 mod ChunkReads
 mod MendedMaps
 mod GoingCalls
+mod LacksNow
+mod WaysMade
+mod NeverDone
 mod SettledStays
 mod SettledSplits
 mod WordsThrough
@@ -31,6 +34,7 @@ mod ReplyAnswers
 mod ReplyWords
 mod RecipesFed
 mod LoneRooms
+mod LoneTries
 mod FoundValues
 mod FoundLives
 mod LentValues

@@ -24,8 +24,9 @@ way_learns Busy z call key settled then result w x none m = ap (λ (y : PassStat
 way_learns Moved z call key settled then result w x none m = ap (λ (y : PassState). y.knowledge) m.1
 way_learns (NoBlock k) z call key settled then result w x none m = (settles_then z call settled then (Block k) result w x m none).leaves.knowledge
 way_learns NoHeader z call key settled then result w x none m = (settles_then z call settled then Header result w x m none).leaves.knowledge
-way_learns Crowded z call key settled then result w x none (inl (again, inl s)) = s.compacts.leaves.knowledge
-way_learns Crowded z call key settled then result w x none (inl (again, inr (room, t, h, o))) = o.stands.knowledge ∙ h.leaves.knowledge
+way_learns Crowded z call key settled then result w x none (inl (again, inl g)) = g.leaves.knowledge
+way_learns Crowded z call key settled then result w x none (inl (again, inr (inl s))) = s.compacts.leaves.knowledge
+way_learns Crowded z call key settled then result w x none (inl (again, inr (inr (room, t, h, o)))) = o.stands.knowledge ∙ h.leaves.knowledge
 way_learns Crowded z call key settled then result w x none (inr (t, f, r)) = (settles_then z call settled then Room result t x r none).leaves.knowledge ∙ f.compacts.leaves.knowledge
 
 -- the call began at u, its last try, from v to w, was refused, and it made way until x

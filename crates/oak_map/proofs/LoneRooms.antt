@@ -45,7 +45,7 @@ block_there z key value b c k h = (h.0, h.1, (spare_none z b, h.2.1))
 header_there : (z : Sizes) (key value b c : List ℕ) → LoneHalts NoHeader z key value b c → LoneHalts NoHeader z key value b b
 header_there z key value b c h = (h.0, h.1, (spare_none z b, h.2.1, h.2.2))
 
-room_there : (z : Sizes) (key value b c : List ℕ) → LoneHalts Crowded z key value b c → LoneHalts Crowded z key value b b
+pub room_there : (z : Sizes) (key value b c : List ℕ) → LoneHalts Crowded z key value b c → LoneHalts Crowded z key value b b
 room_there z key value b c h = (h.0, h.1, (spare_none z b, h.2.1))
 
 -- what is needed of a key without an entry
@@ -71,13 +71,13 @@ module _ (z : Sizes) (call : ℕ) (key value : List ℕ) (ask : CellCall) (u w :
 -- ---- making way
 
 -- it leaves words
-abbrev SomeWords : List ℕ → List ℕ → Type 0
+abbrev pub SomeWords : List ℕ → List ℕ → Type 0
 SomeWords a b = Unit {0}
 
 abbrev as_some : (P : List ℕ → List ℕ → Type 0) (c : List ℕ) (x : PassState) → RunsTo P c x → RunsTo SomeWords c x
 as_some P c x r = record { after = r.after; leaves = r.leaves; does = tt }
 
-refused_leaves : (z : Sizes) (call : ℕ) (settled then : Bool) (lack : Lack) (o : Option Lack) (c : List ℕ) (w x : PassState) → IsRefused z call settled then lack o w x → LeavesWords c w → RunsTo SomeWords c x
+pub refused_leaves : (z : Sizes) (call : ℕ) (settled then : Bool) (lack : Lack) (o : Option Lack) (c : List ℕ) (w x : PassState) → IsRefused z call settled then lack o w x → LeavesWords c w → RunsTo SomeWords c x
 refused_leaves z call true then lack o c w x r l = as_some _ c x (noted_words z call lack w x (r.full refl).1 c l)
 refused_leaves z call false then lack o c w x r l = as_some _ c x ((r.again refl).2.alone.goes c l)
 
@@ -86,8 +86,9 @@ way_leaves Busy z call key value settled then o b c w x h m l = absurd h.2
 way_leaves Moved z call key value settled then o b c w x h m l = absurd h.2
 way_leaves (NoBlock k) z call key value settled then o b c w x h m l = refused_leaves z call settled then (Block k) o c w x m l
 way_leaves NoHeader z call key value settled then o b c w x h m l = refused_leaves z call settled then Header o c w x m l
-way_leaves Crowded z call key value settled then o b c w x h (inl (again, inl s)) l = as_some _ c x (s.compacts.alone.goes c l)
-way_leaves Crowded z call key value settled then o b c w x h (inl (again, inr (room, t, s, only))) l = as_some _ c x (still_to _ c t x (s.alone.goes c l) only.still)
+way_leaves Crowded z call key value settled then o b c w x h (inl (again, inl g)) l = as_some _ c x (g.alone.goes c l)
+way_leaves Crowded z call key value settled then o b c w x h (inl (again, inr (inl s))) l = as_some _ c x (s.compacts.alone.goes c l)
+way_leaves Crowded z call key value settled then o b c w x h (inl (again, inr (inr (room, t, s, only)))) l = as_some _ c x (still_to _ c t x (s.alone.goes c l) only.still)
 way_leaves Crowded z call key value settled then o b c w x h (inr (t, f, r)) l = let d = f.compacts.alone.goes c l in let e = refused_leaves z call settled then Room o d.after t x r d.leaves in record { after = e.after; leaves = e.leaves; does = tt }
 
 -- ---- a call that puts

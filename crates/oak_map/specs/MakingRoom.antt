@@ -8,7 +8,31 @@ use Rattle.oak_core.specs.Noting.{Notes}
 use Rattle.chunk_ops.specs.PinRecords.{OnlyMeets}
 use Rattle.point_ops.specs.declared.halts.Halt.{Halt}
 use Rattle.point_ops.specs.declared.halts.Halt.TheVariants.{Busy, Moved, Crowded, NoBlock, NoHeader}
+use Rattle.rebalance.specs.Busy.{GivesUp}
 use Rattle.rebalance.specs.Calls.{FindsNoRoom, Halves, Loosens, Settles}
+use Rattle.oak_map.specs.declared.making_room.Way.{Way}
+use Rattle.oak_map.specs.declared.making_room.Way.TheVariants.{Halted, Loosened, Opened, Lacks}
+
+-- ---- what is to be done
+
+-- the call lacks this, by why its try was refused; a room, where it found none for a half of its chunk
+abbrev pub IsLacking : Lack → Halt → Sizes → ℕ → List ℕ → PassState → PassState → Type 0
+IsLacking (Block c) halt z call key v w = (halt ≡ NoBlock c) × (w ≡ v)
+IsLacking Header halt z call key v w = (halt ≡ NoHeader) × (w ≡ v)
+IsLacking Room halt z call key v w = (halt ≡ Crowded) × FindsNoRoom z call key v w
+
+-- what was done so far for another try
+abbrev pub FindsWay : Way → Halt → Sizes → ℕ → List ℕ → PassState → PassState → Type 0
+FindsWay Halted halt z call key v w = ((halt ≡ Busy) ⊎ (halt ≡ Moved)) × (w ≡ v)
+FindsWay Loosened halt z call key v w = (halt ≡ Crowded) × Loosens z call key v w
+FindsWay (Opened room) halt z call key v w = (halt ≡ Crowded) × Halves z call key room v w
+FindsWay (Lacks lack) halt z call key v w = IsLacking lack halt z call key v w
+
+-- another pass had the chunk that was to be split
+abbrev pub FindsBusy : Halt → Sizes → ℕ → List ℕ → PassState → PassState → Type 0
+FindsBusy halt z call key v w = (halt ≡ Crowded) × GivesUp z call key v w
+
+-- ---- what was done
 
 -- it tries again, and has settled if it had
 pub record TriesAgain (settled then : Bool) (result : Option Lack) : Type 0 where
@@ -24,10 +48,10 @@ pub record IsRefused (z : Sizes) (call : ℕ) (settled then : Bool) (lack : Lack
 abbrev pub MakesRoom : Sizes → ℕ → List ℕ → PassState → PassState → Type 0
 MakesRoom z call key v w = Loosens z call key v w ⊎ ((room : ℕ) × (x : PassState) × Halves z call key room v x × OnlyMeets call x w)
 
--- it made room, or found no room and lacks that
+-- it made room, or tries again since another pass had the chunk, or it found no room and lacks that
 abbrev pub SplitsChunk : Sizes → ℕ → List ℕ → (settled then : Bool) → Option Lack → PassState → PassState → Type 0
 SplitsChunk z call key settled then result v w =
-    (TriesAgain settled then result × MakesRoom z call key v w)
+    (TriesAgain settled then result × (GivesUp z call key v w ⊎ MakesRoom z call key v w))
     ⊎ ((x : PassState) × FindsNoRoom z call key v x × IsRefused z call settled then Room result x w)
 
 -- by why it was refused

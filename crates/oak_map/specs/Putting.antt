@@ -1,5 +1,5 @@
 -- How a call that puts goes on, after a try without an answer.
-use Rattle.std.specs.Prelude.{◌≡◌, ℕ, Bool, true, List}
+use Rattle.std.specs.Prelude.{◌≡◌, ℕ, Bool, true, false, List}
 use Rattle.oak_model.specs.declared.cells.CellCall.{CellCall}
 use Rattle.oak_model.specs.Key.{IsKey}
 use Rattle.oak_model.specs.Limits.{Sizes}
@@ -15,6 +15,13 @@ use Rattle.oak_map.specs.Replying.{Tries}
 -- it is the same pass, in the same call, but for its scratch and its slots, in which it has room to work
 abbrev pub StaysButRoom : Pass → Pass → Type 0
 StaysButRoom p q = StaysButSlots (with_scratch p q.scratch) q
+
+-- it is the same pass, in the same call, and its scratch is as it was where the call does not use that
+pub record StaysAsUsed (used : Bool) (p q : Pass) : Type 0 where
+  pub table : q.seat.table_id ≡ p.seat.table_id
+  pub seat : q.seat.id ≡ p.seat.id
+  pub call : q.call ≡ p.call
+  pub scratch : used ≡ false → q.scratch ≡ p.scratch
 
 -- ranges that the call swept cover every key
 abbrev pub SweepsAll : PassState → PassState → Type 0

@@ -1,7 +1,6 @@
 //! One try of each call, which looks first where the pass's hint says: the hint is asked for in each try.
 ghost use Rattle.std.specs.Prelude.{◌≡◌, ◌⊎◌, ◌<◌, ◌+◌, ◌-◌, ◌^◌, IfErr, IfOk};
 ghost use Rattle.chunk_ops.specs.Latching.{Never};
-ghost use Rattle.chunk_ops.specs.RoomPins.{HadMoment};
 ghost use Rattle.oak_core.specs.AloneWords.{Runs};
 ghost use Rattle.oak_core.specs.MayWrite.{IsNewCall};
 ghost use Rattle.oak_core.specs.PassState.{HoldsNothing, IsAlone};
@@ -9,15 +8,13 @@ ghost use Rattle.oak_core.specs.Passes.{IsPassOf, Stays, call_of, key as sizes, 
 ghost use Rattle.oak_core.specs.QuietSteps.{Quiet};
 ghost use Rattle.oak_core.specs.Scratch.{StaysButScratch};
 ghost use Rattle.oak_model.specs.Key.{IsKey};
-ghost use Rattle.oak_model.specs.Value.{IsValue};
-ghost use Rattle.oak_model.specs.declared.cells.CellCall.TheVariants.{Compute, Get, Put, PutNew, Remove, Upsert};
+ghost use Rattle.oak_model.specs.declared.cells.CellCall.TheVariants.{Compute, Get, Remove};
 ghost use Rattle.point_ops.specs.Counted.{Feeds, times_done};
 ghost use Rattle.point_ops.specs.declared.halts.Halt.TheVariants as halts;
 ghost use Rattle.point_ops.specs.Gets.{GotFits};
 ghost use Rattle.point_ops.specs.Halting.{Halts};
 ghost use Rattle.point_ops.specs.LoneLeft.{LeavesBy};
 ghost use Rattle.point_ops.specs.LoneLives.{GetsIn};
-ghost use Rattle.point_ops.specs.LonePuts.{PutsIn};
 ghost use Rattle.point_ops.specs.LoneReplies.{GotAlone, SameAlone, WroteAlone};
 ghost use Rattle.point_ops.specs.Parts.{WroteFits};
 ghost use Rattle.point_ops.specs.Replies.{Refuses};
@@ -46,56 +43,6 @@ pub(crate) fn try_get(table: &OakTable, pass: &mut Pass, key: &[u8]) -> Result<G
     point_ops::try_get(table, pass, hint, key)
 }
 
-/// Puts the value of the key.
-pub(crate) fn try_put(
-    table: &OakTable,
-    pass: &mut Pass,
-    key: &[u8],
-    value: &[u8],
-) -> Result<Wrote, Halt>
-    requires own { IsPassOf table.now pass.old }
-    requires key { IsKey key.now }
-    requires idle { HoldsNothing (state pass.old) }
-    requires turn { IsNewCall (call_of pass.old) (state pass.old) }
-    requires value { IsValue value.now }
-    ensures own { Stays pass.old pass.new }
-    ensures wrote { IfOk result (λ x. WroteFits x (call_of pass.old) key.now (Put value.now) (state pass.old) (state pass.new)) }
-    ensures alone_reply { IfOk result (λ x. IsAlone (state pass.old) → WroteAlone x (sizes table.now) key.now (Put value.now) (state pass.old) (state pass.new)) }
-    ensures ended { IfOk result (λ _. HadMoment (sizes table.now) (state pass.new)) }
-    ensures refused { IfErr result (λ _. Refuses (call_of pass.old) (state pass.old) (state pass.new)) }
-    ensures alone_same { IfErr result (λ _. SameAlone (sizes table.now) (state pass.old) (state pass.new)) }
-    ensures halted { IfErr result (λ why. Halts why (sizes table.now) (call_of pass.old) key.now (Put value.now) (state pass.old) (state pass.new)) }
-    ensures alone { Runs (PutsIn result (sizes table.now) key.now value.now) (state pass.old) (state pass.new) }
-{
-    let hint = pass.hint(key);
-    point_ops::try_put(table, pass, hint, key, value)
-}
-
-/// Puts the value of the key, if it is absent.
-pub(crate) fn try_put_if_absent(
-    table: &OakTable,
-    pass: &mut Pass,
-    key: &[u8],
-    value: &[u8],
-) -> Result<Wrote, Halt>
-    requires own { IsPassOf table.now pass.old }
-    requires key { IsKey key.now }
-    requires idle { HoldsNothing (state pass.old) }
-    requires turn { IsNewCall (call_of pass.old) (state pass.old) }
-    requires value { IsValue value.now }
-    ensures own { Stays pass.old pass.new }
-    ensures wrote { IfOk result (λ x. WroteFits x (call_of pass.old) key.now (PutNew value.now) (state pass.old) (state pass.new)) }
-    ensures alone_reply { IfOk result (λ x. IsAlone (state pass.old) → WroteAlone x (sizes table.now) key.now (PutNew value.now) (state pass.old) (state pass.new)) }
-    ensures ended { IfOk result (λ _. HadMoment (sizes table.now) (state pass.new)) }
-    ensures refused { IfErr result (λ _. Refuses (call_of pass.old) (state pass.old) (state pass.new)) }
-    ensures alone_same { IfErr result (λ _. SameAlone (sizes table.now) (state pass.old) (state pass.new)) }
-    ensures halted { IfErr result (λ why. Halts why (sizes table.now) (call_of pass.old) key.now (PutNew value.now) (state pass.old) (state pass.new)) }
-    ensures alone { Runs (PutsIn result (sizes table.now) key.now value.now) (state pass.old) (state pass.new) }
-{
-    let hint = pass.hint(key);
-    point_ops::try_put_if_absent(table, pass, hint, key, value)
-}
-
 /// Computes the value of the key anew, where it has one.
 pub(crate) fn try_compute(
     table: &OakTable,
@@ -122,36 +69,6 @@ pub(crate) fn try_compute(
 {
     let hint = pass.hint(key);
     point_ops::try_compute(table, pass, hint, key, recipe)
-}
-
-/// Computes the value of the key anew, or puts one.
-pub(crate) fn try_upsert(
-    table: &OakTable,
-    pass: &mut Pass,
-    key: &[u8],
-    value: &[u8],
-    recipe: &mut Box<dyn Recipe + Send>,
-) -> Result<Wrote, Halt>
-    requires own { IsPassOf table.now pass.old }
-    requires key { IsKey key.now }
-    requires idle { HoldsNothing (state pass.old) }
-    requires turn { IsNewCall (call_of pass.old) (state pass.old) }
-    requires value { IsValue value.now }
-    requires few { calls recipe.old < 2 ^ 64 - 1 }
-    ensures own { StaysButScratch pass.old pass.new }
-    ensures wrote { IfOk result (λ x. WroteFits x (call_of pass.old) key.now (Upsert value.now (told_kind recipe.old) (told_argument recipe.old)) (state pass.old) (state pass.new)) }
-    ensures alone_reply { IfOk result (λ x. IsAlone (state pass.old) → WroteAlone x (sizes table.now) key.now (Upsert value.now (told_kind recipe.old) (told_argument recipe.old)) (state pass.old) (state pass.new)) }
-    ensures ended { IfOk result (λ _. HadMoment (sizes table.now) (state pass.new)) }
-    ensures refused { IfErr result (λ _. Refuses (call_of pass.old) (state pass.old) (state pass.new)) }
-    ensures alone_same { IfErr result (λ _. SameAlone (sizes table.now) (state pass.old) (state pass.new)) }
-    ensures halted { IfErr result (λ why. Halts why (sizes table.now) (call_of pass.old) key.now (Upsert value.now (told_kind recipe.old) (told_argument recipe.old)) (state pass.old) (state pass.new)) }
-    ensures alone { Runs (PutsIn result (sizes table.now) key.now value.now) (state pass.old) (state pass.new) }
-    ensures counted { calls recipe.new ≡ calls recipe.old + times_done result }
-    ensures fed { Feeds result key.now (fed recipe.old) (fed recipe.new) (state pass.new) }
-    ensures told { (told_kind recipe.new ≡ told_kind recipe.old) × (told_argument recipe.new ≡ told_argument recipe.old) }
-{
-    let hint = pass.hint(key);
-    point_ops::try_upsert(table, pass, hint, key, value, recipe)
 }
 
 /// Removes the key.

@@ -2,6 +2,7 @@
 #![tactic(auto)]
 
 mod answers;
+mod asking;
 pub mod bare;
 mod changing;
 mod chunks;
@@ -21,6 +22,7 @@ mod making_room;
 mod map;
 mod mending;
 mod publishing;
+mod put_loops;
 mod putting;
 #[cfg(test)]
 mod row_tests;

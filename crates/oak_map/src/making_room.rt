@@ -1,28 +1,73 @@
 //! What a call that puts does after a try without an answer.
-ghost use Rattle.std.specs.Prelude.{◌≡◌, true, false, IfSome, IfNone, Option, ℕ, length};
+ghost use Rattle.std.specs.Prelude.{◌≡◌, ◌<◌, true, IfErr, IfOk, IfSome, IfNone, ℕ, Option, length};
 ghost use Rattle.oak_model.specs.declared.cells.CellCall.{CellCall};
 ghost use Rattle.oak_model.specs.Key.{IsKey};
 ghost use Rattle.oak_core.specs.declared.states.PassState.{PassState};
 ghost use Rattle.oak_core.specs.Lack.{Lacks};
-ghost use Rattle.oak_core.specs.Noting.{Notes};
 ghost use Rattle.oak_core.specs.Passes.{IsPassOf, state, key as sizes, call_of};
 ghost use Rattle.oak_core.specs.PassState.{HoldsNothing};
 ghost use Rattle.oak_core.specs.Scratch.{StaysButSlots};
-ghost use Rattle.rebalance.specs.Calls.{Settles};
-ghost use Rattle.oak_map.specs.MakingRoom.{MakesWay};
+ghost use Rattle.oak_map.specs.MakingRoom.{FindsBusy, FindsWay, IsRefused, MakesWay};
 ghost use Rattle.oak_map.specs.Maps.{table_of};
 ghost use Rattle.oak_map.specs.Putting.{Going, LastTry};
 ghost use Rattle.oak_map.specs.Replying.{GivesUp};
 
+use crate::answers::Busy;
 use crate::map::OakMap;
 use crate::publishing::publish_upper;
 use crate::settling::settle_map;
-use oak_core::Pass;
+use oak_core::{OakTable, Pass};
 use oak_model::Lack;
 use point_ops::Halt;
-use rebalance::{NoRoom, Split, split};
+use rebalance::{NoRoom, Split, try_split};
 use std::sync::Wait;
 use std::thread;
+
+/// How many looks a call that waits makes at the pin word of a chunk that it would split, before it lets other threads
+/// run.
+const LOOKS: u32 = 1024;
+
+/// What was done after a try without an answer, or is to be done.
+pub(crate) enum Way {
+    /// Another pass was at work on the key, or moved its room.
+    Halted,
+    /// The chunk of the key was compacted.
+    Loosened,
+    /// Its range was opened as two, the upper one in `room`.
+    Opened { room: u32 },
+    /// Nothing is free of what the call lacks.
+    Lacks(Lack),
+}
+
+/// Makes room in the chunk of the key where the try was refused for want of that. It waits for nobody: `Busy` comes only
+/// where another pass had the chunk, as [`try_split`] says.
+fn find_way(
+    table: &OakTable,
+    pass: &mut Pass,
+    key: &[u8],
+    halt: Halt,
+    looks: u32,
+) -> Result<Way, Busy>
+    requires own { IsPassOf table.now pass.old }
+    requires key { IsKey key.now }
+    requires idle { HoldsNothing (state pass.old) }
+    requires some { 0 < looks }
+    ensures own { StaysButSlots pass.old pass.new }
+    ensures way { IfOk result (λ x. FindsWay x halt (sizes table.now) (call_of pass.old) key.now (state pass.old) (state pass.new)) }
+    ensures busy { IfErr result (λ _. FindsBusy halt (sizes table.now) (call_of pass.old) key.now (state pass.old) (state pass.new)) }
+{
+    match halt {
+        Halt::Busy | Halt::Moved => Ok(Way::Halted),
+        Halt::Crowded => match try_split(table, pass, key, looks) {
+            Ok(Ok(Split::Loosened)) => Ok(Way::Loosened),
+            Ok(Ok(Split::Halved { room })) => Ok(Way::Opened { room }),
+            Ok(Err(NoRoom)) => Ok(Way::Lacks(Lack::Room)),
+            Err(_) => Err(Busy),
+        },
+        Halt::NoBlock(class) => Ok(Way::Lacks(Lack::Block(class))),
+        Halt::NoHeader => Ok(Way::Lacks(Lack::Header)),
+    }
+}
 
 /// Settles where the call has not settled yet, and else notes it with what it lacks.
 fn refuse<R: Wait + Drop + Send>(
@@ -36,8 +81,7 @@ fn refuse<R: Wait + Drop + Send>(
     requires idle { HoldsNothing (state pass.old) }
     requires lacks { settled.old ≡ true → (spare : Option ℕ) × (began : ℕ) × Lacks (sizes (table_of map.now)) (call_of pass.old) lack spare began (length (state pass.old).findings.met) (state pass.old).findings }
     ensures own { StaysButSlots pass.old pass.new }
-    ensures full { settled.old ≡ true → (result ≡ Some lack) × Notes (sizes (table_of map.now)) (call_of pass.old) lack (state pass.old) (state pass.new) }
-    ensures again { settled.old ≡ false → (result ≡ None) × (settled.new ≡ true) × Settles (sizes (table_of map.now)) (call_of pass.old) (state pass.old) (state pass.new) }
+    ensures refused { IsRefused (sizes (table_of map.now)) (call_of pass.old) settled.old settled.new lack result (state pass.old) (state pass.new) }
 {
     if *settled {
         pass.note_full(&map.table, lack);
@@ -48,8 +92,8 @@ fn refuse<R: Wait + Drop + Send>(
     None
 }
 
-/// Makes way for another try: it waits for other passes, makes room in the chunk of the key, or settles.
-/// Where that opened a chunk more, the index is told where it begins.
+/// Makes way for another try: it lets other threads run where other passes are at work, makes room in the chunk of the
+/// key, or settles. Where that opened a chunk more, the index is told where it begins.
 /// Where the call has settled and lacks something still, it is noted, and what it lacks is answered.
 pub(crate) fn make_way<R: Wait + Drop + Send>(
     rt: &R,
@@ -68,20 +112,20 @@ pub(crate) fn make_way<R: Wait + Drop + Send>(
     ensures going { (ask : CellCall) (u v : PassState) → LastTry (sizes (table_of map.now)) (call_of pass.old) key.now halt settled.old ask u v (state pass.old) → IfNone result (Going (sizes (table_of map.now)) (call_of pass.old) settled.new u (state pass.new)) }
     ensures way { MakesWay halt (sizes (table_of map.now)) (call_of pass.old) key.now settled.old settled.new result (state pass.old) (state pass.new) }
 {
-    match halt {
-        Halt::Busy | Halt::Moved => {
+    match find_way(&map.table, pass, key, halt, LOOKS) {
+        Ok(Way::Loosened) => None,
+        Ok(Way::Opened { room }) => {
+            publish_upper(rt, map, pass, key, room);
+            None
+        }
+        Ok(Way::Lacks(lack)) => refuse(rt, map, pass, settled, lack),
+        Ok(Way::Halted) => {
             thread::yield_now();
             None
         }
-        Halt::Crowded => match split(rt, &map.table, pass, key) {
-            Ok(Split::Loosened) => None,
-            Ok(Split::Halved { room }) => {
-                publish_upper(rt, map, pass, key, room);
-                None
-            }
-            Err(NoRoom) => refuse(rt, map, pass, settled, Lack::Room),
-        },
-        Halt::NoBlock(class) => refuse(rt, map, pass, settled, Lack::Block(class)),
-        Halt::NoHeader => refuse(rt, map, pass, settled, Lack::Header),
+        Err(_) => {
+            thread::yield_now();
+            None
+        }
     }
 }

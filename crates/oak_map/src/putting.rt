@@ -14,9 +14,9 @@ ghost use Rattle.oak_map.specs.Maps.{IsReady, call_of, pass_of, sizes, state};
 ghost use Rattle.oak_map.specs.Putting.{StaysButRoom};
 ghost use Rattle.oak_map.specs.Replying.{PutFits};
 
-use crate::hinted::{try_put, try_put_if_absent, try_upsert};
-use crate::making_room::make_way;
+use crate::asking::{PutIfAbsent, PutOver};
 use crate::map::{MapPass, OakMap};
+use crate::put_loops::wait_to_put;
 use oak_model::Wrote;
 use std::sync::Wait;
 use value_ops::Recipe;
@@ -43,25 +43,7 @@ impl<R: Wait + Drop + Send> OakMap<R> {
         ensures alone { Runs (PutsAlone (sizes self.now) key.now (Put value.now) (state pass.old) result) (state pass.old) (state pass.new) }
         ensures alone_rooms { IsAlone (state pass.old) → Runs (RoomsAlone (sizes self.now) key.now (Put value.now) (state pass.old) (state pass.new)) (state pass.old) (state pass.new) }
     {
-        let mut settled = false;
-        for _ in rt.forever() {
-            match try_put(&self.table, &mut pass.pass, key, value) {
-                Ok(wrote) => return wrote,
-                Err(halt) => {
-                    if let Some(lack) = make_way(
-                        rt,
-                        self,
-                        &mut pass.pass,
-                        &mut settled,
-                        key,
-                        halt,
-                    ) {
-                        return Wrote::Full(lack);
-                    }
-                }
-            }
-        }
-        unreachable!()
+        wait_to_put(rt, self, &mut pass.pass, key, value, &mut PutOver)
     }
 
     /// Puts the value of a key if it is absent: `New` then, and `Kept` where it was present, with a number
@@ -79,25 +61,7 @@ impl<R: Wait + Drop + Send> OakMap<R> {
         ensures alone { Runs (PutsAlone (sizes self.now) key.now (PutNew value.now) (state pass.old) result) (state pass.old) (state pass.new) }
         ensures alone_rooms { IsAlone (state pass.old) → Runs (RoomsAlone (sizes self.now) key.now (PutNew value.now) (state pass.old) (state pass.new)) (state pass.old) (state pass.new) }
     {
-        let mut settled = false;
-        for _ in rt.forever() {
-            match try_put_if_absent(&self.table, &mut pass.pass, key, value) {
-                Ok(wrote) => return wrote,
-                Err(halt) => {
-                    if let Some(lack) = make_way(
-                        rt,
-                        self,
-                        &mut pass.pass,
-                        &mut settled,
-                        key,
-                        halt,
-                    ) {
-                        return Wrote::Full(lack);
-                    }
-                }
-            }
-        }
-        unreachable!()
+        wait_to_put(rt, self, &mut pass.pass, key, value, &mut PutIfAbsent)
     }
 
     /// Computes the value of a key anew, as [`OakMap::compute`] does, or puts one where it was absent:
@@ -128,24 +92,6 @@ impl<R: Wait + Drop + Send> OakMap<R> {
         ensures alone_fed { IsAlone (state pass.old) → FeedsAlone (Ok result) key.now (fed recipe.new) (state pass.old) }
         ensures told { (told_kind recipe.new ≡ told_kind recipe.old) × (told_argument recipe.new ≡ told_argument recipe.old) }
     {
-        let mut settled = false;
-        for _ in rt.forever() {
-            match try_upsert(&self.table, &mut pass.pass, key, value, recipe) {
-                Ok(wrote) => return wrote,
-                Err(halt) => {
-                    if let Some(lack) = make_way(
-                        rt,
-                        self,
-                        &mut pass.pass,
-                        &mut settled,
-                        key,
-                        halt,
-                    ) {
-                        return Wrote::Full(lack);
-                    }
-                }
-            }
-        }
-        unreachable!()
+        wait_to_put(rt, self, &mut pass.pass, key, value, recipe)
     }
 }

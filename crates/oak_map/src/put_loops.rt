@@ -1,0 +1,62 @@
+//! The loop of a call that puts, whatever it asks.
+ghost use Rattle.std.specs.Prelude.{◌≡◌, ◌<◌, ◌+◌, ◌-◌, ◌^◌, Ok};
+ghost use Rattle.oak_model.specs.Key.{IsKey};
+ghost use Rattle.oak_model.specs.Value.{IsValue};
+ghost use Rattle.oak_core.specs.AloneWords.{Runs};
+ghost use Rattle.oak_core.specs.MayWrite.{IsNewCall};
+ghost use Rattle.oak_core.specs.PassState.{HoldsNothing, IsAlone};
+ghost use Rattle.oak_core.specs.Passes.{IsPassOf, call_of, key as sizes, state};
+ghost use Rattle.oak_core.specs.RoomLacks.{ClaimsFull};
+ghost use Rattle.point_ops.specs.Counted.{Feeds, FeedsAlone, times_done};
+ghost use Rattle.oak_map.specs.LonePuts.{PutAlone, PutsAlone, RoomsAlone};
+ghost use Rattle.oak_map.specs.Maps.{table_of};
+ghost use Rattle.oak_map.specs.Putting.{StaysAsUsed};
+ghost use Rattle.oak_map.specs.Replying.{PutFits};
+
+use crate::asking::Asking;
+use crate::making_room::make_way;
+use crate::map::OakMap;
+use oak_core::Pass;
+use oak_model::Wrote;
+use std::sync::Wait;
+
+/// Tries, and makes way behind each try that was refused, until the call is answered.
+pub(crate) fn wait_to_put<R: Wait + Drop + Send, A: Asking>(
+    rt: &R,
+    map: &OakMap<R>,
+    pass: &mut Pass,
+    key: &[u8],
+    value: &[u8],
+    asking: &mut A,
+) -> Wrote
+    requires own { IsPassOf (table_of map.now) pass.old }
+    requires key { IsKey key.now }
+    requires idle { HoldsNothing (state pass.old) }
+    requires turn { IsNewCall (call_of pass.old) (state pass.old) }
+    requires value { IsValue value.now }
+    requires few { A.times asking.old < 2 ^ 64 - 1 }
+    ensures own { StaysAsUsed A.uses_scratch pass.old pass.new }
+    ensures idle { HoldsNothing (state pass.new) }
+    ensures wrote { PutFits result (sizes (table_of map.now)) (call_of pass.old) key.now (A.ask asking.old value.now) (state pass.old) (state pass.new) }
+    ensures claims { ClaimsFull (sizes (table_of map.now)) (state pass.old) (state pass.new) }
+    ensures alone_reply { IsAlone (state pass.old) → PutAlone result (sizes (table_of map.now)) key.now (A.ask asking.old value.now) (state pass.old) (state pass.new) }
+    ensures alone { Runs (PutsAlone (sizes (table_of map.now)) key.now (A.ask asking.old value.now) (state pass.old) result) (state pass.old) (state pass.new) }
+    ensures alone_rooms { IsAlone (state pass.old) → Runs (RoomsAlone (sizes (table_of map.now)) key.now (A.ask asking.old value.now) (state pass.old) (state pass.new)) (state pass.old) (state pass.new) }
+    ensures asks { A.ask asking.new value.now ≡ A.ask asking.old value.now }
+    ensures counted { A.times asking.new ≡ A.times asking.old + times_done (Ok result) }
+    ensures fed { Feeds (Ok result) key.now (A.says asking.old) (A.says asking.new) (state pass.new) }
+    ensures alone_fed { IsAlone (state pass.old) → FeedsAlone (Ok result) key.now (A.says asking.new) (state pass.old) }
+{
+    let mut settled = false;
+    for _ in rt.forever() {
+        match asking.try_once(&map.table, pass, key, value) {
+            Ok(wrote) => return wrote,
+            Err(halt) => {
+                if let Some(lack) = make_way(rt, map, pass, &mut settled, key, halt) {
+                    return Wrote::Full(lack);
+                }
+            }
+        }
+    }
+    unreachable!()
+}
