@@ -44,7 +44,7 @@ use Rattle.oak_core.specs.declared.sorting.SortSlot.{SortSlot}
 use Rattle.chunk_core.specs.PinnedRooms.{span_of}
 use Rattle.chunk_ops.specs.Latching.{Never}
 use Rattle.chunk_ops.specs.LoneRooms.{FreezesNone, HasElsewhere, NeverElsewhere, NeverUnfrozen}
-use Rattle.rebalance.specs.Busy.{IsBusyFor}
+use Rattle.rebalance.specs.Busy.{HoldsOff, IsBusyFor, SweepsOff}
 use Rattle.rebalance.proofs.NeverRuns.{never_first, never_last, never_so, unless_first, unless_last}
 
 -- ---- what a pass does beside its rooms
@@ -232,6 +232,9 @@ module _ (z : Sizes) (call looks r : ℕ) (key : List ℕ) (v x : PassState) (on
   pub busy_lost : (u : PassState) → LosesPinned z call looks r x u → IsBusyFor z call looks key v u
   busy_lost u l = inr (r, inl (room_busy z call looks v x u u p.stands.met (met_none call u) r l.why))
 
+  pub swept_lost : (u : PassState) → LosesPinned z call looks r x u → SweepsOff z call key v u
+  swept_lost u l = inl (l.unpins.stands.swept ∙ p.stands.swept)
+
   -- a pass that is alone, and has no room frozen, loses none
   pub alone_lost : (u : PassState) → LosesPinned z call looks r x u → Runs (NeverElsewhere (key_number key) v) v u
   alone_lost u l = unless_last (AddsRoomPin z r) (HasElsewhere (key_number key) v) (FreezesNone x) v x u (λ has q. ap (in_room_state q FROZEN) p.rooms ∙ has.frozen q) p.still l.alone
@@ -332,15 +335,14 @@ module _ (z : Sizes) (call looks r : ℕ) (key : List ℕ) (v x : PassState) (on
         pub alone_off : Runs (NeverElsewhere (key_number key) v) v u
         alone_off = never_so (NeverElsewhere (key_number key) v) v u never_off
 
+        held_off : HoldsOff z call key r v u
+        held_off = record { copy = w; came = record { old = h.came.old; step = step_in z call (on_rooms (hold_room r h.came.old)) v x y u p.stands.met later.met h.came.step; found_is = h.came.found_is; copy_is = h.came.copy_is }; off = off }
+
         pub busy_off : IsBusyFor z call looks key v u
-        busy_off = inr (
-          r,
-          inr record {
-            copy = w;
-            came = record { old = h.came.old; step = step_in z call (on_rooms (hold_room r h.came.old)) v x y u p.stands.met later.met h.came.step; found_is = h.came.found_is; copy_is = h.came.copy_is };
-            off = off;
-          },
-        )
+        busy_off = inr (r, inr held_off)
+
+        pub swept_off : SweepsOff z call key v u
+        swept_off = inr (r, held_off)
 
         pub back_off : ComesBack z call v u
         back_off = record {

@@ -46,6 +46,7 @@ use Rattle.rebalance.proofs.NeverRuns.{never_first, never_last, unless_never}
 use Rattle.rebalance.proofs.NeighbourChunks.{pair_above, pair_below, pair_front}
 use Rattle.rebalance.proofs.RangeKeys.{high_number-is, number_of}
 use Rattle.rebalance.proofs.RangesStand.{range_stands}
+use Rattle.rebalance.proofs.SettledKeys.{idle_still, none_written}
 use Rattle.rebalance.proofs.SweptKeys.{high_are_bytes, sweeps_since, sweeps_until}
 use Rattle.rebalance.proofs.SweptRooms.{mirrors_valued}
 use Rattle.rebalance.proofs.TakenChunks.{end_elsewhere, end_is_key, front_back, front_kept, held_in, inside_still, leaves_of, none_left, opened_rewrites, opened_sweeps, opens_since}
@@ -114,6 +115,8 @@ module _ (z : Sizes) (call : ℕ) (key : List ℕ) (low : Taken) (ys : List Sort
       });
       leaves = k.1;
       unclaimed = o.claims ∙ (back.claims ∙ (works.stands.claims ∙ lower.claims));
+      unwritten = none_written call v u k.1;
+      idle = idle_still call v u idle k.1;
       alone = never_first (MovesWith z low.room HELD OPEN lower.words) v b u
           (never_last (TakesRoom z v low.room lower.held) v q b takes
           (unless_never (HasElsewhere (key_number h) q) q b (end_elsewhere z low.room lower.words lower.range q (key_number h) front (ap high_number (sym front.mirrors.high) ∙ (high_number-is lower.words.high ∙ ap number_of end))) never))

@@ -4,6 +4,7 @@ use Rattle.std.specs.declared.cmp.Ordering.{Ordering}
 use Rattle.std.specs.declared.cmp.Ordering.TheVariants.{Less, Equal, Greater}
 use Rattle.oak_model.specs.Key.{IsKey, IsKeyBefore, key_cmp}
 use Rattle.oak_model.proofs.Lists.{begins_trans}
+use Rattle.oak_core.specs.declared.states.Knowledge.{Knowledge}
 use Rattle.oak_core.specs.declared.states.Numbers.{Numbers}
 use Rattle.oak_core.specs.declared.states.PassState.{PassState}
 use Rattle.oak_core.specs.PassState.{HoldsNothing}
@@ -35,6 +36,10 @@ leaves_both call u v w a b = record {
 -- a pass that held nothing holds nothing
 pub idle_still : (call : ℕ) (v w : PassState) → HoldsNothing v → Leaves call v w → HoldsNothing w
 idle_still call v w idle l = record { hand = ap (λ (n : Numbers). n.hand) l.numbers ∙ idle.hand; blocks = l.blocks ∙ idle.blocks; headers = l.headers ∙ idle.headers; rooms = l.rooms ∙ idle.rooms }
+
+-- it wrote nothing
+pub none_written : (call : ℕ) (v w : PassState) → Leaves call v w → w.knowledge.mine ≡ v.knowledge.mine
+none_written call v w l = ap (λ (k : Knowledge). k.mine) l.knowledge
 
 -- no key is below the least one
 pub least_below : (key : List ℕ) (v : PassState) → key ≡ 0 ∷ [] → SweepsBelow key v v

@@ -8,6 +8,7 @@ use Rattle.chunk_core.specs.KeyWords.{high_bytes}
 use Rattle.chunk_core.specs.Spans.{within}
 use Rattle.oak_core.specs.declared.states.PassState.{PassState}
 use Rattle.oak_core.specs.AloneWords.{Runs}
+use Rattle.oak_core.specs.PassState.{HoldsNothing}
 use Rattle.chunk_ops.specs.AskedRanges.{CoversKey}
 use Rattle.chunk_ops.specs.Latching.{Never}
 use Rattle.chunk_ops.specs.RoomPins.{FoundMoved}
@@ -26,11 +27,20 @@ pub record HoldsOff (z : Sizes) (call : ℕ) (key : List ℕ) (r : ℕ) (v w : P
 abbrev pub IsBusyFor : Sizes → ℕ → ℕ → List ℕ → PassState → PassState → Type 0
 IsBusyFor z call looks key v w = FoundMoved z call (CoversKey key) v w ⊎ ((r : ℕ) × (IsBusy z call looks r v w ⊎ HoldsOff z call key r v w))
 
--- The call gave up. The pass only met more, all of it in the call, and may have swept ranges: it wrote and learned nothing, holds what it held, and claimed no room, nor tried to.
+-- the call swept no range, but it may have done so where it came to hold a room without the key
+abbrev pub SweepsOff : Sizes → ℕ → List ℕ → PassState → PassState → Type 0
+SweepsOff z call key v w = (w.findings.swept ≡ v.findings.swept) ⊎ ((r : ℕ) × HoldsOff z call key r v w)
+
+-- The call gave up. The pass only met more, all of it in the call: it wrote and learned nothing, holds what it held, which is nothing, and claimed no room, nor tried to.
 pub record GivesUp (z : Sizes) (call looks : ℕ) (key : List ℕ) (v w : PassState) : Type 0 where
   pub busy : IsBusyFor z call looks key v w
+  -- no range was swept, but of a room that it held without the key
+  pub swept : SweepsOff z call key v w
   pub leaves : Leaves call v w
   pub unclaimed : w.findings.rebalances.claims ≡ v.findings.rebalances.claims
+  -- it wrote nothing, and its pass holds nothing
+  pub unwritten : w.knowledge.mine ≡ v.knowledge.mine
+  pub idle : HoldsNothing w
   -- to a pass that is alone
   pub alone : Runs Never v w
 
@@ -55,6 +65,9 @@ pub record GivesUpMerging (z : Sizes) (call looks : ℕ) (key : List ℕ) (v w :
   pub busy : IsBusyAt z call looks key v w
   pub leaves : Leaves call v w
   pub unclaimed : w.findings.rebalances.claims ≡ v.findings.rebalances.claims
+  -- it wrote nothing, and its pass holds nothing
+  pub unwritten : w.knowledge.mine ≡ v.knowledge.mine
+  pub idle : HoldsNothing w
   -- to a pass that is alone
   pub alone : Runs Never v w
 
@@ -70,5 +83,8 @@ pub record GivesUpSettling (z : Sizes) (call looks : ℕ) (v w : PassState) : Ty
   pub busy : IsBusyAt z call looks from v w ⊎ SweepsAsMany z v w
   pub leaves : Leaves call v w
   pub unclaimed : w.findings.rebalances.claims ≡ v.findings.rebalances.claims
+  -- it wrote nothing, and its pass holds nothing
+  pub unwritten : w.knowledge.mine ≡ v.knowledge.mine
+  pub idle : HoldsNothing w
   -- to a pass that is alone
   pub alone : Runs Never v w

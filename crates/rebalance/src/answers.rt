@@ -15,8 +15,10 @@ pub enum Split {
 #[error("no room is free")]
 pub struct NoRoom;
 
-/// The chunk was frozen or held by another pass, or pinned, at each look that the call made at its pin word.
-/// Each room that the call froze is open again, and no key was changed.
+/// A chunk was not to be had: no room was open with the key in its range, since another pass had moved it; or
+/// another pass had frozen it; or at each of the looks that the call may make at its pin word that had changed
+/// before it was frozen, or pins stood on it once it was. Each room that the call froze is open again, it holds
+/// nothing, and no key was changed.
 #[derive(Clone, Copy, Debug, PartialEq, Eq, Error)]
 #[error("the chunk is busy")]
 pub struct Busy;

@@ -15,7 +15,7 @@ ghost use Rattle.chunk_ops.specs.LoneRooms.{NeverElsewhere};
 ghost use Rattle.chunk_ops.specs.PinRecords.{HasRoomPin, OnlyMeets};
 ghost use Rattle.chunk_ops.specs.RoomPins.{FoundMoved, HadMoment, PinsOpen};
 ghost use Rattle.chunk_ops.specs.Stored.{IsStored};
-ghost use Rattle.rebalance.specs.Busy.{IsBusyFor};
+ghost use Rattle.rebalance.specs.Busy.{IsBusyFor, SweepsOff};
 ghost use Rattle.rebalance.specs.Copies.{copy_span};
 ghost use Rattle.rebalance.specs.Chunks.{ComesBack, HoldsFor, HoldsFront, HoldsPinned, LosesPinned, OpensFront};
 ghost use Rattle.rebalance.specs.HeldTables.{WorksOnRooms};
@@ -30,8 +30,9 @@ use oak_core::{OakTable, Pass};
 use oak_model::GREATEST_ENTRIES;
 
 /// Freezes the pinned room, undoes the pin and holds the room alone. `false` comes only where the room was
-/// busy: another pass had frozen it, or it was pinned, at each of so many looks; the pin is undone then too,
-/// and the room is open again if the call froze it.
+/// busy: another pass had frozen it, or at each of so many looks at its pin word that had changed before it was
+/// frozen, or pins stood on it once it was; the pin is undone then too, and the room is open again if the call
+/// froze it.
 fn hold_pinned(table: &OakTable, pass: &mut Pass, pin: RoomPin, looks: u32) -> bool
     requires own { IsPassOf table.now pass.old }
     requires pinned { HasRoomPin (sizes table.now) pin.room (state pass.old) }
@@ -94,7 +95,8 @@ fn pin_covering(table: &OakTable, pass: &mut Pass, key: &[u8]) -> Result<RoomPin
 }
 
 /// Tries to hold the chunk that covers the key. `None` comes only where it was busy, and the pass has what it
-/// had then: another pass had frozen or moved it, or it was pinned, at each of so many looks at its pin word.
+/// had then: another pass had moved or frozen it, or at each of so many looks at its pin word other passes had
+/// pinned it.
 pub(crate) fn try_hold(table: &OakTable, pass: &mut Pass, key: &[u8], looks: u32) -> Option<u32>
     requires own { IsPassOf table.now pass.old }
     requires key { IsKey key.now }
@@ -104,6 +106,7 @@ pub(crate) fn try_hold(table: &OakTable, pass: &mut Pass, key: &[u8], looks: u32
     ensures holds { IfSome result (λ r. (w : RoomCopy) × (g : MovingRange) × HoldsFor (sizes table.now) (call_of pass.old) key.now r w g (state pass.old) (state pass.new)) }
     ensures back { IfNone result (ComesBack (sizes table.now) (call_of pass.old) (state pass.old) (state pass.new)) }
     ensures busy { IfNone result (IsBusyFor (sizes table.now) (call_of pass.old) looks key.now (state pass.old) (state pass.new)) }
+    ensures swept { IfNone result (SweepsOff (sizes table.now) (call_of pass.old) key.now (state pass.old) (state pass.new)) }
     ensures alone { IfNone result (Runs (NeverElsewhere (key_number key.now) (state pass.old)) (state pass.old) (state pass.new)) }
 {
     let Ok(pin) = pin_covering(table, pass, key) else {

@@ -17,8 +17,8 @@ use std::thread;
 /// Drops the entries without a value of the chunk that covers the key, and makes the others its sorted
 /// prefix, with nothing behind it. The answer is how many were dropped, exactly those that had no value
 /// while the chunk was held. It claims no room, nor tries to. It waits for nobody: `Busy` comes only where
-/// another pass had frozen or moved the chunk, or it was pinned, at each of so many looks at its pin word; to
-/// a pass that is alone it never comes.
+/// another pass had moved or frozen the chunk, or at each of so many looks at its pin word other passes had
+/// pinned it; to a pass that is alone it never comes.
 pub fn try_compact(table: &OakTable, pass: &mut Pass, key: &[u8], looks: u32) -> Result<u32, Busy>
     requires own { IsPassOf table.now pass.old }
     requires key { IsKey key.now }

@@ -20,8 +20,9 @@ use chunk_ops::RoomPin;
 use oak_core::{OakTable, Pass, load, steps};
 use pin_word::pack;
 
-/// Freezes the pinned room, and says whether it did: false where another pass has frozen it, or where other
-/// passes pinned it, or undid their pins, behind each of so many looks at its pin word.
+/// Freezes the pinned room, and says whether it did: false where a look finds that another pass has frozen it,
+/// or where behind each of so many looks at its pin word that has changed before it is frozen, since other passes
+/// pinned it, or undid their pins.
 pub(crate) fn freeze_pinned(table: &OakTable, pass: &mut Pass, pin: &RoomPin, looks: u32) -> bool
     requires own { IsPassOf table.now pass.old }
     requires pinned { HasRoomPin (key table.now) pin.now.room (state pass.old) }

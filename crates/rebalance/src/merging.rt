@@ -12,7 +12,7 @@ ghost use Rattle.oak_core.specs.PassState.{HoldsNothing};
 ghost use Rattle.oak_core.specs.Scratch.{StaysButSlots};
 ghost use Rattle.chunk_ops.specs.LoneRooms.{NeverElsewhere};
 ghost use Rattle.chunk_ops.specs.RoomPins.{HadMoment};
-ghost use Rattle.rebalance.specs.Busy.{GivesUpMerging, IsBusyFor};
+ghost use Rattle.rebalance.specs.Busy.{GivesUpMerging, IsBusyFor, SweepsOff};
 ghost use Rattle.rebalance.specs.Calls.{Merges};
 ghost use Rattle.rebalance.specs.Chunks.{ComesBack, HoldsFront};
 ghost use Rattle.rebalance.specs.HeldTables.{WorksOnRooms};
@@ -58,6 +58,7 @@ fn try_take_chunk(table: &OakTable, pass: &mut Pass, key: &[u8], looks: u32) -> 
     ensures takes { IfSome result (λ t. TakesChunk (sizes table.now) (call_of pass.old) key.now t (take t.kept (slots_of pass.new)) (state pass.old) (state pass.new)) }
     ensures back { IfNone result (ComesBack (sizes table.now) (call_of pass.old) (state pass.old) (state pass.new)) }
     ensures busy { IfNone result (IsBusyFor (sizes table.now) (call_of pass.old) looks key.now (state pass.old) (state pass.new)) }
+    ensures swept { IfNone result (SweepsOff (sizes table.now) (call_of pass.old) key.now (state pass.old) (state pass.new)) }
     ensures alone { IfNone result (Runs (NeverElsewhere (key_number key.now) (state pass.old)) (state pass.old) (state pass.new)) }
 {
     let room = try_hold(table, pass, key, looks)?;

@@ -21,8 +21,8 @@ use std::thread;
 /// every other room was found not free in this call; the chunk is opened again with the same range, base
 /// and entries, which are its sorted prefix. Each room that it claims, or tries to claim, it claims while it
 /// holds the chunk, which was full when it came to hold it. It waits for nobody: `Busy` comes only where
-/// another pass had frozen or moved the chunk, or it was pinned, at each of so many looks at its pin word; to
-/// a pass that is alone it never comes.
+/// another pass had moved or frozen the chunk, or at each of so many looks at its pin word other passes had
+/// pinned it; to a pass that is alone it never comes.
 pub fn try_split(
     table: &OakTable,
     pass: &mut Pass,

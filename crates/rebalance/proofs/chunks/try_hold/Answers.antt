@@ -8,7 +8,7 @@ use Rattle.oak_core.specs.Passes.{state, key as sizes, call_of, slots_of}
 use Rattle.rebalance.specs.Copies.{copy_span}
 use Rattle.rebalance.specs.Chunks.{CompactsFront, HoldsPinned, LosesPinned, OpensFront}
 use Rattle.rebalance.specs.HeldTables.{WorksOnRooms}
-use Rattle.rebalance.proofs.ChunkLaws.{alone_lost, alone_off, back_lost, back_moved, back_off, busy_lost, busy_off, looked_for, looked_front, pinned_front}
+use Rattle.rebalance.proofs.ChunkLaws.{alone_lost, alone_off, back_lost, back_moved, back_off, busy_lost, busy_off, looked_for, looked_front, pinned_front, swept_lost, swept_off}
 use Rattle.rebalance.proofs.ChainedFronts.{compacted_chained}
 use Rattle.rebalance.proofs.chunks.try_hold.Goals as goal
 
@@ -98,3 +98,22 @@ returns-clause-alone c = let z : Sizes = sizes c.args.table.now in let call = ca
     let o : OpensFront z call r k.words v.rooms.held v.rooms.moving t u = subst (λ (n : ℕ). OpensFront z n r k.words v.rooms.held v.rooms.moving t u) (c.compact_front.ensures.own.call ∙ (c.front_has.ensures.own.call ∙ to_here)) (c.open_front.ensures.opens k.words k.range v.rooms.held v.rooms.moving k.front) in
     let off = subst (λ (t : Bool). MatchBool t (within (copy_span h.0) (key_number c.args.key.now) ≡ 1) (within (copy_span h.0) (key_number c.args.key.now) ≡ 1 → ⊥)) c.if-front_has.false (c.front_has.ensures.has h.0 h.1 v.rooms.held v.rooms.moving c.args.key.now (pinned_front z call c.args.looks r c.args.key.now v x b.only c.in-Ok.ensures.pinned y h.0 h.1 h.2) c.of.ensures) in
     alone_off z call c.args.looks r c.args.key.now v x b.only c.in-Ok.ensures.pinned y h.0 h.1 h.2 q works c.front_has.ensures.rooms slots dropped t u k o off
+
+pub returns-clause-swept : goal.returns-clause-swept
+returns-clause-swept c = let z : Sizes = sizes c.args.table.now in let call = call_of c.args.pass.now in let r = c.in-Ok.pin.room in let v = state c.args.pass.now in let x = state c.pin_covering.new.pass in let y = state c.hold_pinned.new.pass in let q = state c.front_has.new.pass in let b = c.requires.compacted in
+    let h = subst (λ (k : ℕ). (w : RoomCopy) × (g : MovingRange) × HoldsPinned z k r w g x y) c.pin_covering.ensures.own.call (c.hold_pinned.ensures.holds c.if-not-hold_pinned.false) in
+    let to_here = c.hold_pinned.ensures.own.call ∙ c.pin_covering.ensures.own.call in
+    let works = subst (λ (k : ℕ). WorksOnRooms z k y q) to_here c.front_has.ensures.works in
+    let front = looked_front z call c.args.looks r c.args.key.now v x b.only c.in-Ok.ensures.pinned y h.0 h.1 h.2 q works c.front_has.ensures.rooms in
+    let t = state c.compact_front.new.pass in let u = state c.open_front.new.pass in let slots = take c.compact_front.result.kept (slots_of c.compact_front.new.pass) in let dropped = c.compact_front.result.dropped in
+    let k : CompactsFront z call r dropped slots h.0 v.rooms.held v.rooms.moving q t = subst (λ (n : ℕ). CompactsFront z n r dropped slots h.0 v.rooms.held v.rooms.moving q t) (c.front_has.ensures.own.call ∙ to_here) (c.compact_front.ensures.compacted h.0 h.1 v.rooms.held v.rooms.moving front b.valued b.rows b.apart) in
+    let o : OpensFront z call r k.words v.rooms.held v.rooms.moving t u = subst (λ (n : ℕ). OpensFront z n r k.words v.rooms.held v.rooms.moving t u) (c.compact_front.ensures.own.call ∙ (c.front_has.ensures.own.call ∙ to_here)) (c.open_front.ensures.opens k.words k.range v.rooms.held v.rooms.moving k.front) in
+    let off = subst (λ (t : Bool). MatchBool t (within (copy_span h.0) (key_number c.args.key.now) ≡ 1) (within (copy_span h.0) (key_number c.args.key.now) ≡ 1 → ⊥)) c.if-front_has.false (c.front_has.ensures.has h.0 h.1 v.rooms.held v.rooms.moving c.args.key.now (pinned_front z call c.args.looks r c.args.key.now v x b.only c.in-Ok.ensures.pinned y h.0 h.1 h.2) c.of.ensures) in
+    swept_off z call c.args.looks r c.args.key.now v x b.only c.in-Ok.ensures.pinned y h.0 h.1 h.2 q works c.front_has.ensures.rooms slots dropped t u k o off
+
+pub returns-then-not-hold_pinned-clause-swept : goal.returns-then-not-hold_pinned-clause-swept
+returns-then-not-hold_pinned-clause-swept c = let z : Sizes = sizes c.args.table.now in let call = call_of c.args.pass.now in let r = c.in-Ok.pin.room in let x = state c.pin_covering.new.pass in let u = state c.hold_pinned.new.pass in
+    swept_lost z call c.args.looks r c.args.key.now (state c.args.pass.now) x c.requires.compacted.only c.in-Ok.ensures.pinned u (subst (λ (k : ℕ). LosesPinned z k c.args.looks r x u) c.pin_covering.ensures.own.call (c.hold_pinned.ensures.loses c.if-not-hold_pinned.true))
+
+pub returns-in_default-clause-swept : goal.returns-in_default-clause-swept
+returns-in_default-clause-swept c = inl c.in_default.ensures.only.stands.swept

@@ -37,7 +37,7 @@ returns-clause-unclaimed c = let z = sizes c.args.table.now in let v = state c.a
     (c.open_front.ensures.opens k.words k.range v.rooms.held v.rooms.moving k.front).claims ∙ (k.works.stands.claims ∙ h.2.claims)
 
 pub returns-in_default-clause-busy : goal.returns-in_default-clause-busy
-returns-in_default-clause-busy c = let x = c.in_default.ensures in gives_up (sizes c.args.table.now) (call_of c.args.pass.now) c.args.looks c.args.key.now (state c.args.pass.now) (state c.try_hold.new.pass) c.requires.idle x.back x.busy x.alone
+returns-in_default-clause-busy c = let x = c.in_default.ensures in gives_up (sizes c.args.table.now) (call_of c.args.pass.now) c.args.looks c.args.key.now (state c.args.pass.now) (state c.try_hold.new.pass) c.requires.idle x.back x.busy x.swept x.alone
 
 pub returns-in_default-clause-unclaimed : goal.returns-in_default-clause-unclaimed
 returns-in_default-clause-unclaimed c = c.in_default.ensures.back.claims

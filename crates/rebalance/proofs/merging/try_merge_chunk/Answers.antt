@@ -129,7 +129,7 @@ returns-then-low-up-clause-ended c = (returns-then-low-up-clause-apart c (Some c
 pub returns-in_default-clause-busy : goal.returns-in_default-clause-busy
 returns-in_default-clause-busy c = let gave = c.in_default.ensures in
     gives_up_lower (sizes c.args.table.now) (call_of c.args.pass.now) c.args.looks c.args.key.now (state c.args.pass.now) (state c.try_take_chunk.new.pass)
-    (gives_up (sizes c.args.table.now) (call_of c.args.pass.now) c.args.looks c.args.key.now (state c.args.pass.now) (state c.try_take_chunk.new.pass) c.requires.idle gave.back gave.busy gave.alone)
+    (gives_up (sizes c.args.table.now) (call_of c.args.pass.now) c.args.looks c.args.key.now (state c.args.pass.now) (state c.try_take_chunk.new.pass) c.requires.idle gave.back gave.busy gave.swept gave.alone)
 
 pub open_front-requires-in_default-try_take_chunk-clause-front : goal.open_front-requires-in_default-try_take_chunk-clause-front
 open_front-requires-in_default-try_take_chunk-clause-front c = let z : Sizes = sizes c.args.table.now in let call = call_of c.args.pass.now in let key = c.args.key.now in let v = state c.args.pass.now in let a = state c.try_take_chunk.new.pass in let q = state c.high_of.new.pass in

@@ -19,7 +19,7 @@ use Rattle.rebalance.proofs.GivenUp.{busy_since}
 use Rattle.rebalance.proofs.LoneTakes.{bare_of, bare_still}
 use Rattle.rebalance.proofs.NeverRuns.{never_last}
 use Rattle.rebalance.proofs.SettledCalls.{all_settles, joined_settles, least_settles, next_settles}
-use Rattle.rebalance.proofs.SettledKeys.{all_swept, below_high, below_still, idle_still, least_below, least_is_key, leaves_both, leaves_none}
+use Rattle.rebalance.proofs.SettledKeys.{all_swept, below_high, below_still, idle_still, least_below, least_is_key, leaves_both, leaves_none, none_written}
 use Rattle.rebalance.proofs.settles.try_settle.Goals as goal
 
 pub loop-init : goal.loop-init
@@ -85,6 +85,8 @@ returns-in-Err-clause-busy c = let call = call_of c.args.pass.now in let u = sta
       busy = inl (busy_since z call u v w i.leaves c.args.looks from gave.busy);
       leaves = leaves_both call u v w i.leaves gave.leaves;
       unclaimed = gave.unclaimed ∙ i.unclaimed;
+      unwritten = gave.unwritten ∙ none_written call u v i.leaves;
+      idle = gave.idle;
       alone = never_last (SettlesBelow z (key_number from)) u v w i.alone gave.alone;
     }
 
@@ -97,6 +99,8 @@ returns-clause-busy c = let u = state c.args.pass.now in let w = state c.loop.pa
       busy = inr (omega arith);
       leaves = i.leaves;
       unclaimed = i.unclaimed;
+      unwritten = none_written (call_of c.args.pass.now) u w i.leaves;
+      idle = idle_still (call_of c.args.pass.now) u w c.requires.idle i.leaves;
       alone = never_over z (key_number from) u w (λ same. let e = ap (λ (y : PassState). length y.findings.swept) same in absurd (omega arith)) (bare_still u w (bare_of u c.requires.idle) i.leaves.rooms) (i.moment (omega arith))
           (subst (λ (n : ℕ). Runs (GoesOver z (key_number from) n) u w) all i.over);
     }

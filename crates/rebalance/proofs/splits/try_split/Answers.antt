@@ -131,7 +131,7 @@ returns-clause-halved c room same = let z = sizes c.args.table.now in let call =
     subst (λ (j : ℕ). Halves z call c.args.key.now j v0 e) (ap room_of same) (split_halves z call r c.args.key.now h.0 h.1 v0 v c.requires.idle c.requires.key bytes h.2 u slots x reads full q c.in-Some-claim_free.ensures.claims.0 claim.0 t claim.1 c.claim_free.ensures.others e halves)
 
 pub returns-in_default-clause-busy : goal.returns-in_default-clause-busy
-returns-in_default-clause-busy c = let x = c.in_default.ensures in gives_up (sizes c.args.table.now) (call_of c.args.pass.now) c.args.looks c.args.key.now (state c.args.pass.now) (state c.try_hold.new.pass) c.requires.idle x.back x.busy x.alone
+returns-in_default-clause-busy c = let x = c.in_default.ensures in gives_up (sizes c.args.table.now) (call_of c.args.pass.now) c.args.looks c.args.key.now (state c.args.pass.now) (state c.try_hold.new.pass) c.requires.idle x.back x.busy x.swept x.alone
 
 pub try_hold-requires-clause-compacted : goal.try_hold-requires-clause-compacted
 try_hold-requires-clause-compacted c = idle_compacted (sizes c.args.table.now) (state c.args.pass.now) c.requires.idle
