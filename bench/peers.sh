@@ -15,7 +15,7 @@
 # as many values of 65 to 256, and 65,536 of 64 and of 16 bytes; a key of eight bytes takes one of 16, so with values of at
 # most 16 there would be room for 32,768 keys.
 #
-# Each map makes seven runs of each kind, in turn with the others, of about CALLS calls or 4 * CALLS pairs, or 300000, and
+# Each map makes seven runs of each kind, in turn with the others, of about CALLS calls or 4 * CALLS pairs, or 200000, and
 # has to print what the others print: how many calls went through, what they read, and what the map has behind them. A
 # program takes the time of the work alone, with the start and the end of its threads. Printed are both tables, as
 # docs/COSTS.md has them, and the seconds of all. FOLDER, or docs/, gets the charts peers.svg and peers_by_keys.svg.
@@ -25,7 +25,7 @@ if (($# == 2)); then
     folder=$2
     set -- "$1"
 fi
-take_number 'CALLS [FOLDER]' 7 300000 "$@"
+take_number 'CALLS [FOLDER]' 7 200000 "$@"
 calls=$number
 [[ -d $folder ]] || fail "there is no folder $folder"
 
