@@ -97,6 +97,8 @@ fn is_at(rt: &impl Abort, cursor: &mut Cursor<'_>, letter: u8)
     assert_eq!(rt; len, 1);
     let key = cursor.key_byte(0);
     assert_eq!(rt; key, letter);
+    let whole = cursor.key() == [letter].as_slice();
+    assert!(rt; whole);
     let at = cursor.at();
     assert_eq!(rt; at, stamp);
     let same = cursor.same(&[value]);
@@ -115,6 +117,37 @@ fn goes_to<R: Abort + Wait>(rt: &R, cursor: &mut Cursor<'_>, letter: u8)
     let more = cursor.advance(rt);
     assert!(rt; more);
     is_at(rt, cursor, letter);
+}
+
+/// The next pair is that of the letter, by a call that may give up at the first look in vain, which no look is where the
+/// pass is alone.
+fn tries_to(rt: &impl Abort, cursor: &mut Cursor<'_>, letter: u8)
+    requires { IsCursor cursor.old }
+    ensures same_reference { cursor.new.pass.ghost_name ≡ cursor.old.pass.ghost_name }
+    ensures table { cursor.new.table ≡ cursor.old.table }
+    ensures own { StaysButSlots cursor.old.pass.now cursor.new.pass.now }
+    ensures cursor { IsCursor cursor.new }
+    ensures numbers { (under cursor.new).numbers ≡ (under cursor.old).numbers }
+{
+    let more = cursor.try_advance(1);
+    assert!(rt; more == Ok(true));
+    is_at(rt, cursor, letter);
+}
+
+/// So are all of them, one behind the other.
+fn tries_all(rt: &impl Abort, cursor: &mut Cursor<'_>, letters: &[u8])
+    requires { IsCursor cursor.old }
+    ensures same_reference { cursor.new.pass.ghost_name ≡ cursor.old.pass.ghost_name }
+    ensures table { cursor.new.table ≡ cursor.old.table }
+    ensures own { StaysButSlots cursor.old.pass.now cursor.new.pass.now }
+    ensures cursor { IsCursor cursor.new }
+    ensures numbers { (under cursor.new).numbers ≡ (under cursor.old).numbers }
+{
+    for letter in letters {
+        tries_to(rt, cursor, *letter);
+    }
+    let more = cursor.try_advance(1);
+    assert!(rt; more == Ok(false));
 }
 
 /// The pairs are those of the letters, and there are no others.
@@ -154,6 +187,9 @@ fn scans<R: Abort + Wait>(rt: &R, table: &OakTable, pass: &mut Pass, scan: Scan)
     let mut cursor = Cursor::begin(table, pass, bound_of(&low), bound_of(&high), way);
     goes_over(rt, &mut cursor, letters);
     cursor.finish();
+    let mut cursor = Cursor::begin(table, pass, bound_of(&low), bound_of(&high), way);
+    tries_all(rt, &mut cursor, letters);
+    cursor.finish();
 }
 
 /// So does each of them.
@@ -191,6 +227,92 @@ fn seven_pairs_in_four_rooms(rt: HostRuntime) -> Result<(), Fail> {
     let (table, mut pass) = OakTable::create(rt.alloc(), &shape)?;
     write_all(&rt, &table, &mut pass, &WRITTEN);
     scan_all(&rt, &table, &mut pass, &scanned);
+    table.close(pass);
+    Ok(())
+}
+
+/// How many keys are put whose lengths are each another: as many as a key may have bytes.
+const LENGTHS: usize = 64;
+
+/// The begins of this are the keys.
+const LONGEST: [u8; LENGTHS] = [b'a'; LENGTHS];
+
+/// The key is put, by its first write.
+fn puts_key<R: Abort + Wait>(rt: &R, table: &OakTable, pass: &mut Pass, call: u32, key: &[u8])
+    requires own { IsPassOf table.now pass.old }
+    requires above { call_of pass.old < call }
+    requires key { IsKey key.now }
+    requires ready { IsReady (call_of pass.old) (state pass.old) }
+    ensures own { IsPassOf table.now pass.new }
+    ensures call { call_of pass.new ≡ call }
+    ensures ready { IsReadyAgain call (state pass.old) (state pass.new) }
+{
+    turn(pass, call);
+    let stamp = put(rt, table, pass, key, &[1]);
+    assert_eq!(rt; stamp, 1, "call {call}");
+}
+
+/// A key of each length is put, the shortest first.
+fn put_lengths<R: Abort + Wait>(rt: &R, table: &OakTable, pass: &mut Pass)
+    requires own { IsPassOf table.now pass.old }
+    requires first { call_of pass.old ≡ 0 }
+    requires ready { IsReady 0 (state pass.old) }
+    ensures own { IsPassOf table.now pass.new }
+    ensures ready { IsReadyAgain 64 (state pass.old) (state pass.new) }
+{
+    for i in 0..LENGTHS {
+        puts_key(rt, table, pass, i as u32 + 1, &LONGEST[..i + 1]);
+    }
+}
+
+/// The next pair is that of the key.
+fn goes_to_key<R: Abort + Wait>(rt: &R, cursor: &mut Cursor<'_>, key: &[u8])
+    requires { IsCursor cursor.old }
+    ensures same_reference { cursor.new.pass.ghost_name ≡ cursor.old.pass.ghost_name }
+    ensures table { cursor.new.table ≡ cursor.old.table }
+    ensures own { StaysButSlots cursor.old.pass.now cursor.new.pass.now }
+    ensures cursor { IsCursor cursor.new }
+    ensures numbers { (under cursor.new).numbers ≡ (under cursor.old).numbers }
+{
+    let more = cursor.advance(rt);
+    assert!(rt; more);
+    let whole = cursor.key() == key;
+    assert!(rt; whole);
+}
+
+/// The pairs are those of the keys of each length, the shortest first.
+fn goes_over_lengths<R: Abort + Wait>(rt: &R, cursor: &mut Cursor<'_>)
+    requires { IsCursor cursor.old }
+    ensures same_reference { cursor.new.pass.ghost_name ≡ cursor.old.pass.ghost_name }
+    ensures table { cursor.new.table ≡ cursor.old.table }
+    ensures own { StaysButSlots cursor.old.pass.now cursor.new.pass.now }
+    ensures cursor { IsCursor cursor.new }
+    ensures numbers { (under cursor.new).numbers ≡ (under cursor.old).numbers }
+{
+    for i in 0..LENGTHS {
+        goes_to_key(rt, cursor, &LONGEST[..i + 1]);
+    }
+}
+
+/// A scan of all keys gives them.
+fn scans_lengths<R: Abort + Wait>(rt: &R, table: &OakTable, pass: &mut Pass)
+    requires own { IsPassOf table.now pass.old }
+    requires idle { HoldsNothing (state pass.old) }
+    ensures own { IsPassOf table.now pass.new }
+    ensures idle { HoldsNothing (state pass.new) }
+    ensures numbers { (state pass.new).numbers ≡ (state pass.old).numbers }
+{
+    let mut cursor = Cursor::begin(table, pass, None, None, Way::Up);
+    goes_over_lengths(rt, &mut cursor);
+    cursor.finish();
+}
+
+#[test]
+fn keys_of_each_length(rt: HostRuntime) -> Result<(), Fail> {
+    let shape = Shape::make(1, 16, 16, 80, [96, 64, 0, 0])?;
+    let (table, mut pass) = OakTable::create(rt.alloc(), &shape)?;
+    put_lengths(&rt, &table, &mut pass);
+    scans_lengths(&rt, &table, &mut pass);
     table.close(pass);
     Ok(())
 }
