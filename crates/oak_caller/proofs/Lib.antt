@@ -7,3 +7,4 @@ mod ReadLives
 mod CursorCalls
 mod ScannedCalls
 mod StoppedScans
+mod GatheredKeys

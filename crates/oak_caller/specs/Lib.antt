@@ -4,3 +4,5 @@ pub mod Looks
 pub mod Puts
 pub mod Reads
 pub mod Scans
+pub mod Gathered
+pub mod Keys

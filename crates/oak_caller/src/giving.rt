@@ -59,7 +59,7 @@ pub(crate) fn next_pair<R: Wait>(
 }
 
 /// Copies the present key to the begin of `out`, and tells its length.
-fn copy_key(cursor: &Cursor<'_>, out: &mut [u8; GREATEST_KEY]) -> usize
+pub(crate) fn copy_key(cursor: &Cursor<'_>, out: &mut [u8; GREATEST_KEY]) -> usize
     requires cursor { IsCursor cursor.now }
     requires given { IsSome cursor.now.value }
     ensures long { result ≤ length out.new }
