@@ -73,18 +73,24 @@ impl<R: Wait + Drop + Send> Caller<'_, R> {
         ensures views { KeepsViews self.old self.new }
         ensures empty { EmptyFits result (view_of self.old) (view_of self.new) }
     {
-        let mut key = [0; GREATEST_KEY];
-        let mut value = [0; GREATEST_VALUE];
-        end_pair(
-            rt,
-            self.map,
-            self.pass.pass_mut(),
-            Way::Up,
-            &mut key,
-            &mut value,
-        )
-        .is_none()
+        gives_none(rt, self.map, self.pass.pass_mut())
     }
+}
+
+/// Whether a scan of the whole map by the pass on its table gives no pair.
+fn gives_none<R: Wait + Drop + Send>(rt: &R, map: &OakMap<R>, pass: &mut Pass) -> bool
+    requires own { IsPassOf (table_of map.now) pass.old }
+    requires idle { HoldsNothing (table_state pass.old) }
+    ensures own { StaysButSlots pass.old pass.new }
+    ensures idle { HoldsNothing (table_state pass.new) }
+    ensures views { PassKeepsViews (sizes map.now) pass.old pass.new }
+    ensures later { Later (view_at (sizes map.now) pass.old) (view_at (sizes map.now) pass.new) }
+    ensures empty { EmptyFits result (view_at (sizes map.now) pass.old) (view_at (sizes map.now) pass.new) }
+{
+    let mut cursor = scan_of(map, pass, None, None, Way::Up);
+    let found = cursor.advance(rt);
+    cursor.finish();
+    !found
 }
 
 /// The first pair of a scan of the whole map by the pass on its table, copied: the lengths of its key and its value.
