@@ -8,24 +8,28 @@ use Rattle.oak_core.specs.declared.states.KeyedWrite.{KeyedWrite}
 use Rattle.oak_core.specs.declared.states.Knowledge.{Knowledge}
 use Rattle.oak_core.specs.declared.states.Numbers.{Numbers}
 use Rattle.oak_core.specs.declared.states.PassState.{PassState}
+use Rattle.oak_core.specs.PassState.{HoldsNothing}
+use Rattle.chunk_ops.specs.TestStates.{IsIdleAgain}
 use Rattle.point_ops.specs.TestStates.{IsReady, IsReadyAgain}
 use Rattle.rebalance.specs.Calls.{Leaves, Loosens, Halves, FindsNoRoom}
 use Rattle.rebalance.specs.declared.answers.Split.{Split}
 use Rattle.rebalance.specs.declared.answers.Split.TheVariants.{Loosened, Halved}
 use Rattle.rebalance.specs.declared.answers.NoRoom.{NoRoom}
 
--- a pass that is left as it was is ready again
+-- a pass that held nothing, and is left as it was, holds nothing
+pub leaves_idle : (call : ℕ) (v w : PassState) → Leaves call v w → HoldsNothing v → IsIdleAgain v w
+leaves_idle call v w l idle = record {
+  numbers = l.numbers;
+  idle = record { hand = ap (λ (n : Numbers). n.hand) l.numbers ∙ idle.hand; blocks = l.blocks ∙ idle.blocks; headers = l.headers ∙ idle.headers; rooms = l.rooms ∙ idle.rooms };
+}
+
+-- one that was ready is so again
 pub leaves_ready : (call : ℕ) (v w : PassState) → Leaves call v w → IsReady call v → IsReadyAgain call v w
 leaves_ready call v w l y = record {
   numbers = l.numbers;
   loaded = subst (λ (q : Knowledge). Begins v.knowledge.loaded q.loaded) (sym l.knowledge) (begins_self v.knowledge.loaded);
   ready = record {
-    idle = record {
-      hand = ap (λ (n : Numbers). n.hand) l.numbers ∙ y.idle.hand;
-      blocks = l.blocks ∙ y.idle.blocks;
-      headers = l.headers ∙ y.idle.headers;
-      rooms = l.rooms ∙ y.idle.rooms;
-    };
+    idle = (leaves_idle call v w l y.idle).idle;
     wrote = subst (λ (q : Knowledge). Each (λ (x : KeyedWrite). x.write.call ≤ call) q.mine) (sym l.knowledge) y.wrote;
   };
 }

@@ -1,6 +1,8 @@
-//! Tests of a rebalance: rows, random calls beside an ordered map, and two threads.
+//! Tests of a rebalance: rows, random calls beside an ordered map, calls that give up, and two threads.
 #![tactic(auto)]
 
+#[cfg(test)]
+mod busy_tests;
 #[cfg(test)]
 mod random_tests;
 #[cfg(test)]
