@@ -20,12 +20,7 @@ use oak_model::Wrote;
 /// Removes a key, as [`OakMap::remove`](crate::OakMap::remove) does, or gives up: `Busy` comes only where each of so many
 /// tries found another pass at work on the key, or moving its room. No write was made then, and the pass holds what it
 /// held. To a pass that is alone it never comes.
-pub fn try_remove(
-    table: &OakTable,
-    pass: &mut Pass,
-    key: &[u8],
-    looks: u32,
-) -> Result<Wrote, Busy>
+pub fn try_remove(table: &OakTable, pass: &mut Pass, key: &[u8], looks: u32) -> Result<Wrote, Busy>
     requires own { IsPassOf table.now pass.old }
     requires key { IsKey key.now }
     requires idle { HoldsNothing (state pass.old) }
