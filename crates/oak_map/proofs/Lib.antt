@@ -35,6 +35,7 @@ mod ReplyWords
 mod RecipesFed
 mod LoneRooms
 mod LoneTries
+mod StoppedCalls
 mod FoundValues
 mod FoundLives
 mod LentValues

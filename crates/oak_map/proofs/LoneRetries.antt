@@ -13,7 +13,7 @@ IsLone v = IsAlone v ⊎ ((words : List ℕ) × LeavesWords words v)
 abbrev pub Waits : PassState → PassState → Type 0
 Waits u v = IsLone u → v ≡ u
 
-never_refused : (v w : PassState) → Runs Never v w → IsLone v → ⊥
+pub never_refused : (v w : PassState) → Runs Never v w → IsLone v → ⊥
 never_refused v w r (inl alone) = by (r.starts alone)
   where
     by : ((v ≡ w) × ((words : List ℕ) → Never words words)) ⊎ ((before : List ℕ) × RunsTo Never before w) → ⊥

@@ -86,7 +86,7 @@ way_leaves Busy z call key value settled then o b c w x h m l = absurd h.2
 way_leaves Moved z call key value settled then o b c w x h m l = absurd h.2
 way_leaves (NoBlock k) z call key value settled then o b c w x h m l = refused_leaves z call settled then (Block k) o c w x m l
 way_leaves NoHeader z call key value settled then o b c w x h m l = refused_leaves z call settled then Header o c w x m l
-way_leaves Crowded z call key value settled then o b c w x h (inl (again, inl g)) l = as_some _ c x (g.alone.goes c l)
+way_leaves Crowded z call key value settled then o b c w x h (inl (again, inl g)) l = as_some _ c x (g.1.alone.goes c l)
 way_leaves Crowded z call key value settled then o b c w x h (inl (again, inr (inl s))) l = as_some _ c x (s.compacts.alone.goes c l)
 way_leaves Crowded z call key value settled then o b c w x h (inl (again, inr (inr (room, t, s, only)))) l = as_some _ c x (still_to _ c t x (s.alone.goes c l) only.still)
 way_leaves Crowded z call key value settled then o b c w x h (inr (t, f, r)) l = let d = f.compacts.alone.goes c l in let e = refused_leaves z call settled then Room o d.after t x r d.leaves in record { after = e.after; leaves = e.leaves; does = tt }

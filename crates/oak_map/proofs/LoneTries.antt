@@ -40,8 +40,8 @@ abbrev pub HasTried : Sizes → List ℕ → ℕ → Bool → List ℕ → List 
 HasTried z key n settled before after = (n ≤ tries_before settled) ⊎ ((n ≤ tries_before settled + 1) × HasLeft z key after)
 
 tries_few : (settled : Bool) → tries_before settled ≤ 2
-tries_few true = omega arith
-tries_few false = omega arith
+tries_few true = let g : 2 ≤ 2 = omega arith in g
+tries_few false = let g : 0 ≤ 2 = omega arith in g
 
 -- so four are one too many
 pub never_four : (z : Sizes) (key : List ℕ) (n : ℕ) (settled : Bool) (a b : List ℕ) → 4 ≤ n → HasTried z key n settled a b → ⊥
@@ -49,7 +49,7 @@ never_four z key n settled a b many (inl few) = let t = tries_few settled in abs
 never_four z key n settled a b many (inr few) = let t = tries_few settled in let f = few.0 in absurd (omega arith)
 
 pub none_tried : (z : Sizes) (key : List ℕ) (u : PassState) → Runs (HasTried z key 0 false) u u
-none_tried z key u = runs_none (HasTried z key 0 false) u (λ a. inl (omega arith))
+none_tried z key u = runs_none (HasTried z key 0 false) u (λ a. inl (let g : 0 ≤ 0 = omega arith in g))
 
 -- the room of the key is not full where it has an entry left, so its chunk was not
 few_where_full : (z : Sizes) (key value : List ℕ) (n : ℕ) (settled : Bool) (a b c : List ℕ) → HasTried z key n settled a b → LoneHalts Crowded z key value b c → n ≤ tries_before settled
@@ -76,7 +76,7 @@ module _ (z : Sizes) (call : ℕ) (key value : List ℕ) (n : ℕ) (settled then
   tried_settled c m lack y few r l a = let s = settled_then z call settled then lack y x r in let e = refused_leaves z call settled then lack None c y x r l in record {
     after = e.after;
     leaves = e.leaves;
-    does = inl (subst (λ (b : Bool). m + 1 ≤ tries_before b) (sym s.1) (omega arith));
+    does = inl (subst (λ (b : Bool). m + 1 ≤ tries_before b) (sym s.1) (let g : m + 1 ≤ 2 = omega arith in g));
   }
 
   few_before : settled ≡ false → (a b : List ℕ) → HasTried z key n settled a b → n ≤ 1
@@ -99,7 +99,7 @@ module _ (z : Sizes) (call : ℕ) (key value : List ℕ) (n : ℕ) (settled then
     tried_on Moved m q = absurd q.2
     tried_on (NoBlock k) m q = refused_on (Block k) m
     tried_on NoHeader m q = refused_on Header m
-    tried_on Crowded (inl (again, inl g)) q = absurd (g.alone.goes c l).does
+    tried_on Crowded (inl (again, inl g)) q = absurd (g.1.alone.goes c l).does
     tried_on Crowded (inl (again, inr (inl s))) q = let r = s.compacts.alone.goes c l in record { after = r.after; leaves = r.leaves; does = left_on q again.same r.after (loosened_left z call key w x s c r.after r.does) }
     tried_on Crowded (inl (again, inr (inr (room, t, h, o)))) q = let r = h.alone.goes c l in still_to (λ _ d. HasTried z key (n + 1) then a d) c t x (record {
       after = r.after;

@@ -132,7 +132,7 @@ module _ (z : Sizes) (call : ℕ) (key value : List ℕ) (ask : CellCall) (settl
     ways_on Moved lacks none m q = absurd q.2
     ways_on (NoBlock k) lacks none m q = settles_on a c w l ((halts_stay (NoBlock k) z key value b c q).retired ∙ p.retired) (settles_then z call settled then (Block k) result w x m none)
     ways_on NoHeader lacks none m q = settles_on a c w l ((halts_stay NoHeader z key value b c q).retired ∙ p.retired) (settles_then z call settled then Header result w x m none)
-    ways_on Crowded lacks none (inl (again, inl g)) q = absurd (g.alone.goes c l).does
+    ways_on Crowded lacks none (inl (again, inl g)) q = absurd (g.1.alone.goes c l).does
     ways_on Crowded lacks none (inl (again, inr (inl s))) q = loosened_on q again.same s
     ways_on Crowded lacks none (inl (again, inr (inr (room, t, h, o)))) q = halved_on (λ alone s. lacks refl alone q s) q again.same room t h o
     ways_on Crowded lacks none (inr (t, f, r)) q = roomless_on q none t f r

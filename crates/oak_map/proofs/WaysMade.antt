@@ -1,5 +1,5 @@
 -- What a call that puts did for another try.
-use Rattle.std.proofs.Common.{◌≡◌, ℕ, Bool, Option, None, inl, inr, refl, sym, subst}
+use Rattle.std.proofs.Common.{◌≡◌, ℕ, Bool, Option, Some, None, IfNone, inl, inr, refl, sym, subst}
 use Rattle.std.specs.Prelude.{List}
 use Rattle.oak_model.specs.declared.replies.Lack.{Lack}
 use Rattle.oak_model.specs.declared.replies.Lack.TheVariants.{Block, Header, Room}
@@ -13,7 +13,8 @@ use Rattle.oak_map.specs.declared.making_room.Way.TheVariants.{Halted, Loosened,
 use Rattle.oak_map.specs.MakingRoom.{FindsBusy, FindsWay, IsLacking, IsRefused, MakesWay, TriesAgain}
 use Rattle.oak_map.specs.Replying.{Tries}
 use Rattle.oak_map.proofs.GoingCalls.{waits_way}
-use Rattle.oak_map.proofs.Trying.{tries_leaves, tries_none}
+use Rattle.oak_map.proofs.LoneWays.{settles_then}
+use Rattle.oak_map.proofs.Trying.{tries_both, tries_leaves, tries_none}
 
 module _ (z : Sizes) (call : ℕ) (key : List ℕ) (halt : Halt) (w x : PassState) where
   -- ---- it tried, in so far
@@ -27,13 +28,18 @@ module _ (z : Sizes) (call : ℕ) (key : List ℕ) (halt : Halt) (w x : PassStat
   pub opened_tries : (room : ℕ) → FindsWay (Opened room) halt z call key w x → Tries z call w x
   opened_tries room (e, h) = tries_leaves z call w x h.leaves h.claims
 
-  pub busy_tries : FindsBusy halt z call key w x → Tries z call w x
-  busy_tries (e, g) = tries_leaves z call w x g.leaves (claims_none z w x g.unclaimed)
+  pub busy_tries : (looks : ℕ) → FindsBusy halt z call looks key w x → Tries z call w x
+  busy_tries looks (e, g) = tries_leaves z call w x g.leaves (claims_none z w x g.unclaimed)
 
   pub lacking_tries : (lack : Lack) → IsLacking lack halt z call key w x → Tries z call w x
   lacking_tries (Block c) (e, f) = subst (Tries z call w) (sym f) (tries_none z call w)
   lacking_tries Header (e, f) = subst (Tries z call w) (sym f) (tries_none z call w)
   lacking_tries Room (e, f) = tries_leaves z call w x f.compacts.leaves f.compacts.claims
+
+  -- where it tries again behind what it lacks, it settled
+  pub lacks_rest : (lack : Lack) (y : PassState) → IsLacking lack halt z call key w x → (settled then : Bool) (o : Option Lack) → IsRefused z call settled then lack o x y → IfNone o (Tries z call w y)
+  lacks_rest lack y is settled then None r = let s = settles_then z call settled then lack None x y r refl in tries_both z call w x y (lacking_tries lack is) (tries_leaves z call x y s.leaves s.claims)
+  lacks_rest lack y is settled then (Some l) r = tt
 
   -- ---- which way it went
 
@@ -47,8 +53,8 @@ module _ (z : Sizes) (call : ℕ) (key : List ℕ) (halt : Halt) (w x : PassStat
     pub loosened_way : FindsWay Loosened halt z call key w x → MakesWay halt z call key settled settled None w x
     loosened_way (e, s) = subst (λ (h : Halt). MakesWay h z call key settled settled None w x) (sym e) (inl (again, inr (inl s)))
 
-    pub busy_way : FindsBusy halt z call key w x → MakesWay halt z call key settled settled None w x
-    busy_way (e, g) = subst (λ (h : Halt). MakesWay h z call key settled settled None w x) (sym e) (inl (again, inl g))
+    pub busy_way : (looks : ℕ) → FindsBusy halt z call looks key w x → MakesWay halt z call key settled settled None w x
+    busy_way looks (e, g) = subst (λ (h : Halt). MakesWay h z call key settled settled None w x) (sym e) (inl (again, inl (looks, g)))
 
     -- it only met more then
     pub opened_way : (room : ℕ) (y : PassState) → FindsWay (Opened room) halt z call key w x → OnlyMeets call x y → MakesWay halt z call key settled settled None w y

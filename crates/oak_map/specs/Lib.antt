@@ -9,5 +9,6 @@ pub mod Maps
 pub mod Putting
 pub mod Replying
 pub mod Rests
+pub mod Stopping
 pub mod TriedRests
 pub mod RoomForKeys

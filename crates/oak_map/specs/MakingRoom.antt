@@ -29,8 +29,8 @@ FindsWay (Opened room) halt z call key v w = (halt ≡ Crowded) × Halves z call
 FindsWay (Lacks lack) halt z call key v w = IsLacking lack halt z call key v w
 
 -- another pass had the chunk that was to be split
-abbrev pub FindsBusy : Halt → Sizes → ℕ → List ℕ → PassState → PassState → Type 0
-FindsBusy halt z call key v w = (halt ≡ Crowded) × GivesUp z call key v w
+abbrev pub FindsBusy : Halt → Sizes → (call looks : ℕ) → List ℕ → PassState → PassState → Type 0
+FindsBusy halt z call looks key v w = (halt ≡ Crowded) × GivesUp z call looks key v w
 
 -- ---- what was done
 
@@ -51,7 +51,7 @@ MakesRoom z call key v w = Loosens z call key v w ⊎ ((room : ℕ) × (x : Pass
 -- it made room, or tries again since another pass had the chunk, or it found no room and lacks that
 abbrev pub SplitsChunk : Sizes → ℕ → List ℕ → (settled then : Bool) → Option Lack → PassState → PassState → Type 0
 SplitsChunk z call key settled then result v w =
-    (TriesAgain settled then result × (GivesUp z call key v w ⊎ MakesRoom z call key v w))
+    (TriesAgain settled then result × (((looks : ℕ) × GivesUp z call looks key v w) ⊎ MakesRoom z call key v w))
     ⊎ ((x : PassState) × FindsNoRoom z call key v x × IsRefused z call settled then Room result x w)
 
 -- by why it was refused

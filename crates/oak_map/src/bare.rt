@@ -3,11 +3,13 @@
 mod compute;
 mod get;
 mod look;
+mod puts;
 mod remove;
 mod view;
 
 pub use compute::try_compute;
 pub use get::try_get;
 pub use look::try_look;
+pub use puts::{try_put, try_put_if_absent, try_upsert};
 pub use remove::try_remove;
 pub use view::try_view;

@@ -33,6 +33,7 @@ mod test_calls;
 mod tests;
 #[cfg(test)]
 mod thread_tests;
+mod try_putting;
 mod waiting;
 #[cfg(test)]
 mod worn_tests;

@@ -3,6 +3,7 @@ use Rattle.oak_core.specs.declared.states.PassState.{PassState}
 use Rattle.oak_core.specs.Lack.{Lacks}
 use Rattle.oak_core.specs.Passes.{state, key as sizes, call_of}
 use Rattle.chunk_ops.proofs.MeetingCalls.{only_in}
+use Rattle.oak_map.specs.declared.waiting.TheConstants.{LOOKS}
 use Rattle.oak_map.specs.declared.making_room.Way.{Way}
 use Rattle.oak_map.specs.MakingRoom.{FindsWay, IsRefused}
 use Rattle.oak_map.specs.Maps.{table_of}
@@ -49,4 +50,4 @@ returns-in-Ok-Halted-clause-going g c ask u v t = let z = sizes (table_of c.args
 
 pub returns-in-Err-clause-going : goal.returns-in-Err-clause-going
 returns-in-Err-clause-going g c ask u v t = let z = sizes (table_of c.args.map.now) in let call = call_of c.args.pass.now in let key = c.args.key.now in let w = state c.args.pass.now in let x = state c.find_way.new.pass in
-    going_more z call c.args.settled.now u w x (going_tried z call key c.args.halt c.args.settled.now ask u v w t) (busy_tries z call key c.args.halt w x c.in-Err.ensures.busy)
+    going_more z call c.args.settled.now u w x (going_tried z call key c.args.halt c.args.settled.now ask u v w t) (busy_tries z call key c.args.halt w x LOOKS c.in-Err.ensures.busy)
