@@ -1,5 +1,5 @@
 -- How often a call that puts tries, where its pass is alone: before it settles and behind that each, once where its chunk is full and once where that has an entry left.
-use Rattle.std.proofs.Common.{◌≡◌, ◌≢◌, ℕ, ◌+◌, ◌<◌, ◌≤◌, ◌⊎◌, Bool, true, false, List, Option, None, inl, inr, sym, refl, ap, ◌∙◌, subst, arith}
+use Rattle.std.proofs.Common.{◌≡◌, ◌≢◌, ℕ, ◌+◌, ◌<◌, ◌≤◌, ◌⊎◌, Bool, true, false, List, None, inl, inr, sym, refl, ap, ◌∙◌, subst, arith}
 use mathlib.Core.Logic.{dite}
 use native.Mathlib.Decide.{ℕ_discrete}
 use Rattle.oak_model.specs.declared.replies.Lack.{Lack}
@@ -12,16 +12,15 @@ use Rattle.chunk_core.specs.Spans.{within}
 use Rattle.oak_core.specs.declared.states.PassState.{PassState}
 use Rattle.oak_core.specs.AloneWords.{LeavesWords, Runs, RunsTo}
 use Rattle.oak_core.proofs.AloneRuns.{runs_none}
-use Rattle.chunk_ops.specs.PinRecords.{OnlyMeets}
 use Rattle.point_ops.specs.declared.halts.Halt.{Halt}
 use Rattle.point_ops.specs.declared.halts.Halt.TheVariants.{Busy, Moved, Crowded, NoBlock, NoHeader}
 use Rattle.point_ops.specs.LonePuts.{LoneHalts}
-use Rattle.rebalance.specs.Calls.{Compacts, FindsNoRoom, Halves, Loosens}
+use Rattle.rebalance.specs.Calls.{Loosens}
 use Rattle.rebalance.specs.Copies.{copy_span}
 use Rattle.rebalance.specs.LoneCalls.{Divided, RewritesRoom}
 use Rattle.rebalance.specs.LoneWords.{IsOpen, room_in}
 use Rattle.oak_map.specs.MakingRoom.{IsRefused, MakesWay}
-use Rattle.oak_map.proofs.LoneRooms.{SomeWords, refused_leaves, room_there}
+use Rattle.oak_map.proofs.LoneRooms.{refused_leaves, room_there}
 use Rattle.oak_map.proofs.LoneWays.{crowded_room, not_noted}
 use Rattle.oak_map.proofs.SettledSplits.{half_left}
 use Rattle.oak_map.proofs.WordsThrough.{halts_somewhere, runs_through, still_to}

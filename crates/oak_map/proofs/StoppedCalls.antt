@@ -1,5 +1,5 @@
 -- Calls that put and stop trying, since other passes are at work.
-use Rattle.std.proofs.Common.{◌≡◌, ℕ, ◌+◌, ◌<◌, ◌≤◌, Bool, List, inl, inr, ⊎_elim, sym, subst, arith, Result, Ok, Err, IfOk, IfErr}
+use Rattle.std.proofs.Common.{◌≡◌, ℕ, ◌+◌, ◌<◌, ◌≤◌, Bool, List, inl, inr, ⊎_elim, subst, arith, Result, Ok, Err, IfOk, IfErr}
 use Rattle.oak_model.specs.declared.cells.CellCall.{CellCall}
 use Rattle.oak_model.specs.declared.replies.Lack.{Lack}
 use Rattle.oak_model.specs.declared.replies.Lack.TheVariants.{Block, Header, Room}
@@ -20,7 +20,6 @@ use Rattle.oak_map.specs.GivingUp.{Repeats}
 use Rattle.oak_map.specs.LoneRetrying.{LoneGoing, Retries}
 use Rattle.oak_map.specs.MakingRoom.{FindsBusy, IsLacking}
 use Rattle.oak_map.specs.Putting.{Going}
-use Rattle.oak_map.specs.Replying.{Tries}
 use Rattle.oak_map.specs.Stopping.{IsHindered, RefusedTry, StopsTrying, TriesOn}
 use Rattle.oak_map.proofs.LoneRetries.{never_refused}
 use Rattle.oak_map.proofs.LoneTries.{HasTried, never_four}

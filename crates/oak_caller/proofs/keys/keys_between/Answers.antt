@@ -1,4 +1,4 @@
-use Rattle.std.proofs.Common.{rules, List, ℕ, Bool, ap, refl, subst}
+use Rattle.std.proofs.Common.{rules, List, ℕ, ap, refl, subst}
 use Rattle.std.specs.Prelude.{IfOk, MatchBool, OnErr}
 use Rattle.oak_core.specs.declared.table.Pass.{Pass}
 use Rattle.oak_core.specs.Passes.{key as table_sizes, state}

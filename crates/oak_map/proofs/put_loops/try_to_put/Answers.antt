@@ -3,7 +3,6 @@ use Rattle.oak_model.specs.declared.cells.CellCall.{CellCall}
 use Rattle.oak_model.specs.declared.replies.Lack.{Lack}
 use Rattle.oak_model.specs.declared.replies.Wrote.TheVariants.{Full}
 use Rattle.oak_model.proofs.KeyLaws.{is_key-of}
-use Rattle.oak_core.specs.PassState.{IsAlone}
 use Rattle.oak_core.specs.Passes.{call_of, key as sizes, state}
 use Rattle.chunk_ops.proofs.WordParts.{slice_bytes}
 use Rattle.point_ops.specs.Halting.{Halts}

@@ -2,7 +2,6 @@ use Rattle.std.proofs.Common.{ℕ, Ok, refl, ◌∙◌, subst, arith, Some, None
 use Rattle.oak_model.specs.declared.cells.CellCall.{CellCall}
 use Rattle.oak_model.specs.declared.replies.Wrote.TheVariants.{Full}
 use Rattle.oak_model.proofs.KeyLaws.{is_key-of}
-use Rattle.oak_core.specs.PassState.{IsAlone}
 use Rattle.oak_core.specs.Passes.{call_of, key as sizes, state}
 use Rattle.chunk_ops.proofs.WordParts.{slice_bytes}
 use Rattle.point_ops.specs.Halting.{Halts}
