@@ -12,3 +12,4 @@ pub mod Rests
 pub mod Stopping
 pub mod TriedRests
 pub mod RoomForKeys
+pub mod RoomTests

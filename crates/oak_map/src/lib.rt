@@ -25,6 +25,8 @@ mod publishing;
 mod put_loops;
 mod putting;
 #[cfg(test)]
+mod room_tests;
+#[cfg(test)]
 mod row_tests;
 mod settling;
 #[cfg(test)]
