@@ -9,6 +9,8 @@ mod chunks;
 #[cfg(test)]
 mod error_tests;
 mod finding;
+#[cfg(test)]
+mod giving_up_tests;
 mod hinted;
 #[cfg(test)]
 mod index_tests;
@@ -35,6 +37,8 @@ mod test_calls;
 mod tests;
 #[cfg(test)]
 mod thread_tests;
+#[cfg(test)]
+mod try_put_tests;
 mod try_putting;
 mod waiting;
 #[cfg(test)]
