@@ -70,7 +70,8 @@ pub fn first_bytes(word: u64, n: usize) -> u64
 /// are compared.
 pub fn is_word(bytes: &[u8], i: usize, word: u64) -> bool
     requires { WORD * i < length bytes.now }
-    ensures { MatchBool result (bytes_in i bytes.now ≡ take (length bytes.now - WORD * i) (word_bytes word)) (bytes_in i bytes.now ≢ take (length bytes.now - WORD * i) (word_bytes word)) }
+    ensures { MatchBool result (bytes_in i bytes.now ≡ take (length bytes.now - WORD * i) (word_bytes word))
+        (bytes_in i bytes.now ≢ take (length bytes.now - WORD * i) (word_bytes word)) }
 {
     let from = WORD * i;
     if from + WORD <= bytes.len() {

@@ -25,11 +25,11 @@ use Rattle.oak_core.specs.EntryOwners.{all_others}
 use Rattle.oak_core.specs.ArenaCalls.{Sets}
 use Rattle.oak_core.specs.Splitting.{Loads}
 use Rattle.oak_core.specs.Step.{on_arena}
-use Rattle.oak_core.proofs.AloneRuns.{DoesStep, step_runs, load_runs, runs_as}
-use Rattle.oak_core.proofs.ArenaNames.{bit_inside}
-use Rattle.oak_core.proofs.KeepsArena.{class_below}
-use Rattle.oak_core.proofs.MetMore.{grown_none, told_of}
-use Rattle.oak_core.proofs.Words.{index_apart, memory_read, arena_before}
+use Rattle.oak_core.proofs.seats.AloneRuns.{DoesStep, step_runs, load_runs, runs_as}
+use Rattle.oak_core.proofs.memory.ArenaNames.{bit_inside}
+use Rattle.oak_core.proofs.kinds.KeepsArena.{class_below}
+use Rattle.oak_core.proofs.calls.MetMore.{grown_none, told_of}
+use Rattle.oak_core.proofs.memory.Words.{index_apart, memory_read, arena_before}
 use Rattle.arena_ops.specs.Looking.{bit_spot, FoundSet, IsSetIn, AllSet, Looked}
 use Rattle.arena_ops.specs.Taking.{SetsBit, Takes}
 use Rattle.arena_ops.proofs.TookFacts.{took_one}

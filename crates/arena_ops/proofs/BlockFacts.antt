@@ -18,11 +18,11 @@ use Rattle.oak_core.specs.Rule.{Rule}
 use Rattle.oak_core.specs.Step.{Step, on_arena, effect, found, table_after}
 use Rattle.oak_core.specs.TableState.{TableState}
 use Rattle.oak_core.specs.ArenaCalls.{of_pass, Clears, Writes}
-use Rattle.oak_core.proofs.AloneRuns.{DoesStep, step_runs, runs_as}
-use Rattle.oak_core.proofs.ArenaNames.{bit_inside}
-use Rattle.oak_core.proofs.EachEvent.{rule_keeps}
-use Rattle.oak_core.proofs.KeepsArena.{class_below}
-use Rattle.oak_core.proofs.Words.{same_spot-self, read-write, memory_set, memory_read, arena_before}
+use Rattle.oak_core.proofs.seats.AloneRuns.{DoesStep, step_runs, runs_as}
+use Rattle.oak_core.proofs.memory.ArenaNames.{bit_inside}
+use Rattle.oak_core.proofs.kinds.EachEvent.{rule_keeps}
+use Rattle.oak_core.proofs.kinds.KeepsArena.{class_below}
+use Rattle.oak_core.proofs.memory.Words.{same_spot-self, read-write, memory_set, memory_read, arena_before}
 use Rattle.arena_ops.specs.Looking.{bit_spot}
 use Rattle.arena_ops.specs.Taking.{ClearsBit, SetsWord, Gives, Stores}
 

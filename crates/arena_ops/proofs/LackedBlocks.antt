@@ -16,8 +16,8 @@ use Rattle.oak_core.specs.declared.states.Finding.{Finding}
 use Rattle.oak_core.specs.declared.states.PassState.{PassState}
 use Rattle.oak_core.specs.Finding.{had, had_placed, IsLoadOf}
 use Rattle.oak_core.specs.Lack.{FoundSet, KeySwept, Lacks}
-use Rattle.oak_core.proofs.FoundThere.{found_behind}
-use Rattle.oak_core.proofs.Lacked.{lacks_then}
+use Rattle.oak_core.proofs.calls.FoundThere.{found_behind}
+use Rattle.oak_core.proofs.calls.Lacked.{lacks_then}
 use Rattle.arena_ops.specs.Looking.{bit_spot}
 use Rattle.arena_ops.specs.Taking.{FindsNone}
 use Rattle.arena_ops.proofs.TookFacts.{loads_but}

@@ -12,9 +12,9 @@ use Rattle.oak_core.specs.Finding.{had, grown, IsBefore, IsLoadOf}
 use Rattle.arena_core.specs.ArenaStep.{take_bit}
 use Rattle.oak_core.specs.ArenaCalls.{Sets}
 use Rattle.oak_core.specs.Step.{on_arena}
-use Rattle.oak_core.proofs.AloneRuns.{Then, runs_then, runs_as, runs_none}
-use Rattle.oak_core.proofs.FoundThere.{found_first, found_later}
-use Rattle.oak_core.proofs.MetMore.{grown_twice, grown_none, told_of}
+use Rattle.oak_core.proofs.seats.AloneRuns.{Then, runs_then, runs_as, runs_none}
+use Rattle.oak_core.proofs.calls.FoundThere.{found_first, found_later}
+use Rattle.oak_core.proofs.calls.MetMore.{grown_twice, grown_none, told_of}
 use Rattle.arena_ops.specs.Looking.{bit_spot, IsSetIn, AllSet, Looked}
 use Rattle.arena_ops.specs.Taking.{SetsBit, Takes, TookThis}
 use Rattle.arena_ops.proofs.TookFacts.{loads_took}

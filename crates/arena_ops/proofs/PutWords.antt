@@ -12,8 +12,8 @@ use Rattle.arena_core.proofs.WordLaws.{words_long}
 use Rattle.oak_core.specs.declared.states.PassState.{PassState}
 use Rattle.oak_core.specs.AloneWords.{Runs}
 use Rattle.oak_core.specs.Memory.{in_arena, index}
-use Rattle.oak_core.proofs.AloneRuns.{Then, runs_then, runs_as, runs_none}
-use Rattle.oak_core.proofs.ArenaPlaces.{bytes_place}
+use Rattle.oak_core.proofs.seats.AloneRuns.{Then, runs_then, runs_as, runs_none}
+use Rattle.oak_core.proofs.memory.ArenaPlaces.{bytes_place}
 use Rattle.arena_ops.specs.PutWords.{put_from, PutsWord, PutsBytes}
 
 -- the words of a block lie one behind the other

@@ -13,7 +13,7 @@ use Rattle.arena_core.proofs.HeldLists.{is_block-true, without_first, rewritten_
 use Rattle.oak_core.specs.declared.states.PassState.{PassState}
 use Rattle.oak_core.specs.Memory.{memory}
 use Rattle.oak_core.specs.PassState.{IsAlone, bare_state}
-use Rattle.oak_core.proofs.Alone.{numbers_alone}
+use Rattle.oak_core.proofs.seats.Alone.{numbers_alone}
 use Rattle.arena_ops.specs.Taking.{Takes, Gives, Stores}
 use Rattle.arena_ops.specs.Stack.{IsStack, KeepsRest}
 

@@ -19,11 +19,11 @@ use Rattle.oak_core.specs.declared.states.PassState.{PassState}
 use Rattle.oak_core.specs.CallSteps.{Stands}
 use Rattle.oak_core.specs.Finding.{IsOf}
 use Rattle.oak_core.specs.PassState.{blocks_of}
-use Rattle.oak_core.proofs.CallSteps.{stands_none, stands_both}
+use Rattle.oak_core.proofs.calls.CallSteps.{stands_none, stands_both}
 use Rattle.oak_core.specs.AloneWords.{Runs}
 use Rattle.oak_core.specs.Memory.{in_arena, index}
-use Rattle.oak_core.proofs.AloneRuns.{runs_as}
-use Rattle.oak_core.proofs.QuietCalls.{only_both, only_none}
+use Rattle.oak_core.proofs.seats.AloneRuns.{runs_as}
+use Rattle.oak_core.proofs.calls.QuietCalls.{only_both, only_none}
 use Rattle.oak_core.specs.QuietSteps.{MetOnly}
 use Rattle.arena_ops.specs.PutWords.{PutsWord}
 use Rattle.arena_ops.specs.Storing.{StoresBytes, given}

@@ -66,7 +66,8 @@ fn take_next(table: &OakTable, pass: &mut Pass, class: Class) -> Option<u32>
     ensures own { Stays pass.old pass.new }
     ensures taken { IfSome result (λ b. Takes (key table.now) (call_of pass.old) class b (state pass.old) (state pass.new)) }
     ensures here { IfSome result (λ b. b ≡ slice_index (searches pass.old) (class_number class)) }
-    ensures none { IfNone result (Looked (key table.now) (call_of pass.old) class (state pass.old) (state pass.new) (λ b. b ≡ slice_index (searches pass.old) (class_number class))) }
+    ensures none { IfNone result (Looked (key table.now) (call_of pass.old) class (state pass.old) (state pass.new)
+        (λ b. b ≡ slice_index (searches pass.old) (class_number class))) }
 {
     let next = pass.search(class);
     if next >= table.blocks(class) {
@@ -108,7 +109,8 @@ fn take_between(table: &OakTable, pass: &mut Pass, class: Class, from: u32, to: 
     ensures own { Stays pass.old pass.new }
     ensures taken { IfSome result (λ b. Takes (key table.now) (call_of pass.old) class b (state pass.old) (state pass.new)) }
     ensures here { IfSome result (λ b. (from ≤ b / BITS) × (b / BITS < to)) }
-    ensures none { IfNone result (Looked (key table.now) (call_of pass.old) class (state pass.old) (state pass.new) (λ b. (from ≤ b / BITS) × (b / BITS < to))) }
+    ensures none { IfNone result (Looked (key table.now) (call_of pass.old) class (state pass.old) (state pass.new)
+        (λ b. (from ≤ b / BITS) × (b / BITS < to))) }
 {
     for i in from..to {
         if let Some(block) = take_in_word(table, pass, class, i) {

@@ -17,7 +17,8 @@ pub fn store_bytes(table: &OakTable, pass: &mut Pass, block: &Block, bytes: &[u8
     requires held { HoldsBlock (key table.now) (class_number block.now.class) block.now.number (state pass.old).blocks }
     requires fits { class_of (length bytes.now) ≡ Some block.now.class }
     ensures own { Stays pass.old pass.new }
-    ensures times { holds (class_number block.now.class) block.now.number (state pass.new).blocks ≡ holds (class_number block.now.class) block.now.number (state pass.old).blocks }
+    ensures times { holds (class_number block.now.class) block.now.number (state pass.new).blocks ≡ holds
+        (class_number block.now.class) block.now.number (state pass.old).blocks }
     ensures stored { StoresBytes (key table.now) (call_of pass.old) block.now.class block.now.number bytes.now (state pass.old) (state pass.new) }
 {
     for i in 0..bytes.len().div_ceil(WORD) {

@@ -1,3 +1,4 @@
+//! Tests of taking blocks and giving them back.
 ghost use Rattle.std.specs.Prelude.{◌≡◌, ◌<◌, suc, [], length, slice_index};
 ghost use Rattle.oak_model.specs.Class.{class_number};
 ghost use Rattle.arena_core.specs.Arena.{block_words};

@@ -145,7 +145,8 @@ impl Lows {
     /// How many minima come before the bound; without one all do.
     fn count_under(&self, bound: Option<&[u8]>, near: usize) -> usize
         ensures few { result ≤ length self.now }
-        ensures point { IsPartitionPoint (λ p. comes_under (option_copied bound.entry) p ≡ true) (λ p. comes_under (option_copied bound.entry) p ≡ false) self.now result }
+        ensures point { IsPartitionPoint (λ p. comes_under (option_copied bound.entry) p ≡ true)
+            (λ p. comes_under (option_copied bound.entry) p ≡ false) self.now result }
     {
         match bound {
             Some(key) => self.count_before_near(key, near),

@@ -25,9 +25,9 @@ use Rattle.oak_core.specs.Finding.{IsOf}
 use Rattle.oak_core.specs.Memory.{in_rooms, index}
 use Rattle.oak_core.specs.QuietSteps.{MetOnly, TookNone}
 use Rattle.oak_core.specs.Step.{load, on_rooms}
-use Rattle.oak_core.proofs.CallSteps.{learns_both, stands_both, stands_learns, step_in, step_since}
-use Rattle.oak_core.proofs.KnownReads.{read_stays, read_since}
-use Rattle.oak_core.proofs.QuietCalls.{only_both, of_took, quiet_stored, quiet_took}
+use Rattle.oak_core.proofs.calls.CallSteps.{learns_both, stands_both, stands_learns, step_in, step_since}
+use Rattle.oak_core.proofs.known.KnownReads.{read_stays, read_since}
+use Rattle.oak_core.proofs.calls.QuietCalls.{only_both, of_took, quiet_stored, quiet_took}
 use Rattle.arena_ops.specs.Taking.{Gives}
 use Rattle.chunk_ops.specs.Adds.{MayAdd, AddsEntry, FoundCrowded, FoundLatched, LeavesCount}
 use Rattle.chunk_ops.specs.Finds.{FoundAbsent}

@@ -7,7 +7,7 @@ use Rattle.oak_model.specs.Counts.{Has}
 use Rattle.chunk_core.specs.declared.holds.FoundEntry.{FoundEntry}
 use Rattle.chunk_core.specs.declared.holds.PinnedRoom.{PinnedRoom}
 use Rattle.chunk_core.specs.LinkedEntries.{entries_in, prefix_in}
-use Rattle.oak_core.proofs.MetLists.{at_inside, at_some}
+use Rattle.oak_core.proofs.memory.MetLists.{at_inside, at_some}
 use Rattle.chunk_ops.specs.Room.{IsRoom, place_at, key_at, entries}
 use Rattle.chunk_ops.specs.RoomLoads.{room_below, entry_word, entry_key}
 

@@ -12,10 +12,10 @@ use Rattle.oak_core.specs.KeyHistories.{IsKeyOf}
 use Rattle.oak_core.specs.LifeKeys.{key_known}
 use Rattle.oak_core.specs.Rule.{Rule}
 use Rattle.oak_core.specs.TableState.{TableState}
-use Rattle.oak_core.proofs.EachEvent.{rule_keeps}
-use Rattle.oak_core.proofs.FoundEntries.{key_of_number}
-use Rattle.oak_core.proofs.KnownLives.{life}
-use Rattle.oak_core.proofs.LastLives.{KnowsKeyOf, loaded_key}
+use Rattle.oak_core.proofs.kinds.EachEvent.{rule_keeps}
+use Rattle.oak_core.proofs.covers.FoundEntries.{key_of_number}
+use Rattle.oak_core.proofs.known.KnownLives.{life}
+use Rattle.oak_core.proofs.histories.LastLives.{KnowsKeyOf, loaded_key}
 use Rattle.oak_model.proofs.Counting.{one_at-same, one_at-other}
 use Rattle.chunk_core.specs.PinnedRooms.{found_in}
 use Rattle.chunk_core.specs.Rooms.{at_value}
@@ -31,13 +31,13 @@ use Rattle.oak_core.specs.Known.{knows_life}
 use Rattle.oak_core.specs.LastReads.{KnowsLifeOf, NotPast, ReadsLast}
 use Rattle.oak_core.specs.Memory.{in_rooms, index, memory}
 use Rattle.oak_core.specs.Step.{load, state_after, Step, table_after, Told}
-use Rattle.oak_core.proofs.AloneRuns.{load_runs, runs_as}
-use Rattle.oak_core.proofs.CallSteps.{step_alone}
-use Rattle.oak_core.proofs.FoundValues.{entry_key_is}
-use Rattle.oak_core.proofs.HomeWords.{NamesAt, home_is}
-use Rattle.oak_core.proofs.QuietCalls.{quiet_load}
-use Rattle.oak_core.proofs.ValueTold as told
-use Rattle.oak_core.proofs.Words.{memory_read}
+use Rattle.oak_core.proofs.seats.AloneRuns.{load_runs, runs_as}
+use Rattle.oak_core.proofs.calls.CallSteps.{step_alone}
+use Rattle.oak_core.proofs.covers.FoundValues.{entry_key_is}
+use Rattle.oak_core.proofs.memory.HomeWords.{NamesAt, home_is}
+use Rattle.oak_core.proofs.calls.QuietCalls.{quiet_load}
+use Rattle.oak_core.proofs.told.ValueTold as told
+use Rattle.oak_core.proofs.memory.Words.{memory_read}
 use Rattle.chunk_ops.specs.declared.entries.Content.{Content}
 use Rattle.chunk_ops.specs.declared.entries.Content.TheVariants.{Value, Floor}
 use Rattle.chunk_ops.specs.Contents.{FindsContent, IsUsable, Says, SaysIn, TellsOf}

@@ -31,8 +31,8 @@ use Rattle.oak_core.specs.declared.states.PassState.{PassState}
 use Rattle.oak_core.specs.Memory.{Memory, in_rooms, memory}
 use Rattle.oak_core.specs.PassState.{rooms_held}
 use Rattle.oak_core.specs.Step.{load, Told}
-use Rattle.oak_core.proofs.CountTold.{count_found, pin_counted, count_learns, count_absence, count_ends}
-use Rattle.oak_core.proofs.MetLists.{each_at}
+use Rattle.oak_core.proofs.told.CountTold.{count_found, pin_counted, count_learns, count_absence, count_ends}
+use Rattle.oak_core.proofs.memory.MetLists.{each_at}
 use Rattle.chunk_ops.specs.Finds.{FoundAbsent}
 use Rattle.chunk_ops.specs.PinRecords.{HasRoomPin, RoomPinned, PinStays, UnderPin, pin_or, room_pin, with_room_pin}
 use Rattle.chunk_ops.specs.Room.{Room, IsRoom, key_at, place_at}

@@ -22,10 +22,10 @@ use Rattle.oak_core.specs.QuietSteps.{Quiet}
 use Rattle.oak_core.specs.Rule.{Rule}
 use Rattle.oak_core.specs.Step.{load}
 use Rattle.oak_core.specs.TableState.{TableState}
-use Rattle.oak_core.proofs.AloneRuns.{moment_after}
-use Rattle.oak_core.proofs.CallSteps.{learns_both}
-use Rattle.oak_core.proofs.QuietCalls.{quiet_stored}
-use Rattle.oak_core.proofs.Words.{memory_read}
+use Rattle.oak_core.proofs.seats.AloneRuns.{moment_after}
+use Rattle.oak_core.proofs.calls.CallSteps.{learns_both}
+use Rattle.oak_core.proofs.calls.QuietCalls.{quiet_stored}
+use Rattle.oak_core.proofs.memory.Words.{memory_read}
 use Rattle.chunk_ops.specs.Adds.{MayAdd, FoundCrowded}
 use Rattle.chunk_ops.specs.Finds.{CountsRoom, FindsMissing}
 use Rattle.chunk_ops.specs.Latching.{with_latch, MayEnter, AddsUnder}

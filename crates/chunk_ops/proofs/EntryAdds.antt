@@ -30,8 +30,8 @@ use Rattle.oak_core.specs.declared.states.PassState.{PassState}
 use Rattle.oak_core.specs.Memory.{Memory, memory}
 use Rattle.oak_core.specs.RoomCalls.{PublishesEntry}
 use Rattle.oak_core.specs.Step.{MayPublishEntry}
-use Rattle.oak_core.proofs.CallSteps.{stands_learns}
-use Rattle.oak_core.proofs.PublishFacts.{pin_stands, count_is, key_word, words_there}
+use Rattle.oak_core.proofs.calls.CallSteps.{stands_learns}
+use Rattle.oak_core.proofs.covers.PublishFacts.{pin_stands, count_is, key_word, words_there}
 use Rattle.chunk_ops.specs.Adds.{MayAdd}
 use Rattle.chunk_ops.specs.FindsAlone.{used_key}
 use Rattle.chunk_ops.specs.Latching.{with_latch, MayEnter, AddsUnder}

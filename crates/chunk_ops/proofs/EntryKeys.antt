@@ -24,7 +24,7 @@ use Rattle.chunk_core.specs.RoomsAfter.{pin_with}
 use Rattle.chunk_core.proofs.CountLoads.{rows_has}
 use Rattle.oak_core.specs.declared.states.PassState.{PassState}
 use Rattle.oak_core.specs.EntryOwners.{is_class, is_key_word}
-use Rattle.oak_core.proofs.MetLists.{at_inside, each_at}
+use Rattle.oak_core.proofs.memory.MetLists.{at_inside, each_at}
 use Rattle.chunk_ops.specs.Adds.{MayAdd}
 use Rattle.chunk_ops.specs.PinRecords.{PinStays}
 

@@ -17,7 +17,7 @@ use Rattle.chunk_core.specs.PinnedRooms.{found_key, span_of}
 use Rattle.chunk_core.specs.RoomCopies.{entry_with, latch_with}
 use Rattle.chunk_core.specs.RoomStep.{of_key, of_value}
 use Rattle.oak_core.specs.declared.states.PassState.{PassState}
-use Rattle.oak_core.proofs.CallSteps.{learns_both, stands_both, stands_in, stands_learns}
+use Rattle.oak_core.proofs.calls.CallSteps.{learns_both, stands_both, stands_in, stands_learns}
 use Rattle.chunk_ops.specs.Adds.{MayAdd}
 use Rattle.chunk_ops.specs.AskedRanges.{CoversKey}
 use Rattle.chunk_ops.specs.Latching.{with_latch, MayEnter, WritesEntry, AddsUnder}

@@ -8,7 +8,7 @@ use Rattle.oak_model.specs.Limits.{Sizes}
 use Rattle.arena_core.specs.Place.{place_word}
 use Rattle.chunk_core.specs.Rooms.{RoomSpot, at_base, at_count, at_key, at_latch, at_value}
 use Rattle.oak_core.specs.Memory.{IsInside, Spot, in_rooms, index, memory, same_spot}
-use Rattle.oak_core.proofs.Words.{index_apart, same_spot-self}
+use Rattle.oak_core.proofs.memory.Words.{index_apart, same_spot-self}
 use Rattle.chunk_ops.specs.AddsAlone.{put_entry}
 use Rattle.chunk_ops.proofs.KeptKeys.{number_other}
 

@@ -27,7 +27,7 @@ use Rattle.oak_core.specs.Memory.{Memory, Spot, in_arena, in_rooms, index, IsIns
 use Rattle.oak_core.specs.PassState.{rooms_held}
 use Rattle.oak_core.specs.Splitting.{Loads}
 use Rattle.oak_core.specs.Step.{Step, load, Told}
-use Rattle.oak_core.proofs.MetLists.{at_inside, each_at}
+use Rattle.oak_core.proofs.memory.MetLists.{at_inside, each_at}
 use Rattle.chunk_ops.specs.PinRecords.{HasEntry, HasRoomPin, RoomPinned, OnlyMeets, pin_or, room_pin}
 use Rattle.chunk_ops.specs.RoomWords.{FindsKeyWord}
 use Rattle.chunk_ops.proofs.WordLoads.{pin_holds, load_at, load_reads}

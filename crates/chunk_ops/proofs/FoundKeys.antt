@@ -11,7 +11,7 @@ use Rattle.chunk_core.specs.PinnedRooms.{found_key}
 use Rattle.oak_core.specs.declared.states.PassState.{PassState}
 use Rattle.oak_core.specs.AloneWords.{Runs}
 use Rattle.oak_core.specs.Memory.{memory}
-use Rattle.oak_core.proofs.AloneRuns.{runs_as}
+use Rattle.oak_core.proofs.seats.AloneRuns.{runs_as}
 use Rattle.chunk_ops.specs.declared.entries.Found.{Found}
 use Rattle.chunk_ops.specs.Finds.{FindsKey, FindsMissing}
 use Rattle.chunk_ops.specs.FindsAlone.{CountedIn, FindsIn, HasKeyAt, as_found}

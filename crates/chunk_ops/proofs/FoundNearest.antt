@@ -12,7 +12,7 @@ use Rattle.chunk_core.specs.PinnedRooms.{found_key}
 use Rattle.oak_core.specs.declared.states.PassState.{PassState}
 use Rattle.oak_core.specs.AloneWords.{Runs}
 use Rattle.oak_core.specs.Memory.{memory}
-use Rattle.oak_core.proofs.AloneRuns.{runs_as}
+use Rattle.oak_core.proofs.seats.AloneRuns.{runs_as}
 use Rattle.chunk_ops.specs.declared.way.Way.{Way}
 use Rattle.chunk_ops.specs.declared.way.Way.TheVariants.{Up, Down}
 use Rattle.chunk_ops.specs.AskedRanges.{IsKeyOrNone}

@@ -18,9 +18,9 @@ use Rattle.oak_core.specs.QuietSteps.{IsQuiet}
 use Rattle.oak_core.specs.Passes.{state}
 use Rattle.oak_core.specs.RoomCalls.{PinsRoomWord}
 use Rattle.oak_core.specs.Step.{on_rooms}
-use Rattle.oak_core.proofs.AloneRuns.{runs_as}
-use Rattle.oak_core.proofs.CallSteps.{met_both, met_none, step_alone, step_since, step_until, stands_both}
-use Rattle.oak_core.proofs.QuietCalls as steps
+use Rattle.oak_core.proofs.seats.AloneRuns.{runs_as}
+use Rattle.oak_core.proofs.calls.CallSteps.{met_both, met_none, step_alone, step_since, step_until, stands_both}
+use Rattle.oak_core.proofs.calls.QuietCalls as steps
 use Rattle.chunk_ops.specs.LoneRooms.{IsOff, IsShut, LoneTry}
 use Rattle.chunk_ops.specs.PinRecords.{HasRoomPin, RoomPinned, OnlyMeets, pin_or, room_pin, with_room_pin}
 use Rattle.chunk_ops.specs.Hints.{TriesFirst}

@@ -17,7 +17,7 @@ use Rattle.oak_core.specs.Memory.{Memory, in_arena, index, memory}
 use Rattle.oak_core.specs.PassState.{blocks_of}
 use Rattle.oak_core.specs.Splitting.{Loads}
 use Rattle.oak_core.specs.Step.{load, Told}
-use Rattle.oak_core.proofs.HeaderStanding.{parts}
+use Rattle.oak_core.proofs.held.HeaderStanding.{parts}
 use Rattle.chunk_ops.specs.PinRecords.{OnlyMeets}
 use Rattle.arena_core.specs.Words.{bytes_in}
 use Rattle.chunk_ops.proofs.WordLoads.{load_at, load_reads}

@@ -9,7 +9,7 @@ use Rattle.chunk_core.specs.KeyWords.{key_bytes}
 use Rattle.chunk_core.specs.LinkedEntries.{entries_in}
 use Rattle.chunk_core.specs.Rooms.{at_count, at_key}
 use Rattle.oak_core.specs.Memory.{Memory, Spot, in_arena, in_rooms, same_spot, IsInside, is_inside, index, number_at, memory}
-use Rattle.oak_core.proofs.Words.{same_spot-self, inside_is, index_apart, number_at-in, number_at-out}
+use Rattle.oak_core.proofs.memory.Words.{same_spot-self, inside_is, index_apart, number_at-in, number_at-out}
 use Rattle.chunk_ops.specs.declared.entries.Found.{Found}
 use Rattle.chunk_ops.specs.declared.entries.Found.TheVariants.{Entry, Missing}
 use Rattle.chunk_ops.specs.FindsAlone.{HasKeyAt, used_key}

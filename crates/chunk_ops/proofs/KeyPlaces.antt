@@ -24,7 +24,7 @@ use Rattle.oak_core.specs.Memory.{Memory, memory}
 use Rattle.oak_core.specs.PassState.{rooms_held}
 use Rattle.oak_core.specs.Rule.{Rule}
 use Rattle.oak_core.specs.TableState.{TableState}
-use Rattle.oak_core.proofs.HeadersInArena.{names_named}
+use Rattle.oak_core.proofs.owners.HeadersInArena.{names_named}
 
 -- a key word names a block of the class that its length has, which is a key's
 pub record IsKeyPlace (word : ℕ) : Type 0 where

@@ -23,10 +23,10 @@ use Rattle.oak_core.specs.RoomCalls.{TakesLatch, StoresEntry, GivesLatch}
 use Rattle.oak_core.specs.QuietSteps.{MetOnly, TookNone}
 use Rattle.oak_core.specs.Step.{on_rooms, MayOnRooms, Told}
 use Rattle.oak_core.specs.Sweeping.{swept_by}
-use Rattle.oak_core.proofs.AloneRuns.{DoesStep, Then, step_runs, runs_as, runs_then}
-use Rattle.oak_core.proofs.CallSteps.{step_alone, step_met, stands_both}
-use Rattle.oak_core.proofs.QuietCalls as steps
-use Rattle.oak_core.proofs.Words.{memory_read}
+use Rattle.oak_core.proofs.seats.AloneRuns.{DoesStep, Then, step_runs, runs_as, runs_then}
+use Rattle.oak_core.proofs.calls.CallSteps.{step_alone, step_met, stands_both}
+use Rattle.oak_core.proofs.calls.QuietCalls as steps
+use Rattle.oak_core.proofs.memory.Words.{memory_read}
 use Rattle.chunk_ops.specs.Adds.{FoundLatched, LeavesCount}
 use Rattle.chunk_ops.specs.AddsAlone.{TakesLatchIn, GivesLatchIn, WritesEntryIn}
 use Rattle.chunk_ops.specs.Latching.{with_latch, TakesRoomLatch, GivesRoomLatch, WritesEntry}

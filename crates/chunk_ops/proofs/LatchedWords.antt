@@ -12,7 +12,7 @@ use Rattle.arena_ops.specs.Taking.{ClearsBit}
 use Rattle.chunk_core.specs.LinkedEntries.{entries_in}
 use Rattle.chunk_core.specs.Rooms.{at_latch}
 use Rattle.oak_core.specs.Memory.{in_rooms, index, memory}
-use Rattle.oak_core.proofs.Words.{memory_read}
+use Rattle.oak_core.proofs.memory.Words.{memory_read}
 use Rattle.chunk_ops.specs.declared.entries.EntryNo.{EntryNo}
 use Rattle.chunk_ops.specs.declared.entries.Found.{Found}
 use Rattle.chunk_ops.specs.declared.entries.Found.TheVariants.{Entry, Missing}

@@ -13,7 +13,7 @@ use Rattle.oak_core.specs.declared.states.PassState.{PassState}
 use Rattle.oak_core.specs.Memory.{Spot, in_arena, in_rooms, index, IsInside}
 use Rattle.oak_core.specs.Splitting.{Loads}
 use Rattle.oak_core.specs.Step.{Step, load, Told}
-use Rattle.oak_core.proofs.AloneRuns.{runs_as}
+use Rattle.oak_core.proofs.seats.AloneRuns.{runs_as}
 use Rattle.chunk_ops.specs.Listing.{ListsRoom}
 use Rattle.chunk_ops.specs.PinRecords.{HasEntry, HasRoomPin, WordsStay, room_pin}
 use Rattle.chunk_ops.specs.Reads.{key_loads}

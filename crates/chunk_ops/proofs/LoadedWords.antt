@@ -13,8 +13,8 @@ use Rattle.oak_core.specs.Finding.{finding, grown}
 use Rattle.oak_core.specs.Loading.{IsPlain}
 use Rattle.oak_core.specs.Memory.{Spot, at_given, in_arena, in_headers, in_rooms, index, IsInside}
 use Rattle.oak_core.specs.Step.{load, Told}
-use Rattle.oak_core.proofs.PlainLoads.{plain_state}
-use Rattle.oak_core.proofs.Words.{index_apart}
+use Rattle.oak_core.proofs.told.PlainLoads.{plain_state}
+use Rattle.oak_core.proofs.memory.Words.{index_apart}
 use Rattle.chunk_ops.specs.Finds.{is_key_word_of}
 use Rattle.chunk_ops.specs.PinRecords.{OnlyMeets}
 use Rattle.chunk_ops.specs.Reads.{key_loads, is_key_load, AreWords, ReadsKey, AreReadings, Compares, Looks, joined, Met, met_count, met_key, met_block}

@@ -9,7 +9,7 @@ use Rattle.chunk_core.specs.LinkedEntries.{entries_in}
 use Rattle.oak_core.specs.declared.states.PassState.{PassState}
 use Rattle.oak_core.specs.AloneWords.{Runs}
 use Rattle.oak_core.specs.Memory.{memory}
-use Rattle.oak_core.proofs.AloneRuns.{Then, runs_then, runs_as}
+use Rattle.oak_core.proofs.seats.AloneRuns.{Then, runs_then, runs_as}
 use Rattle.chunk_ops.specs.declared.entries.EntryNo.{EntryNo}
 use Rattle.chunk_ops.specs.declared.entries.Found.TheVariants.{Entry, Missing}
 use Rattle.chunk_ops.specs.AddsAlone.{TakesLatchIn, GivesLatchIn, EntersIn, AddsIn, AddsNext, CrowdedIn, put_entry}

@@ -12,8 +12,8 @@ use Rattle.oak_core.specs.AloneWords.{Runs}
 use Rattle.oak_core.specs.Memory.{IsInside, in_rooms, index, memory, word_count}
 use Rattle.oak_core.specs.RoomCalls.{PublishesEntry}
 use Rattle.oak_core.specs.Step.{on_rooms}
-use Rattle.oak_core.proofs.AloneRuns.{Then, runs_then, runs_as, step_starts, words_stand}
-use Rattle.oak_core.proofs.Words.{index_below, memory_read}
+use Rattle.oak_core.proofs.seats.AloneRuns.{Then, runs_then, runs_as, step_starts, words_stand}
+use Rattle.oak_core.proofs.memory.Words.{index_below, memory_read}
 use Rattle.chunk_ops.specs.declared.entries.Found.TheVariants.{Entry}
 use Rattle.chunk_ops.specs.Adds.{MayAdd}
 use Rattle.chunk_ops.specs.AddsAlone.{EntersIn, WritesEntryIn}

@@ -18,8 +18,8 @@ use Rattle.oak_core.specs.PassState.{IsAlone, rooms_held}
 use Rattle.oak_core.specs.RoomCalls.{TakesLatch}
 use Rattle.oak_core.specs.Rule.{Rule}
 use Rattle.oak_core.specs.TableState.{TableState}
-use Rattle.oak_core.proofs.Alone.{others_are}
-use Rattle.oak_core.proofs.Words.{memory_read}
+use Rattle.oak_core.proofs.seats.Alone.{others_are}
+use Rattle.oak_core.proofs.memory.Words.{memory_read}
 use Rattle.chunk_ops.specs.Latching.{Never}
 
 lone_latch : (z : Sizes) (s : TableState) → Rule z s → (seat : ℕ) (v : PassState) → get_elem? s.states seat ≡ some v → IsAlone v → v.rooms.latch ≡ None → (k : ℕ) → (memory z s.words).rooms.latch k ≡ 0

@@ -30,8 +30,8 @@ use Rattle.oak_core.specs.PassState.{IsAlone, rooms_held, spent_state}
 use Rattle.oak_core.specs.RoomCalls.{PinsRoomWord}
 use Rattle.oak_core.specs.Step.{Step, on_rooms, spot, effect, Told}
 use Rattle.oak_core.specs.TableState.{TableState}
-use Rattle.oak_core.proofs.Alone.{others_are}
-use Rattle.oak_core.proofs.AloneRuns.{DoesStep, Keeps, Then, step_runs, step_starts, words_stand, moment_before, runs_then, runs_as}
+use Rattle.oak_core.proofs.seats.Alone.{others_are}
+use Rattle.oak_core.proofs.seats.AloneRuns.{DoesStep, Keeps, Then, step_runs, step_starts, words_stand, moment_before, runs_then, runs_as}
 use Rattle.chunk_ops.specs.declared.ranges.Asked.{Asked}
 use Rattle.chunk_ops.specs.declared.ranges.Asked.TheVariants.{Covering, Under, Last}
 use Rattle.chunk_ops.specs.AskedRanges.{CoversKey, EndsUnder, IsLast, IsAsked, IsAskable}

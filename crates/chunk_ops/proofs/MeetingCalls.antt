@@ -7,9 +7,9 @@ use Rattle.oak_core.specs.declared.states.PassState.{PassState}
 use Rattle.oak_core.specs.AloneWords.{Runs}
 use Rattle.oak_core.specs.QuietSteps.{IsQuiet}
 use Rattle.oak_core.specs.RoomCalls.{PinsRoomWord}
-use Rattle.oak_core.proofs.AloneRuns.{Then, runs_then, runs_as, runs_none}
-use Rattle.oak_core.proofs.CallSteps.{stands_none, stands_both}
-use Rattle.oak_core.proofs.QuietCalls as steps
+use Rattle.oak_core.proofs.seats.AloneRuns.{Then, runs_then, runs_as, runs_none}
+use Rattle.oak_core.proofs.calls.CallSteps.{stands_none, stands_both}
+use Rattle.oak_core.proofs.calls.QuietCalls as steps
 use Rattle.chunk_ops.specs.PinRecords.{OnlyMeets, WordsStay, with_room_pin}
 use Rattle.chunk_ops.specs.RoomPins.{ChangesRoomPin, DropsRoomPin, Unpins}
 use Rattle.chunk_ops.proofs.PinSteps.{undone, pin_stands, pin_blocks, pin_headers, pin_rooms, pin_runs}

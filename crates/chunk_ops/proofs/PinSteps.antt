@@ -27,9 +27,9 @@ use Rattle.oak_core.specs.Memory.{Memory, in_rooms, index, memory}
 use Rattle.oak_core.specs.PassState.{rooms_held}
 use Rattle.oak_core.specs.RoomCalls.{PinsRoomWord, UnpinsRoomWord}
 use Rattle.oak_core.specs.Step.{on_rooms, MayOnRooms, Told}
-use Rattle.oak_core.proofs.AloneRuns.{DoesStep, moment_after, step_runs, runs_as}
-use Rattle.oak_core.proofs.QuietCalls.{quiet_unpin_room}
-use Rattle.oak_core.proofs.Words.{memory_read}
+use Rattle.oak_core.proofs.seats.AloneRuns.{DoesStep, moment_after, step_runs, runs_as}
+use Rattle.oak_core.proofs.calls.QuietCalls.{quiet_unpin_room}
+use Rattle.oak_core.proofs.memory.Words.{memory_read}
 use Rattle.chunk_ops.specs.PinRecords.{PinIsOn, RoomPinned, with_room_pin}
 use Rattle.chunk_ops.specs.RoomPins.{ChangesRoomPin, Unpins}
 

@@ -8,7 +8,7 @@ use Rattle.chunk_core.specs.Rooms.{at_key, IsInRooms}
 use Rattle.oak_core.specs.declared.states.PassState.{PassState}
 use Rattle.oak_core.specs.Memory.{in_arena, in_rooms}
 use Rattle.oak_core.specs.Step.{Step, load, Told}
-use Rattle.oak_core.proofs.MetLists.{at_inside}
+use Rattle.oak_core.proofs.memory.MetLists.{at_inside}
 use Rattle.chunk_ops.specs.PinRecords.{HasEntry, HasRoomPin, room_pin}
 use Rattle.chunk_ops.specs.Room.{place_at, key_at, entries}
 use Rattle.chunk_ops.specs.RoomLoads.{NamesKey, room_below}

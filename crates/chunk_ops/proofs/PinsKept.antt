@@ -7,7 +7,7 @@ use Rattle.chunk_core.specs.declared.holds.RoomHolds.{RoomHolds}
 use Rattle.chunk_core.specs.MayOnRooms.{HasLatch}
 use Rattle.chunk_core.specs.RoomRule.{latches_on}
 use Rattle.oak_core.specs.declared.states.PassState.{PassState}
-use Rattle.oak_core.proofs.CallSteps.{stands_learns}
+use Rattle.oak_core.proofs.calls.CallSteps.{stands_learns}
 use Rattle.chunk_ops.specs.Latching.{with_latch}
 use Rattle.chunk_ops.specs.PinRecords.{HasRoomPin, RoomPinned, PinKept, PinStays, OnlyMeets, UnderPin, pin_or, room_pin, with_room_pin}
 use Rattle.chunk_ops.proofs.LatchSteps.{one_latch}

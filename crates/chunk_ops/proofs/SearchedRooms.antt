@@ -17,10 +17,10 @@ use Rattle.oak_core.specs.CountReads.{EndsAbsent}
 use Rattle.oak_core.specs.Memory.{Spot, in_rooms, index, memory}
 use Rattle.oak_core.specs.QuietSteps.{IsQuiet, Quiet}
 use Rattle.oak_core.specs.Step.{load, Told}
-use Rattle.oak_core.proofs.AloneRuns.{Then, load_runs, runs_as, runs_then, step_starts, words_stand}
-use Rattle.oak_core.proofs.CallSteps.{learns_both, stands_learns, step_alone, step_until}
-use Rattle.oak_core.proofs.KnownReads.{read_stays}
-use Rattle.oak_core.proofs.QuietCalls as steps
+use Rattle.oak_core.proofs.seats.AloneRuns.{Then, load_runs, runs_as, runs_then, step_starts, words_stand}
+use Rattle.oak_core.proofs.calls.CallSteps.{learns_both, stands_learns, step_alone, step_until}
+use Rattle.oak_core.proofs.known.KnownReads.{read_stays}
+use Rattle.oak_core.proofs.calls.QuietCalls as steps
 use Rattle.chunk_ops.specs.Bits.{bits}
 use Rattle.chunk_ops.specs.Finds.{CountsRoom, FoundAbsent, LoadsFew}
 use Rattle.chunk_ops.specs.PinRecords.{HasRoomPin, OnlyMeets, PinKept, UnderPin, WordsStay, pin_or, room_pin}

@@ -3,7 +3,7 @@ use Rattle.std.proofs.Common.{◌≡◌, ℕ, ◌+◌, ◌-◌, ◌≤◌, List,
 use Rattle.oak_model.specs.Counts.{Each}
 use Rattle.chunk_core.specs.LinkedEntries.{entries_in, prefix_in}
 use Rattle.oak_core.specs.Passes.{state, key as sizes, call_of}
-use Rattle.chunk_ops.specs.declared.pinned.PinnedTable.{PinnedTable}
+use Rattle.chunk_ops.specs.declared.pinned_table.PinnedTable.{PinnedTable}
 use Rattle.chunk_ops.specs.Bits.{bits}
 use Rattle.chunk_ops.specs.Found.{CountsFirst, search_loads}
 use Rattle.chunk_ops.specs.Reads.{key_loads, AreReadings, Met}

@@ -7,7 +7,7 @@ use Rattle.oak_core.specs.declared.states.PassState.{PassState}
 use Rattle.oak_core.specs.Memory.{in_rooms, index}
 use Rattle.oak_core.specs.QuietSteps.{MetOnly, Quiet, StoredNone, TookNone}
 use Rattle.oak_core.specs.Step.{on_rooms, Told}
-use Rattle.oak_core.proofs.Words.{index_apart}
+use Rattle.oak_core.proofs.memory.Words.{index_apart}
 
 module _ (z : Sizes) (call : ℕ) (x : RoomStep) (v : PassState) (n : ℕ) (w : PassState) (t : Told z call (on_rooms x) v n w) where
   pub took_none : MetOnly TookNone v w

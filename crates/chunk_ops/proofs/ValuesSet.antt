@@ -23,14 +23,14 @@ use Rattle.oak_core.specs.MayWrite.{IsNewCall}
 use Rattle.oak_core.specs.Memory.{in_rooms, index, memory}
 use Rattle.oak_core.specs.RoomCalls.{SetsValueWord, UnlinksEntryWord}
 use Rattle.oak_core.specs.Step.{on_rooms, MaySetValue, MayUnlinkEntry, Step}
-use Rattle.oak_core.proofs.AloneRuns.{DoesStep, step_runs, runs_as}
-use Rattle.oak_core.proofs.CallSteps.{step_alone}
-use Rattle.oak_core.proofs.FoundEntries.{pinned_stands}
-use Rattle.oak_core.proofs.SetTold as told
-use Rattle.oak_core.proofs.SetsValue.{held_row}
-use Rattle.oak_core.proofs.UnlinksEntry.{names_small}
-use Rattle.oak_core.proofs.UnlinkTold.{unlinked_life, unlink_blocks, unlink_headers, unlink_rooms, unlink_stands}
-use Rattle.oak_core.proofs.Words.{memory_read}
+use Rattle.oak_core.proofs.seats.AloneRuns.{DoesStep, step_runs, runs_as}
+use Rattle.oak_core.proofs.calls.CallSteps.{step_alone}
+use Rattle.oak_core.proofs.covers.FoundEntries.{pinned_stands}
+use Rattle.oak_core.proofs.told.SetTold as told
+use Rattle.oak_core.proofs.covers.SetsValue.{held_row}
+use Rattle.oak_core.proofs.covers.UnlinksEntry.{names_small}
+use Rattle.oak_core.proofs.told.UnlinkTold.{unlinked_life, unlink_blocks, unlink_headers, unlink_rooms, unlink_stands}
+use Rattle.oak_core.proofs.memory.Words.{memory_read}
 use Rattle.chunk_ops.specs.PinRecords.{HasEntry, HasRoomPin, OnlyMeets, WordsStay, room_pin}
 use Rattle.chunk_ops.specs.Setting.{Clears, ClearsIn, FoundSet, LeavesIn, SetsIn, SetsLife}
 use Rattle.chunk_ops.proofs.StepKinds.{left_quiet}

@@ -19,18 +19,18 @@ use Rattle.oak_core.specs.Memory.{Memory, Spot, in_rooms, index, IsInside, memor
 use Rattle.oak_core.specs.PassState.{rooms_held}
 use Rattle.oak_core.specs.Splitting.{Loads}
 use Rattle.oak_core.specs.Step.{Step, load, Told}
-use Rattle.oak_core.proofs.AloneRuns.{load_runs, runs_as}
-use Rattle.oak_core.proofs.CallSteps.{step_alone}
-use Rattle.oak_core.proofs.MetLists.{at_inside}
-use Rattle.oak_core.proofs.QuietCalls.{quiet_load}
-use Rattle.oak_core.proofs.Words.{index_apart, memory_read}
+use Rattle.oak_core.proofs.seats.AloneRuns.{load_runs, runs_as}
+use Rattle.oak_core.proofs.calls.CallSteps.{step_alone}
+use Rattle.oak_core.proofs.memory.MetLists.{at_inside}
+use Rattle.oak_core.proofs.calls.QuietCalls.{quiet_load}
+use Rattle.oak_core.proofs.memory.Words.{index_apart, memory_read}
 use Rattle.chunk_ops.specs.declared.bounds.Bound.{Bound}
 use Rattle.chunk_ops.specs.declared.bounds.Bound.TheVariants.{Low, High}
 use Rattle.chunk_ops.specs.PinnedBounds.{bound_spot, bound_words}
 use Rattle.chunk_ops.specs.PinRecords.{HasEntry, HasRoomPin, OnlyMeets, WordsStay, room_pin}
 use Rattle.chunk_ops.specs.RoomWords.{FindsBase}
 use Rattle.oak_core.specs.Loading.{IsPlain}
-use Rattle.oak_core.proofs.PlainLoads.{met_at}
+use Rattle.oak_core.proofs.told.PlainLoads.{met_at}
 
 -- the load of a word other than a count only adds its finding
 pub only_loaded : (z : Sizes) (call word n : ℕ) (v w : PassState) (q : Spot) → IsInside z q → IsPlain q → word ≡ index z q → Loads z call word v n w → OnlyMeets call v w

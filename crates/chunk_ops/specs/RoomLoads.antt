@@ -14,7 +14,7 @@ use Rattle.oak_core.specs.declared.states.PassState.{PassState}
 use Rattle.oak_core.specs.Memory.{Spot, in_arena, in_rooms}
 use Rattle.oak_core.specs.Passes.{IsPassOf, Stays, state, key as sizes, call_of}
 use Rattle.oak_core.specs.Step.{load, Told}
-use Rattle.chunk_ops.specs.declared.pinned.PinnedTable.{PinnedTable}
+use Rattle.chunk_ops.specs.declared.pinned_table.PinnedTable.{PinnedTable}
 use Rattle.chunk_ops.specs.PinRecords.{HasRoomPin, room_pin}
 use Rattle.chunk_ops.specs.Reads.{Met, met_count, met_key, met_block}
 use Rattle.chunk_ops.specs.Room.{Room, IsRoom, place_at, key_at, entries}

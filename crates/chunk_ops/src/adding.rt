@@ -12,12 +12,12 @@ ghost use Rattle.chunk_ops.specs.Latching.{Does};
 ghost use Rattle.chunk_ops.specs.PinRecords.{HasRoomPin, UnderPin, room_pin};
 
 use crate::entries::{AddHalt, EntryNo, NotAdded};
-use crate::finding::entries_in;
 use crate::key_blocks::held_bytes;
 use crate::latching::{enter, give_latch, take_latch};
-use crate::pins::RoomPin;
+use crate::room_pins::RoomPin;
 use crate::searching::find_counted;
 use arena_ops::give;
+use chunk_core::count_word::entries_in;
 use oak_core::{Block, OakTable, Pass};
 
 /// What was done under the latch of a room: an entry of the key was found or added, or the room had as
@@ -42,7 +42,8 @@ fn add_latched(
     requires may { MayAdd (sizes table.now) block.now.class block.now.number (length key.now) key.now (state pass.old) }
     ensures own { Stays pass.old pass.new }
     ensures latched { latches_on pin.now.room (state pass.new).rooms ≡ 1 }
-    ensures does { Does result (sizes table.now) (call_of pass.old) pin.now.room block.now.class block.now.number key.now (state pass.old) (state pass.new) }
+    ensures does { Does result (sizes table.now) (call_of pass.old) pin.now.room block.now.class block.now.number
+        key.now (state pass.old) (state pass.new) }
     ensures took { MetOnly TookNone (state pass.old) (state pass.new) }
     ensures alone { Runs (DoesIn result (sizes table.now) pin.now.room block.now.class block.now.number key.now) (state pass.old) (state pass.new) }
 {
@@ -75,13 +76,21 @@ pub fn add(
     requires latch { (state pass.old).rooms.latch ≡ None }
     requires key { (k : List ℕ) × MayAdd (sizes table.now) key.class key.number len k (state pass.old) }
     ensures own { Stays pass.old pass.new }
-    ensures added { IfOk result (λ i. (k : List ℕ) → MayAdd (sizes table.now) key.class key.number len k (state pass.old) → AddsEntry (sizes table.now) (call_of pass.old) pin.now.room i.0 key.class key.number k (state pass.old) (state pass.new)) }
+    ensures added { IfOk result (λ i. (k : List ℕ) → MayAdd (sizes table.now) key.class key.number len k
+        (state pass.old) → AddsEntry (sizes table.now) (call_of pass.old) pin.now.room i.0 key.class key.number k
+        (state pass.old) (state pass.new)) }
     ensures took { MetOnly TookNone (state pass.old) (state pass.new) }
     ensures block { IfErr result (λ n. n.block ≡ key) }
     ensures under { IfErr result (λ n. UnderPin (sizes table.now) (call_of pass.old) pin.now.room (state pass.old) (state pass.new)) }
-    ensures not_added { IfErr result (λ n. (k : List ℕ) → MayAdd (sizes table.now) key.class key.number len k (state pass.old) → NotAddedBy n.why (sizes table.now) (call_of pass.old) pin.now.room k (state pass.old) (state pass.new)) }
-    ensures alone { IfOk result (λ i. (k : List ℕ) → MayAdd (sizes table.now) key.class key.number len k (state pass.old) → Runs (AddsIn (sizes table.now) pin.now.room i key.class key.number len k) (state pass.old) (state pass.new)) }
-    ensures alone_not_added { IfErr result (λ n. (k : List ℕ) → MayAdd (sizes table.now) key.class key.number len k (state pass.old) → Runs (NotAddedIn n.why (sizes table.now) pin.now.room k) (state pass.old) (state pass.new)) }
+    ensures not_added { IfErr result (λ n. (k : List ℕ) → MayAdd (sizes table.now) key.class key.number len k
+        (state pass.old) → NotAddedBy n.why (sizes table.now) (call_of pass.old) pin.now.room k (state pass.old)
+        (state pass.new)) }
+    ensures alone { IfOk result (λ i. (k : List ℕ) → MayAdd (sizes table.now) key.class key.number len k
+        (state pass.old) → Runs (AddsIn (sizes table.now) pin.now.room i key.class key.number len k) (state pass.old)
+        (state pass.new)) }
+    ensures alone_not_added { IfErr result (λ n. (k : List ℕ) → MayAdd (sizes table.now) key.class key.number len k
+        (state pass.old) → Runs (NotAddedIn n.why (sizes table.now) pin.now.room k) (state pass.old)
+        (state pass.new)) }
 {
     let bytes = held_bytes(table, pass, &key, len);
     if !take_latch(table, pass, pin.room) {

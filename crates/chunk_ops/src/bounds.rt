@@ -8,7 +8,7 @@ ghost use Rattle.chunk_ops.specs.PinRecords.{HasRoomPin, OnlyMeets, room_pin};
 ghost use Rattle.chunk_ops.specs.PinnedBounds.{IsBelow, bound_spot, bound_words, bound_bytes, bound_length, low_length, high_length, low_bound, high_bound};
 ghost use Rattle.chunk_ops.specs.Stored.{IsStored};
 
-use crate::pins::RoomPin;
+use crate::room_pins::RoomPin;
 use crate::stored::{KEY_WORDS, StoredKey};
 use arena_core::words::{WORD, first_bytes};
 use oak_core::{OakTable, Pass, load};
@@ -147,7 +147,8 @@ pub fn low_key(table: &OakTable, pass: &mut Pass, pin: &RoomPin) -> Option<Store
     requires own { IsPassOf table.now pass.old }
     requires pinned { HasRoomPin (key table.now) pin.now.room (state pass.old) }
     ensures own { Stays pass.old pass.new }
-    ensures low { MatchOption result (low_length (room_pin (state pass.old)) ≡ 0) (λ k. (0 < low_length (room_pin (state pass.old))) × IsStored k (low_bound (room_pin (state pass.old)))) }
+    ensures low { MatchOption result (low_length (room_pin (state pass.old)) ≡ 0)
+        (λ k. (0 < low_length (room_pin (state pass.old))) × IsStored k (low_bound (room_pin (state pass.old)))) }
     ensures only { OnlyMeets (call_of pass.old) (state pass.old) (state pass.new) }
 {
     let length = low_len(table, pass, pin);
@@ -163,7 +164,9 @@ pub fn high_key(table: &OakTable, pass: &mut Pass, pin: &RoomPin) -> Option<Stor
     requires own { IsPassOf table.now pass.old }
     requires pinned { HasRoomPin (key table.now) pin.now.room (state pass.old) }
     ensures own { Stays pass.old pass.new }
-    ensures high { MatchOption result (slice_index (room_pin (state pass.old)).high 0 ≡ 0) (λ k. (0 < slice_index (room_pin (state pass.old)).high 0) × IsStored k (high_bound (room_pin (state pass.old)))) }
+    ensures high { MatchOption result (slice_index (room_pin (state pass.old)).high 0 ≡ 0)
+        (λ k. (0 < slice_index (room_pin (state pass.old)).high 0)
+        × IsStored k (high_bound (room_pin (state pass.old)))) }
     ensures only { OnlyMeets (call_of pass.old) (state pass.old) (state pass.new) }
 {
     let length = high_len(table, pass, pin)?;

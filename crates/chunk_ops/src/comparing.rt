@@ -15,10 +15,12 @@ use std::cmp::Ordering;
 fn compare_word<R: SearchedRoom>(room: &mut R, key: &[u8], place: u64, i: usize) -> Ordering
     requires pinned { R.pinned room.old }
     requires ours { WORD * i < length key.now }
-    requires theirs { (e : ℕ) × (e < entries (R.room room.old)) × (place ≡ place_at (R.room room.old) e) × (WORD * i < length (key_at (R.room room.old) e)) }
+    requires theirs { (e : ℕ) × (e < entries (R.room room.old)) × (place ≡ place_at (R.room room.old) e)
+        × (WORD * i < length (key_at (R.room room.old) e)) }
     ensures pinned { R.pinned room.new }
     ensures same { R.room room.new ≡ R.room room.old }
-    ensures order { (e : ℕ) → e < entries (R.room room.old) → place ≡ place_at (R.room room.old) e → result ≡ nat_cmp (word_at key.now i) (word_at (key_at (R.room room.old) e) i) }
+    ensures order { (e : ℕ) → e < entries (R.room room.old) → place ≡ place_at (R.room room.old) e
+        → result ≡ nat_cmp (word_at key.now i) (word_at (key_at (R.room room.old) e) i) }
     ensures meets { (n : ℕ) × R.meets room.old room.new (met_block place i n ∷ []) }
 {
     let left = length_in(place) - WORD * i;

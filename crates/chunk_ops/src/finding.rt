@@ -8,24 +8,8 @@ ghost use Rattle.chunk_ops.specs.Room.{entries};
 
 use crate::comparing::compare;
 use crate::room::SearchedRoom;
+use chunk_core::count_word::{entries_in, prefix_in};
 use std::cmp::Ordering;
-
-/// What one more in the sorted prefix adds to a count word.
-const PREFIX: u64 = 1 << 16;
-
-/// The number of entries in use that a count word tells.
-pub(crate) fn entries_in(word: u64) -> u32
-    ensures { result ≡ entries_in word }
-{
-    (word % PREFIX) as u32
-}
-
-/// The length of the sorted prefix that a count word tells.
-pub(crate) fn prefix_in(word: u64) -> u32
-    ensures { result ≡ prefix_in word }
-{
-    (word / PREFIX % PREFIX) as u32
-}
 
 /// Halves the sorted prefix: the entry of the key there, or how many entries have smaller keys.
 pub(crate) fn search_sorted<R: SearchedRoom>(

@@ -19,7 +19,8 @@ fn block_word(table: &OakTable, pass: &mut Pass, block: &Block, i: usize) -> u64
     requires held { HoldsBlock (key table.now) (class_number block.now.class) block.now.number (state pass.old).blocks }
     requires inside { i < block_words (class_number block.now.class) }
     ensures own { Stays pass.old pass.new }
-    ensures word { word_bytes result ≡ bytes_in i (bytes_of (words_held (class_number block.now.class) block.now.number (state pass.old).blocks.held)) }
+    ensures word { word_bytes result ≡ bytes_in i (bytes_of
+        (words_held (class_number block.now.class) block.now.number (state pass.old).blocks.held)) }
     ensures only { OnlyMeets (call_of pass.old) (state pass.old) (state pass.new) }
 {
     let at = table.bytes_at(block.class, block.number, i as u32);

@@ -12,10 +12,10 @@ ghost use Rattle.chunk_ops.specs.AddsAlone.{TakesLatchIn, GivesLatchIn, WritesEn
 ghost use Rattle.chunk_ops.specs.Latching.{Never, TakesRoomLatch, GivesRoomLatch, WritesEntry, MayEnter, AddsUnder};
 ghost use Rattle.chunk_ops.specs.PinRecords.{HasRoomPin, OnlyMeets, room_pin};
 
-use crate::finding::entries_in;
 use crate::loading::base_of;
-use crate::pins::RoomPin;
+use crate::room_pins::RoomPin;
 use arena_core::place::place_word;
+use chunk_core::count_word::entries_in;
 use oak_core::{Block, OakTable, Pass, steps};
 
 /// Takes the latch of the pinned room, and says whether it was free.
@@ -25,7 +25,8 @@ pub(crate) fn take_latch(table: &OakTable, pass: &mut Pass, room: u32) -> bool
     requires free { (state pass.old).rooms.latch ≡ None }
     ensures own { Stays pass.old pass.new }
     ensures taken { result ≡ true → TakesRoomLatch (call_of pass.old) room (state pass.old) (state pass.new) }
-    ensures found { result ≡ false → FoundLatched (key table.now) (call_of pass.old) room (state pass.old) (state pass.new) × OnlyMeets (call_of pass.old) (state pass.old) (state pass.new) }
+    ensures found { result ≡ false → FoundLatched (key table.now) (call_of pass.old) room (state pass.old)
+        (state pass.new) × OnlyMeets (call_of pass.old) (state pass.old) (state pass.new) }
     ensures took { MetOnly TookNone (state pass.old) (state pass.new) }
     ensures stored { MetOnly (LeavesCount (key table.now) room) (state pass.old) (state pass.new) }
     ensures alone { result ≡ false → Runs Never (state pass.old) (state pass.new) }
@@ -82,8 +83,12 @@ pub(crate) fn enter(
     ensures own { Stays pass.old pass.new }
     ensures next { result ≡ entries_in count }
     ensures took { MetOnly TookNone (state pass.old) (state pass.new) }
-    ensures adds { (k : List ℕ) → MayAdd (key table.now) block.now.class block.now.number len k (state pass.old) → AddsUnder (key table.now) (call_of pass.old) pin.now.room result block.now.class block.now.number k (state pass.old) (state pass.new) }
-    ensures alone { (k : List ℕ) → MayAdd (key table.now) block.now.class block.now.number len k (state pass.old) → Runs (EntersIn (key table.now) pin.now.room (record { 0 = result }) block.now.class block.now.number len k) (state pass.old) (state pass.new) }
+    ensures adds { (k : List ℕ) → MayAdd (key table.now) block.now.class block.now.number len k (state pass.old)
+        → AddsUnder (key table.now) (call_of pass.old) pin.now.room result block.now.class block.now.number k
+        (state pass.old) (state pass.new) }
+    ensures alone { (k : List ℕ) → MayAdd (key table.now) block.now.class block.now.number len k (state pass.old)
+        → Runs (EntersIn (key table.now) pin.now.room (record { 0 = result }) block.now.class block.now.number len k)
+        (state pass.old) (state pass.new) }
 {
     let entry = entries_in(count);
     let base = base_of(table, pass, pin);

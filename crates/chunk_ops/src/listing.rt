@@ -7,12 +7,12 @@ ghost use Rattle.chunk_ops.specs.PinRecords.{HasEntry, HasRoomPin, OnlyMeets};
 ghost use Rattle.chunk_ops.specs.Stored.{IsStored};
 
 use crate::entries::EntryNo;
-use crate::finding::entries_in;
 use crate::loading::key_word;
-use crate::pins::RoomPin;
+use crate::room_pins::RoomPin;
 use crate::stored::{KEY_WORDS, StoredKey};
 use arena_core::place::{block_in, class_in, length_in};
 use arena_core::words::{WORD, first_bytes};
+use chunk_core::count_word::entries_in;
 use oak_core::{OakTable, Pass, load};
 
 /// How many entries the pinned room had at one moment of this call, at which its count was loaded: those

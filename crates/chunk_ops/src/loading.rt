@@ -6,7 +6,7 @@ ghost use Rattle.chunk_ops.specs.PinRecords.{HasEntry, HasRoomPin, OnlyMeets};
 ghost use Rattle.chunk_ops.specs.RoomWords.{FindsBase, FindsKeyWord};
 
 use crate::entries::EntryNo;
-use crate::pins::RoomPin;
+use crate::room_pins::RoomPin;
 use arena_core::place::{block_in, class_in, length_in};
 use arena_core::words::WORD;
 use oak_core::{OakTable, Pass, load};

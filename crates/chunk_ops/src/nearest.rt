@@ -7,10 +7,11 @@ ghost use Rattle.chunk_ops.specs.Nearest.{AreBoundBytes, IsNearest, IsBound, IsC
 ghost use Rattle.chunk_ops.specs.Reads.{Reads, Looks};
 ghost use Rattle.chunk_ops.specs.Room.{entries};
 
-use crate::finding::{entries_in, prefix_in, search_sorted};
+use crate::finding::search_sorted;
 use crate::room::SearchedRoom;
 use crate::stored::{StoredKey, load_key};
 use crate::way::Way;
+use chunk_core::count_word::{entries_in, prefix_in};
 
 /// An entry and its key.
 #[derive(Clone, Copy, Debug)]
@@ -53,7 +54,8 @@ fn nearer<R: SearchedRoom>(
     requires candidate { IsCandidate (R.room room.old) best }
     ensures reads { Reads R.pinned R.room R.meets Looks 1 room.old room.new }
     ensures candidate { IsCandidate (R.room room.old) result }
-    ensures nearest { (b : Option (List ℕ)) → IsBound bound.now b → IsNearest (R.room room.old) way b 0 entry (entry_of best) → IsNearest (R.room room.old) way b 0 (entry + 1) (entry_of result) }
+    ensures nearest { (b : Option (List ℕ)) → IsBound bound.now b → IsNearest (R.room room.old) way b 0 entry
+        (entry_of best) → IsNearest (R.room room.old) way b 0 (entry + 1) (entry_of result) }
 {
     let key = load_key(room, entry);
     if !way.is_beyond(bound, &key) {
@@ -81,7 +83,8 @@ fn walk<R: SearchedRoom>(
     requires within { to ≤ entries (R.room room.old) }
     requires candidate { IsCandidate (R.room room.old) first }
     ensures reads { Reads R.pinned R.room R.meets Looks (to - from) room.old room.new }
-    ensures nearest { (b : Option (List ℕ)) → IsBound bound.now b → IsNearest (R.room room.old) way b 0 from (entry_of first) → IsNearest (R.room room.old) way b 0 to result }
+    ensures nearest { (b : Option (List ℕ)) → IsBound bound.now b → IsNearest (R.room room.old) way b 0 from
+        (entry_of first) → IsNearest (R.room room.old) way b 0 to result }
 {
     let mut best = first;
     for entry in from..to {

@@ -14,7 +14,7 @@ ghost use Rattle.chunk_ops.specs.PinRecords.{HasRoomPin, OnlyMeets, room_pin};
 ghost use Rattle.arena_core.specs.Words.{word_at};
 
 use crate::bounds::{Bound, bound_word, high_len, low_len};
-use crate::pins::RoomPin;
+use crate::room_pins::RoomPin;
 use arena_core::words::{WORD, first_bytes, word_from};
 use oak_core::{OakTable, Pass};
 use std::cmp::Ordering;
@@ -117,7 +117,8 @@ fn covers(table: &OakTable, pass: &mut Pass, pin: &RoomPin, key: &[u8]) -> bool
     requires few { length key.now ≤ GREATEST_KEY }
     ensures own { Stays pass.old pass.new }
     ensures tries { PinsRooms (sizes table.now) 0 pass.old pass.new }
-    ensures covers { MatchBool result (CoversKey key.now (span_of (room_pin (state pass.old)))) (CoversKey key.now (span_of (room_pin (state pass.old))) → ⊥) }
+    ensures covers { MatchBool result (CoversKey key.now (span_of (room_pin (state pass.old))))
+        (CoversKey key.now (span_of (room_pin (state pass.old))) → ⊥) }
     ensures only { OnlyMeets (call_of pass.old) (state pass.old) (state pass.new) }
 {
     let low = order_low(table, pass, pin, key);
@@ -135,7 +136,8 @@ fn ends_under(table: &OakTable, pass: &mut Pass, pin: &RoomPin, bound: &[u8]) ->
     requires few { length bound.now ≤ GREATEST_KEY }
     ensures own { Stays pass.old pass.new }
     ensures tries { PinsRooms (sizes table.now) 0 pass.old pass.new }
-    ensures ends { MatchBool result (EndsUnder bound.now (span_of (room_pin (state pass.old)))) (EndsUnder bound.now (span_of (room_pin (state pass.old))) → ⊥) }
+    ensures ends { MatchBool result (EndsUnder bound.now (span_of (room_pin (state pass.old))))
+        (EndsUnder bound.now (span_of (room_pin (state pass.old))) → ⊥) }
     ensures only { OnlyMeets (call_of pass.old) (state pass.old) (state pass.new) }
 {
     let low = order_low(table, pass, pin, bound);
@@ -159,7 +161,8 @@ pub(crate) fn is_asked(
     requires few { length key.now ≤ GREATEST_KEY }
     ensures own { Stays pass.old pass.new }
     ensures tries { PinsRooms (sizes table.now) 0 pass.old pass.new }
-    ensures asked { MatchBool result (IsAsked asked key.now (span_of (room_pin (state pass.old)))) (IsAsked asked key.now (span_of (room_pin (state pass.old))) → ⊥) }
+    ensures asked { MatchBool result (IsAsked asked key.now (span_of (room_pin (state pass.old))))
+        (IsAsked asked key.now (span_of (room_pin (state pass.old))) → ⊥) }
     ensures only { OnlyMeets (call_of pass.old) (state pass.old) (state pass.new) }
 {
     match asked {

@@ -38,10 +38,13 @@ pub(crate) trait SearchedRoom {
     /// Word `i` of the block that a key word names. Behind the key's last byte it has any bytes.
     fn block_word(&mut self, place: u64, i: usize) -> u64
         requires pinned { pinned self.old }
-        requires named { (e : ℕ) × (e < entries (room self.old)) × (place ≡ place_at (room self.old) e) × (8 * i < length (key_at (room self.old) e)) }
+        requires named { (e : ℕ) × (e < entries (room self.old)) × (place ≡ place_at (room self.old) e)
+            × (8 * i < length (key_at (room self.old) e)) }
         ensures pinned { pinned self.new }
         ensures same { room self.new ≡ room self.old }
-        ensures bytes { (e : ℕ) → e < entries (room self.old) → place ≡ place_at (room self.old) e → take (length (key_at (room self.old) e) - 8 * i) (word_bytes result) ≡ bytes_in i (key_at (room self.old) e) }
+        ensures bytes { (e : ℕ) → e < entries (room self.old) → place ≡ place_at (room self.old) e
+            → take (length (key_at (room self.old) e) - 8 * i) (word_bytes result) ≡ bytes_in i
+            (key_at (room self.old) e) }
         ensures meets { meets self.old self.new (met_block place i result ∷ []) };
 
     ghost is_room: { (s : Self) → pinned s → IsRoom (room s) };

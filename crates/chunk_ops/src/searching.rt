@@ -10,8 +10,8 @@ ghost use Rattle.chunk_ops.specs.FindsAlone.{CountedIn, FindsIn, NearestIn, as_f
 ghost use Rattle.chunk_ops.specs.PinRecords.{HasRoomPin, UnderPin, room_pin};
 
 use crate::entries::{EntryNo, Found};
-use crate::pinned::PinnedTable;
-use crate::pins::RoomPin;
+use crate::pinned_table::PinnedTable;
+use crate::room_pins::RoomPin;
 use crate::way::Way;
 use crate::{finding, nearest};
 use oak_core::{OakTable, Pass};
@@ -28,7 +28,9 @@ pub(crate) fn find_counted(
     requires pinned { HasRoomPin (sizes table.now) pin.now.room (state pass.old) }
     ensures own { Stays pass.old pass.new }
     ensures count { (room_pin (state pass.new)).count ≡ Some result.0 }
-    ensures found { MatchOption result.1 (FindsMissing (sizes table.now) (call_of pass.old) pin.now.room key.now (state pass.old) (state pass.new)) (λ i. FindsKey (sizes table.now) (call_of pass.old) pin.now.room i key.now (state pass.old) (state pass.new)) }
+    ensures found { MatchOption result.1 (FindsMissing (sizes table.now) (call_of pass.old) pin.now.room key.now
+        (state pass.old) (state pass.new)) (λ i. FindsKey (sizes table.now) (call_of pass.old) pin.now.room i key.now
+        (state pass.old) (state pass.new)) }
     ensures under { UnderPin (sizes table.now) (call_of pass.old) pin.now.room (state pass.old) (state pass.new) }
     ensures quiet { Quiet (state pass.old) (state pass.new) }
     ensures few { LoadsFew (sizes table.now) pin.now.room (state pass.old) (state pass.new) }
@@ -76,7 +78,10 @@ fn beside(
     requires key { IsKeyOrNone (bytes_in_option key) }
     requires pinned { HasRoomPin (sizes table.now) pin.now.room (state pass.old) }
     ensures own { Stays pass.old pass.new }
-    ensures nearest { MatchOption result (FindsNone (sizes table.now) (call_of pass.old) pin.now.room way (bytes_in_option key.entry) (state pass.old) (state pass.new)) (λ i. FindsNearest (sizes table.now) (call_of pass.old) pin.now.room way (bytes_in_option key.entry) i.0 (state pass.old) (state pass.new)) }
+    ensures nearest { MatchOption result (FindsNone (sizes table.now) (call_of pass.old) pin.now.room way
+        (bytes_in_option key.entry) (state pass.old) (state pass.new))
+        (λ i. FindsNearest (sizes table.now) (call_of pass.old) pin.now.room way (bytes_in_option key.entry) i.0
+        (state pass.old) (state pass.new)) }
     ensures under { UnderPin (sizes table.now) (call_of pass.old) pin.now.room (state pass.old) (state pass.new) }
     ensures quiet { Quiet (state pass.old) (state pass.new) }
     ensures few { LoadsFew (sizes table.now) pin.now.room (state pass.old) (state pass.new) }
@@ -107,7 +112,10 @@ pub fn above(
     requires key { IsKeyOrNone (bytes_in_option key) }
     requires pinned { HasRoomPin (sizes table.now) pin.now.room (state pass.old) }
     ensures own { Stays pass.old pass.new }
-    ensures nearest { MatchOption result (FindsNone (sizes table.now) (call_of pass.old) pin.now.room Way.Up (bytes_in_option key.entry) (state pass.old) (state pass.new)) (λ i. FindsNearest (sizes table.now) (call_of pass.old) pin.now.room Way.Up (bytes_in_option key.entry) i.0 (state pass.old) (state pass.new)) }
+    ensures nearest { MatchOption result (FindsNone (sizes table.now) (call_of pass.old) pin.now.room Way.Up
+        (bytes_in_option key.entry) (state pass.old) (state pass.new))
+        (λ i. FindsNearest (sizes table.now) (call_of pass.old) pin.now.room Way.Up (bytes_in_option key.entry) i.0
+        (state pass.old) (state pass.new)) }
     ensures under { UnderPin (sizes table.now) (call_of pass.old) pin.now.room (state pass.old) (state pass.new) }
     ensures quiet { Quiet (state pass.old) (state pass.new) }
     ensures few { LoadsFew (sizes table.now) pin.now.room (state pass.old) (state pass.new) }
@@ -127,7 +135,10 @@ pub fn below(
     requires key { IsKeyOrNone (bytes_in_option key) }
     requires pinned { HasRoomPin (sizes table.now) pin.now.room (state pass.old) }
     ensures own { Stays pass.old pass.new }
-    ensures nearest { MatchOption result (FindsNone (sizes table.now) (call_of pass.old) pin.now.room Way.Down (bytes_in_option key.entry) (state pass.old) (state pass.new)) (λ i. FindsNearest (sizes table.now) (call_of pass.old) pin.now.room Way.Down (bytes_in_option key.entry) i.0 (state pass.old) (state pass.new)) }
+    ensures nearest { MatchOption result (FindsNone (sizes table.now) (call_of pass.old) pin.now.room Way.Down
+        (bytes_in_option key.entry) (state pass.old) (state pass.new))
+        (λ i. FindsNearest (sizes table.now) (call_of pass.old) pin.now.room Way.Down (bytes_in_option key.entry) i.0
+        (state pass.old) (state pass.new)) }
     ensures under { UnderPin (sizes table.now) (call_of pass.old) pin.now.room (state pass.old) (state pass.new) }
     ensures quiet { Quiet (state pass.old) (state pass.new) }
     ensures few { LoadsFew (sizes table.now) pin.now.room (state pass.old) (state pass.new) }

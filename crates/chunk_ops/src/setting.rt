@@ -11,8 +11,8 @@ ghost use Rattle.chunk_ops.specs.PinRecords.{HasEntry, HasRoomPin, OnlyMeets};
 ghost use Rattle.chunk_ops.specs.Setting.{Clears, ClearsIn, FoundSet, LeavesIn, SetsIn, SetsLife};
 
 use crate::entries::EntryNo;
-use crate::pins::RoomPin;
-use crate::values::{HEADER, NAMES};
+use crate::room_pins::RoomPin;
+use chunk_core::value_word::{HEADER, NAMES};
 use oak_core::{Fresh, OakTable, Pass, steps};
 use oak_model::Kind;
 
@@ -47,15 +47,21 @@ pub fn set_value(
     requires entry { (k : List ℕ) × HasEntry pin.now.room entry.0 k (state pass.old) }
     requires floor { floor < 2 ^ 63 }
     requires next { fresh.stamp ≡ floor + 1 }
-    requires fresh { (bytes : List ℕ) × HasFresh (key table.now) fresh.header fresh.generation fresh.stamp bytes (state pass.old) × MakesWrite kind None (Some bytes) }
+    requires fresh { (bytes : List ℕ) × HasFresh (key table.now) fresh.header fresh.generation fresh.stamp bytes
+        (state pass.old) × MakesWrite kind None (Some bytes) }
     requires call { IsNewCall (call_of pass.old) (state pass.old) }
     ensures own { Stays pass.old pass.new }
     ensures stamp { IfOk result (λ s. s ≡ floor + 1) }
-    ensures set { IfOk result (λ s. (k bytes : List ℕ) → HasEntry pin.now.room entry.0 k (state pass.old) → HasFresh (key table.now) fresh.header fresh.generation fresh.stamp bytes (state pass.old) → SetsLife (call_of pass.old) k fresh.header kind bytes s (state pass.old) (state pass.new)) }
+    ensures set { IfOk result (λ s. (k bytes : List ℕ) → HasEntry pin.now.room entry.0 k (state pass.old)
+        → HasFresh (key table.now) fresh.header fresh.generation fresh.stamp bytes (state pass.old)
+        → SetsLife (call_of pass.old) k fresh.header kind bytes s (state pass.old) (state pass.new)) }
     ensures back { IfErr result (λ f. f ≡ fresh) }
-    ensures found { IfErr result (λ f. (k : List ℕ) → HasEntry pin.now.room entry.0 k (state pass.old) → FoundSet (key table.now) (call_of pass.old) pin.now.room entry.0 floor k (state pass.old) (state pass.new)) }
+    ensures found { IfErr result (λ f. (k : List ℕ) → HasEntry pin.now.room entry.0 k (state pass.old)
+        → FoundSet (key table.now) (call_of pass.old) pin.now.room entry.0 floor k (state pass.old)
+        (state pass.new)) }
     ensures only { IfErr result (λ f. OnlyMeets (call_of pass.old) (state pass.old) (state pass.new)) }
-    ensures alone { IfOk result (λ s. Runs (SetsIn (key table.now) pin.now.room entry.0 floor (home_of fresh.header fresh.generation)) (state pass.old) (state pass.new)) }
+    ensures alone { IfOk result (λ s. Runs (SetsIn (key table.now) pin.now.room entry.0 floor
+        (home_of fresh.header fresh.generation)) (state pass.old) (state pass.new)) }
     ensures alone_found { IfErr result (λ f. Runs (LeavesIn (key table.now) pin.now.room entry.0 floor) (state pass.old) (state pass.new)) }
 {
     let home = life_word(table, fresh.header, fresh.generation);
@@ -76,9 +82,12 @@ pub fn set_value(
 pub fn clear_value(table: &OakTable, pass: &mut Pass, pin: &RoomPin, entry: EntryNo, stamp: u64)
     requires own { IsPassOf table.now pass.old }
     requires pinned { HasRoomPin (key table.now) pin.now.room (state pass.old) }
-    requires buries { (k : List ℕ) × (h : ℕ) × (g : ℕ) × HasEntry pin.now.room entry.0 k (state pass.old) × BuriesLife k h g stamp true (state pass.old) }
+    requires buries { (k : List ℕ) × (h : ℕ) × (g : ℕ) × HasEntry pin.now.room entry.0 k (state pass.old)
+        × BuriesLife k h g stamp true (state pass.old) }
     ensures own { Stays pass.old pass.new }
-    ensures cleared { (k : List ℕ) (h g : ℕ) → HasEntry pin.now.room entry.0 k (state pass.old) → BuriesLife k h g stamp true (state pass.old) → Clears (call_of pass.old) k h g stamp (state pass.old) (state pass.new) }
+    ensures cleared { (k : List ℕ) (h g : ℕ) → HasEntry pin.now.room entry.0 k (state pass.old)
+        → BuriesLife k h g stamp true (state pass.old) → Clears (call_of pass.old) k h g stamp (state pass.old)
+        (state pass.new) }
     ensures alone { Runs (ClearsIn (key table.now) pin.now.room entry.0 stamp) (state pass.old) (state pass.new) }
 {
     let word = table.value_at(pin.room, entry.0);

@@ -6,14 +6,9 @@ ghost use Rattle.chunk_ops.specs.Contents.{FindsContent, Says, SaysIn, TellsOf};
 ghost use Rattle.chunk_ops.specs.PinRecords.{HasEntry, HasRoomPin, OnlyLearns};
 
 use crate::entries::{Content, EntryNo};
-use crate::pins::RoomPin;
+use crate::room_pins::RoomPin;
+use chunk_core::value_word::{HEADER, NAMES};
 use oak_core::{OakTable, Pass, load};
-
-/// What the top bit of a value word adds to it, where it names a header.
-pub(crate) const NAMES: u64 = 1 << 63;
-
-/// What one more in the header adds to a value word.
-pub(crate) const HEADER: u64 = 1 << 32;
 
 /// What a value word says.
 fn content_of(word: u64) -> Content
@@ -37,7 +32,8 @@ pub fn content(table: &OakTable, pass: &mut Pass, pin: &RoomPin, entry: EntryNo)
     requires entry { (k : List ℕ) × HasEntry pin.now.room entry.0 k (state pass.old) }
     ensures own { Stays pass.old pass.new }
     ensures content { FindsContent (key table.now) (call_of pass.old) pin.now.room entry.0 result (state pass.old) (state pass.new) }
-    ensures tells { (k : List ℕ) → HasEntry pin.now.room entry.0 k (state pass.old) → TellsOf result (key table.now) (call_of pass.old) pin.now.room entry.0 k (state pass.old) (state pass.new) }
+    ensures tells { (k : List ℕ) → HasEntry pin.now.room entry.0 k (state pass.old) → TellsOf result (key table.now)
+        (call_of pass.old) pin.now.room entry.0 k (state pass.old) (state pass.new) }
     ensures only { OnlyLearns (call_of pass.old) (state pass.old) (state pass.new) }
     ensures alone { Runs (SaysIn result (key table.now) pin.now.room entry.0) (state pass.old) (state pass.new) }
 {

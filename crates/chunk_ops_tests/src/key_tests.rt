@@ -1,3 +1,4 @@
+//! Tests of the keys at which ranges begin and end.
 use chunk_ops::{KeyBytes, StoredKey};
 use std::test::Fail;
 

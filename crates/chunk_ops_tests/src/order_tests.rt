@@ -1,3 +1,4 @@
+//! Tests of the order of stored keys.
 use chunk_ops::StoredKey;
 use oak_model::{GREATEST_KEY, is_key};
 use std::process::Abort;

@@ -1,3 +1,4 @@
+//! Tests of pins of rooms, of what is found under them, and of the order in which rooms are tried.
 ghost use Rattle.std.specs.Prelude.{◌<◌};
 ghost use Rattle.oak_model.specs.Key.{IsKey};
 ghost use Rattle.oak_core.specs.Passes.{IsPassOf, Stays, state, key as sizes};

@@ -15,7 +15,7 @@ use Rattle.arena_ops.specs.Taking.{Gives}
 use Rattle.chunk_ops.specs.Setting.{Clears}
 use Rattle.oak_core.specs.CallWrites.{Writes}
 use Rattle.oak_core.specs.Known.{knows_life}
-use Rattle.oak_core.proofs.KnownHeaders.{life_key}
+use Rattle.oak_core.proofs.known.KnownHeaders.{life_key}
 use Rattle.value_ops.specs.HeldValue.{words_in}
 use Rattle.key_rounds.specs.Rounds.{EndsCall, WroteBy}
 use Rattle.key_rounds.proofs.Calls.{wrote_more, wrote_same}
@@ -30,9 +30,9 @@ use Rattle.oak_core.specs.KeyReads.{home_of}
 use Rattle.oak_core.specs.LastReads.{KnowsLifeOf}
 use Rattle.oak_core.specs.LifeKeys.{key_known, key_or}
 use Rattle.oak_core.specs.MayWrite.{IsUnnamed}
-use Rattle.oak_core.proofs.KnownLives.{named_at}
-use Rattle.oak_core.proofs.LastLives.{KnowsKeyOf, loaded_key}
-use Rattle.oak_core.proofs.SetsValue.{held_row}
+use Rattle.oak_core.proofs.known.KnownLives.{named_at}
+use Rattle.oak_core.proofs.histories.LastLives.{KnowsKeyOf, loaded_key}
+use Rattle.oak_core.proofs.covers.SetsValue.{held_row}
 use Rattle.value_ops.specs.LockHistories.{LockOf, LocksKey}
 use Rattle.value_ops.specs.Locking.{LocksHeader}
 use Rattle.value_ops.specs.UnderLock.{Buries, HasBuried, Renews}

@@ -33,7 +33,9 @@ fn read_pinned(pin: HeaderPin, table: &OakTable, pass: &mut Pass) -> u64
     requires own { IsPassOf table.now pass.old }
     requires pinned { (p : PinnedHeader) × HasPin (key table.now) pin.header pin.generation p (state pass.old) }
     ensures own { Stays pass.old pass.new }
-    ensures undone { (first : PassState) × (last : PassState) × OnlyLearns (key table.now) (call_of pass.old) (state pass.old) first × OnlyLoads (key table.now) (call_of pass.old) first last × MeetsMore (key table.now) (call_of pass.old) (with_pin None last) (state pass.new) }
+    ensures undone { (first : PassState) × (last : PassState) × OnlyLearns (key table.now) (call_of pass.old)
+        (state pass.old) first × OnlyLoads (key table.now) (call_of pass.old) first last × MeetsMore (key table.now)
+        (call_of pass.old) (with_pin None last) (state pass.new) }
 {
     let mut reading = pin.reading(table, pass);
     let read = number_in(&mut reading);

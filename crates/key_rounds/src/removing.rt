@@ -23,9 +23,11 @@ fn unlink(table: &OakTable, pass: &mut Pass, pin: &RoomPin, entry: EntryNo, buri
     requires own { IsPassOf table.now pass.old }
     requires pinned { HasRoomPin (key table.now) pin.now.room (state pass.old) }
     requires inside { buried.now.header < (key table.now).headers }
-    requires life { (k : List ℕ) × HasEntry pin.now.room entry.0 k (state pass.old) × BuriesLife k buried.now.header buried.now.generation buried.now.stamp true (state pass.old) }
+    requires life { (k : List ℕ) × HasEntry pin.now.room entry.0 k (state pass.old)
+        × BuriesLife k buried.now.header buried.now.generation buried.now.stamp true (state pass.old) }
     ensures own { Stays pass.old pass.new }
-    ensures cleared { (k : List ℕ) × Clears (call_of pass.old) k buried.now.header buried.now.generation buried.now.stamp (state pass.old) (state pass.new) }
+    ensures cleared { (k : List ℕ) × Clears (call_of pass.old) k buried.now.header buried.now.generation
+        buried.now.stamp (state pass.old) (state pass.new) }
     ensures buried { HasBuried (key table.now) buried.now.header buried.now.generation buried.now.stamp (state pass.new) }
     ensures unnamed { IsUnnamed buried.now.header (state pass.new).headers }
 {
@@ -45,7 +47,8 @@ fn remove_at(
 )
     requires own { IsPassOf table.now pass.old }
     requires pinned { HasRoomPin (key table.now) pin.now.room (state pass.old) }
-    requires entry { (k : List ℕ) × HasEntry pin.now.room entry.0 k (state pass.old) × KnowsLifeOf (call_of pass.old) k (home_of header generation) (state pass.old).knowledge }
+    requires entry { (k : List ℕ) × HasEntry pin.now.room entry.0 k (state pass.old)
+        × KnowsLifeOf (call_of pass.old) k (home_of header generation) (state pass.old).knowledge }
     requires inside { header < (key table.now).headers }
     requires known { 0 < knows_life header generation (state pass.old).knowledge }
     requires blocks { (state pass.old).blocks ≡ no_blocks }

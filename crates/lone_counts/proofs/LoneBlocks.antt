@@ -16,9 +16,9 @@ use Rattle.oak_core.specs.EntryOwners.{entry_owners, is_key_word}
 use Rattle.oak_core.specs.Memory.{Memory, in_arena, memory}
 use Rattle.oak_core.specs.Owners.{other_owners}
 use Rattle.oak_core.specs.PassState.{blocks_of, rooms_held}
-use Rattle.oak_core.proofs.EntryBlocks.{key_some}
-use Rattle.oak_core.proofs.HeaderStanding.{number_small}
-use Rattle.oak_core.proofs.KeyPlaces.{key_word_few}
+use Rattle.oak_core.proofs.owners.EntryBlocks.{key_some}
+use Rattle.oak_core.proofs.held.HeaderStanding.{number_small}
+use Rattle.oak_core.proofs.keyed.KeyPlaces.{key_word_few}
 use Rattle.lone_counts.specs.Entries.{entries_of, has_key_block}
 use Rattle.lone_counts.specs.LoneTable.{LoneTable}
 use Rattle.lone_counts.specs.Premises.{BlocksOwned, owners}

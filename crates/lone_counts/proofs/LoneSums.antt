@@ -22,7 +22,7 @@ use Rattle.oak_core.specs.declared.states.PassState.{PassState}
 use Rattle.oak_core.specs.Memory.{Memory, memory}
 use Rattle.oak_core.specs.PassState.{blocks_of, headers_held, rooms_held, spent_state}
 use Rattle.oak_core.specs.TableState.{TableState}
-use Rattle.oak_core.proofs.Alone.{others_are}
+use Rattle.oak_core.proofs.seats.Alone.{others_are}
 use Rattle.lone_counts.specs.Entries.{entries_of}
 use Rattle.lone_counts.specs.LoneTable.{LoneTable}
 use Rattle.lone_counts.proofs.Gathered.{gathered_total}

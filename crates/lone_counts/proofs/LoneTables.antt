@@ -29,8 +29,8 @@ use Rattle.oak_core.specs.KeyHistories.{IsKeyOf, state_behind}
 use Rattle.oak_core.specs.KeyReads.{history_now, value_in}
 use Rattle.oak_core.specs.Memory.{Memory, memory}
 use Rattle.oak_core.specs.PassState.{seen_of}
-use Rattle.oak_core.proofs.Alone.{history_seen}
-use Rattle.oak_core.proofs.KeyPlaces.{names_key, word_is_key}
+use Rattle.oak_core.proofs.seats.Alone.{history_seen}
+use Rattle.oak_core.proofs.keyed.KeyPlaces.{names_key, word_is_key}
 use Rattle.lone_counts.specs.Entries.{at_key, entries_of}
 use Rattle.lone_counts.specs.LoneTable.{LoneTable}
 use Rattle.lone_counts.specs.Maps.{last_states}

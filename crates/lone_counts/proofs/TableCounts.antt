@@ -31,7 +31,7 @@ use Rattle.oak_core.specs.KeyStates.{IsHome}
 use Rattle.oak_core.specs.Memory.{Memory, memory}
 use Rattle.oak_core.specs.PassState.{rooms_held, seen_of}
 use Rattle.oak_core.specs.Usage.{used_blocks, used_headers}
-use Rattle.oak_core.proofs.Alone.{history_seen}
+use Rattle.oak_core.proofs.seats.Alone.{history_seen}
 use Rattle.lone_counts.specs.Entries.{at_key, entries_of, header_named}
 use Rattle.lone_counts.specs.Exactly.{BlocksExactly, HeadersExactly}
 use Rattle.lone_counts.specs.LoneTable.{AllValued, HasValue, LoneTable, retired_in}

@@ -10,8 +10,8 @@ use Rattle.oak_core.specs.CallSteps.{Learns}
 use Rattle.oak_core.specs.Passes.{Stays, call_of, key as sizes, state}
 use Rattle.oak_core.specs.QuietSteps.{IsQuiet}
 use Rattle.oak_core.specs.Scratch.{StaysButSlots}
-use Rattle.oak_core.proofs.CallSteps.{learns_both, learns_none, stands_learns}
-use Rattle.oak_core.proofs.QuietCalls.{only_both, only_none}
+use Rattle.oak_core.proofs.calls.CallSteps.{learns_both, learns_none, stands_learns}
+use Rattle.oak_core.proofs.calls.QuietCalls.{only_both, only_none}
 use Rattle.point_ops.proofs.LocksKept.{load_stands}
 use Rattle.scan_cursor.specs.declared.cursor.Cursor.{Cursor}
 use Rattle.scan_cursor.specs.declared.ways.Way.{Way}

@@ -17,7 +17,8 @@ impl<R: Wait + Drop + Send> Caller<'_, R> {
         requires key { IsKey key.now }
         ensures next { OnOk result (CallsNext Stays self.old self.new) }
         ensures views { OnOk result (KeepsViews self.old self.new) }
-        ensures changes { IfOk result (λ y. Changes y (sizes_of self.old) (last_of self.old + 1) key.now Remove (state_of self.old) (state_of self.new)) }
+        ensures changes { IfOk result (λ y. Changes y (sizes_of self.old) (last_of self.old + 1) key.now Remove
+            (state_of self.old) (state_of self.new)) }
         ensures worn { OnErr result (last_of self.old ≡ 2 ^ 32 - 1) }
         ensures nothing { OnErr result (self.new ≡ self.old) }
     {

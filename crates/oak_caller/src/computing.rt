@@ -54,7 +54,8 @@ impl<R: Wait + Drop + Send> Caller<'_, R> {
         requires key { IsKey key.now }
         ensures next { OnOk result (CallsNext StaysButScratch self.old self.new) }
         ensures views { OnOk result (KeepsViews self.old self.new) }
-        ensures changes { IfOk result (λ y. Changes y (sizes_of self.old) (last_of self.old + 1) key.now (Compute (told_kind recipe.old) (told_argument recipe.old)) (state_of self.old) (state_of self.new)) }
+        ensures changes { IfOk result (λ y. Changes y (sizes_of self.old) (last_of self.old + 1) key.now
+            (Compute (told_kind recipe.old) (told_argument recipe.old)) (state_of self.old) (state_of self.new)) }
         ensures counted { IfOk result (λ y. calls recipe.new ≡ calls recipe.old + times_done (Ok y)) }
         ensures fed { IfOk result (λ y. Feeds (Ok y) key.now (fed recipe.old) (fed recipe.new) (state_of self.new)) }
         ensures alone_fed { IsAlone (state_of self.old) → IfOk result (λ y. FeedsAlone (Ok y) key.now (fed recipe.new) (state_of self.old)) }
@@ -84,7 +85,9 @@ impl<R: Wait + Drop + Send> Caller<'_, R> {
         requires value { IsValue value.now }
         ensures next { OnOk result (CallsNext StaysButRoom self.old self.new) }
         ensures views { OnOk result (KeepsViews self.old self.new) }
-        ensures puts { IfOk result (λ y. Puts y (sizes_of self.old) (last_of self.old + 1) key.now (Upsert value.now (told_kind recipe.old) (told_argument recipe.old)) (state_of self.old) (state_of self.new)) }
+        ensures puts { IfOk result (λ y. Puts y (sizes_of self.old) (last_of self.old + 1) key.now
+            (Upsert value.now (told_kind recipe.old) (told_argument recipe.old)) (state_of self.old)
+            (state_of self.new)) }
         ensures counted { IfOk result (λ y. calls recipe.new ≡ calls recipe.old + times_done (Ok y)) }
         ensures fed { IfOk result (λ y. Feeds (Ok y) key.now (fed recipe.old) (fed recipe.new) (state_of self.new)) }
         ensures alone_fed { IsAlone (state_of self.old) → IfOk result (λ y. FeedsAlone (Ok y) key.now (fed recipe.new) (state_of self.old)) }
@@ -110,7 +113,8 @@ impl<R: Wait + Drop + Send> Caller<'_, R> {
         requires key { IsKey key.now }
         ensures next { OnOk result (CallsNext StaysButRoom self.old self.new) }
         ensures views { OnOk result (KeepsViews self.old self.new) }
-        ensures puts { IfOk result (λ y. Puts y (sizes_of self.old) (last_of self.old + 1) key.now (Upsert (to_be_bytes w64 number) Add number) (state_of self.old) (state_of self.new)) }
+        ensures puts { IfOk result (λ y. Puts y (sizes_of self.old) (last_of self.old + 1) key.now
+            (Upsert (to_be_bytes w64 number) Add number) (state_of self.old) (state_of self.new)) }
         ensures nothing { OnErr result (self.new ≡ self.old) }
     {
         let mut recipe: Box<dyn Recipe + Send> = Box::new(rt.alloc(), StepRecipe::make())?;

@@ -28,7 +28,9 @@ impl<R: Wait + Drop + Send> Caller<'_, R> {
         requires { F.IsAlwaysCallable f }
         ensures on { CallsOn StaysButSlots self.old self.new }
         ensures views { KeepsViews self.old self.new }
-        ensures first { MatchOption result (HasScanned ways.Up None None (view_of self.old) (view_of self.new) []) (λ y. (x : Pair) × ScannedTo ways.Up None None x.key (view_of self.old) (view_of self.new) (x ∷ []) × FnOnceReturnsAtPair F.FnOnce f x.key x.value y) }
+        ensures first { MatchOption result (HasScanned ways.Up None None (view_of self.old) (view_of self.new) [])
+            (λ y. (x : Pair) × ScannedTo ways.Up None None x.key (view_of self.old) (view_of self.new) (x ∷ [])
+            × FnOnceReturnsAtPair F.FnOnce f x.key x.value y) }
     {
         let mut key = [0; GREATEST_KEY];
         let mut value = [0; GREATEST_VALUE];
@@ -50,7 +52,9 @@ impl<R: Wait + Drop + Send> Caller<'_, R> {
         requires { F.IsAlwaysCallable f }
         ensures on { CallsOn StaysButSlots self.old self.new }
         ensures views { KeepsViews self.old self.new }
-        ensures last { MatchOption result (HasScanned ways.Down None None (view_of self.old) (view_of self.new) []) (λ y. (x : Pair) × ScannedTo ways.Down None None x.key (view_of self.old) (view_of self.new) (x ∷ []) × FnOnceReturnsAtPair F.FnOnce f x.key x.value y) }
+        ensures last { MatchOption result (HasScanned ways.Down None None (view_of self.old) (view_of self.new) [])
+            (λ y. (x : Pair) × ScannedTo ways.Down None None x.key (view_of self.old) (view_of self.new) (x ∷ [])
+            × FnOnceReturnsAtPair F.FnOnce f x.key x.value y) }
     {
         let mut key = [0; GREATEST_KEY];
         let mut value = [0; GREATEST_VALUE];
@@ -109,7 +113,8 @@ fn end_pair<R: Wait + Drop + Send>(
     ensures views { PassKeepsViews (sizes map.now) pass.old pass.new }
     ensures later { Later (view_at (sizes map.now) pass.old) (view_at (sizes map.now) pass.new) }
     ensures none { IfNone result (HasScanned way None None (view_at (sizes map.now) pass.old) (view_at (sizes map.now) pass.new) []) }
-    ensures found { IfSome result (λ n. FindsNext n key.new value.new way None None (view_at (sizes map.now) pass.old) (view_at (sizes map.now) pass.new)) }
+    ensures found { IfSome result (λ n. FindsNext n key.new value.new way None None (view_at (sizes map.now) pass.old)
+        (view_at (sizes map.now) pass.new)) }
 {
     let mut cursor = scan_of(map, pass, None, None, way);
     let found = next_pair(rt, &mut cursor, key, value);

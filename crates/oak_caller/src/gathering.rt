@@ -22,7 +22,8 @@ pub(crate) fn gather_keys<R: Wait>(
     requires { IsCursor cursor.old }
     ensures same_reference { cursor.new.pass.ghost_name ≡ cursor.old.pass.ghost_name }
     ensures on { GoesOn cursor.old cursor.new }
-    ensures all { IfOk result (λ all. MatchBool all (GathersAll cursor.old cursor.new keys.old.items keys.new.items) (GathersEnough most cursor.old cursor.new keys.old.items keys.new.items)) }
+    ensures all { IfOk result (λ all. MatchBool all (GathersAll cursor.old cursor.new keys.old.items keys.new.items)
+        (GathersEnough most cursor.old cursor.new keys.old.items keys.new.items)) }
     ensures some { OnErr result (GathersUntil cursor.old cursor.new keys.old.items keys.new.items) }
 {
     for _ in rt.forever() {

@@ -24,7 +24,8 @@ impl<'m, R: Wait + Drop + Send> Caller<'m, R> {
         ensures new { IfOk result (λ c. last_of c ≡ 0) }
         ensures split { IfOk result (λ c. SplitsOff (sizes_of self.old) (last_of self.old) (state_of self.old) (state_of self.new) (state_of c)) }
         ensures refused { IfErr result (λ _. LooksAtGiven (last_of self.old) (state_of self.old) (state_of self.new)) }
-        ensures limit { (made : ℕ) → result ≡ Err (SplitFault.Limit made) → (made ≡ (sizes_of self.old).passes) × FindsAllGiven (sizes_of self.old) (last_of self.old) (state_of self.old) (state_of self.new) }
+        ensures limit { (made : ℕ) → result ≡ Err (SplitFault.Limit made) → (made ≡ (sizes_of self.old).passes)
+            × FindsAllGiven (sizes_of self.old) (last_of self.old) (state_of self.old) (state_of self.new) }
         ensures memory { result ≡ Err SplitFault.OutOfMemory → state_of self.new ≡ state_of self.old }
         ensures alone_given { IfOk result (λ c. GivesWords (state_of c).numbers.number (state_of self.old) (state_of self.new)) }
         ensures alone_refused { IfErr result (λ _. LeavesSame (state_of self.old) (state_of self.new)) }

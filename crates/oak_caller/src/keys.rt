@@ -33,8 +33,10 @@ impl<R: Wait + Drop + Send> Caller<'_, R> {
         requires high { IfSome high (λ k. IsKey k.now) }
         ensures on { CallsOn StaysButSlots self.old self.new }
         ensures views { KeepsViews self.old self.new }
-        ensures all { OnOk result (AddsAll (bytes_in_option low.entry) (bytes_in_option high.entry) (view_of self.old) (view_of self.new) keys.old.items keys.new.items) }
-        ensures some { OnErr result (AddsBefore (bytes_in_option low.entry) (bytes_in_option high.entry) (view_of self.old) (view_of self.new) keys.old.items keys.new.items) }
+        ensures all { OnOk result (AddsAll (bytes_in_option low.entry) (bytes_in_option high.entry) (view_of self.old)
+            (view_of self.new) keys.old.items keys.new.items) }
+        ensures some { OnErr result (AddsBefore (bytes_in_option low.entry) (bytes_in_option high.entry)
+            (view_of self.old) (view_of self.new) keys.old.items keys.new.items) }
     {
         self.add_keys(rt, low, high, usize::MAX, keys)?;
         Ok(())
@@ -53,8 +55,13 @@ impl<R: Wait + Drop + Send> Caller<'_, R> {
         requires high { IfSome high (λ k. IsKey k.now) }
         ensures on { CallsOn StaysButSlots self.old self.new }
         ensures views { KeepsViews self.old self.new }
-        ensures all { IfOk result (λ all. MatchBool all (AddsAll (bytes_in_option low.entry) (bytes_in_option high.entry) (view_of self.old) (view_of self.new) keys.old.items keys.new.items) (AddsEnough most (bytes_in_option low.entry) (bytes_in_option high.entry) (view_of self.old) (view_of self.new) keys.old.items keys.new.items)) }
-        ensures some { OnErr result (AddsBefore (bytes_in_option low.entry) (bytes_in_option high.entry) (view_of self.old) (view_of self.new) keys.old.items keys.new.items) }
+        ensures all { IfOk result (λ all. MatchBool all
+            (AddsAll (bytes_in_option low.entry) (bytes_in_option high.entry) (view_of self.old)
+            (view_of self.new) keys.old.items keys.new.items)
+            (AddsEnough most (bytes_in_option low.entry) (bytes_in_option high.entry) (view_of self.old)
+            (view_of self.new) keys.old.items keys.new.items)) }
+        ensures some { OnErr result (AddsBefore (bytes_in_option low.entry) (bytes_in_option high.entry)
+            (view_of self.old) (view_of self.new) keys.old.items keys.new.items) }
     {
         keys_between(rt, self.map, self.pass.pass_mut(), low, high, most, keys)
     }
@@ -78,8 +85,12 @@ fn keys_between<R: Wait + Drop + Send>(
     ensures idle { HoldsNothing (table_state pass.new) }
     ensures views { PassKeepsViews (sizes map.now) pass.old pass.new }
     ensures later { Later (view_at (sizes map.now) pass.old) (view_at (sizes map.now) pass.new) }
-    ensures all { IfOk result (λ all. MatchBool all (AddsAll (bytes_in_option low.entry) (bytes_in_option high.entry) (view_at (sizes map.now) pass.old) (view_at (sizes map.now) pass.new) keys.old.items keys.new.items) (AddsEnough most (bytes_in_option low.entry) (bytes_in_option high.entry) (view_at (sizes map.now) pass.old) (view_at (sizes map.now) pass.new) keys.old.items keys.new.items)) }
-    ensures some { OnErr result (AddsBefore (bytes_in_option low.entry) (bytes_in_option high.entry) (view_at (sizes map.now) pass.old) (view_at (sizes map.now) pass.new) keys.old.items keys.new.items) }
+    ensures all { IfOk result (λ all. MatchBool all (AddsAll (bytes_in_option low.entry) (bytes_in_option high.entry)
+        (view_at (sizes map.now) pass.old) (view_at (sizes map.now) pass.new) keys.old.items keys.new.items)
+        (AddsEnough most (bytes_in_option low.entry) (bytes_in_option high.entry) (view_at (sizes map.now) pass.old)
+        (view_at (sizes map.now) pass.new) keys.old.items keys.new.items)) }
+    ensures some { OnErr result (AddsBefore (bytes_in_option low.entry) (bytes_in_option high.entry)
+        (view_at (sizes map.now) pass.old) (view_at (sizes map.now) pass.new) keys.old.items keys.new.items) }
 {
     let mut cursor = scan_of(map, pass, low, high, Way::Up);
     let all = gather_keys(rt, &mut cursor, most, keys);

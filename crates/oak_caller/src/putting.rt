@@ -20,7 +20,8 @@ impl<R: Wait + Drop + Send> Caller<'_, R> {
         requires value { IsValue value.now }
         ensures next { OnOk result (CallsNext StaysButSlots self.old self.new) }
         ensures views { OnOk result (KeepsViews self.old self.new) }
-        ensures puts { IfOk result (λ y. Puts y (sizes_of self.old) (last_of self.old + 1) key.now (Put value.now) (state_of self.old) (state_of self.new)) }
+        ensures puts { IfOk result (λ y. Puts y (sizes_of self.old) (last_of self.old + 1) key.now (Put value.now)
+            (state_of self.old) (state_of self.new)) }
         ensures worn { OnErr result (last_of self.old ≡ 2 ^ 32 - 1) }
         ensures nothing { OnErr result (self.new ≡ self.old) }
     {
@@ -35,7 +36,8 @@ impl<R: Wait + Drop + Send> Caller<'_, R> {
         requires value { IsValue value.now }
         ensures next { OnOk result (CallsNext StaysButSlots self.old self.new) }
         ensures views { OnOk result (KeepsViews self.old self.new) }
-        ensures puts { IfOk result (λ y. Puts y (sizes_of self.old) (last_of self.old + 1) key.now (PutNew value.now) (state_of self.old) (state_of self.new)) }
+        ensures puts { IfOk result (λ y. Puts y (sizes_of self.old) (last_of self.old + 1) key.now (PutNew value.now)
+            (state_of self.old) (state_of self.new)) }
         ensures worn { OnErr result (last_of self.old ≡ 2 ^ 32 - 1) }
         ensures nothing { OnErr result (self.new ≡ self.old) }
     {

@@ -66,7 +66,10 @@ impl<R: Wait + Drop + Send> Caller<'_, R> {
         requires calls { F.IsAlwaysCallable f }
         ensures on { CallsOn Stays self.old self.new }
         ensures views { KeepsViews self.old self.new }
-        ensures read { MatchOption result ((at : ℕ) × ReadsNone (sizes_of self.old) (last_of self.old) key.now at (state_of self.old) (state_of self.new)) (λ y. (bytes : List ℕ) × (at : ℕ) × ReadsValue (sizes_of self.old) (last_of self.old) key.now bytes at (state_of self.old) (state_of self.new) × FnOnceReturnsAt F.FnOnce f bytes y) }
+        ensures read { MatchOption result ((at : ℕ) × ReadsNone (sizes_of self.old) (last_of self.old) key.now at
+            (state_of self.old) (state_of self.new))
+            (λ y. (bytes : List ℕ) × (at : ℕ) × ReadsValue (sizes_of self.old) (last_of self.old) key.now bytes at
+            (state_of self.old) (state_of self.new) × FnOnceReturnsAt F.FnOnce f bytes y) }
     {
         let mut bytes = [0; GREATEST_VALUE];
         match copy_of(rt, self.map, self.pass.pass_mut(), key, &mut bytes) {

@@ -71,7 +71,8 @@ fn pairs_between<R: Wait + Drop + Send, F: FnMut(&[u8], &[u8]) -> bool>(
     ensures idle { HoldsNothing (table_state pass.new) }
     ensures views { PassKeepsViews (sizes map.now) pass.old pass.new }
     ensures later { Later (view_at (sizes map.now) pass.old) (view_at (sizes map.now) pass.new) }
-    ensures gave { GaveFits result F.FnMut f way (bytes_in_option low.entry) (bytes_in_option high.entry) (view_at (sizes map.now) pass.old) (view_at (sizes map.now) pass.new) }
+    ensures gave { GaveFits result F.FnMut f way (bytes_in_option low.entry) (bytes_in_option high.entry)
+        (view_at (sizes map.now) pass.old) (view_at (sizes map.now) pass.new) }
 {
     let mut cursor = scan_of(map, pass, low, high, way);
     let ended = give_pairs(rt, &mut cursor, f);
@@ -95,7 +96,8 @@ fn count_between<R: Wait + Drop + Send>(
     ensures idle { HoldsNothing (table_state pass.new) }
     ensures views { PassKeepsViews (sizes map.now) pass.old pass.new }
     ensures later { Later (view_at (sizes map.now) pass.old) (view_at (sizes map.now) pass.new) }
-    ensures counts { Counts result (bytes_in_option low.entry) (bytes_in_option high.entry) (view_at (sizes map.now) pass.old) (view_at (sizes map.now) pass.new) }
+    ensures counts { Counts result (bytes_in_option low.entry) (bytes_in_option high.entry)
+        (view_at (sizes map.now) pass.old) (view_at (sizes map.now) pass.new) }
 {
     let mut cursor = scan_of(map, pass, low, high, Way::Up);
     let count = count_pairs(rt, &mut cursor);

@@ -43,7 +43,10 @@ impl<R: Wait + Drop + Send> Caller<'_, R> {
         requires calls { F.IsAlwaysCallable f }
         ensures on { CallsOn Stays self.old self.new }
         ensures views { KeepsViews self.old self.new }
-        ensures looked { MatchOption result (ShowsOver (sizes_of self.old) (last_of self.old) view.now (state_of self.old) (state_of self.new)) (λ y. (bytes : List ℕ) × (at : ℕ) × ShowsLife (sizes_of self.old) (last_of self.old) view.now bytes at (state_of self.old) (state_of self.new) × FnOnceReturnsAt F.FnOnce f bytes y) }
+        ensures looked { MatchOption result (ShowsOver (sizes_of self.old) (last_of self.old) view.now
+            (state_of self.old) (state_of self.new)) (λ y. (bytes : List ℕ) × (at : ℕ) × ShowsLife (sizes_of self.old)
+            (last_of self.old) view.now bytes at (state_of self.old) (state_of self.new)
+            × FnOnceReturnsAt F.FnOnce f bytes y) }
     {
         let mut bytes = [0; GREATEST_VALUE];
         match look_into(rt, self.map, self.pass.pass_mut(), view, &mut bytes) {

@@ -33,7 +33,8 @@ impl<T: Said> Play<(), PassState> for Says<T> {
 pub(crate) fn load_said<T: Said>(table: &OakTable, pass: &mut Pass, word: usize) -> u64
     requires own { IsPassOf table.now pass.old }
     requires inside { word < table.now.table.shared.table_id.words }
-    requires rule { Allows (Holds (key table.now) (opened_at table.now)) table.now.table.shared.table_id.slots pass.old.seat.id pass.old.seat.me word (λ n. n) (λ n m. T.told n m.0 × KeepsSeat pass.old.seat.me m) }
+    requires rule { Allows (Holds (key table.now) (opened_at table.now)) table.now.table.shared.table_id.slots
+        pass.old.seat.id pass.old.seat.me word (λ n. n) (λ n m. T.told n m.0 × KeepsSeat pass.old.seat.me m) }
     ensures own { Stays pass.old pass.new }
     ensures tries { TriesStay pass.old pass.new }
     ensures searches { SearchesStay pass.old pass.new }
@@ -45,7 +46,9 @@ pub(crate) fn load_said<T: Said>(table: &OakTable, pass: &mut Pass, word: usize)
 pub(crate) fn or_said<T: Said>(table: &OakTable, pass: &mut Pass, word: usize, bits: u64) -> u64
     requires own { IsPassOf table.now pass.old }
     requires inside { word < table.now.table.shared.table_id.words }
-    requires rule { Allows (Holds (key table.now) (opened_at table.now)) table.now.table.shared.table_id.slots pass.old.seat.id pass.old.seat.me word (λ n. bit_or n bits) (λ n m. T.told n m.0 × KeepsSeat pass.old.seat.me m) }
+    requires rule { Allows (Holds (key table.now) (opened_at table.now)) table.now.table.shared.table_id.slots
+        pass.old.seat.id pass.old.seat.me word (λ n. bit_or n bits)
+        (λ n m. T.told n m.0 × KeepsSeat pass.old.seat.me m) }
     ensures own { Stays pass.old pass.new }
     ensures tries { TriesStay pass.old pass.new }
     ensures searches { SearchesStay pass.old pass.new }
@@ -60,7 +63,9 @@ pub(crate) fn or_said<T: Said>(table: &OakTable, pass: &mut Pass, word: usize, b
 pub(crate) fn and_said<T: Said>(table: &OakTable, pass: &mut Pass, word: usize, bits: u64) -> u64
     requires own { IsPassOf table.now pass.old }
     requires inside { word < table.now.table.shared.table_id.words }
-    requires rule { Allows (Holds (key table.now) (opened_at table.now)) table.now.table.shared.table_id.slots pass.old.seat.id pass.old.seat.me word (λ n. bit_and n bits) (λ n m. T.told n m.0 × KeepsSeat pass.old.seat.me m) }
+    requires rule { Allows (Holds (key table.now) (opened_at table.now)) table.now.table.shared.table_id.slots
+        pass.old.seat.id pass.old.seat.me word (λ n. bit_and n bits)
+        (λ n m. T.told n m.0 × KeepsSeat pass.old.seat.me m) }
     ensures own { Stays pass.old pass.new }
     ensures told { T.told result (state pass.new) }
 {
@@ -73,7 +78,8 @@ pub(crate) fn and_said<T: Said>(table: &OakTable, pass: &mut Pass, word: usize, 
 pub(crate) fn store_said<T: Said>(table: &OakTable, pass: &mut Pass, word: usize, value: u64)
     requires own { IsPassOf table.now pass.old }
     requires inside { word < table.now.table.shared.table_id.words }
-    requires rule { Allows (Holds (key table.now) (opened_at table.now)) table.now.table.shared.table_id.slots pass.old.seat.id pass.old.seat.me word (λ _. value) (λ _ m. T.told value m.0 × KeepsSeat pass.old.seat.me m) }
+    requires rule { Allows (Holds (key table.now) (opened_at table.now)) table.now.table.shared.table_id.slots
+        pass.old.seat.id pass.old.seat.me word (λ _. value) (λ _ m. T.told value m.0 × KeepsSeat pass.old.seat.me m) }
     ensures own { Stays pass.old pass.new }
     ensures told { T.told value (state pass.new) }
 {
@@ -86,7 +92,9 @@ pub(crate) fn store_said<T: Said>(table: &OakTable, pass: &mut Pass, word: usize
 pub(crate) fn add_said<T: Said>(table: &OakTable, pass: &mut Pass, word: usize, amount: u64) -> u64
     requires own { IsPassOf table.now pass.old }
     requires inside { word < table.now.table.shared.table_id.words }
-    requires rule { Allows (Holds (key table.now) (opened_at table.now)) table.now.table.shared.table_id.slots pass.old.seat.id pass.old.seat.me word (λ n. (n + amount) % 2 ^ 64) (λ n m. T.told n m.0 × KeepsSeat pass.old.seat.me m) }
+    requires rule { Allows (Holds (key table.now) (opened_at table.now)) table.now.table.shared.table_id.slots
+        pass.old.seat.id pass.old.seat.me word (λ n. (n + amount) % 2 ^ 64)
+        (λ n m. T.told n m.0 × KeepsSeat pass.old.seat.me m) }
     ensures own { Stays pass.old pass.new }
     ensures tries { TriesStay pass.old pass.new }
     ensures told { T.told result (state pass.new) }
@@ -107,7 +115,9 @@ pub(crate) fn add_wanted<T: Said>(
 ) -> u64
     requires own { IsPassOf table.now pass.old }
     requires inside { word < table.now.table.shared.table_id.words }
-    requires rule { Allows (Holds (key table.now) (opened_at table.now)) table.now.table.shared.table_id.slots pass.old.seat.id pass.old.seat.me word (λ n. (n + amount) % 2 ^ 64) (λ n m. T.told n m.0 × KeepsSeat pass.old.seat.me m) }
+    requires rule { Allows (Holds (key table.now) (opened_at table.now)) table.now.table.shared.table_id.slots
+        pass.old.seat.id pass.old.seat.me word (λ n. (n + amount) % 2 ^ 64)
+        (λ n m. T.told n m.0 × KeepsSeat pass.old.seat.me m) }
     ensures own { Stays pass.old pass.new }
     ensures told { T.told result (state pass.new) }
 {
@@ -118,7 +128,9 @@ pub(crate) fn add_wanted<T: Said>(
 pub(crate) fn sub_said<T: Said>(table: &OakTable, pass: &mut Pass, word: usize, amount: u64) -> u64
     requires own { IsPassOf table.now pass.old }
     requires inside { word < table.now.table.shared.table_id.words }
-    requires rule { Allows (Holds (key table.now) (opened_at table.now)) table.now.table.shared.table_id.slots pass.old.seat.id pass.old.seat.me word (λ n. (n + (2 ^ 64 - amount)) % 2 ^ 64) (λ n m. T.told n m.0 × KeepsSeat pass.old.seat.me m) }
+    requires rule { Allows (Holds (key table.now) (opened_at table.now)) table.now.table.shared.table_id.slots
+        pass.old.seat.id pass.old.seat.me word (λ n. (n + (2 ^ 64 - amount)) % 2 ^ 64)
+        (λ n m. T.told n m.0 × KeepsSeat pass.old.seat.me m) }
     ensures own { Stays pass.old pass.new }
     ensures tries { TriesStay pass.old pass.new }
     ensures told { T.told result (state pass.new) }
@@ -139,7 +151,9 @@ pub(crate) fn sub_of_kind<T: Said>(
 ) -> u64
     requires own { IsPassOf table.now pass.old }
     requires inside { word < table.now.table.shared.table_id.words }
-    requires rule { Allows (Holds (key table.now) (opened_at table.now)) table.now.table.shared.table_id.slots pass.old.seat.id pass.old.seat.me word (λ n. (n + (2 ^ 64 - amount)) % 2 ^ 64) (λ n m. T.told n m.0 × KeepsSeat pass.old.seat.me m) }
+    requires rule { Allows (Holds (key table.now) (opened_at table.now)) table.now.table.shared.table_id.slots
+        pass.old.seat.id pass.old.seat.me word (λ n. (n + (2 ^ 64 - amount)) % 2 ^ 64)
+        (λ n m. T.told n m.0 × KeepsSeat pass.old.seat.me m) }
     ensures own { Stays pass.old pass.new }
     ensures told { T.told result (state pass.new) }
 {
@@ -156,7 +170,9 @@ pub(crate) fn exchange_said<T: Said>(
 ) -> u64
     requires own { IsPassOf table.now pass.old }
     requires inside { word < table.now.table.shared.table_id.words }
-    requires rule { Allows (Holds (key table.now) (opened_at table.now)) table.now.table.shared.table_id.slots pass.old.seat.id pass.old.seat.me word (λ n. either (n == old) new n) (λ n m. T.told n m.0 × KeepsSeat pass.old.seat.me m) }
+    requires rule { Allows (Holds (key table.now) (opened_at table.now)) table.now.table.shared.table_id.slots
+        pass.old.seat.id pass.old.seat.me word (λ n. either (n == old) new n)
+        (λ n m. T.told n m.0 × KeepsSeat pass.old.seat.me m) }
     ensures own { Stays pass.old pass.new }
     ensures told { T.told result (state pass.new) }
 {
@@ -177,7 +193,9 @@ pub(crate) fn exchange_of_kind<T: Said>(
 ) -> u64
     requires own { IsPassOf table.now pass.old }
     requires inside { word < table.now.table.shared.table_id.words }
-    requires rule { Allows (Holds (key table.now) (opened_at table.now)) table.now.table.shared.table_id.slots pass.old.seat.id pass.old.seat.me word (λ n. either (n == old) new n) (λ n m. T.told n m.0 × KeepsSeat pass.old.seat.me m) }
+    requires rule { Allows (Holds (key table.now) (opened_at table.now)) table.now.table.shared.table_id.slots
+        pass.old.seat.id pass.old.seat.me word (λ n. either (n == old) new n)
+        (λ n m. T.told n m.0 × KeepsSeat pass.old.seat.me m) }
     ensures own { Stays pass.old pass.new }
     ensures told { T.told result (state pass.new) }
 {

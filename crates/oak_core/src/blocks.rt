@@ -61,7 +61,10 @@ impl Pass {
     /// Sets the block at which the pass's next search for one of the class begins.
     pub fn search_from(&mut self, class: Class, block: u32)
         ensures search { searches self.new ≡ slice_set (searches self.old) (class_number class) block }
-        ensures same { (self.new.seat.table_id ≡ self.old.seat.table_id) × (self.new.seat.id ≡ self.old.seat.id) × (state self.new ≡ state self.old) × (call_of self.new ≡ call_of self.old) × (header_search self.new ≡ header_search self.old) × (self.new.scratch ≡ self.old.scratch) × (self.new.sorting ≡ self.old.sorting) }
+        ensures same { (self.new.seat.table_id ≡ self.old.seat.table_id) × (self.new.seat.id ≡ self.old.seat.id)
+            × (state self.new ≡ state self.old) × (call_of self.new ≡ call_of self.old)
+            × (header_search self.new ≡ header_search self.old) × (self.new.scratch ≡ self.old.scratch)
+            × (self.new.sorting ≡ self.old.sorting) }
         ensures tries { TriesStay self.old self.new }
     {
         self.searches[class.number()] = block;

@@ -19,7 +19,8 @@ pub fn claim_header(table: &OakTable, pass: &mut Pass, word: u32, old: u64, new:
     requires own { IsPassOf table.now pass.old }
     requires names { (h : ℕ) × NamesClaim (key table.now) h word old new }
     ensures own { Stays pass.old pass.new }
-    ensures told { (h : ℕ) → NamesClaim (key table.now) h word old new → Claims (key table.now) (call_of pass.old) h old (state pass.old) result (state pass.new) }
+    ensures told { (h : ℕ) → NamesClaim (key table.now) h word old new → Claims (key table.now)
+        (call_of pass.old) h old (state pass.old) result (state pass.new) }
 {
     exchange_said::<Brand>(table, pass, word as usize, old, new)
 }
@@ -29,9 +30,12 @@ pub fn claim_header(table: &OakTable, pass: &mut Pass, word: u32, old: u64, new:
 /// held the new one, and holds the old one then.
 pub fn store_field(table: &OakTable, pass: &mut Pass, word: u32, value: u64)
     requires own { IsPassOf table.now pass.old }
-    requires names { (f : HeaderField) × (h : ℕ) × NamesField (key table.now) f h word × MayOnHeaders (key table.now) (field_step f h value) (state pass.old) }
+    requires names { (f : HeaderField) × (h : ℕ) × NamesField (key table.now) f h word × MayOnHeaders (key table.now)
+        (field_step f h value) (state pass.old) }
     ensures own { Stays pass.old pass.new }
-    ensures told { (f : HeaderField) (h : ℕ) → NamesField (key table.now) f h word → MayOnHeaders (key table.now) (field_step f h value) (state pass.old) → StoresField (key table.now) (call_of pass.old) f h value (state pass.old) (state pass.new) }
+    ensures told { (f : HeaderField) (h : ℕ) → NamesField (key table.now) f h word → MayOnHeaders (key table.now)
+        (field_step f h value) (state pass.old) → StoresField (key table.now) (call_of pass.old) f h value
+        (state pass.old) (state pass.new) }
 {
     store_said::<Brand>(table, pass, word as usize, value);
 }
@@ -57,9 +61,11 @@ pub fn pin_header(
     generation: u64,
 ) -> u64
     requires own { IsPassOf table.now pass.old }
-    requires names { (h : ℕ) × NamesPin (key table.now) h word × (operand ≡ 1) × MayOnHeaders (key table.now) (pin_header h generation) (state pass.old) }
+    requires names { (h : ℕ) × NamesPin (key table.now) h word × (operand ≡ 1) × MayOnHeaders (key table.now)
+        (pin_header h generation) (state pass.old) }
     ensures own { Stays pass.old pass.new }
-    ensures told { (h : ℕ) → NamesPin (key table.now) h word → Pins (key table.now) (call_of pass.old) h generation (state pass.old) result (state pass.new) }
+    ensures told { (h : ℕ) → NamesPin (key table.now) h word → Pins (key table.now) (call_of pass.old) h generation
+        (state pass.old) result (state pass.new) }
 {
     add_wanted::<Brand>(table, pass, word as usize, operand, generation)
 }
@@ -78,9 +84,11 @@ pub fn unpin_header(table: &OakTable, pass: &mut Pass, word: u32, operand: u64) 
 /// it is in. The pass holds the header no more, and holds the block of a fresh one again.
 pub fn release_header(table: &OakTable, pass: &mut Pass, word: u32, operand: u64) -> u64
     requires own { IsPassOf table.now pass.old }
-    requires names { (h : ℕ) × (s : HeldAs) × NamesRelease (key table.now) h s word operand × MayOnHeaders (key table.now) (release_header h s) (state pass.old) }
+    requires names { (h : ℕ) × (s : HeldAs) × NamesRelease (key table.now) h s word operand
+        × MayOnHeaders (key table.now) (release_header h s) (state pass.old) }
     ensures own { Stays pass.old pass.new }
-    ensures told { (h : ℕ) (s : HeldAs) → NamesRelease (key table.now) h s word operand → Releases (key table.now) (call_of pass.old) h s (state pass.old) result (state pass.new) }
+    ensures told { (h : ℕ) (s : HeldAs) → NamesRelease (key table.now) h s word operand → Releases (key table.now)
+        (call_of pass.old) h s (state pass.old) result (state pass.new) }
 {
     let pin_word = word as usize;
     sub_said::<Brand>(table, pass, pin_word, operand)
@@ -93,7 +101,8 @@ pub fn lock_header(table: &OakTable, pass: &mut Pass, word: u32, old: u64, new: 
     requires own { IsPassOf table.now pass.old }
     requires names { (h : ℕ) × NamesLock (key table.now) h word old new × MayOnHeaders (key table.now) (lock_header h old) (state pass.old) }
     ensures own { Stays pass.old pass.new }
-    ensures told { (h : ℕ) → NamesLock (key table.now) h word old new → Locks (key table.now) (call_of pass.old) h old (state pass.old) result (state pass.new) }
+    ensures told { (h : ℕ) → NamesLock (key table.now) h word old new → Locks (key table.now) (call_of pass.old) h old
+        (state pass.old) result (state pass.new) }
 {
     let pin_word = word as usize;
     exchange_said::<Brand>(table, pass, pin_word, old, new)
@@ -104,9 +113,11 @@ pub fn lock_header(table: &OakTable, pass: &mut Pass, word: u32, old: u64, new: 
 /// are those that a call of the kind makes of those at the lock. Else all of it is as it was at the lock.
 pub fn unlock_header(table: &OakTable, pass: &mut Pass, word: u32, operand: u64, kind: Kind) -> u64
     requires own { IsPassOf table.now pass.old }
-    requires names { (h : ℕ) × NamesPin (key table.now) h word × (operand ≡ STATE) × MayOnHeaders (key table.now) (unlock_header h kind) (state pass.old) × MayEnd (call_of pass.old) (unlock_header h kind) (state pass.old) }
+    requires names { (h : ℕ) × NamesPin (key table.now) h word × (operand ≡ STATE) × MayOnHeaders (key table.now)
+        (unlock_header h kind) (state pass.old) × MayEnd (call_of pass.old) (unlock_header h kind) (state pass.old) }
     ensures own { Stays pass.old pass.new }
-    ensures told { (h : ℕ) → NamesPin (key table.now) h word → Unlocks (key table.now) (call_of pass.old) h kind (state pass.old) result (state pass.new) }
+    ensures told { (h : ℕ) → NamesPin (key table.now) h word → Unlocks (key table.now) (call_of pass.old) h kind
+        (state pass.old) result (state pass.new) }
 {
     sub_of_kind::<Brand>(table, pass, word as usize, operand, kind)
 }
@@ -115,9 +126,11 @@ pub fn unlock_header(table: &OakTable, pass: &mut Pass, word: u32, operand: u64,
 /// word, and `operand` one state. This is the removal. The pass buries the header then.
 pub fn mark_dead(table: &OakTable, pass: &mut Pass, word: u32, operand: u64) -> u64
     requires own { IsPassOf table.now pass.old }
-    requires names { (h : ℕ) × NamesPin (key table.now) h word × (operand ≡ STATE) × MayOnHeaders (key table.now) (mark_dead h) (state pass.old) × MayEnd (call_of pass.old) (mark_dead h) (state pass.old) }
+    requires names { (h : ℕ) × NamesPin (key table.now) h word × (operand ≡ STATE) × MayOnHeaders (key table.now)
+        (mark_dead h) (state pass.old) × MayEnd (call_of pass.old) (mark_dead h) (state pass.old) }
     ensures own { Stays pass.old pass.new }
-    ensures told { (h : ℕ) → NamesPin (key table.now) h word → MarksDead (key table.now) (call_of pass.old) h (state pass.old) result (state pass.new) }
+    ensures told { (h : ℕ) → NamesPin (key table.now) h word → MarksDead (key table.now) (call_of pass.old) h
+        (state pass.old) result (state pass.new) }
 {
     let pin_word = word as usize;
     add_said::<Brand>(table, pass, pin_word, operand)
@@ -127,9 +140,11 @@ pub fn mark_dead(table: &OakTable, pass: &mut Pass, word: u32, operand: u64) -> 
 /// the next generation, or retired where that is the last. The pass holds its block again.
 pub fn take_back(table: &OakTable, pass: &mut Pass, word: u32, operand: u64) -> u64
     requires own { IsPassOf table.now pass.old }
-    requires names { (h : ℕ) × NamesPin (key table.now) h word × MayOnHeaders (key table.now) (take_back h operand) (state pass.old) × MayEnd (call_of pass.old) (take_back h operand) (state pass.old) }
+    requires names { (h : ℕ) × NamesPin (key table.now) h word × MayOnHeaders (key table.now) (take_back h operand)
+        (state pass.old) × MayEnd (call_of pass.old) (take_back h operand) (state pass.old) }
     ensures own { Stays pass.old pass.new }
-    ensures told { (h : ℕ) → NamesPin (key table.now) h word → TakesBack (key table.now) (call_of pass.old) h operand (state pass.old) result (state pass.new) }
+    ensures told { (h : ℕ) → NamesPin (key table.now) h word → TakesBack (key table.now) (call_of pass.old) h operand
+        (state pass.old) result (state pass.new) }
 {
     let header_word = word as usize;
     add_said::<Brand>(table, pass, header_word, operand)

@@ -55,7 +55,10 @@ impl Pass {
     /// Sets the header at which the pass's next search for a free one begins.
     pub fn header_search_from(&mut self, header: u32)
         ensures search { header_search self.new ≡ header }
-        ensures same { (self.new.seat.table_id ≡ self.old.seat.table_id) × (self.new.seat.id ≡ self.old.seat.id) × (state self.new ≡ state self.old) × (call_of self.new ≡ call_of self.old) × (searches self.new ≡ searches self.old) × (self.new.scratch ≡ self.old.scratch) × (self.new.sorting ≡ self.old.sorting) }
+        ensures same { (self.new.seat.table_id ≡ self.old.seat.table_id) × (self.new.seat.id ≡ self.old.seat.id)
+            × (state self.new ≡ state self.old) × (call_of self.new ≡ call_of self.old)
+            × (searches self.new ≡ searches self.old) × (self.new.scratch ≡ self.old.scratch)
+            × (self.new.sorting ≡ self.old.sorting) }
         ensures tries { TriesStay self.old self.new }
     {
         self.header_search = header;

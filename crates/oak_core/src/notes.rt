@@ -16,7 +16,8 @@ use std::marker::Brand;
 fn note_said<T: Said>(table: &OakTable, pass: &mut Pass, _lack: Lack)
     requires own { IsPassOf table.now pass.old }
     requires inside { 0 < table.now.table.shared.table_id.words }
-    requires rule { Allows (Holds (key table.now) (opened_at table.now)) table.now.table.shared.table_id.slots pass.old.seat.id pass.old.seat.me 0 (λ n. n) (λ n m. T.told n m.0 × KeepsSeat pass.old.seat.me m) }
+    requires rule { Allows (Holds (key table.now) (opened_at table.now)) table.now.table.shared.table_id.slots
+        pass.old.seat.id pass.old.seat.me 0 (λ n. n) (λ n m. T.told n m.0 × KeepsSeat pass.old.seat.me m) }
     ensures own { Stays pass.old pass.new }
     ensures searches { SearchesStay pass.old pass.new }
     ensures tries { TriesStay pass.old pass.new }
@@ -31,7 +32,8 @@ impl Pass {
     /// the words stay.
     pub fn note_full(&mut self, table: &OakTable, lack: Lack)
         requires own { IsPassOf table.now self.old }
-        requires lacks { (spare : Option ℕ) × (began : ℕ) × Lacks (key table.now) (call_of self.old) lack spare began (length (state self.old).findings.met) (state self.old).findings }
+        requires lacks { (spare : Option ℕ) × (began : ℕ) × Lacks (key table.now) (call_of self.old) lack spare began
+            (length (state self.old).findings.met) (state self.old).findings }
         ensures own { Stays self.old self.new }
         ensures searches { SearchesStay self.old self.new }
         ensures tries { TriesStay self.old self.new }

@@ -217,7 +217,8 @@ impl Pass {
         ensures none_tried { IfOk result (λ p. tries p ≡ 0) }
         ensures split { IfOk result (λ p. SplitsOff (key table.now) (call_of self.old) (state self.old) (state self.new) (state p)) }
         ensures refused { IfErr result (λ _. LooksAtGiven (call_of self.old) (state self.old) (state self.new)) }
-        ensures limit { (made : ℕ) → result ≡ Err (SplitFault.Limit made) → (made ≡ (key table.now).passes) × FindsAllGiven (key table.now) (call_of self.old) (state self.old) (state self.new) }
+        ensures limit { (made : ℕ) → result ≡ Err (SplitFault.Limit made) → (made ≡ (key table.now).passes)
+            × FindsAllGiven (key table.now) (call_of self.old) (state self.old) (state self.new) }
         ensures memory { result ≡ Err SplitFault.OutOfMemory → state self.new ≡ state self.old }
         ensures alone_given { IfOk result (λ p. GivesWords (state p).numbers.number (state self.old) (state self.new)) }
         ensures alone_refused { IfErr result (λ _. LeavesSame (state self.old) (state self.new)) }

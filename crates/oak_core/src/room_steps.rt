@@ -19,10 +19,12 @@ use std::marker::Brand;
 /// has one pin on a room at most. The pass's tries are raised by 1, whatever was found.
 pub fn pin_room(table: &OakTable, pass: &mut Pass, word: u32, operand: u64) -> u64
     requires own { IsPassOf table.now pass.old }
-    requires names { (r : ℕ) × NamesRoomPin (key table.now) r word × (operand ≡ 1) × MayOnRooms (key table.now) (call_of pass.old) (pin_room r) (state pass.old) }
+    requires names { (r : ℕ) × NamesRoomPin (key table.now) r word × (operand ≡ 1) × MayOnRooms (key table.now)
+        (call_of pass.old) (pin_room r) (state pass.old) }
     ensures own { Stays pass.old pass.new }
     ensures tries { tries pass.new ≡ raised (tries pass.old) 1 }
-    ensures told { (r : ℕ) → NamesRoomPin (key table.now) r word → PinsRoomWord (key table.now) (call_of pass.old) r (state pass.old) result (state pass.new) }
+    ensures told { (r : ℕ) → NamesRoomPin (key table.now) r word → PinsRoomWord (key table.now) (call_of pass.old) r
+        (state pass.old) result (state pass.new) }
 {
     let found = add_said::<Brand>(table, pass, word as usize, operand);
     pass.tries = pass.tries.saturating_add(1);
@@ -33,10 +35,12 @@ pub fn pin_room(table: &OakTable, pass: &mut Pass, word: u32, operand: u64) -> u
 /// `operand` one pin.
 pub fn unpin_room(table: &OakTable, pass: &mut Pass, word: u32, operand: u64) -> u64
     requires own { IsPassOf table.now pass.old }
-    requires names { (r : ℕ) × NamesRoomPin (key table.now) r word × (operand ≡ 1) × MayOnRooms (key table.now) (call_of pass.old) (unpin_room r) (state pass.old) }
+    requires names { (r : ℕ) × NamesRoomPin (key table.now) r word × (operand ≡ 1) × MayOnRooms (key table.now)
+        (call_of pass.old) (unpin_room r) (state pass.old) }
     ensures own { Stays pass.old pass.new }
     ensures tries { TriesStay pass.old pass.new }
-    ensures told { (r : ℕ) → NamesRoomPin (key table.now) r word → UnpinsRoomWord (key table.now) (call_of pass.old) r (state pass.old) result (state pass.new) }
+    ensures told { (r : ℕ) → NamesRoomPin (key table.now) r word → UnpinsRoomWord (key table.now) (call_of pass.old) r
+        (state pass.old) result (state pass.new) }
 {
     sub_said::<Brand>(table, pass, word as usize, operand)
 }
@@ -45,9 +49,11 @@ pub fn unpin_room(table: &OakTable, pass: &mut Pass, word: u32, operand: u64) ->
 /// word, `old` 0 and `new` 1. The pass has the latch where 0 was found. A pass has one latch at most.
 pub fn latch(table: &OakTable, pass: &mut Pass, word: u32, old: u64, new: u64) -> u64
     requires own { IsPassOf table.now pass.old }
-    requires names { (r : ℕ) × NamesLatch (key table.now) r word × (old ≡ 0) × (new ≡ 1) × MayOnRooms (key table.now) (call_of pass.old) (latch_room r) (state pass.old) }
+    requires names { (r : ℕ) × NamesLatch (key table.now) r word × (old ≡ 0) × (new ≡ 1) × MayOnRooms (key table.now)
+        (call_of pass.old) (latch_room r) (state pass.old) }
     ensures own { Stays pass.old pass.new }
-    ensures told { (r : ℕ) → NamesLatch (key table.now) r word → TakesLatch (key table.now) (call_of pass.old) r (state pass.old) result (state pass.new) }
+    ensures told { (r : ℕ) → NamesLatch (key table.now) r word → TakesLatch (key table.now) (call_of pass.old) r
+        (state pass.old) result (state pass.new) }
 {
     exchange_said::<Brand>(table, pass, word as usize, old, new)
 }
@@ -55,9 +61,11 @@ pub fn latch(table: &OakTable, pass: &mut Pass, word: u32, old: u64, new: u64) -
 /// Stores a number to `word`, a word of the entry past the count of a room whose latch the pass has.
 pub fn store_entry(table: &OakTable, pass: &mut Pass, word: u32, value: u64)
     requires own { IsPassOf table.now pass.old }
-    requires names { (f : EntryField) × (r : ℕ) × (i : ℕ) × NamesEntryWord (key table.now) f r i word × MayOnRooms (key table.now) (call_of pass.old) (store_entry f r i value) (state pass.old) }
+    requires names { (f : EntryField) × (r : ℕ) × (i : ℕ) × NamesEntryWord (key table.now) f r i word
+        × MayOnRooms (key table.now) (call_of pass.old) (store_entry f r i value) (state pass.old) }
     ensures own { Stays pass.old pass.new }
-    ensures told { (f : EntryField) (r i : ℕ) → NamesEntryWord (key table.now) f r i word → StoresEntry (key table.now) (call_of pass.old) f r i value (state pass.old) (state pass.new) }
+    ensures told { (f : EntryField) (r i : ℕ) → NamesEntryWord (key table.now) f r i word
+        → StoresEntry (key table.now) (call_of pass.old) f r i value (state pass.old) (state pass.new) }
 {
     store_said::<Brand>(table, pass, word as usize, value);
 }
@@ -68,9 +76,11 @@ pub fn store_entry(table: &OakTable, pass: &mut Pass, word: u32, value: u64)
 /// the room's base, its floor. The block is the entry's from then on.
 pub fn publish_entry(table: &OakTable, pass: &mut Pass, word: u32, value: u64)
     requires own { IsPassOf table.now pass.old }
-    requires names { (r : ℕ) × NamesCount (key table.now) r word × MayOnRooms (key table.now) (call_of pass.old) (publish_entry r value) (state pass.old) }
+    requires names { (r : ℕ) × NamesCount (key table.now) r word × MayOnRooms (key table.now) (call_of pass.old)
+        (publish_entry r value) (state pass.old) }
     ensures own { Stays pass.old pass.new }
-    ensures told { (r : ℕ) → NamesCount (key table.now) r word → PublishesEntry (key table.now) (call_of pass.old) r value (state pass.old) (state pass.new) }
+    ensures told { (r : ℕ) → NamesCount (key table.now) r word → PublishesEntry (key table.now)
+        (call_of pass.old) r value (state pass.old) (state pass.new) }
 {
     store_said::<Brand>(table, pass, word as usize, value);
 }
@@ -79,7 +89,8 @@ pub fn publish_entry(table: &OakTable, pass: &mut Pass, word: u32, value: u64)
 /// the entry past the count is lost to it, unless the entry was published.
 pub fn unlatch(table: &OakTable, pass: &mut Pass, word: u32, value: u64)
     requires own { IsPassOf table.now pass.old }
-    requires names { (r : ℕ) × NamesLatch (key table.now) r word × (value ≡ 0) × MayOnRooms (key table.now) (call_of pass.old) (unlatch_room r) (state pass.old) }
+    requires names { (r : ℕ) × NamesLatch (key table.now) r word × (value ≡ 0) × MayOnRooms (key table.now)
+        (call_of pass.old) (unlatch_room r) (state pass.old) }
     ensures own { Stays pass.old pass.new }
     ensures told { (r : ℕ) → NamesLatch (key table.now) r word → GivesLatch (key table.now) (call_of pass.old) r (state pass.old) (state pass.new) }
 {
@@ -98,9 +109,11 @@ pub fn set_value(
     kind: Kind,
 ) -> u64
     requires own { IsPassOf table.now pass.old }
-    requires names { (r : ℕ) × (i : ℕ) × NamesEntryWord (key table.now) of_value r i word × MayOnRooms (key table.now) (call_of pass.old) (set_value r i old new kind) (state pass.old) }
+    requires names { (r : ℕ) × (i : ℕ) × NamesEntryWord (key table.now) of_value r i word × MayOnRooms (key table.now)
+        (call_of pass.old) (set_value r i old new kind) (state pass.old) }
     ensures own { Stays pass.old pass.new }
-    ensures told { (r i : ℕ) → NamesEntryWord (key table.now) of_value r i word → SetsValueWord (key table.now) (call_of pass.old) r i old new kind (state pass.old) result (state pass.new) }
+    ensures told { (r i : ℕ) → NamesEntryWord (key table.now) of_value r i word → SetsValueWord (key table.now)
+        (call_of pass.old) r i old new kind (state pass.old) result (state pass.new) }
 {
     exchange_of_kind::<Brand>(table, pass, word as usize, old, new, kind)
 }
@@ -109,9 +122,11 @@ pub fn set_value(
 /// `word` is the entry's value word, and `value` the stamp of the removal, its floor from then on.
 pub fn unlink(table: &OakTable, pass: &mut Pass, word: u32, value: u64)
     requires own { IsPassOf table.now pass.old }
-    requires names { (r : ℕ) × (i : ℕ) × NamesEntryWord (key table.now) of_value r i word × MayOnRooms (key table.now) (call_of pass.old) (unlink_entry r i value) (state pass.old) }
+    requires names { (r : ℕ) × (i : ℕ) × NamesEntryWord (key table.now) of_value r i word × MayOnRooms (key table.now)
+        (call_of pass.old) (unlink_entry r i value) (state pass.old) }
     ensures own { Stays pass.old pass.new }
-    ensures told { (r i : ℕ) → NamesEntryWord (key table.now) of_value r i word → UnlinksEntryWord (key table.now) (call_of pass.old) r i value (state pass.old) (state pass.new) }
+    ensures told { (r i : ℕ) → NamesEntryWord (key table.now) of_value r i word → UnlinksEntryWord (key table.now)
+        (call_of pass.old) r i value (state pass.old) (state pass.new) }
 {
     let value_word = word as usize;
     store_said::<Brand>(table, pass, value_word, value);
@@ -121,9 +136,11 @@ pub fn unlink(table: &OakTable, pass: &mut Pass, word: u32, value: u64)
 /// one state more. The pass has the room frozen where `old` was found.
 pub fn freeze(table: &OakTable, pass: &mut Pass, word: u32, old: u64, new: u64) -> u64
     requires own { IsPassOf table.now pass.old }
-    requires names { (r : ℕ) × NamesRoomPin (key table.now) r word × (new ≡ old + STATE) × MayOnRooms (key table.now) (call_of pass.old) (freeze_room r old) (state pass.old) }
+    requires names { (r : ℕ) × NamesRoomPin (key table.now) r word × (new ≡ old + STATE) × MayOnRooms (key table.now)
+        (call_of pass.old) (freeze_room r old) (state pass.old) }
     ensures own { Stays pass.old pass.new }
-    ensures told { (r : ℕ) → NamesRoomPin (key table.now) r word → FreezesRoom (key table.now) (call_of pass.old) r old (state pass.old) result (state pass.new) }
+    ensures told { (r : ℕ) → NamesRoomPin (key table.now) r word → FreezesRoom (key table.now)
+        (call_of pass.old) r old (state pass.old) result (state pass.new) }
 {
     let open_word = word as usize;
     exchange_said::<Brand>(table, pass, open_word, old, new)
@@ -135,9 +152,11 @@ pub fn freeze(table: &OakTable, pass: &mut Pass, word: u32, old: u64, new: u64) 
 /// good are good still.
 pub fn thaw_room(table: &OakTable, pass: &mut Pass, word: u32, operand: u64) -> u64
     requires own { IsPassOf table.now pass.old }
-    requires names { (r : ℕ) × NamesRoomPin (key table.now) r word × (operand ≡ (FROZEN - OPEN) * STATE) × MayOnRooms (key table.now) (call_of pass.old) (thaw_room r) (state pass.old) }
+    requires names { (r : ℕ) × NamesRoomPin (key table.now) r word × (operand ≡ (FROZEN - OPEN) * STATE)
+        × MayOnRooms (key table.now) (call_of pass.old) (thaw_room r) (state pass.old) }
     ensures own { Stays pass.old pass.new }
-    ensures told { (r : ℕ) → NamesRoomPin (key table.now) r word → ThawsRoom (key table.now) (call_of pass.old) r (state pass.old) result (state pass.new) }
+    ensures told { (r : ℕ) → NamesRoomPin (key table.now) r word → ThawsRoom (key table.now) (call_of pass.old) r
+        (state pass.old) result (state pass.new) }
 {
     let thawed_word = word as usize;
     sub_said::<Brand>(table, pass, thawed_word, operand)
@@ -148,9 +167,11 @@ pub fn thaw_room(table: &OakTable, pass: &mut Pass, word: u32, operand: u64) -> 
 /// moves with the pass where `old` was found.
 pub fn hold_room(table: &OakTable, pass: &mut Pass, word: u32, old: u64, new: u64) -> u64
     requires own { IsPassOf table.now pass.old }
-    requires names { (r : ℕ) × NamesRoomPin (key table.now) r word × (new ≡ old + STATE) × MayOnRooms (key table.now) (call_of pass.old) (hold_room r old) (state pass.old) }
+    requires names { (r : ℕ) × NamesRoomPin (key table.now) r word × (new ≡ old + STATE) × MayOnRooms (key table.now)
+        (call_of pass.old) (hold_room r old) (state pass.old) }
     ensures own { Stays pass.old pass.new }
-    ensures told { (r : ℕ) → NamesRoomPin (key table.now) r word → HoldsRoomWord (key table.now) (call_of pass.old) r old (state pass.old) result (state pass.new) }
+    ensures told { (r : ℕ) → NamesRoomPin (key table.now) r word → HoldsRoomWord (key table.now)
+        (call_of pass.old) r old (state pass.old) result (state pass.new) }
 {
     let frozen_word = word as usize;
     exchange_said::<Brand>(table, pass, frozen_word, old, new)
@@ -160,9 +181,11 @@ pub fn hold_room(table: &OakTable, pass: &mut Pass, word: u32, old: u64, new: u6
 /// and `new` is `old` with the state held. The pass holds the room alone where `old` was found.
 pub fn claim_room(table: &OakTable, pass: &mut Pass, word: u32, old: u64, new: u64) -> u64
     requires own { IsPassOf table.now pass.old }
-    requires names { (r : ℕ) × NamesRoomPin (key table.now) r word × (new ≡ old + HELD * STATE) × MayOnRooms (key table.now) (call_of pass.old) (claim_room r old) (state pass.old) }
+    requires names { (r : ℕ) × NamesRoomPin (key table.now) r word × (new ≡ old + HELD * STATE)
+        × MayOnRooms (key table.now) (call_of pass.old) (claim_room r old) (state pass.old) }
     ensures own { Stays pass.old pass.new }
-    ensures told { (r : ℕ) → NamesRoomPin (key table.now) r word → ClaimsRoom (key table.now) (call_of pass.old) r old (state pass.old) result (state pass.new) }
+    ensures told { (r : ℕ) → NamesRoomPin (key table.now) r word → ClaimsRoom (key table.now) (call_of pass.old) r old
+        (state pass.old) result (state pass.new) }
 {
     let free_word = word as usize;
     exchange_said::<Brand>(table, pass, free_word, old, new)
@@ -173,9 +196,11 @@ pub fn claim_room(table: &OakTable, pass: &mut Pass, word: u32, old: u64, new: u
 /// block then.
 pub fn store_room(table: &OakTable, pass: &mut Pass, word: u32, value: u64)
     requires own { IsPassOf table.now pass.old }
-    requires names { (p : RoomSpot) × NamesRoomWord (key table.now) p word × MayOnRooms (key table.now) (call_of pass.old) (store_room p value) (state pass.old) }
+    requires names { (p : RoomSpot) × NamesRoomWord (key table.now) p word × MayOnRooms (key table.now)
+        (call_of pass.old) (store_room p value) (state pass.old) }
     ensures own { Stays pass.old pass.new }
-    ensures told { (p : RoomSpot) → NamesRoomWord (key table.now) p word → StoresRoom (key table.now) (call_of pass.old) p value (state pass.old) (state pass.new) }
+    ensures told { (p : RoomSpot) → NamesRoomWord (key table.now) p word → StoresRoom (key table.now)
+        (call_of pass.old) p value (state pass.old) (state pass.new) }
 {
     let room_word = word as usize;
     store_said::<Brand>(table, pass, room_word, value);
@@ -187,9 +212,11 @@ pub fn store_room(table: &OakTable, pass: &mut Pass, word: u32, value: u64)
 /// with 0 in the key word and the value word of each entry behind them. The pass has them no more.
 pub fn open_room(table: &OakTable, pass: &mut Pass, word: u32, operand: u64) -> u64
     requires own { IsPassOf table.now pass.old }
-    requires names { (r : ℕ) × NamesRoomPin (key table.now) r word × (operand ≡ (HELD - OPEN) * STATE) × MayOnRooms (key table.now) (call_of pass.old) (open_room r) (state pass.old) }
+    requires names { (r : ℕ) × NamesRoomPin (key table.now) r word × (operand ≡ (HELD - OPEN) * STATE)
+        × MayOnRooms (key table.now) (call_of pass.old) (open_room r) (state pass.old) }
     ensures own { Stays pass.old pass.new }
-    ensures told { (r : ℕ) → NamesRoomPin (key table.now) r word → OpensRoom (key table.now) (call_of pass.old) r (state pass.old) result (state pass.new) }
+    ensures told { (r : ℕ) → NamesRoomPin (key table.now) r word → OpensRoom (key table.now) (call_of pass.old) r
+        (state pass.old) result (state pass.new) }
 {
     let held_word = word as usize;
     sub_said::<Brand>(table, pass, held_word, operand)
@@ -199,9 +226,11 @@ pub fn open_room(table: &OakTable, pass: &mut Pass, word: u32, operand: u64) -> 
 /// room is free then. The range that came with it, if the pass still has that, joins the one just below.
 pub fn retire_room(table: &OakTable, pass: &mut Pass, word: u32, operand: u64) -> u64
     requires own { IsPassOf table.now pass.old }
-    requires names { (r : ℕ) × NamesRoomPin (key table.now) r word × (operand ≡ HELD * STATE) × MayOnRooms (key table.now) (call_of pass.old) (retire_room r) (state pass.old) }
+    requires names { (r : ℕ) × NamesRoomPin (key table.now) r word × (operand ≡ HELD * STATE)
+        × MayOnRooms (key table.now) (call_of pass.old) (retire_room r) (state pass.old) }
     ensures own { Stays pass.old pass.new }
-    ensures told { (r : ℕ) → NamesRoomPin (key table.now) r word → RetiresRoom (key table.now) (call_of pass.old) r (state pass.old) result (state pass.new) }
+    ensures told { (r : ℕ) → NamesRoomPin (key table.now) r word → RetiresRoom (key table.now) (call_of pass.old) r
+        (state pass.old) result (state pass.new) }
 {
     let retired_word = word as usize;
     sub_said::<Brand>(table, pass, retired_word, operand)

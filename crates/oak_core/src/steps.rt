@@ -25,7 +25,8 @@ pub fn take_bit(table: &OakTable, pass: &mut Pass, word: u32, operand: u64) -> u
     requires own { IsPassOf table.now pass.old }
     requires names { (c : Class) × (b : ℕ) × NamesBit (key table.now) c b word operand }
     ensures own { Stays pass.old pass.new }
-    ensures told { (c : Class) (b : ℕ) → NamesBit (key table.now) c b word operand → Sets (key table.now) (call_of pass.old) c b (state pass.old) result (state pass.new) }
+    ensures told { (c : Class) (b : ℕ) → NamesBit (key table.now) c b word operand
+        → Sets (key table.now) (call_of pass.old) c b (state pass.old) result (state pass.new) }
 {
     or_said::<Brand>(table, pass, word as usize, operand)
 }
@@ -34,9 +35,11 @@ pub fn take_bit(table: &OakTable, pass: &mut Pass, word: u32, operand: u64) -> u
 /// `operand` all bits but that one. The pass holds the block no more.
 pub fn clear_bit(table: &OakTable, pass: &mut Pass, word: u32, operand: u64) -> u64
     requires own { IsPassOf table.now pass.old }
-    requires names { (c : Class) × (b : ℕ) × NamesMask (key table.now) c b word operand × HoldsBlock (key table.now) (class_number c) b (state pass.old).blocks }
+    requires names { (c : Class) × (b : ℕ) × NamesMask (key table.now) c b word operand × HoldsBlock (key table.now)
+        (class_number c) b (state pass.old).blocks }
     ensures own { Stays pass.old pass.new }
-    ensures told { (c : Class) (b : ℕ) → NamesMask (key table.now) c b word operand → Clears (key table.now) (call_of pass.old) c b (state pass.old) result (state pass.new) }
+    ensures told { (c : Class) (b : ℕ) → NamesMask (key table.now) c b word operand → Clears (key table.now)
+        (call_of pass.old) c b (state pass.old) result (state pass.new) }
 {
     and_said::<Brand>(table, pass, word as usize, operand)
 }
@@ -45,9 +48,12 @@ pub fn clear_bit(table: &OakTable, pass: &mut Pass, word: u32, operand: u64) -> 
 /// locked.
 pub fn store_word(table: &OakTable, pass: &mut Pass, word: u32, value: u64)
     requires own { IsPassOf table.now pass.old }
-    requires names { (o : BlockOwner) × (c : Class) × (b : ℕ) × (k : ℕ) × NamesWord (key table.now) c b k word × MayStoreTo (key table.now) o c b (state pass.old) }
+    requires names { (o : BlockOwner) × (c : Class) × (b : ℕ) × (k : ℕ) × NamesWord (key table.now) c b k word
+        × MayStoreTo (key table.now) o c b (state pass.old) }
     ensures own { Stays pass.old pass.new }
-    ensures told { (o : BlockOwner) (c : Class) (b k : ℕ) → NamesWord (key table.now) c b k word → MayStoreTo (key table.now) o c b (state pass.old) → Writes (key table.now) (call_of pass.old) o c b k value (state pass.old) (state pass.new) }
+    ensures told { (o : BlockOwner) (c : Class) (b k : ℕ) → NamesWord (key table.now) c b k word
+        → MayStoreTo (key table.now) o c b (state pass.old) → Writes (key table.now) (call_of pass.old) o c b k value
+        (state pass.old) (state pass.new) }
 {
     store_said::<Brand>(table, pass, word as usize, value);
 }

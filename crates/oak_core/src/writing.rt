@@ -1,3 +1,4 @@
+//! The scratch in which a recipe changes the bytes of a value.
 ghost use Rattle.std.specs.Prelude.{◌≡◌, ℕ, ◌<◌, ◌≤◌, ◌↔◌, IsTrue, [], IfOk, slice_index, slice_set, length, take};
 ghost use Rattle.std.specs.List.{refill};
 ghost use Rattle.std.specs.Borrow.{Lends, Array, sem, u8 as byte};

@@ -1,3 +1,4 @@
+//! Tests of passes: how many a shape allows, and that a new one looks at a table that was used.
 ghost use Rattle.std.specs.Prelude.{◌≡◌, ◌<◌, length, slice_index};
 ghost use Rattle.oak_core.specs.PassState.{HoldsNothing, IsAlone};
 ghost use Rattle.oak_core.specs.Opening.{first_state};

@@ -17,8 +17,8 @@ use Rattle.oak_core.specs.declared.states.PassState.{PassState}
 use Rattle.oak_core.specs.KeyHistories.{writes_of}
 use Rattle.oak_core.specs.PassState.{HoldsNothing, seen_of}
 use Rattle.oak_core.specs.RoomLacks.{ClaimsFull}
-use Rattle.oak_core.proofs.CallSteps.{sights_same}
-use Rattle.oak_core.proofs.FullClaims.{claims_both, claims_none}
+use Rattle.oak_core.proofs.calls.CallSteps.{sights_same}
+use Rattle.oak_core.proofs.covers.FullClaims.{claims_both, claims_none}
 use Rattle.point_ops.specs.Parts.{WroteFits}
 use Rattle.point_ops.specs.Replies.{FoundForReply, MineAfter, RepliesAt}
 use Rattle.point_ops.proofs.Composed.{sighted_in}

@@ -12,9 +12,9 @@ use Rattle.chunk_core.specs.Spans.{Span}
 use Rattle.oak_core.specs.declared.states.PassState.{PassState}
 use Rattle.oak_core.specs.PassState.{HoldsNothing}
 use Rattle.oak_core.specs.QuietSteps.{IsQuiet}
-use Rattle.oak_core.proofs.AloneRuns.{Then, runs_as, runs_then}
-use Rattle.oak_core.proofs.CallSteps.{stands_both}
-use Rattle.oak_core.proofs.QuietCalls as steps
+use Rattle.oak_core.proofs.seats.AloneRuns.{Then, runs_as, runs_then}
+use Rattle.oak_core.proofs.calls.CallSteps.{stands_both}
+use Rattle.oak_core.proofs.calls.QuietCalls as steps
 use Rattle.chunk_ops.specs.AskedRanges.{CoversKey}
 use Rattle.chunk_ops.specs.PinRecords.{HasRoomPin, OnlyMeets, WordsStay, room_pin, with_room_pin}
 use Rattle.chunk_ops.specs.PinnedBounds.{high_bound, low_bound, low_length}

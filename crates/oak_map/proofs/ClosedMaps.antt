@@ -12,7 +12,7 @@ use Rattle.oak_core.specs.Closing.{closed_key, closed_map, closed_state, closed_
 use Rattle.oak_core.specs.KeyHistories.{state_behind, writes_of}
 use Rattle.oak_core.specs.PassState.{HoldsNothing, IsAlone, seen_of}
 use Rattle.oak_core.specs.Splitting.{Ends}
-use Rattle.oak_core.proofs.AloneRuns.{closed_words_are}
+use Rattle.oak_core.proofs.seats.AloneRuns.{closed_words_are}
 use Rattle.lone_counts.specs.LoneTable.{AllValued, LoneTable}
 use Rattle.lone_counts.specs.Maps.{last_states}
 use Rattle.lone_counts.proofs.MapChanges.{map_agrees}

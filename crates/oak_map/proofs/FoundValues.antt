@@ -9,8 +9,8 @@ use Rattle.oak_core.specs.AloneWords.{Runs}
 use Rattle.oak_core.specs.CallSteps.{Learns}
 use Rattle.oak_core.specs.PassState.{HoldsNothing, IsAlone}
 use Rattle.oak_core.specs.QuietSteps.{IsQuiet, Quiet}
-use Rattle.oak_core.proofs.CallSteps.{learns_none}
-use Rattle.oak_core.proofs.QuietCalls.{only_both, only_none}
+use Rattle.oak_core.proofs.calls.CallSteps.{learns_none}
+use Rattle.oak_core.proofs.calls.QuietCalls.{only_both, only_none}
 use Rattle.chunk_ops.specs.Latching.{Never}
 use Rattle.chunk_ops.proofs.MeetingCalls.{stays_then}
 use Rattle.value_ops.specs.declared.views.NoRead.{NoRead}

@@ -15,8 +15,8 @@ use Rattle.oak_core.specs.CountReads.{SightedBare}
 use Rattle.oak_core.specs.Lack.{Lacks, TookBut}
 use Rattle.oak_core.specs.Noting.{Notes}
 use Rattle.oak_core.specs.QuietSteps.{MetOnly}
-use Rattle.oak_core.proofs.CallSteps.{begins_same}
-use Rattle.oak_core.proofs.KnownReads.{read_since, read_stays}
+use Rattle.oak_core.proofs.calls.CallSteps.{begins_same}
+use Rattle.oak_core.proofs.known.KnownReads.{read_since, read_stays}
 use Rattle.chunk_ops.specs.PinRecords.{OnlyMeets}
 use Rattle.point_ops.specs.declared.halts.Halt.{Halt}
 use Rattle.point_ops.specs.declared.halts.Halt.TheVariants.{Busy, Moved, NoHeader}

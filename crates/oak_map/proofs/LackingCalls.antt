@@ -21,8 +21,8 @@ use Rattle.oak_core.specs.Memory.{Spot, in_headers, index}
 use Rattle.oak_core.specs.PassState.{bare_state}
 use Rattle.oak_core.specs.QuietSteps.{MetOnly}
 use Rattle.oak_core.specs.Usage.{is_free}
-use Rattle.oak_core.proofs.CallSteps.{met_both}
-use Rattle.oak_core.proofs.MetLists.{at_behind, at_inside, each_at, from_behind}
+use Rattle.oak_core.proofs.calls.CallSteps.{met_both}
+use Rattle.oak_core.proofs.memory.MetLists.{at_behind, at_inside, each_at, from_behind}
 use Rattle.point_ops.specs.FoundWords.{FoundApart, FoundHad, FoundWord}
 use Rattle.point_ops.specs.Halting.{AllTaken, IsTaken, NoneFree}
 use Rattle.rebalance.specs.Calls.{SweepsKey}

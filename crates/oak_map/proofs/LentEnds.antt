@@ -24,9 +24,9 @@ use Rattle.oak_core.specs.PassState.{HoldsNothing, IsAlone, seen_of}
 use Rattle.oak_core.specs.QuietSteps.{IsQuiet, Quiet}
 use Rattle.oak_core.specs.RebalanceSteps.{KeepsRooms}
 use Rattle.oak_core.specs.Step.{on_headers}
-use Rattle.oak_core.proofs.AloneRuns.{Then, moment_after, runs_as, runs_then}
-use Rattle.oak_core.proofs.CallSteps.{stands_both, stands_learns}
-use Rattle.oak_core.proofs.QuietCalls.{only_both, quiet_loads}
+use Rattle.oak_core.proofs.seats.AloneRuns.{Then, moment_after, runs_as, runs_then}
+use Rattle.oak_core.proofs.calls.CallSteps.{stands_both, stands_learns}
+use Rattle.oak_core.proofs.calls.QuietCalls.{only_both, quiet_loads}
 use Rattle.chunk_ops.specs.RoomPins.{HadMoment}
 use Rattle.chunk_ops.proofs.MeetingCalls.{then_stays}
 use Rattle.value_ops.specs.declared.pinned_value.PinnedValue.{PinnedValue}

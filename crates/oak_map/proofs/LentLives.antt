@@ -7,7 +7,7 @@ use Rattle.oak_core.specs.CallSteps.{Learns}
 use Rattle.oak_core.specs.Passes.{key as table_sizes}
 use Rattle.oak_core.specs.PassState.{HoldsNothing}
 use Rattle.oak_core.specs.QuietSteps.{IsQuiet}
-use Rattle.oak_core.proofs.QuietCalls.{only_both}
+use Rattle.oak_core.proofs.calls.QuietCalls.{only_both}
 use Rattle.chunk_ops.proofs.MeetingCalls.{then_stays}
 use Rattle.value_ops.specs.declared.reading.Reading.{Reading}
 use Rattle.value_ops.specs.Pinning.{AddsPin, KnowsLife}

@@ -20,10 +20,10 @@ use Rattle.oak_core.specs.Passes.{key as table_sizes}
 use Rattle.oak_core.specs.PassState.{HoldsNothing, IsAlone, seen_of}
 use Rattle.oak_core.specs.QuietSteps.{IsQuiet}
 use Rattle.oak_core.specs.Step.{load}
-use Rattle.oak_core.proofs.AloneRuns.{moment_after}
-use Rattle.oak_core.proofs.CallSteps.{learns_both, sights_same}
-use Rattle.oak_core.proofs.KnownReads.{read_since}
-use Rattle.oak_core.proofs.QuietCalls.{only_both}
+use Rattle.oak_core.proofs.seats.AloneRuns.{moment_after}
+use Rattle.oak_core.proofs.calls.CallSteps.{learns_both, sights_same}
+use Rattle.oak_core.proofs.known.KnownReads.{read_since}
+use Rattle.oak_core.proofs.calls.QuietCalls.{only_both}
 use Rattle.chunk_ops.proofs.MeetingCalls.{then_stays}
 use Rattle.value_ops.specs.declared.reading.Reading.{Reading}
 use Rattle.value_ops.specs.Pinning.{AddsPin, KnowsLife, PinsLive, pin_of}

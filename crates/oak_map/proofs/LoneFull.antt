@@ -19,7 +19,7 @@ use Rattle.oak_core.specs.Memory.{memory}
 use Rattle.oak_core.specs.Noting.{Notes}
 use Rattle.oak_core.specs.PassState.{HoldsNothing, IsAlone, seen_of}
 use Rattle.oak_core.specs.Step.{note_full}
-use Rattle.oak_core.proofs.AloneRuns.{moment_before, note_runs}
+use Rattle.oak_core.proofs.seats.AloneRuns.{moment_before, note_runs}
 use Rattle.chunk_ops.specs.FindsAlone.{IsUsed, used_key}
 use Rattle.lone_counts.specs.Lacks.{new_lack}
 use Rattle.lone_counts.specs.LoneTable.{LoneTable, retired_in}

@@ -16,7 +16,7 @@ use Rattle.oak_core.specs.Memory.{memory}
 use Rattle.oak_core.specs.Noting.{Notes}
 use Rattle.oak_core.specs.PassState.{HoldsNothing, IsAlone, seen_of}
 use Rattle.oak_core.specs.Step.{note_full}
-use Rattle.oak_core.proofs.AloneRuns.{moment_after}
+use Rattle.oak_core.proofs.seats.AloneRuns.{moment_after}
 use Rattle.chunk_ops.specs.FindsAlone.{IsUsed, used_key}
 use Rattle.lone_counts.specs.LoneTable.{LoneTable}
 use Rattle.lone_counts.specs.Maps.{last_states}

@@ -14,7 +14,7 @@ use Rattle.oak_model.specs.State.{State}
 use Rattle.oak_core.specs.declared.states.PassState.{PassState}
 use Rattle.oak_core.specs.AloneWords.{Runs}
 use Rattle.oak_core.specs.PassState.{HoldsNothing, IsAlone, seen_of}
-use Rattle.oak_core.proofs.AloneRuns.{runs_none}
+use Rattle.oak_core.proofs.seats.AloneRuns.{runs_none}
 use Rattle.lone_counts.specs.LoneTable.{AllValued, retired_in}
 use Rattle.lone_counts.specs.Maps.{IsMapOf, last_states}
 use Rattle.lone_counts.proofs.LoneMaps.{table_map}

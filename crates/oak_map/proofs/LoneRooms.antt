@@ -13,7 +13,7 @@ use Rattle.oak_model.specs.State.{State}
 use Rattle.oak_core.specs.declared.states.PassState.{PassState}
 use Rattle.oak_core.specs.AloneWords.{LeavesWords, Runs, RunsTo}
 use Rattle.oak_core.specs.PassState.{IsAlone}
-use Rattle.oak_core.proofs.AloneRuns.{Then, runs_as, runs_none, runs_then}
+use Rattle.oak_core.proofs.seats.AloneRuns.{Then, runs_as, runs_none, runs_then}
 use Rattle.lone_counts.specs.Maps.{last_states}
 use Rattle.point_ops.specs.declared.halts.Halt.{Halt}
 use Rattle.point_ops.specs.declared.halts.Halt.TheVariants.{Busy, Moved, Crowded, NoBlock, NoHeader}

@@ -11,7 +11,7 @@ use Rattle.chunk_core.specs.LinkedEntries.{entries_in}
 use Rattle.chunk_core.specs.Spans.{within}
 use Rattle.oak_core.specs.declared.states.PassState.{PassState}
 use Rattle.oak_core.specs.AloneWords.{LeavesWords, Runs, RunsTo}
-use Rattle.oak_core.proofs.AloneRuns.{runs_none}
+use Rattle.oak_core.proofs.seats.AloneRuns.{runs_none}
 use Rattle.point_ops.specs.declared.halts.Halt.{Halt}
 use Rattle.point_ops.specs.declared.halts.Halt.TheVariants.{Busy, Moved, Crowded, NoBlock, NoHeader}
 use Rattle.point_ops.specs.LonePuts.{LoneHalts}

@@ -6,7 +6,7 @@ use Rattle.header_core.specs.Headers.{at_pin}
 use Rattle.oak_core.specs.declared.states.PassState.{PassState}
 use Rattle.oak_core.specs.Memory.{in_headers}
 use Rattle.oak_core.specs.PassState.{HoldsNothing, IsAlone}
-use Rattle.oak_core.proofs.Words.{memory_read}
+use Rattle.oak_core.proofs.memory.Words.{memory_read}
 use Rattle.value_ops.specs.declared.views.NoRead.TheVariants.{Busy}
 use Rattle.value_ops.specs.Views.{NotRead, Viewed}
 use Rattle.lone_counts.proofs.TableCounts.{none_locked}

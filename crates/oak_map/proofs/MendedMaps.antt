@@ -5,7 +5,7 @@ use Rattle.oak_model.proofs.Lists.{begins_trans}
 use Rattle.oak_core.specs.declared.states.PassState.{PassState}
 use Rattle.oak_core.specs.declared.states.Rebalanced.{Rebalanced}
 use Rattle.oak_core.specs.PassState.{HoldsNothing}
-use Rattle.oak_core.proofs.CallSteps.{begins_same, met_both}
+use Rattle.oak_core.proofs.calls.CallSteps.{begins_same, met_both}
 use Rattle.chunk_ops.specs.PinRecords.{OnlyMeets}
 use Rattle.chunk_ops.specs.RoomPins.{HadMoment}
 use Rattle.chunk_ops.proofs.MeetingCalls.{then_stays}

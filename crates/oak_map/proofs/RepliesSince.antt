@@ -17,8 +17,8 @@ use Rattle.oak_core.specs.declared.states.Numbers.{Numbers}
 use Rattle.oak_core.specs.declared.states.PassState.{PassState}
 use Rattle.oak_core.specs.KeyHistories.{writes_of}
 use Rattle.oak_core.specs.PassState.{seen_of}
-use Rattle.oak_core.proofs.CallSteps.{learns_both, met_both, sights_both, sights_same}
-use Rattle.oak_core.proofs.Remembering.{extends_then, remembers_then}
+use Rattle.oak_core.proofs.calls.CallSteps.{learns_both, met_both, sights_both, sights_same}
+use Rattle.oak_core.proofs.known.Remembering.{extends_then, remembers_then}
 use Rattle.point_ops.specs.Gets.{GotFits}
 use Rattle.point_ops.specs.Parts.{WroteFits}
 use Rattle.point_ops.specs.Replies.{FoundForReply, GoesOn, HoldsAsBefore, MineAfter, Refuses, RepliesAt}

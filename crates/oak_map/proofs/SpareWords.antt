@@ -23,9 +23,9 @@ use Rattle.oak_core.specs.KeyHistories.{IsKeyOf}
 use Rattle.oak_core.specs.Memory.{Memory, in_arena, in_headers, in_rooms, memory}
 use Rattle.oak_core.specs.Owners.{other_owners}
 use Rattle.oak_core.specs.PassState.{blocks_of, rooms_held}
-use Rattle.oak_core.proofs.EntryBlocks.{key_some}
-use Rattle.oak_core.proofs.KeyPlaces.{key_word_few, word_is_key}
-use Rattle.oak_core.proofs.OwnerLaws.{names_itself}
+use Rattle.oak_core.proofs.owners.EntryBlocks.{key_some}
+use Rattle.oak_core.proofs.keyed.KeyPlaces.{key_word_few, word_is_key}
+use Rattle.oak_core.proofs.owners.OwnerLaws.{names_itself}
 use Rattle.chunk_ops.specs.FindsAlone.{IsUsed, used_key}
 use Rattle.point_ops.specs.LoneInserts.{IsClearIn, SpareOnly}
 

@@ -7,8 +7,8 @@ use Rattle.oak_model.specs.Limits.{Sizes}
 use Rattle.oak_core.specs.declared.states.PassState.{PassState}
 use Rattle.oak_core.specs.AloneWords.{Runs, RunsTo}
 use Rattle.oak_core.specs.PassState.{IsAlone}
-use Rattle.oak_core.proofs.AloneRuns.{runs_as}
-use Rattle.oak_core.proofs.FullClaims.{claims_none}
+use Rattle.oak_core.proofs.seats.AloneRuns.{runs_as}
+use Rattle.oak_core.proofs.covers.FullClaims.{claims_none}
 use Rattle.chunk_ops.specs.Latching.{Never}
 use Rattle.point_ops.specs.declared.halts.Halt.{Halt}
 use Rattle.point_ops.specs.Halting.{Halts}

@@ -11,8 +11,8 @@ use Rattle.oak_core.specs.KnownPlaces.{KnowsPlace}
 use Rattle.oak_core.specs.PassState.{HoldsNothing, seen_of}
 use Rattle.oak_core.specs.RebalanceSteps.{KeepsRooms}
 use Rattle.oak_core.specs.RoomLacks.{ClaimsFull}
-use Rattle.oak_core.proofs.CallSteps.{begins_same, learns_none, sights_same}
-use Rattle.oak_core.proofs.FullClaims.{claims_both, claims_none}
+use Rattle.oak_core.proofs.calls.CallSteps.{begins_same, learns_none, sights_same}
+use Rattle.oak_core.proofs.covers.FullClaims.{claims_both, claims_none}
 use Rattle.point_ops.specs.Replies.{HoldsAsBefore, Refuses}
 use Rattle.point_ops.proofs.ReplyLaws.{learns_on}
 use Rattle.rebalance.specs.Calls.{Leaves}

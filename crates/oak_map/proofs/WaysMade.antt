@@ -5,10 +5,10 @@ use Rattle.oak_model.specs.declared.replies.Lack.{Lack}
 use Rattle.oak_model.specs.declared.replies.Lack.TheVariants.{Block, Header, Room}
 use Rattle.oak_model.specs.Limits.{Sizes}
 use Rattle.oak_core.specs.declared.states.PassState.{PassState}
-use Rattle.oak_core.proofs.FullClaims.{claims_none}
+use Rattle.oak_core.proofs.covers.FullClaims.{claims_none}
 use Rattle.chunk_ops.specs.PinRecords.{OnlyMeets}
 use Rattle.point_ops.specs.declared.halts.Halt.{Halt}
-use Rattle.oak_map.specs.declared.making_room.Way.TheVariants.{Halted, Loosened, Opened}
+use Rattle.oak_map.specs.declared.going_on.Way.TheVariants.{Halted, Loosened, Opened}
 use Rattle.oak_map.specs.MakingRoom.{FindsBusy, FindsWay, IsLacking, IsRefused, MakesWay, TriesAgain}
 use Rattle.oak_map.specs.Replying.{Tries}
 use Rattle.oak_map.proofs.GoingCalls.{waits_way}

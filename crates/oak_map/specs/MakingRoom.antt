@@ -10,8 +10,8 @@ use Rattle.point_ops.specs.declared.halts.Halt.{Halt}
 use Rattle.point_ops.specs.declared.halts.Halt.TheVariants.{Busy, Moved, Crowded, NoBlock, NoHeader}
 use Rattle.rebalance.specs.Busy.{GivesUp}
 use Rattle.rebalance.specs.Calls.{FindsNoRoom, Halves, Loosens, Settles}
-use Rattle.oak_map.specs.declared.making_room.Way.{Way}
-use Rattle.oak_map.specs.declared.making_room.Way.TheVariants.{Halted, Loosened, Opened, Lacks}
+use Rattle.oak_map.specs.declared.going_on.Way.{Way}
+use Rattle.oak_map.specs.declared.going_on.Way.TheVariants.{Halted, Loosened, Opened, Lacks}
 
 -- ---- what is to be done
 

@@ -55,11 +55,13 @@ pub(crate) trait Asking {
         requires few { times self.old < 2 ^ 64 - 1 }
         ensures own { StaysAsUsed uses_scratch pass.old pass.new }
         ensures wrote { IfOk result (λ x. WroteFits x (call_of pass.old) key.now (ask self.old value.now) (state pass.old) (state pass.new)) }
-        ensures alone_reply { IfOk result (λ x. IsAlone (state pass.old) → WroteAlone x (sizes table.now) key.now (ask self.old value.now) (state pass.old) (state pass.new)) }
+        ensures alone_reply { IfOk result (λ x. IsAlone (state pass.old) → WroteAlone x (sizes table.now) key.now
+            (ask self.old value.now) (state pass.old) (state pass.new)) }
         ensures ended { IfOk result (λ _. HadMoment (sizes table.now) (state pass.new)) }
         ensures refused { IfErr result (λ _. Refuses (call_of pass.old) (state pass.old) (state pass.new)) }
         ensures alone_same { IfErr result (λ _. SameAlone (sizes table.now) (state pass.old) (state pass.new)) }
-        ensures halted { IfErr result (λ why. Halts why (sizes table.now) (call_of pass.old) key.now (ask self.old value.now) (state pass.old) (state pass.new)) }
+        ensures halted { IfErr result (λ why. Halts why (sizes table.now) (call_of pass.old) key.now
+            (ask self.old value.now) (state pass.old) (state pass.new)) }
         ensures alone { Runs (PutsIn result (sizes table.now) key.now value.now) (state pass.old) (state pass.new) }
         ensures asks { ask self.new value.now ≡ ask self.old value.now }
         ensures counted { times self.new ≡ times self.old + times_done result }

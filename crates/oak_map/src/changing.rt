@@ -45,8 +45,10 @@ impl<R: Wait + Drop + Send> OakMap<R> {
         ensures own { StaysButScratch (pass_of pass.old) (pass_of pass.new) }
         ensures ready { IsReady self.now pass.new }
         ensures holds { HoldsAsBefore (state pass.old) (state pass.new) }
-        ensures wrote { WroteFits result (call_of pass.old) key.now (Compute (told_kind recipe.old) (told_argument recipe.old)) (state pass.old) (state pass.new) }
-        ensures alone_reply { IsAlone (state pass.old) → WroteAlone result (sizes self.now) key.now (Compute (told_kind recipe.old) (told_argument recipe.old)) (state pass.old) (state pass.new) }
+        ensures wrote { WroteFits result (call_of pass.old) key.now
+            (Compute (told_kind recipe.old) (told_argument recipe.old)) (state pass.old) (state pass.new) }
+        ensures alone_reply { IsAlone (state pass.old) → WroteAlone result (sizes self.now) key.now
+            (Compute (told_kind recipe.old) (told_argument recipe.old)) (state pass.old) (state pass.new) }
         ensures alone_left { Runs (LeavesBy result (sizes self.now) key.now) (state pass.old) (state pass.new) }
         ensures counted { calls recipe.new ≡ calls recipe.old + times_done (Ok result) }
         ensures fed { Feeds (Ok result) key.now (fed recipe.old) (fed recipe.new) (state pass.new) }
@@ -80,10 +82,14 @@ impl<R: Wait + Drop + Send> OakMap<R> {
         ensures own { StaysButScratch (pass_of pass.old) (pass_of pass.new) }
         ensures ready { IsReady self.now pass.new }
         ensures holds { HoldsAsBefore (state pass.old) (state pass.new) }
-        ensures wrote { IfOk result (λ x. WroteFits x (call_of pass.old) key.now (Compute (told_kind recipe.old) (told_argument recipe.old)) (state pass.old) (state pass.new)) }
-        ensures alone_reply { IfOk result (λ x. IsAlone (state pass.old) → WroteAlone x (sizes self.now) key.now (Compute (told_kind recipe.old) (told_argument recipe.old)) (state pass.old) (state pass.new)) }
+        ensures wrote { IfOk result (λ x. WroteFits x (call_of pass.old) key.now
+            (Compute (told_kind recipe.old) (told_argument recipe.old)) (state pass.old) (state pass.new)) }
+        ensures alone_reply { IfOk result (λ x. IsAlone (state pass.old) → WroteAlone x (sizes self.now) key.now
+            (Compute (told_kind recipe.old) (told_argument recipe.old)) (state pass.old) (state pass.new)) }
         ensures alone_left { IfOk result (λ x. Runs (LeavesBy x (sizes self.now) key.now) (state pass.old) (state pass.new)) }
-        ensures busy { IfErr result (λ _. GivesUp (IsHalted (sizes self.now) (call_of pass.old) key.now (Compute (told_kind recipe.old) (told_argument recipe.old))) (call_of pass.old) looks (state pass.old) (state pass.new)) }
+        ensures busy { IfErr result (λ _. GivesUp (IsHalted (sizes self.now) (call_of pass.old) key.now
+            (Compute (told_kind recipe.old) (told_argument recipe.old))) (call_of pass.old) looks (state pass.old)
+            (state pass.new)) }
         ensures counted { IfOk result (λ x. calls recipe.new ≡ calls recipe.old + times_done (Ok x)) }
         ensures uncounted { IfErr result (λ _. calls recipe.new ≡ calls recipe.old) }
         ensures fed { IfOk result (λ x. Feeds (Ok x) key.now (fed recipe.old) (fed recipe.new) (state pass.new)) }
@@ -129,9 +135,11 @@ impl<R: Wait + Drop + Send> OakMap<R> {
         ensures ready { IsReady self.now pass.new }
         ensures holds { HoldsAsBefore (state pass.old) (state pass.new) }
         ensures wrote { IfOk result (λ x. WroteFits x (call_of pass.old) key.now Remove (state pass.old) (state pass.new)) }
-        ensures alone_reply { IfOk result (λ x. IsAlone (state pass.old) → WroteAlone x (sizes self.now) key.now Remove (state pass.old) (state pass.new)) }
+        ensures alone_reply { IfOk result (λ x. IsAlone (state pass.old)
+            → WroteAlone x (sizes self.now) key.now Remove (state pass.old) (state pass.new)) }
         ensures alone_left { IfOk result (λ x. Runs (LeavesBy x (sizes self.now) key.now) (state pass.old) (state pass.new)) }
-        ensures busy { IfErr result (λ _. GivesUp (IsHalted (sizes self.now) (call_of pass.old) key.now Remove) (call_of pass.old) looks (state pass.old) (state pass.new)) }
+        ensures busy { IfErr result (λ _. GivesUp (IsHalted (sizes self.now) (call_of pass.old) key.now Remove)
+            (call_of pass.old) looks (state pass.old) (state pass.new)) }
     {
         bare::try_remove(&self.table, &mut pass.pass, key, looks)
     }

@@ -58,10 +58,14 @@ pub(crate) fn try_find_value(
     requires key { IsKey key.now }
     requires some { 0 < looks }
     ensures own { Stays pass.old pass.new }
-    ensures absent { IfOk result (λ found. IfErr found (λ at. FindsAbsent (sizes table.now) (call_of pass.old) key.now at (state pass.old) (state pass.new))) }
-    ensures pinned { IfOk result (λ found. IfOk found (λ p. PinsKey (sizes table.now) (call_of pass.old) key.now p.header p.generation (state pass.old) (state pass.new))) }
+    ensures absent { IfOk result (λ found. IfErr found
+        (λ at. FindsAbsent (sizes table.now) (call_of pass.old) key.now at (state pass.old) (state pass.new))) }
+    ensures pinned { IfOk result (λ found. IfOk found
+        (λ p. PinsKey (sizes table.now) (call_of pass.old) key.now p.header p.generation (state pass.old)
+        (state pass.new))) }
     ensures quiet { IfErr result (λ _. Quiet (state pass.old) (state pass.new)) }
-    ensures busy { IfErr result (λ _. GivesUp (NotLent (sizes table.now) (call_of pass.old) key.now) (call_of pass.old) looks (state pass.old) (state pass.new)) }
+    ensures busy { IfErr result (λ _. GivesUp (NotLent (sizes table.now) (call_of pass.old) key.now)
+        (call_of pass.old) looks (state pass.old) (state pass.new)) }
 {
     for _ in 0..looks {
         match try_value(table, pass, key) {
@@ -110,7 +114,9 @@ pub(crate) fn try_find_life(
     requires some { 0 < looks }
     ensures own { Stays pass.old pass.new }
     ensures gone { IfOk result (λ found. IfNone found (FindsOver (sizes table.now) (call_of pass.old) view.now (state pass.old) (state pass.new))) }
-    ensures pinned { IfOk result (λ found. IfSome found (λ p. (p.header ≡ view.now.header) × (p.generation ≡ view.now.generation) × PinsView (sizes table.now) (call_of pass.old) view.now (state pass.old) (state pass.new))) }
+    ensures pinned { IfOk result (λ found. IfSome found
+        (λ p. (p.header ≡ view.now.header) × (p.generation ≡ view.now.generation) × PinsView (sizes table.now)
+        (call_of pass.old) view.now (state pass.old) (state pass.new))) }
     ensures busy { IfErr result (λ _. GivesUpLife (sizes table.now) (call_of pass.old) view.now looks (state pass.old) (state pass.new)) }
 {
     for _ in 0..looks {
@@ -135,7 +141,8 @@ pub(crate) fn find_life<R: Wait>(
     requires known { KnowsView (sizes table.now) view.now (state pass.old) }
     ensures own { Stays pass.old pass.new }
     ensures gone { IfNone result (FindsOver (sizes table.now) (call_of pass.old) view.now (state pass.old) (state pass.new)) }
-    ensures pinned { IfSome result (λ p. (p.header ≡ view.now.header) × (p.generation ≡ view.now.generation) × PinsView (sizes table.now) (call_of pass.old) view.now (state pass.old) (state pass.new)) }
+    ensures pinned { IfSome result (λ p. (p.header ≡ view.now.header) × (p.generation ≡ view.now.generation)
+        × PinsView (sizes table.now) (call_of pass.old) view.now (state pass.old) (state pass.new)) }
 {
     for _ in rt.forever() {
         if let Ok(found) = try_find_life(table, pass, view, LOOKS) {

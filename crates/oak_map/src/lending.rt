@@ -86,7 +86,8 @@ pub fn try_get_of<'p, R: Wait + Drop + Send>(
     requires idle { HoldsNothing (table_state pass.old) }
     requires key { IsKey key.now }
     requires some { 0 < looks }
-    ensures* rests { sem 𝓛 (RestsIfErr table_pass.the_row pass.entry (λ r. r.pass.ghost_name) result (λ n. IfErr result (λ why. RestsWithout (sizes map.now) key.now looks why pass.old n))) }
+    ensures* rests { sem 𝓛 (RestsIfErr table_pass.the_row pass.entry (λ r. r.pass.ghost_name) result
+        (λ n. IfErr result (λ why. RestsWithout (sizes map.now) key.now looks why pass.old n))) }
     ensures same_reference { IfOk result (λ r. r.pass.ghost_name ≡ pass.entry.ghost_name) }
     ensures lends { IfOk result (λ r. LendsFor (table_of map.now) key.now pass.old r) }
 {
@@ -104,7 +105,8 @@ pub fn try_look_of<'p, R: Wait + Drop + Send>(
     requires idle { HoldsNothing (table_state pass.old) }
     requires known { KnowsView (sizes map.now) view.now (table_state pass.old) }
     requires some { 0 < looks }
-    ensures* rests { sem 𝓛 (RestsIfErr table_pass.the_row pass.entry (λ r. r.pass.ghost_name) result (λ n. IfErr result (λ why. RestsUnseen (sizes map.now) view.now looks why pass.old n))) }
+    ensures* rests { sem 𝓛 (RestsIfErr table_pass.the_row pass.entry (λ r. r.pass.ghost_name) result
+        (λ n. IfErr result (λ why. RestsUnseen (sizes map.now) view.now looks why pass.old n))) }
     ensures same_reference { IfOk result (λ r. r.pass.ghost_name ≡ pass.entry.ghost_name) }
     ensures lends { IfOk result (λ r. LendsLifeFor (table_of map.now) view.now pass.old r) }
 {

@@ -11,6 +11,7 @@ mod error_tests;
 mod finding;
 #[cfg(test)]
 mod giving_up_tests;
+mod going_on;
 mod hinted;
 #[cfg(test)]
 mod index_tests;
@@ -19,8 +20,6 @@ mod leaving;
 mod lending;
 #[cfg(test)]
 mod lending_tests;
-mod looking;
-mod making_room;
 mod map;
 mod mending;
 mod publishing;
@@ -40,6 +39,7 @@ mod thread_tests;
 #[cfg(test)]
 mod try_put_tests;
 mod try_putting;
+mod viewing;
 mod waiting;
 #[cfg(test)]
 mod worn_tests;

@@ -117,7 +117,8 @@ impl<R: Wait + Drop + Send> OakMap<R> {
         ensures new { IfOk result (λ p. IsReady self.now p × (call_of p ≡ 0)) }
         ensures split { IfOk result (λ p. SplitsOff (sizes self.now) (call_of pass.old) (state pass.old) (state pass.new) (state p)) }
         ensures refused { IfErr result (λ _. LooksAtGiven (call_of pass.old) (state pass.old) (state pass.new)) }
-        ensures limit { (made : ℕ) → result ≡ Err (SplitFault.Limit made) → (made ≡ (sizes self.now).passes) × FindsAllGiven (sizes self.now) (call_of pass.old) (state pass.old) (state pass.new) }
+        ensures limit { (made : ℕ) → result ≡ Err (SplitFault.Limit made) → (made ≡ (sizes self.now).passes)
+            × FindsAllGiven (sizes self.now) (call_of pass.old) (state pass.old) (state pass.new) }
         ensures memory { result ≡ Err SplitFault.OutOfMemory → state pass.new ≡ state pass.old }
         ensures alone_given { IfOk result (λ p. GivesWords (state p).numbers.number (state pass.old) (state pass.new)) }
         ensures alone_refused { IfErr result (λ _. LeavesSame (state pass.old) (state pass.new)) }

@@ -17,7 +17,7 @@ ghost use Rattle.oak_map.specs.Stopping.{StopsTrying};
 
 use crate::answers::Busy;
 use crate::asking::Asking;
-use crate::making_room::{make_way, try_make_way};
+use crate::going_on::{make_way, try_make_way};
 use crate::map::OakMap;
 use oak_core::{OakTable, Pass};
 use oak_model::Wrote;
@@ -40,11 +40,16 @@ pub(crate) fn wait_to_put<R: Wait + Drop + Send, A: Asking>(
     requires few { A.times asking.old < 2 ^ 64 - 1 }
     ensures own { StaysAsUsed A.uses_scratch pass.old pass.new }
     ensures idle { HoldsNothing (state pass.new) }
-    ensures wrote { PutFits result (sizes (table_of map.now)) (call_of pass.old) key.now (A.ask asking.old value.now) (state pass.old) (state pass.new) }
+    ensures wrote { PutFits result (sizes (table_of map.now)) (call_of pass.old) key.now (A.ask asking.old value.now)
+        (state pass.old) (state pass.new) }
     ensures claims { ClaimsFull (sizes (table_of map.now)) (state pass.old) (state pass.new) }
-    ensures alone_reply { IsAlone (state pass.old) → PutAlone result (sizes (table_of map.now)) key.now (A.ask asking.old value.now) (state pass.old) (state pass.new) }
-    ensures alone { Runs (PutsAlone (sizes (table_of map.now)) key.now (A.ask asking.old value.now) (state pass.old) result) (state pass.old) (state pass.new) }
-    ensures alone_rooms { IsAlone (state pass.old) → Runs (RoomsAlone (sizes (table_of map.now)) key.now (A.ask asking.old value.now) (state pass.old) (state pass.new)) (state pass.old) (state pass.new) }
+    ensures alone_reply { IsAlone (state pass.old) → PutAlone result (sizes (table_of map.now)) key.now
+        (A.ask asking.old value.now) (state pass.old) (state pass.new) }
+    ensures alone { Runs (PutsAlone (sizes (table_of map.now)) key.now (A.ask asking.old value.now)
+        (state pass.old) result) (state pass.old) (state pass.new) }
+    ensures alone_rooms { IsAlone (state pass.old)
+        → Runs (RoomsAlone (sizes (table_of map.now)) key.now (A.ask asking.old value.now) (state pass.old)
+        (state pass.new)) (state pass.old) (state pass.new) }
     ensures asks { A.ask asking.new value.now ≡ A.ask asking.old value.now }
     ensures counted { A.times asking.new ≡ A.times asking.old + times_done (Ok result) }
     ensures fed { Feeds (Ok result) key.now (A.says asking.old) (A.says asking.new) (state pass.new) }
@@ -88,12 +93,18 @@ pub(crate) fn try_to_put<A: Asking>(
     requires some { 0 < looks }
     ensures own { StaysAsUsed A.uses_scratch pass.old pass.new }
     ensures idle { HoldsNothing (state pass.new) }
-    ensures wrote { IfOk result (λ x. PutFits x (sizes table.now) (call_of pass.old) key.now (A.ask asking.old value.now) (state pass.old) (state pass.new)) }
+    ensures wrote { IfOk result (λ x. PutFits x (sizes table.now) (call_of pass.old) key.now
+        (A.ask asking.old value.now) (state pass.old) (state pass.new)) }
     ensures claims { ClaimsFull (sizes table.now) (state pass.old) (state pass.new) }
-    ensures alone_reply { IfOk result (λ x. IsAlone (state pass.old) → PutAlone x (sizes table.now) key.now (A.ask asking.old value.now) (state pass.old) (state pass.new)) }
-    ensures alone { IfOk result (λ x. Runs (PutsAlone (sizes table.now) key.now (A.ask asking.old value.now) (state pass.old) x) (state pass.old) (state pass.new)) }
-    ensures alone_rooms { IfOk result (λ _. IsAlone (state pass.old) → Runs (RoomsAlone (sizes table.now) key.now (A.ask asking.old value.now) (state pass.old) (state pass.new)) (state pass.old) (state pass.new)) }
-    ensures busy { IfErr result (λ _. StopsTrying (sizes table.now) (call_of pass.old) looks key.now (A.ask asking.old value.now) (state pass.old) (state pass.new)) }
+    ensures alone_reply { IfOk result (λ x. IsAlone (state pass.old) → PutAlone x (sizes table.now) key.now
+        (A.ask asking.old value.now) (state pass.old) (state pass.new)) }
+    ensures alone { IfOk result (λ x. Runs (PutsAlone (sizes table.now) key.now (A.ask asking.old value.now)
+        (state pass.old) x) (state pass.old) (state pass.new)) }
+    ensures alone_rooms { IfOk result (λ _. IsAlone (state pass.old)
+        → Runs (RoomsAlone (sizes table.now) key.now (A.ask asking.old value.now) (state pass.old) (state pass.new))
+        (state pass.old) (state pass.new)) }
+    ensures busy { IfErr result (λ _. StopsTrying (sizes table.now) (call_of pass.old) looks key.now
+        (A.ask asking.old value.now) (state pass.old) (state pass.new)) }
     ensures asks { A.ask asking.new value.now ≡ A.ask asking.old value.now }
     ensures counted { IfOk result (λ x. A.times asking.new ≡ A.times asking.old + times_done (Ok x)) }
     ensures uncounted { IfErr result (λ _. A.times asking.new ≡ A.times asking.old) }

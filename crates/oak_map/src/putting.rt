@@ -41,7 +41,9 @@ impl<R: Wait + Drop + Send> OakMap<R> {
         ensures claims { ClaimsFull (sizes self.now) (state pass.old) (state pass.new) }
         ensures alone_reply { IsAlone (state pass.old) → PutAlone result (sizes self.now) key.now (Put value.now) (state pass.old) (state pass.new) }
         ensures alone { Runs (PutsAlone (sizes self.now) key.now (Put value.now) (state pass.old) result) (state pass.old) (state pass.new) }
-        ensures alone_rooms { IsAlone (state pass.old) → Runs (RoomsAlone (sizes self.now) key.now (Put value.now) (state pass.old) (state pass.new)) (state pass.old) (state pass.new) }
+        ensures alone_rooms { IsAlone (state pass.old)
+            → Runs (RoomsAlone (sizes self.now) key.now (Put value.now) (state pass.old) (state pass.new))
+            (state pass.old) (state pass.new) }
     {
         wait_to_put(rt, self, &mut pass.pass, key, value, &mut PutOver)
     }
@@ -57,9 +59,12 @@ impl<R: Wait + Drop + Send> OakMap<R> {
         ensures ready { IsReady self.now pass.new }
         ensures wrote { PutFits result (sizes self.now) (call_of pass.old) key.now (PutNew value.now) (state pass.old) (state pass.new) }
         ensures claims { ClaimsFull (sizes self.now) (state pass.old) (state pass.new) }
-        ensures alone_reply { IsAlone (state pass.old) → PutAlone result (sizes self.now) key.now (PutNew value.now) (state pass.old) (state pass.new) }
+        ensures alone_reply { IsAlone (state pass.old) → PutAlone result (sizes self.now) key.now (PutNew value.now)
+            (state pass.old) (state pass.new) }
         ensures alone { Runs (PutsAlone (sizes self.now) key.now (PutNew value.now) (state pass.old) result) (state pass.old) (state pass.new) }
-        ensures alone_rooms { IsAlone (state pass.old) → Runs (RoomsAlone (sizes self.now) key.now (PutNew value.now) (state pass.old) (state pass.new)) (state pass.old) (state pass.new) }
+        ensures alone_rooms { IsAlone (state pass.old)
+            → Runs (RoomsAlone (sizes self.now) key.now (PutNew value.now) (state pass.old) (state pass.new))
+            (state pass.old) (state pass.new) }
     {
         wait_to_put(rt, self, &mut pass.pass, key, value, &mut PutIfAbsent)
     }
@@ -82,11 +87,18 @@ impl<R: Wait + Drop + Send> OakMap<R> {
         requires few { calls recipe.old < 2 ^ 64 - 1 }
         ensures own { StaysButRoom (pass_of pass.old) (pass_of pass.new) }
         ensures ready { IsReady self.now pass.new }
-        ensures wrote { PutFits result (sizes self.now) (call_of pass.old) key.now (Upsert value.now (told_kind recipe.old) (told_argument recipe.old)) (state pass.old) (state pass.new) }
+        ensures wrote { PutFits result (sizes self.now) (call_of pass.old) key.now
+            (Upsert value.now (told_kind recipe.old) (told_argument recipe.old)) (state pass.old) (state pass.new) }
         ensures claims { ClaimsFull (sizes self.now) (state pass.old) (state pass.new) }
-        ensures alone_reply { IsAlone (state pass.old) → PutAlone result (sizes self.now) key.now (Upsert value.now (told_kind recipe.old) (told_argument recipe.old)) (state pass.old) (state pass.new) }
-        ensures alone { Runs (PutsAlone (sizes self.now) key.now (Upsert value.now (told_kind recipe.old) (told_argument recipe.old)) (state pass.old) result) (state pass.old) (state pass.new) }
-        ensures alone_rooms { IsAlone (state pass.old) → Runs (RoomsAlone (sizes self.now) key.now (Upsert value.now (told_kind recipe.old) (told_argument recipe.old)) (state pass.old) (state pass.new)) (state pass.old) (state pass.new) }
+        ensures alone_reply { IsAlone (state pass.old) → PutAlone result (sizes self.now) key.now
+            (Upsert value.now (told_kind recipe.old) (told_argument recipe.old)) (state pass.old) (state pass.new) }
+        ensures alone { Runs (PutsAlone (sizes self.now) key.now
+            (Upsert value.now (told_kind recipe.old) (told_argument recipe.old)) (state pass.old) result)
+            (state pass.old) (state pass.new) }
+        ensures alone_rooms { IsAlone (state pass.old)
+            → Runs (RoomsAlone (sizes self.now) key.now
+            (Upsert value.now (told_kind recipe.old) (told_argument recipe.old)) (state pass.old) (state pass.new))
+            (state pass.old) (state pass.new) }
         ensures counted { calls recipe.new ≡ calls recipe.old + times_done (Ok result) }
         ensures fed { Feeds (Ok result) key.now (fed recipe.old) (fed recipe.new) (state pass.new) }
         ensures alone_fed { IsAlone (state pass.old) → FeedsAlone (Ok result) key.now (fed recipe.new) (state pass.old) }

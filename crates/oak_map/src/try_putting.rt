@@ -41,10 +41,15 @@ impl<R: Wait + Drop + Send> OakMap<R> {
         ensures ready { IsReady self.now pass.new }
         ensures wrote { IfOk result (λ x. PutFits x (sizes self.now) (call_of pass.old) key.now (Put value.now) (state pass.old) (state pass.new)) }
         ensures claims { ClaimsFull (sizes self.now) (state pass.old) (state pass.new) }
-        ensures alone_reply { IfOk result (λ x. IsAlone (state pass.old) → PutAlone x (sizes self.now) key.now (Put value.now) (state pass.old) (state pass.new)) }
-        ensures alone { IfOk result (λ x. Runs (PutsAlone (sizes self.now) key.now (Put value.now) (state pass.old) x) (state pass.old) (state pass.new)) }
-        ensures alone_rooms { IfOk result (λ _. IsAlone (state pass.old) → Runs (RoomsAlone (sizes self.now) key.now (Put value.now) (state pass.old) (state pass.new)) (state pass.old) (state pass.new)) }
-        ensures busy { IfErr result (λ _. StopsTrying (sizes self.now) (call_of pass.old) looks key.now (Put value.now) (state pass.old) (state pass.new)) }
+        ensures alone_reply { IfOk result (λ x. IsAlone (state pass.old) → PutAlone x (sizes self.now) key.now
+            (Put value.now) (state pass.old) (state pass.new)) }
+        ensures alone { IfOk result (λ x. Runs (PutsAlone (sizes self.now) key.now (Put value.now) (state pass.old) x)
+            (state pass.old) (state pass.new)) }
+        ensures alone_rooms { IfOk result (λ _. IsAlone (state pass.old)
+            → Runs (RoomsAlone (sizes self.now) key.now (Put value.now) (state pass.old) (state pass.new))
+            (state pass.old) (state pass.new)) }
+        ensures busy { IfErr result (λ _. StopsTrying (sizes self.now) (call_of pass.old) looks key.now
+            (Put value.now) (state pass.old) (state pass.new)) }
     {
         bare::try_put(&self.table, &mut pass.pass, key, value, looks)
     }
@@ -65,12 +70,18 @@ impl<R: Wait + Drop + Send> OakMap<R> {
         requires some { 0 < looks }
         ensures own { StaysButSlots (pass_of pass.old) (pass_of pass.new) }
         ensures ready { IsReady self.now pass.new }
-        ensures wrote { IfOk result (λ x. PutFits x (sizes self.now) (call_of pass.old) key.now (PutNew value.now) (state pass.old) (state pass.new)) }
+        ensures wrote { IfOk result (λ x. PutFits x (sizes self.now) (call_of pass.old) key.now (PutNew value.now)
+            (state pass.old) (state pass.new)) }
         ensures claims { ClaimsFull (sizes self.now) (state pass.old) (state pass.new) }
-        ensures alone_reply { IfOk result (λ x. IsAlone (state pass.old) → PutAlone x (sizes self.now) key.now (PutNew value.now) (state pass.old) (state pass.new)) }
-        ensures alone { IfOk result (λ x. Runs (PutsAlone (sizes self.now) key.now (PutNew value.now) (state pass.old) x) (state pass.old) (state pass.new)) }
-        ensures alone_rooms { IfOk result (λ _. IsAlone (state pass.old) → Runs (RoomsAlone (sizes self.now) key.now (PutNew value.now) (state pass.old) (state pass.new)) (state pass.old) (state pass.new)) }
-        ensures busy { IfErr result (λ _. StopsTrying (sizes self.now) (call_of pass.old) looks key.now (PutNew value.now) (state pass.old) (state pass.new)) }
+        ensures alone_reply { IfOk result (λ x. IsAlone (state pass.old) → PutAlone x (sizes self.now) key.now
+            (PutNew value.now) (state pass.old) (state pass.new)) }
+        ensures alone { IfOk result (λ x. Runs (PutsAlone (sizes self.now) key.now (PutNew value.now)
+            (state pass.old) x) (state pass.old) (state pass.new)) }
+        ensures alone_rooms { IfOk result (λ _. IsAlone (state pass.old)
+            → Runs (RoomsAlone (sizes self.now) key.now (PutNew value.now) (state pass.old) (state pass.new))
+            (state pass.old) (state pass.new)) }
+        ensures busy { IfErr result (λ _. StopsTrying (sizes self.now) (call_of pass.old) looks key.now
+            (PutNew value.now) (state pass.old) (state pass.new)) }
     {
         bare::try_put_if_absent(&self.table, &mut pass.pass, key, value, looks)
     }
@@ -92,12 +103,20 @@ impl<R: Wait + Drop + Send> OakMap<R> {
         requires some { 0 < looks }
         ensures own { StaysButRoom (pass_of pass.old) (pass_of pass.new) }
         ensures ready { IsReady self.now pass.new }
-        ensures wrote { IfOk result (λ x. PutFits x (sizes self.now) (call_of pass.old) key.now (Upsert value.now (told_kind recipe.old) (told_argument recipe.old)) (state pass.old) (state pass.new)) }
+        ensures wrote { IfOk result (λ x. PutFits x (sizes self.now) (call_of pass.old) key.now
+            (Upsert value.now (told_kind recipe.old) (told_argument recipe.old)) (state pass.old) (state pass.new)) }
         ensures claims { ClaimsFull (sizes self.now) (state pass.old) (state pass.new) }
-        ensures alone_reply { IfOk result (λ x. IsAlone (state pass.old) → PutAlone x (sizes self.now) key.now (Upsert value.now (told_kind recipe.old) (told_argument recipe.old)) (state pass.old) (state pass.new)) }
-        ensures alone { IfOk result (λ x. Runs (PutsAlone (sizes self.now) key.now (Upsert value.now (told_kind recipe.old) (told_argument recipe.old)) (state pass.old) x) (state pass.old) (state pass.new)) }
-        ensures alone_rooms { IfOk result (λ _. IsAlone (state pass.old) → Runs (RoomsAlone (sizes self.now) key.now (Upsert value.now (told_kind recipe.old) (told_argument recipe.old)) (state pass.old) (state pass.new)) (state pass.old) (state pass.new)) }
-        ensures busy { IfErr result (λ _. StopsTrying (sizes self.now) (call_of pass.old) looks key.now (Upsert value.now (told_kind recipe.old) (told_argument recipe.old)) (state pass.old) (state pass.new)) }
+        ensures alone_reply { IfOk result (λ x. IsAlone (state pass.old) → PutAlone x (sizes self.now) key.now
+            (Upsert value.now (told_kind recipe.old) (told_argument recipe.old)) (state pass.old) (state pass.new)) }
+        ensures alone { IfOk result (λ x. Runs (PutsAlone (sizes self.now) key.now
+            (Upsert value.now (told_kind recipe.old) (told_argument recipe.old)) (state pass.old) x) (state pass.old)
+            (state pass.new)) }
+        ensures alone_rooms { IfOk result (λ _. IsAlone (state pass.old)
+            → Runs (RoomsAlone (sizes self.now) key.now
+            (Upsert value.now (told_kind recipe.old) (told_argument recipe.old)) (state pass.old) (state pass.new))
+            (state pass.old) (state pass.new)) }
+        ensures busy { IfErr result (λ _. StopsTrying (sizes self.now) (call_of pass.old) looks key.now
+            (Upsert value.now (told_kind recipe.old) (told_argument recipe.old)) (state pass.old) (state pass.new)) }
         ensures counted { IfOk result (λ x. calls recipe.new ≡ calls recipe.old + times_done (Ok x)) }
         ensures uncounted { IfErr result (λ _. calls recipe.new ≡ calls recipe.old) }
         ensures fed { IfOk result (λ x. Feeds (Ok x) key.now (fed recipe.old) (fed recipe.new) (state pass.new)) }

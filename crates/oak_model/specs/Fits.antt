@@ -5,8 +5,7 @@ use Rattle.oak_model.specs.declared.writes.Write.{Write}
 use Rattle.oak_model.specs.declared.cells.CellCall.{CellCall}
 use Rattle.oak_model.specs.declared.cells.CellReply.{CellReply}
 use Rattle.oak_model.specs.Cell.{reply_of, state_after, is_write, kind_of}
-use Rattle.oak_model.specs.History.{History, state_at, place_of}
-use Rattle.oak_model.specs.Life.{IsLifeAt, EndsAt}
+use Rattle.oak_model.specs.History.{History, state_at}
 
 -- the r-th write is this caller's call, and the reply and the state behind it are the cell's
 pub record WriteFits (h : History) (caller call : ℕ) (ask : CellCall) (reply : CellReply) (r : ℕ) : Type 0 where
@@ -24,15 +23,3 @@ pub record ReadFits (h : History) (ask : CellCall) (reply : CellReply) (r : ℕ)
 -- the reply of a caller's call fits at the place r
 abbrev pub ReplyFits : History → ℕ → ℕ → CellCall → CellReply → ℕ → Type 0
 ReplyFits h caller call ask reply r = MatchBool (is_write reply) (WriteFits h caller call ask reply r) (ReadFits h ask reply r)
-
--- Bytes that were read through a view, with the number `at`, fit at the place r: r is the place of that
--- number and a place of the view's life, whose first place is given, and not before the place that was seen.
-pub record ReadingFits (h : History) (first seen at r : ℕ) (bytes : List ℕ) : Type 0 where
-  pub place : place_of h at ≡ r
-  pub life : IsLifeAt h first r
-  pub fresh : seen ≤ r
-  pub shown : state_at h r ≡ Some bytes
-
--- the removal of the view's life stands in what is seen
-abbrev pub GoneFits : History → ℕ → Type 0
-GoneFits seen first = (g : ℕ) × EndsAt seen first g

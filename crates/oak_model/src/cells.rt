@@ -1,3 +1,4 @@
+//! The one-thread cell: what a call on one key answers, and the state behind it.
 ghost use Rattle.std.specs.Prelude.{◌≡◌, IfOk};
 ghost use Rattle.std.specs.Option.{option_map};
 ghost use Rattle.oak_model.specs.Cell.{reply_of, state_after, HasArgument};

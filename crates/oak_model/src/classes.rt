@@ -1,3 +1,4 @@
+//! The classes of blocks.
 ghost use Rattle.std.specs.Prelude.{◌≡◌, ◌<◌};
 ghost use Rattle.oak_model.specs.declared.limits.TheConstants.{CLASSES};
 ghost use Rattle.oak_model.specs.Class.{class_bytes, class_number, class_of};

@@ -57,7 +57,10 @@ impl Shape {
         passes: u32,
     ) -> Result<Shape, BadShape>
         ensures many { GREATEST_HEADERS < count → result ≡ Err (record { field = Headers; value = count }) }
-        ensures made { count ≤ GREATEST_HEADERS → MatchOption (first_bad_field (sizes_for_keys count key_bytes value_bytes passes)) (IsOkAnd result (λ s. s ≡ sizes_for_keys count key_bytes value_bytes passes)) (λ bad. result ≡ Err (record { field = bad.0; value = bad.1 })) }
+        ensures made { count ≤ GREATEST_HEADERS → MatchOption
+            (first_bad_field (sizes_for_keys count key_bytes value_bytes passes))
+            (IsOkAnd result (λ s. s ≡ sizes_for_keys count key_bytes value_bytes passes))
+            (λ bad. result ≡ Err (record { field = bad.0; value = bad.1 })) }
         ensures lawful { IfOk result (λ s. IsInLimits s) }
     {
         if count > GREATEST_HEADERS {

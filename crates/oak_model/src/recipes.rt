@@ -1,3 +1,4 @@
+//! The recipes of scripts: sums and exclusive ors over a value's bytes, and their reversal.
 ghost use Rattle.std.specs.Prelude.{◌≡◌, map, bit_xor};
 ghost use Rattle.oak_model.specs.Recipe.{IsArgument, recipe_result, add_result};
 

@@ -1,3 +1,4 @@
+//! Replies: what a call of the map tells.
 ghost use Rattle.std.specs.Prelude.{◌≡◌};
 
 use crate::classes::Class;

@@ -1,3 +1,4 @@
+//! Shapes: how many passes, chunks, entries, headers and blocks a table has.
 ghost use Rattle.std.specs.Prelude.{◌≡◌, ◌<◌, ◌≤◌, true, false, MatchOption, MatchResult, IsOkAnd, IfOk};
 ghost use Rattle.oak_model.specs.Limits.{IsInLimits};
 
@@ -41,7 +42,8 @@ impl ShapeField {
     }
 
     fn check(self, value: u32) -> Result<(), BadShape>
-        ensures { MatchResult result (λ _. in_limits (self, value) ≡ true) (λ e. (in_limits (self, value) ≡ false) × (e ≡ record { field = self; value = value })) }
+        ensures { MatchResult result (λ _. in_limits (self, value) ≡ true)
+            (λ e. (in_limits (self, value) ≡ false) × (e ≡ record { field = self; value = value })) }
     {
         let (least, greatest) = self.limits();
         if least <= value && value <= greatest {
@@ -77,7 +79,14 @@ impl Model for Shape {
 
     ghost view = { λ s. record { passes = s.passes; chunks = s.chunks; entries = s.entries; headers = s.headers; blocks = s.blocks } };
 
-    ghost invariant = { λ s. IsInLimits (record { passes = s.passes; chunks = s.chunks; entries = s.entries; headers = s.headers; blocks = s.blocks }) };
+    ghost invariant = { λ s. IsInLimits (record {
+      passes = s.passes;
+      chunks = s.chunks;
+      entries = s.entries;
+      headers =
+          s.headers;
+      blocks = s.blocks;
+    }) };
 
     ghost inverse = { λ s. record { passes = s.passes; chunks = s.chunks; entries = s.entries; headers = s.headers; blocks = s.blocks } };
 }
@@ -99,7 +108,14 @@ impl Shape {
     pub fn standard(passes: u32) -> Shape
         requires some { 0 < passes }
         requires few { passes ≤ GREATEST_PASSES }
-        ensures is { result ≡ record { passes = passes; chunks = DEFAULT_CHUNKS; entries = DEFAULT_ENTRIES; headers = DEFAULT_HEADERS; blocks = DEFAULT_BLOCKS } }
+        ensures is { result ≡ record {
+          passes = passes;
+          chunks = DEFAULT_CHUNKS;
+          entries = DEFAULT_ENTRIES;
+          headers =
+              DEFAULT_HEADERS;
+          blocks = DEFAULT_BLOCKS;
+        } }
     {
         Shape {
             passes,
@@ -119,7 +135,15 @@ impl Shape {
         headers: u32,
         blocks: [u32; CLASSES],
     ) -> Result<Shape, BadShape>
-        ensures accepted { MatchOption (first_bad_field (record { passes = passes; chunks = chunks; entries = entries; headers = headers; blocks = blocks })) (IsOkAnd result (λ s. s ≡ record { passes = passes; chunks = chunks; entries = entries; headers = headers; blocks = blocks })) (λ bad. result ≡ Err (record { field = bad.0; value = bad.1 })) }
+        ensures accepted { MatchOption (first_bad_field
+            (record { passes = passes; chunks = chunks; entries = entries; headers = headers; blocks = blocks }))
+            (IsOkAnd result (λ s. s ≡ record {
+              passes = passes;
+              chunks = chunks;
+              entries = entries;
+              headers = headers;
+              blocks = blocks;
+            })) (λ bad. result ≡ Err (record { field = bad.0; value = bad.1 })) }
         ensures lawful { IfOk result (λ s. IsInLimits s) }
     {
         ShapeField::Passes.check(passes)?;

@@ -1,3 +1,4 @@
+//! Values.
 ghost use Rattle.std.specs.Prelude.{◌≡◌, ◌↔◌, IfOk, IsTrue};
 ghost use Rattle.oak_model.specs.Recipe.{IsArgument, recipe_result};
 ghost use Rattle.oak_model.specs.Value.{IsValue};

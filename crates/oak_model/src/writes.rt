@@ -1,3 +1,4 @@
+//! The writes of a key's history.
 use crate::recipes::RecipeKind;
 use crate::values::Value;
 

@@ -21,8 +21,8 @@ use Rattle.oak_core.specs.declared.states.PassState.{PassState}
 use Rattle.oak_core.specs.KeyHistories.{writes_of}
 use Rattle.oak_core.specs.KnownPlaces.{Remembers}
 use Rattle.oak_core.specs.PassState.{Extends, of_key, seen_of}
-use Rattle.oak_core.proofs.KnownReads.{same_state, writes_extend}
-use Rattle.oak_core.proofs.WrittenHistories.{history_cross, of_key-append, of_key-one}
+use Rattle.oak_core.proofs.known.KnownReads.{same_state, writes_extend}
+use Rattle.oak_core.proofs.histories.WrittenHistories.{history_cross, of_key-append, of_key-one}
 use Rattle.oak_run.specs.Behind.{GoesBehind, histories}
 
 pub behind_before : (v w : PassState) (hs : ℕ → List KeyedWrite) → Extends v w → Remembers v.knowledge w.knowledge → GoesBehind w hs → GoesBehind v hs

@@ -20,7 +20,7 @@ use Rattle.oak_model.specs.KeyNumber.{key_number}
 use Rattle.oak_model.specs.Limits.{Sizes}
 use Rattle.oak_core.specs.declared.states.PassState.{PassState}
 use Rattle.oak_core.specs.PassState.{seen_of}
-use Rattle.oak_core.proofs.CallSteps.{begins_same}
+use Rattle.oak_core.proofs.calls.CallSteps.{begins_same}
 use Rattle.point_ops.specs.Counted.{times_done}
 use Rattle.point_ops.specs.Parts.{WroteFits}
 use Rattle.point_ops.specs.Replies.{RepliesAt}

@@ -20,7 +20,7 @@ use Rattle.oak_core.specs.declared.states.PassState.{PassState}
 use Rattle.oak_core.specs.KeyHistories.{writes_of}
 use Rattle.oak_core.specs.PassState.{of_key, seen_of}
 use Rattle.oak_core.specs.Sights.{SightedSince}
-use Rattle.oak_core.proofs.CallSteps.{begins_same}
+use Rattle.oak_core.proofs.calls.CallSteps.{begins_same}
 use Rattle.point_ops.specs.Replies.{FoundForReply}
 use Rattle.oak_map.specs.Replying.{MapReplies}
 use Rattle.scan_cursor.specs.Fitting.{seen_length}

@@ -15,7 +15,7 @@ use Rattle.oak_core.specs.AloneWords.{LeavesWords}
 use Rattle.oak_core.specs.CallSteps.{MetMore}
 use Rattle.oak_core.specs.Closing.{closed_state}
 use Rattle.oak_core.specs.Sights.{SightedSince}
-use Rattle.oak_core.proofs.AloneLast.{last_is}
+use Rattle.oak_core.proofs.seats.AloneLast.{last_is}
 use Rattle.point_ops.specs.Replies.{FoundForReply}
 use Rattle.oak_map.specs.Replying.{GivesUp, PutFits}
 use Rattle.oak_run.specs.FullsExactly.{LeftWords}

@@ -7,7 +7,7 @@ use native.Mathlib.Decide.{dec_le, dec_lt}
 use Rattle.oak_model.specs.Counts.{Begins, Each, Has}
 use Rattle.oak_core.specs.declared.states.KeyedWrite.{KeyedWrite}
 use Rattle.oak_core.specs.Callers.{of_caller}
-use Rattle.oak_core.proofs.CallerWrites.{caller-cases}
+use Rattle.oak_core.proofs.histories.CallerWrites.{caller-cases}
 
 -- the writes of n callers, from caller i on
 abbrev pub parts : ℕ → ℕ → List KeyedWrite → List KeyedWrite

@@ -9,7 +9,7 @@ use Rattle.oak_core.specs.declared.states.KeyedWrite.{KeyedWrite}
 use Rattle.oak_core.specs.Callers.{CallsRise}
 use Rattle.oak_core.specs.KeyHistories.{writes_of}
 use Rattle.oak_core.specs.PassState.{of_key}
-use Rattle.oak_core.proofs.Teaching.{of_key-cases}
+use Rattle.oak_core.proofs.lessons.Teaching.{of_key-cases}
 
 -- each of a key's writes is one of all, and of the key
 pub of_key_has : (k : ℕ) (ws : List KeyedWrite) (w : KeyedWrite) → Has w (of_key k ws) → Has w ws × (key_number w.key ≡ k)

@@ -13,8 +13,8 @@ use Rattle.oak_core.specs.KeyHistories.{IsKeyHistory}
 use Rattle.oak_core.specs.Memory.{memory}
 use Rattle.oak_core.specs.PassState.{seen_of}
 use Rattle.oak_core.specs.Splitting.{Ends}
-use Rattle.oak_core.proofs.KnownHere.{known_here}
-use Rattle.oak_core.proofs.LivesOnce.{begins_once}
+use Rattle.oak_core.proofs.known.KnownHere.{known_here}
+use Rattle.oak_core.proofs.histories.LivesOnce.{begins_once}
 use Rattle.oak_run.specs.Behind.{GoesBehind}
 use Rattle.oak_run.specs.Shown.{FindsMore}
 

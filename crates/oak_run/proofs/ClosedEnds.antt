@@ -29,8 +29,8 @@ use Rattle.oak_core.specs.Memory.{memory}
 use Rattle.oak_core.specs.PassState.{Extends, HoldsNothing, IsAlone, seen_of}
 use Rattle.oak_core.specs.Splitting.{Ends}
 use Rattle.oak_core.specs.Usage.{is_open, usage_of, used_blocks, used_chunks, used_headers}
-use Rattle.oak_core.proofs.ClosedReads.{closed_is, closed_none}
-use Rattle.oak_core.proofs.KnownHere.{places_at_end}
+use Rattle.oak_core.proofs.calls.ClosedReads.{closed_is, closed_none}
+use Rattle.oak_core.proofs.known.KnownHere.{places_at_end}
 use Rattle.lone_counts.specs.LoneTable.{LoneTable, retired_in}
 use Rattle.lone_counts.specs.Maps.{IsMapOf, last_states}
 use Rattle.lone_counts.proofs.MapChanges.{map_agrees, rising_map}

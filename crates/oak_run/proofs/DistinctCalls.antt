@@ -11,7 +11,7 @@ use Rattle.oak_model.proofs.NumberLaws.{key_number_is}
 use Rattle.oak_core.specs.declared.states.KeyedWrite.{KeyedWrite}
 use Rattle.oak_core.specs.Callers.{AreWritesOf, CallsRise, of_caller}
 use Rattle.oak_core.specs.KeyHistories.{writes_of}
-use Rattle.oak_core.proofs.CallerWrites.{caller-cases}
+use Rattle.oak_core.proofs.histories.CallerWrites.{caller-cases}
 use Rattle.oak_run.specs.Behind.{histories}
 use Rattle.oak_run.proofs.CallerParts.{has_caller}
 use Rattle.oak_run.proofs.CallsOnce.{at_write, of_key_has, one_call, part_rises}

@@ -28,11 +28,11 @@ use Rattle.oak_core.specs.LifeKeys.{key_known, key_or}
 use Rattle.oak_core.specs.Memory.{Memory, memory}
 use Rattle.oak_core.specs.PassState.{knowledge_of, seen_of}
 use Rattle.oak_core.specs.Sights.{FoundOverSince, SightedSince, gones_with}
-use Rattle.oak_core.proofs.Histories.{seen_stands}
-use Rattle.oak_core.proofs.KnownPlaces.{each_is}
-use Rattle.oak_core.proofs.PinsKnown.{has_first, has_later}
-use Rattle.oak_core.proofs.TaughtReads.{begins_shorter}
-use Rattle.oak_core.proofs.WritesBelow.{before_first}
+use Rattle.oak_core.proofs.histories.Histories.{seen_stands}
+use Rattle.oak_core.proofs.known.KnownPlaces.{each_is}
+use Rattle.oak_core.proofs.known.PinsKnown.{has_first, has_later}
+use Rattle.oak_core.proofs.lessons.TaughtReads.{begins_shorter}
+use Rattle.oak_core.proofs.histories.WritesBelow.{before_first}
 use Rattle.value_ops.specs.declared.pinning.BadPin.{BadPin}
 use Rattle.value_ops.specs.declared.pinning.BadPin.TheVariants.{Dead, Locked, Other}
 use Rattle.value_ops.specs.Pinning.{LooksUnder}

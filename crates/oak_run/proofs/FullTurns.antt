@@ -27,8 +27,8 @@ use Rattle.oak_core.specs.KeyHistories.{writes_of}
 use Rattle.oak_core.specs.KnownPlaces.{KnowsPlace, Remembers}
 use Rattle.oak_core.specs.Memory.{at_given}
 use Rattle.oak_core.specs.PassState.{of_key, seen_of}
-use Rattle.oak_core.proofs.CallSteps.{begins_same, met_both}
-use Rattle.oak_core.proofs.PinsKnown.{has_first, has_later}
+use Rattle.oak_core.proofs.calls.CallSteps.{begins_same, met_both}
+use Rattle.oak_core.proofs.known.PinsKnown.{has_first, has_later}
 use Rattle.oak_map.specs.Replying.{GivesUp}
 use Rattle.oak_script.specs.declared.scripts.Call.{Call}
 use Rattle.oak_run.specs.Answers.{CellAnswer, asks_for, mark_of, writes_key}

@@ -9,14 +9,14 @@ use Rattle.oak_model.specs.Limits.{Sizes}
 use Rattle.oak_model.specs.Value.{IsValue}
 use Rattle.oak_model.proofs.KeyLaws.{is_key-is}
 use Rattle.oak_core.specs.QuietSteps.{IsQuiet}
-use Rattle.oak_core.proofs.QuietCalls.{only_both, only_none}
+use Rattle.oak_core.proofs.calls.QuietCalls.{only_both, only_none}
 use Rattle.oak_core.specs.declared.states.PassState.{PassState}
 use Rattle.oak_core.specs.declared.table.Pass.{Pass}
 use Rattle.oak_core.specs.Passes.{Stays, call_of, key as sizes, state}
 use Rattle.oak_core.specs.AloneWords.{Runs}
 use Rattle.oak_core.specs.CallSteps.{Learns}
 use Rattle.oak_core.specs.Scratch.{StaysButSlots}
-use Rattle.oak_core.proofs.CallSteps.{learns_both, learns_none, stands_learns}
+use Rattle.oak_core.proofs.calls.CallSteps.{learns_both, learns_none, stands_learns}
 use Rattle.point_ops.proofs.LocksKept.{load_stands}
 use Rattle.value_ops.specs.declared.pinned_value.PinnedValue.{PinnedValue}
 use Rattle.value_ops.specs.PinnedValues.{IsPinnedValue, value_under}

@@ -17,10 +17,10 @@ use Rattle.chunk_core.proofs.ValueWords.{none_named}
 use Rattle.oak_core.specs.declared.states.KeyedWrite.{KeyedWrite}
 use Rattle.oak_core.specs.Callers.{begins}
 use Rattle.oak_core.specs.KeyHistories.{IsKeyHistory, IsRemovedAt, LivesFollow, before, home_behind, is_absent, last_of, state_behind, writes_of}
-use Rattle.oak_core.proofs.RemovedReads.{begun, lives_first, removal_behind}
-use Rattle.oak_core.proofs.KnownPlaces.{place_length}
-use Rattle.oak_core.proofs.Removals.{removed_state, stamp_above}
-use Rattle.oak_core.proofs.WritesBelow.{before_first}
+use Rattle.oak_core.proofs.known.RemovedReads.{begun, lives_first, removal_behind}
+use Rattle.oak_core.proofs.known.KnownPlaces.{place_length}
+use Rattle.oak_core.proofs.histories.Removals.{removed_state, stamp_above}
+use Rattle.oak_core.proofs.histories.WritesBelow.{before_first}
 use Rattle.oak_run.specs.Behind.{BegunOnce}
 
 -- ---- parts of a list

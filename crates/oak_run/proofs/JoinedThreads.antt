@@ -10,7 +10,7 @@ use Rattle.oak_core.specs.declared.states.PassState.{PassState}
 use Rattle.oak_core.specs.Closing.{findings_by}
 use Rattle.oak_core.specs.KnownPlaces.{Remembers}
 use Rattle.oak_core.specs.PassState.{both_state, joined_from}
-use Rattle.oak_core.proofs.Remembering.{join_remembers, remembers_self, remembers_then}
+use Rattle.oak_core.proofs.known.Remembering.{join_remembers, remembers_self, remembers_then}
 use Rattle.oak_run.specs.ThreadsRun.{AreNumbered, ThreadEnd, joined_all}
 use Rattle.oak_run.proofs.EndedWrites.{mine-cases, mine_in}
 

@@ -17,8 +17,8 @@ use Rattle.oak_core.specs.FoundBehind.{FoundBehind}
 use Rattle.oak_core.specs.Memory.{at_given}
 use Rattle.oak_core.specs.Noting.{Notes}
 use Rattle.oak_core.specs.RoomLacks.{RoomLackFound}
-use Rattle.oak_core.proofs.CallSteps.{begins_same}
-use Rattle.oak_core.proofs.Lacked.{holds_longer, lacks_longer}
+use Rattle.oak_core.proofs.calls.CallSteps.{begins_same}
+use Rattle.oak_core.proofs.calls.Lacked.{holds_longer, lacks_longer}
 use Rattle.oak_map.specs.Replying.{GivesUp, ItsRoom, SpareOf, Tries}
 use Rattle.oak_run.specs.Closing.{Closing}
 use Rattle.oak_run.specs.Refusals.{SpareFits}

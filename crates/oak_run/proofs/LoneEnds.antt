@@ -8,7 +8,7 @@ use Rattle.oak_core.specs.declared.closing.Closed.{Closed}
 use Rattle.oak_core.specs.declared.states.PassState.{PassState}
 use Rattle.oak_core.specs.AloneWords.{LeavesWords}
 use Rattle.oak_core.specs.CallSteps.{MetMore}
-use Rattle.oak_core.proofs.CallSteps.{met_both}
+use Rattle.oak_core.proofs.calls.CallSteps.{met_both}
 use Rattle.oak_core.specs.Closing.{closed_key, closed_state, closed_words}
 use Rattle.oak_core.specs.PassState.{IsAlone}
 use Rattle.oak_core.specs.Splitting.{Ends}

@@ -12,7 +12,7 @@ use Rattle.oak_core.specs.declared.states.Numbers.{Numbers}
 use Rattle.oak_core.specs.declared.states.PassState.{PassState}
 use Rattle.oak_core.specs.KeyHistories.{writes_of}
 use Rattle.oak_core.specs.PassState.{of_key}
-use Rattle.oak_core.proofs.WrittenHistories.{of_key-append}
+use Rattle.oak_core.proofs.histories.WrittenHistories.{of_key-append}
 use Rattle.oak_script.specs.declared.scripts.Call.{Call}
 use Rattle.oak_script.specs.Text.{CanReply}
 use Rattle.scan_cursor.specs.Fitting.{seen_length}

@@ -13,9 +13,9 @@ use Rattle.oak_core.specs.Closing.{closed_history, closed_key, closed_state, clo
 use Rattle.oak_core.specs.KeyHistories.{state_behind, writes_of}
 use Rattle.oak_core.specs.PassState.{of_key, seen_of}
 use Rattle.oak_core.specs.Splitting.{Ends}
-use Rattle.oak_core.proofs.Alone.{ends}
-use Rattle.oak_core.proofs.ClosedReads.{closed_is, closed_none}
-use Rattle.oak_core.proofs.WrittenHistories.{of_key-append}
+use Rattle.oak_core.proofs.seats.Alone.{ends}
+use Rattle.oak_core.proofs.calls.ClosedReads.{closed_is, closed_none}
+use Rattle.oak_core.proofs.histories.WrittenHistories.{of_key-append}
 use Rattle.chunk_ops.specs.RoomPins.{HadMoment}
 use Rattle.lone_counts.specs.Maps.{last_states}
 use Rattle.oak_run.specs.FullsExactly.{map_before, writes_before}

@@ -19,7 +19,7 @@ use Rattle.oak_core.specs.declared.states.KeyedWrite.{KeyedWrite}
 use Rattle.oak_core.specs.declared.states.PassState.{PassState}
 use Rattle.oak_core.specs.KeyHistories.{writes_of}
 use Rattle.oak_core.specs.PassState.{of_key, seen_of}
-use Rattle.oak_core.proofs.WrittenHistories.{of_key-one, of_key-other}
+use Rattle.oak_core.proofs.histories.WrittenHistories.{of_key-one, of_key-other}
 use Rattle.point_ops.specs.Replies.{MineAfter}
 use Rattle.point_ops.proofs.ReplyLaws.{writes_length, writes_push}
 use Rattle.oak_run.specs.Answers.{Mark, mark_of}

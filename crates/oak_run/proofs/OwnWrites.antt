@@ -17,7 +17,7 @@ use Rattle.oak_core.specs.Callers.{AreWritesOf, CallsRise, of_caller}
 use Rattle.oak_core.specs.KeyReads.{history_now}
 use Rattle.oak_core.specs.PassState.{numbers_of, of_key, rooted, seen_of, spent_state}
 use Rattle.oak_core.specs.Splitting.{Ends}
-use Rattle.oak_core.proofs.CallerWrites.{caller-cases}
+use Rattle.oak_core.proofs.histories.CallerWrites.{caller-cases}
 
 -- writes of which none is another caller's
 one_caller : (n : ℕ) (h : List KeyedWrite) → ((i : ℕ) → i ≢ n → of_caller i h ≡ []) → of_caller n h ≡ h

@@ -5,7 +5,7 @@ use Rattle.oak_model.specs.Limits.{Sizes}
 use Rattle.oak_core.specs.declared.states.KeyedWrite.{KeyedWrite}
 use Rattle.oak_core.specs.declared.states.PassState.{PassState}
 use Rattle.oak_core.specs.PassState.{of_key}
-use Rattle.oak_core.proofs.CallSteps.{begins_same}
+use Rattle.oak_core.proofs.calls.CallSteps.{begins_same}
 use Rattle.point_ops.specs.Replies.{Refuses}
 use Rattle.oak_run.specs.Answers.{AnswerFits, Mark, asks_for}
 use Rattle.oak_run.specs.Behind.{GoesBehind, histories}

@@ -12,8 +12,8 @@ use Rattle.oak_core.specs.CallSteps.{Learns}
 use Rattle.oak_core.specs.KnownPlaces.{KnowsPlace}
 use Rattle.oak_core.specs.PassState.{IsAlone, of_key, seen_of}
 use Rattle.oak_core.specs.Splitting.{Ends}
-use Rattle.oak_core.proofs.Alone.{ends}
-use Rattle.oak_core.proofs.Remembering.{extends_self, extends_then, remembers_self, remembers_then}
+use Rattle.oak_core.proofs.seats.Alone.{ends}
+use Rattle.oak_core.proofs.known.Remembering.{extends_self, extends_then, remembers_self, remembers_then}
 use Rattle.rebalance.specs.Calls.{Leaves}
 use Rattle.oak_run.specs.Reads.{OnlyReads}
 use Rattle.oak_run.proofs.BehindLaws.{finds_before}

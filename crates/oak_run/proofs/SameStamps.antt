@@ -33,10 +33,10 @@ use Rattle.oak_core.specs.KeyStates.{HoldStands, IsHome, IsLockOf}
 use Rattle.oak_core.specs.Known.{known, lives_in}
 use Rattle.oak_core.specs.Memory.{Memory, memory}
 use Rattle.oak_core.specs.PassState.{Extends, IsAlone, headers_held, knowledge_of, seen_of, spent_state}
-use Rattle.oak_core.proofs.Alone.{others_are}
-use Rattle.oak_core.proofs.HomeKeys.{home_key, last_home}
-use Rattle.oak_core.proofs.HomeWords.{home_is}
-use Rattle.oak_core.proofs.KnownWrites.{history_known}
+use Rattle.oak_core.proofs.seats.Alone.{others_are}
+use Rattle.oak_core.proofs.histories.HomeKeys.{home_key, last_home}
+use Rattle.oak_core.proofs.memory.HomeWords.{home_is}
+use Rattle.oak_core.proofs.histories.KnownWrites.{history_known}
 use Rattle.point_ops.specs.LoneReplies.{SeesWhole}
 use Rattle.oak_run.proofs.HomeLives.{last_on}
 use Rattle.oak_run.proofs.SameTables.{at_words, left_before, none_some, present, same_word}

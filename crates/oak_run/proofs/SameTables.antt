@@ -24,9 +24,9 @@ use Rattle.oak_core.specs.KeyReads.{base_now, shown_by, word_now}
 use Rattle.oak_core.specs.KeyStates.{KeyStands}
 use Rattle.oak_core.specs.Memory.{memory}
 use Rattle.oak_core.specs.PassState.{Extends, IsAlone, rooms_held, seen_of, spent_state}
-use Rattle.oak_core.proofs.Alone.{others_are}
-use Rattle.oak_core.proofs.LivesOnce.{begins_once}
-use Rattle.oak_core.proofs.RemovedReads.{lives_first}
+use Rattle.oak_core.proofs.seats.Alone.{others_are}
+use Rattle.oak_core.proofs.histories.LivesOnce.{begins_once}
+use Rattle.oak_core.proofs.known.RemovedReads.{lives_first}
 use Rattle.point_ops.specs.LoneReplies.{SeesWhole}
 use Rattle.oak_run.proofs.HomeLives.{begun_next, last_on, lives_second}
 

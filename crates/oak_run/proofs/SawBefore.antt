@@ -10,8 +10,8 @@ use Rattle.oak_core.specs.declared.states.PassState.{PassState}
 use Rattle.oak_core.specs.KnownPlaces.{Remembers}
 use Rattle.oak_core.specs.PassState.{Extends, IsAlone, knowledge_of, of_key, rooted, seen_of}
 use Rattle.oak_core.specs.Splitting.{Ends}
-use Rattle.oak_core.proofs.Histories.{seen_begins}
-use Rattle.oak_core.proofs.Remembering.{remembers_then}
+use Rattle.oak_core.proofs.histories.Histories.{seen_begins}
+use Rattle.oak_core.proofs.known.Remembering.{remembers_then}
 use Rattle.oak_run.specs.Reads.{OnlyReads}
 use Rattle.oak_run.specs.ThreadsRun.{ThreadEnd, joined_all}
 use Rattle.oak_run.proofs.JoinedThreads.{each_learned, each_parts, each_saw}

@@ -6,7 +6,7 @@ use Rattle.oak_core.specs.declared.states.PassState.{PassState}
 use Rattle.oak_core.specs.Closing.{all_passes}
 use Rattle.oak_core.specs.PassState.{IsAlone, of_key, seen_of}
 use Rattle.oak_core.specs.Splitting.{Ends}
-use Rattle.oak_core.proofs.Alone.{ends}
+use Rattle.oak_core.proofs.seats.Alone.{ends}
 use Rattle.oak_run.specs.Reads.{OnlyReads}
 use Rattle.oak_run.proofs.CallerParts.{begins-all}
 use Rattle.oak_run.proofs.EndedWrites.{ended_writes, mine_in}

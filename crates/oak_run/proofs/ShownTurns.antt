@@ -18,8 +18,8 @@ use Rattle.oak_core.specs.declared.states.PassState.{PassState}
 use Rattle.oak_core.specs.KeyHistories.{IsRemovedAt, home_behind, state_behind, writes_of}
 use Rattle.oak_core.specs.KeyReads.{home_of}
 use Rattle.oak_core.specs.PassState.{Extends, seen_of}
-use Rattle.oak_core.proofs.AloneRuns.{moment_after}
-use Rattle.oak_core.proofs.CallSteps.{learns_both, learns_none}
+use Rattle.oak_core.proofs.seats.AloneRuns.{moment_after}
+use Rattle.oak_core.proofs.calls.CallSteps.{learns_both, learns_none}
 use Rattle.chunk_ops.specs.RoomPins.{HadMoment}
 use Rattle.value_ops.specs.PinnedValues.{ReadsLife}
 use Rattle.value_ops.specs.Views.{Viewed}

@@ -9,8 +9,8 @@ use Rattle.oak_core.specs.declared.states.PassState.{PassState}
 use Rattle.oak_core.specs.CallSteps.{Learns}
 use Rattle.oak_core.specs.KeyHistories.{writes_of}
 use Rattle.oak_core.specs.PassState.{seen_of}
-use Rattle.oak_core.proofs.CallSteps.{begins_same}
-use Rattle.oak_core.proofs.KnownReads.{writes_extend}
+use Rattle.oak_core.proofs.calls.CallSteps.{begins_same}
+use Rattle.oak_core.proofs.known.KnownReads.{writes_extend}
 use Rattle.scan_cursor.specs.Fitting.{GoOnFrom}
 use Rattle.oak_run.specs.Behind.{GoesBehind, histories}
 use Rattle.oak_run.specs.Shown.{FindsMore}

@@ -13,7 +13,7 @@ use Rattle.oak_core.specs.declared.states.Sight.{Sight}
 use Rattle.oak_core.specs.CallSteps.{SightsMore}
 use Rattle.oak_core.specs.CountReads.{SightedBare}
 use Rattle.oak_core.specs.Sights.{SightedSince}
-use Rattle.oak_core.proofs.PinsKnown.{has_first, has_later}
+use Rattle.oak_core.proofs.known.PinsKnown.{has_first, has_later}
 use Rattle.oak_script.specs.declared.scripts.Call.{Call}
 use Rattle.oak_script.specs.declared.scripts.Call.TheVariants.{Put, Get, PutNew, Compute, Upsert, Remove, Hold, Look, Scan, Back}
 use Rattle.oak_run.specs.Closing.{Closing, WasFound, WasFoundBefore}

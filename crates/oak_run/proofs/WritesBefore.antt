@@ -9,7 +9,7 @@ use Rattle.oak_model.proofs.MemberLaws.{filter-cases}
 use Rattle.oak_core.specs.declared.states.KeyedWrite.{KeyedWrite}
 use Rattle.oak_core.specs.KeyHistories.{writes_of}
 use Rattle.oak_core.specs.PassState.{of_key}
-use Rattle.oak_core.proofs.Teaching.{of_key-cases}
+use Rattle.oak_core.proofs.lessons.Teaching.{of_key-cases}
 use Rattle.oak_run.specs.FullsExactly.{writes_before}
 
 -- what is said of each write is said of each write of a key

@@ -48,7 +48,8 @@ fn get_by<R: Wait + Drop + Send>(
     ensures own { Stays pass.old pass.new }
     ensures idle { HoldsNothing (table_state pass.new) }
     ensures numbers { (table_state pass.new).numbers ≡ (table_state pass.old).numbers }
-    ensures turned { IfOk result (λ y. CallTurned (sizes map.now) (table_call pass.old) (script.Get key.now) y (table_state pass.old) (table_state pass.new)) }
+    ensures turned { IfOk result (λ y. CallTurned (sizes map.now) (table_call pass.old) (script.Get key.now) y
+        (table_state pass.old) (table_state pass.new)) }
 {
     match get_of(pass, rt, map, bytes_of(key)) {
         Lent::Absent { at } => Ok(Reply::Wrote(Wrote::Absent { at })),
@@ -152,7 +153,8 @@ pub fn upsert<R: Wait + Drop + Send>(
     requires argument { IsArgument kind argument }
     ensures ready { IsReady map.now pass.new }
     ensures call { call_of pass.new ≡ call_of pass.old }
-    ensures turned { CallTurned (sizes map.now) (call_of pass.old) (script.Upsert key.now value.now kind argument) result (state pass.old) (state pass.new) }
+    ensures turned { CallTurned (sizes map.now) (call_of pass.old) (script.Upsert key.now value.now kind argument)
+        result (state pass.old) (state pass.new) }
     ensures counted { calls recipe.new ≡ calls recipe.old + times_told result }
 {
     recipe.tell(kind, argument);

@@ -14,7 +14,9 @@ ghost use Rattle.oak_run.specs.WorkloadFits.{WorkloadFits};
 /// A law: two runs of one thread's calls over maps of one shape, of which none is refused, print one text
 /// but for its last two lines.
 pub fn one_text()
-    ensures { (c d : Closed) (shape : Sizes) (calls : List Call) (ys zs : List Reply) (m n : List Pair) → RunFits (closing_of c) shape (calls ∷ []) (ys ∷ []) m → RunFits (closing_of d) shape (calls ∷ []) (zs ∷ []) n
+    ensures { (c d : Closed) (shape : Sizes) (calls : List Call) (ys zs : List Reply) (m n : List Pair)
+        → RunFits (closing_of c) shape (calls ∷ []) (ys ∷ []) m → RunFits (closing_of d) shape (calls ∷ [])
+        (zs ∷ []) n
         → NeverFull ys → NeverFull zs → OneText (closing_of c) (closing_of d) shape calls ys zs m n }
 {}
 
@@ -22,6 +24,8 @@ pub fn one_text()
 /// were not refused, and each key takes two blocks of 16 bytes. Where no call was refused, the keys are all that the
 /// calls name.
 pub fn workload_runs()
-    ensures { (c : Closed) (shape : Sizes) (calls threads start : ℕ) (said : List (List Reply)) (finals : List Pair) → IsWorkload calls threads start → RunFits (closing_of c) shape (drawn_threads calls start threads) said finals
+    ensures { (c : Closed) (shape : Sizes) (calls threads start : ℕ) (said : List (List Reply)) (finals : List Pair)
+        → IsWorkload calls threads start → RunFits (closing_of c) shape (drawn_threads calls start threads) said
+        finals
         → WorkloadFits calls threads (drawn_threads calls start threads) said finals (closed_usage c) }
 {}

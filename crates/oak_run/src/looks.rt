@@ -41,7 +41,8 @@ pub fn hold<R: Wait + Drop + Send>(
     ensures own { Stays (pass_of pass.old) (pass_of pass.new) }
     ensures ready { IsReady map.now pass.new }
     ensures numbers { (state pass.new).numbers ≡ (state pass.old).numbers }
-    ensures held { IfOk result (λ y. CallDid (sizes map.now) (call_of pass.old) holds.old holds.new (script.Hold name.now key.now) y (state pass.old) (state pass.new)) }
+    ensures held { IfOk result (λ y. CallDid (sizes map.now) (call_of pass.old) holds.old holds.new
+        (script.Hold name.now key.now) y (state pass.old) (state pass.new)) }
 {
     match map.view(rt, pass, bytes_of(key)) {
         Got::Absent { at } => {
@@ -72,7 +73,8 @@ pub fn look<R: Wait + Drop + Send>(
     ensures own { Stays (pass_of pass.old) (pass_of pass.new) }
     ensures ready { IsReady map.now pass.new }
     ensures numbers { (state pass.new).numbers ≡ (state pass.old).numbers }
-    ensures looked { IfOk result (λ y. CallDid (sizes map.now) (call_of pass.old) holds.now holds.now (script.Look name.now) y (state pass.old) (state pass.new)) }
+    ensures looked { IfOk result (λ y. CallDid (sizes map.now) (call_of pass.old) holds.now holds.now
+        (script.Look name.now) y (state pass.old) (state pass.new)) }
 {
     match holds.get(name) {
         None => Ok(Reply::Unheld),

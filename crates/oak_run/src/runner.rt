@@ -88,7 +88,8 @@ fn run_threads<R: Threads + Wait + Clone + Drop + Send + Sync + AllocGlobal, G: 
     requires enough { length script.now.threads ≤ length recipes.old.items }
     requires counts { AllByRecursion (λ r. calls r < 2 ^ 63) recipes.old.items }
     ensures runs { IfOk result (λ r. RunsThreads script.now.shape script.now.threads r.0.items r.1.items r.2) }
-    ensures rose { IfOk result (λ r. mapped (λ c. calls c) recipes.new.items ≡ risen (mapped (λ c. calls c) recipes.old.items) (mapped (λ a. a.computed) r.0.items)) }
+    ensures rose { IfOk result (λ r. mapped (λ c. calls c) recipes.new.items ≡ risen
+        (mapped (λ c. calls c) recipes.old.items) (mapped (λ a. a.computed) r.0.items)) }
     ensures long { length recipes.new.items ≡ length recipes.old.items }
     ensures others { drop (length script.now.threads) recipes.new.items ≡ drop (length script.now.threads) recipes.old.items }
 {

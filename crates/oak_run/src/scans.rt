@@ -37,7 +37,8 @@ pub fn scanned<R: Wait + Drop + Send>(
     ensures learns { Learns (call_of pass.old) (state pass.old) (state pass.new) }
     ensures low { IsBound low.now }
     ensures high { IsBound high.now }
-    ensures scanned { IfOk result (λ v. HasScanned way low.now high.now (view_at (sizes map.now) (pass_of pass.old)) (view_at (sizes map.now) (pass_of pass.new)) v.items) }
+    ensures scanned { IfOk result (λ v. HasScanned way low.now high.now (view_at (sizes map.now) (pass_of pass.old))
+        (view_at (sizes map.now) (pass_of pass.new)) v.items) }
 {
     scan_pairs(rt, alloc, map, pass.pass_mut(), low, high, way)
 }
@@ -59,7 +60,8 @@ fn scan_pairs<R: Wait + Drop + Send>(
     ensures later { Later (view_at (sizes map.now) pass.old) (view_at (sizes map.now) pass.new) }
     ensures low { IsBound low.now }
     ensures high { IsBound high.now }
-    ensures scanned { IfOk result (λ v. HasScanned way low.now high.now (view_at (sizes map.now) pass.old) (view_at (sizes map.now) pass.new) v.items) }
+    ensures scanned { IfOk result (λ v. HasScanned way low.now high.now (view_at (sizes map.now) pass.old)
+        (view_at (sizes map.now) pass.new) v.items) }
 {
     let mut cursor = scan_of(map, pass, bytes_of(low), bytes_of(high), way);
     let pairs = gather(rt, alloc, &mut cursor);

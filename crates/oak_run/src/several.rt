@@ -40,7 +40,8 @@ pub fn run_several<R: Threads + Wait + Clone + Drop + Send + Sync + AllocGlobal,
     requires counts { AllByRecursion (λ r. calls r < 2 ^ 63) recipes.old.items }
     requires threads { AllByRecursion (λ v. CanRun v.items) threads.now }
     ensures runs { IfOk result (λ r. RunsThreads shape.now (mapped (λ v. v.items) threads.now) r.0.items r.1.items r.2) }
-    ensures rose { IfOk result (λ r. mapped (λ c. calls c) recipes.new.items ≡ risen (mapped (λ c. calls c) recipes.old.items) (mapped (λ a. a.computed) r.0.items)) }
+    ensures rose { IfOk result (λ r. mapped (λ c. calls c) recipes.new.items ≡ risen
+        (mapped (λ c. calls c) recipes.old.items) (mapped (λ a. a.computed) r.0.items)) }
     ensures long { length recipes.new.items ≡ length recipes.old.items }
     ensures others { drop (length threads.now) recipes.new.items ≡ drop (length threads.now) recipes.old.items }
 {
@@ -74,7 +75,8 @@ fn run_threads<R: Threads + Wait + Drop + Send + Sync + AllocGlobal, G: Gate>(
     ensures ready { IsReady map.now first.new }
     ensures alone { IsAlone (state first.new) }
     ensures came { IfOk result (λ a. AllCame (sizes map.now) (state first.new) (mapped (λ v. v.items) threads.now) a.items) }
-    ensures rose { IfOk result (λ v. mapped (λ c. calls c) recipes.new.items ≡ risen (mapped (λ c. calls c) recipes.old.items) (mapped (λ a. a.computed) v.items)) }
+    ensures rose { IfOk result (λ v. mapped (λ c. calls c) recipes.new.items ≡ risen
+        (mapped (λ c. calls c) recipes.old.items) (mapped (λ a. a.computed) v.items)) }
     ensures long { length recipes.new.items ≡ length recipes.old.items }
     ensures others { drop (length threads.now) recipes.new.items ≡ drop (length threads.now) recipes.old.items }
 {
@@ -104,8 +106,11 @@ fn run_split<R: Threads + Wait + Drop + Send + Sync + AllocGlobal, G: Gate>(
     requires threads { AllByRecursion (λ v. CanRun v.items) threads.now }
     ensures numbers { mapped (λ w. (state w.pass).numbers) workers.new.items ≡ mapped (λ w. (state w.pass).numbers) workers.old.items }
     ensures ready { AllByRecursion (λ w. IsReady map.now w.pass) workers.new.items }
-    ensures rose { MatchBool whole (AllRose (mapped (λ w. calls w.recipe) workers.old.items) (mapped (λ w. calls w.recipe) workers.new.items) (mapped (λ w. w.answered) workers.new.items)) ⊤ }
-    ensures ran { MatchBool whole (AllRan map.now (mapped (λ v. v.items) threads.now) (mapped (λ w. w.pass) workers.old.items) (mapped (λ w. w.pass) workers.new.items) (mapped (λ w. w.answered) workers.new.items)) ⊤ }
+    ensures rose { MatchBool whole (AllRose (mapped (λ w. calls w.recipe) workers.old.items)
+        (mapped (λ w. calls w.recipe) workers.new.items) (mapped (λ w. w.answered) workers.new.items)) ⊤ }
+    ensures ran { MatchBool whole (AllRan map.now (mapped (λ v. v.items) threads.now)
+        (mapped (λ w. w.pass) workers.old.items) (mapped (λ w. w.pass) workers.new.items)
+        (mapped (λ w. w.answered) workers.new.items)) ⊤ }
 {
     if whole {
         run_workers(rt, map, gate, threads, workers.as_mut_slice());

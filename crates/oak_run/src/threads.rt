@@ -64,16 +64,23 @@ pub fn run_workers<R: Threads + Wait + Drop + Send + Sync + AllocGlobal, G: Gate
     requires counts { All (λ w. calls w.recipe < 2 ^ 63) workers.old }
     requires threads { All (λ v. CanRun v.items) threads.now }
     ensures long { length workers.new ≡ length workers.old }
-    ensures ran { (i : ℕ) (d : _) → i < length workers.old → HasRun map.now (calls_at threads.now i) (slice_index_or workers.old i d).pass (slice_index_or workers.new i d).pass (slice_index_or workers.new i d).answered }
-    ensures rose { (i : ℕ) (d : _) → i < length workers.old → RoseBy (calls (slice_index_or workers.old i d).recipe) (calls (slice_index_or workers.new i d).recipe) (slice_index_or workers.new i d).answered }
+    ensures ran { (i : ℕ) (d : _) → i < length workers.old → HasRun map.now (calls_at threads.now i)
+        (slice_index_or workers.old i d).pass (slice_index_or workers.new i d).pass
+        (slice_index_or workers.new i d).answered }
+    ensures rose { (i : ℕ) (d : _) → i < length workers.old → RoseBy (calls (slice_index_or workers.old i d).recipe)
+        (calls (slice_index_or workers.new i d).recipe) (slice_index_or workers.new i d).answered }
 {
     if workers.is_empty() {
         return;
     }
     let count = workers.len();
     let run = |i: usize, worker: &mut Worker|
-        requires { (i < length threads.now) × (length threads.now ≤ GREATEST_THREADS) × IsFresh map.now worker.now.pass × (calls worker.now.recipe < 2 ^ 63) × All (λ v. CanRun v.items) threads.now }
-        ensures { HasRun map.entry.now (calls_at threads.entry.now i) worker.entry.now.pass worker.exit.now.pass worker.exit.now.answered × RoseBy (calls worker.entry.now.recipe) (calls worker.exit.now.recipe) worker.exit.now.answered }
+        requires { (i < length threads.now) × (length threads.now ≤ GREATEST_THREADS)
+            × IsFresh map.now worker.now.pass × (calls worker.now.recipe < 2 ^ 63)
+            × All (λ v. CanRun v.items) threads.now }
+        ensures { HasRun map.entry.now (calls_at threads.entry.now i) worker.entry.now.pass worker.exit.now.pass
+            worker.exit.now.answered × RoseBy (calls worker.entry.now.recipe)
+            (calls worker.exit.now.recipe) worker.exit.now.answered }
     { run_worker(rt, map, gate, threads, i, worker) };
     for_each_mut(rt, workers, count, &run);
 }

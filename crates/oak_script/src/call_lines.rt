@@ -1,3 +1,4 @@
+//! The words of a call's line.
 ghost use Rattle.std.specs.Prelude.{◌≡◌, ◌<◌, ◌∷◌, [], Some, None, map, length, OnOk, IfOk, IfErr};
 ghost use Rattle.oak_script.specs.Grammar.{CallFits, call_words};
 ghost use Rattle.oak_script.specs.Forms.{verb_of, verb_word};

@@ -1,3 +1,4 @@
+//! The calls that were read so far, thread by thread.
 ghost use Rattle.std.specs.Prelude.{◌≡◌, ◌<◌, ◌++◌, ◌∷◌, [], map, length, OnOk, OnErr, IfErr};
 ghost use Rattle.oak_script.specs.Grammar.{CallFits, is_scan};
 ghost use Rattle.oak_script.specs.Stops.{Stops};

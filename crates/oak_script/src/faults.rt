@@ -1,3 +1,4 @@
+//! The faults of a script, by line and word.
 ghost use Rattle.std.specs.Prelude.{◌≡◌};
 
 use thiserror::Error;

@@ -1,3 +1,4 @@
+//! The lines whose words are the same in every script.
 ghost use Rattle.std.specs.Prelude.{◌≡◌, map};
 ghost use Rattle.std.specs.List.{list_any};
 ghost use Rattle.oak_script.specs.Forms.{is_oak, is_thread, is_end, is_shape};

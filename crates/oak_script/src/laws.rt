@@ -1,3 +1,4 @@
+//! Laws of scripts and of the loads that are drawn.
 ghost use Rattle.std.specs.Prelude.{◌≡◌, ◌⊎◌, ℕ, ◌+◌, ◌∷◌, []};
 ghost use Rattle.oak_model.specs.declared.recipes.RecipeKind.TheVariants.{Add};
 ghost use Rattle.oak_script.specs.declared.limits.TheConstants.{GREATEST_THREADS, GREATEST_CALLS, GREATEST_SCANS, GREATEST_SCRIPT_NAME, GREATEST_DRAWS, DRAWN_NUMBERS};
@@ -27,10 +28,18 @@ pub fn script_limits_in_numbers()
     ensures names { GREATEST_SCRIPT_NAME ≡ 16 }
     ensures draws { GREATEST_DRAWS ≡ 65536 }
     ensures drawn { DRAWN_NUMBERS ≡ 65536 }
-    ensures sizes { (n : ℕ) → default_sizes n ≡ record { passes = n + 1; chunks = 256; entries = 64; headers = 8192; blocks = 16384 ∷ 4096 ∷ 1024 ∷ 512 ∷ [] } }
+    ensures sizes { (n : ℕ) → default_sizes n ≡ record {
+      passes = n + 1;
+      chunks = 256;
+      entries = 64;
+      headers = 8192;
+      blocks = 16384 ∷ 4096 ∷ 1024 ∷ 512 ∷ [];
+    } }
 {}
 
 /// A law: the four calls that one thread draws from 0 on have the keys 216, 761, 487 and 268, each in two bytes.
 pub fn first_draws()
-    ensures { drawn_threads 4 0 1 ≡ (Upsert (0 ∷ 216 ∷ []) one_value Add 1 ∷ Upsert (2 ∷ 249 ∷ []) one_value Add 1 ∷ Upsert (1 ∷ 231 ∷ []) one_value Add 1 ∷ Upsert (1 ∷ 12 ∷ []) one_value Add 1 ∷ []) ∷ [] }
+    ensures { drawn_threads 4 0 1 ≡ (Upsert (0 ∷ 216 ∷ []) one_value Add 1 ∷ Upsert
+        (2 ∷ 249 ∷ []) one_value Add 1 ∷ Upsert (1 ∷ 231 ∷ []) one_value Add 1 ∷ Upsert
+        (1 ∷ 12 ∷ []) one_value Add 1 ∷ []) ∷ [] }
 {}

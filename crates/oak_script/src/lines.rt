@@ -1,3 +1,4 @@
+//! A text cut into lines, and a line into words.
 ghost use Rattle.std.specs.Prelude.{◌≡◌, ◌≤◌, length, ◌∷◌, [], map, take, MatchOption, IfOk};
 ghost use Rattle.oak_script.specs.Lines.{lines_of, words_of, front_len};
 

@@ -1,3 +1,4 @@
+//! The place of each write in its key's history, which the text shows.
 ghost use Rattle.std.specs.Prelude.{◌≡◌, ◌<◌, ◌++◌, [], map, length, IfOk, OnOk, option_copied};
 ghost use Rattle.std.specs.Option.{option_map};
 ghost use Rattle.oak_script.specs.Places.{key_of, stamp_of, stamp_of_wrote, written_upto};

@@ -1,3 +1,4 @@
+//! Reading a script: its lines in their order, to a script or to its first fault.
 ghost use Rattle.std.specs.Prelude.{◌≡◌, ◌<◌, ◌≤◌, ◌+◌, [], length, map, true, false, if◌then◌else◌, OnOk, OnErr, IfOk, IfErr, IfSome};
 ghost use Rattle.oak_script.specs.declared.limits.TheConstants.{GREATEST_CALLS, GREATEST_THREADS};
 ghost use Rattle.oak_script.specs.declared.scripts.Script.{Script};
@@ -102,8 +103,10 @@ impl<'a> Reader<'a> {
         requires count { self.old.number ≡ length (so_far self.old.stage self.old.calls) }
         ensures number { IfOk result (λ more. self.new.number ≡ (if more then self.old.number + 1 else self.old.number)) }
         ensures fit { OnOk result (CallsFit self.new.stage self.new.calls) }
-        ensures went { IfOk result (λ more. more ≡ true → Took (so_far self.old.stage self.old.calls) self.old.lines (so_far self.new.stage self.new.calls) self.new.lines) }
-        ensures ended { IfOk result (λ more. more ≡ false → (self.old.lines ≡ []) × (self.new.lines ≡ []) × (so_far self.new.stage self.new.calls ≡ so_far self.old.stage self.old.calls)) }
+        ensures went { IfOk result (λ more. more ≡ true → Took (so_far self.old.stage self.old.calls) self.old.lines
+            (so_far self.new.stage self.new.calls) self.new.lines) }
+        ensures ended { IfOk result (λ more. more ≡ false → (self.old.lines ≡ []) × (self.new.lines ≡ [])
+            × (so_far self.new.stage self.new.calls ≡ so_far self.old.stage self.old.calls)) }
         ensures err { IfErr result (λ e. StopsAt e (so_far self.old.stage self.old.calls) self.old.lines) }
         ensures same { OnErr result (self.new.number ≡ self.old.number) }
     {

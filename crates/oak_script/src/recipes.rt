@@ -1,3 +1,4 @@
+//! The words of a recipe.
 ghost use Rattle.std.specs.Prelude.{◌≡◌, ◌∷◌, [], ◌==◌, ◌&&◌, length, OnOk, IfOk, IfErr, IfSome, is_some};
 ghost use Rattle.hex.specs.Hex.{encode_lower};
 ghost use Rattle.oak_script.specs.Words.{recipe_words};

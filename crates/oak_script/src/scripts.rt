@@ -1,3 +1,4 @@
+//! Scripts: a shape, and the calls of each thread.
 ghost use Rattle.std.specs.Prelude.{◌≡◌, map};
 
 use oak_model::{Key, Name, RecipeKind, Shape, Value};

@@ -1,3 +1,4 @@
+//! The words of a `shape` line.
 ghost use Rattle.std.specs.Prelude.{◌≡◌, ◌≤◌, ◌<◌, ℕ, length, map, slice_index, IfSome, is_some};
 ghost use Rattle.std.specs.Fmt.{decimal};
 ghost use Rattle.oak_model.specs.declared.limits.TheConstants.{CLASSES, GREATEST_BLOCKS};

@@ -1,3 +1,4 @@
+//! How far the reading of a script has come, and what a line does to it.
 ghost use Rattle.std.specs.Prelude.{◌≡◌, ◌<◌, ◌++◌, ◌∷◌, [], Some, None, map, length, true, false, OnOk, IfOk, IfErr};
 ghost use Rattle.std.specs.List.{flat_map};
 ghost use Rattle.oak_script.specs.Grammar.{oak_line, end_line, thread_lines};
@@ -30,7 +31,8 @@ pub enum Stage {
 fn take_open(alloc: Global, calls: &mut Calls, words: &[&[u8]]) -> Result<bool, Stop>
     requires some { 0 < length calls.old }
     ensures fine { OnOk result (faults (past_at (Stage.Opened None) calls.old) (Some (map (λ w. w.now) words.now)) ≡ []) }
-    ensures more { IfOk result (λ e. e ≡ false → flat_map thread_lines calls.new ≡ flat_map thread_lines calls.old ++ map (λ w. w.now) words.now ∷ []) }
+    ensures more { IfOk result (λ e. e ≡ false → flat_map thread_lines calls.new ≡ flat_map thread_lines
+        calls.old ++ map (λ w. w.now) words.now ∷ []) }
     ensures ended { IfOk result (λ e. e ≡ true → (calls.new ≡ calls.old) × (map (λ w. w.now) words.now ≡ end_line)) }
     ensures fit { IfOk result (λ e. e ≡ false → (0 < length calls.new) × AreCalls calls.new) }
     ensures err { IfErr result (λ e. Stops e (faults (past_at (Stage.Opened None) calls.old) (Some (map (λ w. w.now) words.now)))) }

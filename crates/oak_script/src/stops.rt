@@ -1,3 +1,4 @@
+//! Why reading a line stops.
 ghost use Rattle.std.specs.Prelude.{◌≡◌};
 ghost use Rattle.oak_script.specs.declared.stops.Stop.TheVariants.{OutOfMemory};
 

@@ -1,3 +1,4 @@
+//! The text of a run: a line for each reply, each scan, the final map and the table of the arena.
 ghost use Rattle.std.specs.Prelude.{◌≡◌, ◌++◌, map, length, IfOk, OnOk};
 ghost use Rattle.std.specs.String.{string_bytes};
 ghost use Rattle.oak_script.specs.Words.{value_word};
@@ -198,7 +199,8 @@ fn put_threads(
     replies: &[Vec<Reply>],
 ) -> Result<(), OutOfMemory>
     requires { RepliesAnswer (map (λ v. v.items) threads.now) (map (λ v. v.items) replies.now) }
-    ensures { OnOk result (out.new.items ≡ out.old.items ++ threads_text (place_among stamps.now.writes.items) 1 (map (λ v. v.items) threads.now) (map (λ v. v.items) replies.now)) }
+    ensures { OnOk result (out.new.items ≡ out.old.items ++ threads_text (place_among stamps.now.writes.items) 1
+        (map (λ v. v.items) threads.now) (map (λ v. v.items) replies.now)) }
 {
     for (i, calls) in threads.iter().enumerate() {
         put_thread(
@@ -294,7 +296,8 @@ pub fn print_run(
     usage: &Usage,
 ) -> Result<Vec<u8>, OutOfMemory>
     requires { RepliesAnswer script.now.threads (map (λ v. v.items) replies.now) }
-    ensures { IfOk result (λ v. v.items ≡ run_text (written_upto script.now.threads (map (λ v. v.items) replies.now)) script.now.threads (map (λ v. v.items) replies.now) finals.now usage.now script.now.shape) }
+    ensures { IfOk result (λ v. v.items ≡ run_text (written_upto script.now.threads (map (λ v. v.items) replies.now))
+        script.now.threads (map (λ v. v.items) replies.now) finals.now usage.now script.now.shape) }
 {
     let stamps = Stamps::of(alloc, script, replies)?;
     let mut out = Vec::new(alloc);

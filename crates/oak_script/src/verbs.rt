@@ -1,3 +1,4 @@
+//! The verbs of calls.
 ghost use Rattle.std.specs.Prelude.{◌≡◌};
 
 use crate::words::is_word;

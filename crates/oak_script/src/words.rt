@@ -1,3 +1,4 @@
+//! Words that are keys, values and names.
 ghost use Rattle.std.specs.Prelude.{◌≡◌, ◌<◌, [], ◌==◌, ◌&&◌, length, OnOk, IfOk, IfErr, IfSome, true};
 ghost use Rattle.std.specs.List.{list_all};
 ghost use Rattle.std.specs.Str.{bytes_eq};

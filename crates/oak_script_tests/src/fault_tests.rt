@@ -1,3 +1,4 @@
+//! Tests of faults.
 use oak_model::Shape;
 use oak_script::{NoScript, ScriptFault, What, read_script};
 use std::alloc::{AllocError, Global};

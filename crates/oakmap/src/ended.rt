@@ -1,3 +1,4 @@
+//! How a run of the program ended.
 use oak_core::Closed;
 
 /// What a run of the program came to.

@@ -1,3 +1,4 @@
+//! The program as one call: it reads an input, runs its script, prints the text, and answers with a status.
 ghost use Rattle.std.specs.Prelude.{◌≡◌, ◌<◌, ◌≤◌, ◌⊎◌, ◌^◌, ℕ, List, map, length, IfOk, Some};
 ghost use Rattle.std.specs.List.{AllByRecursion};
 ghost use Rattle.std.specs.String.{string_bytes};
@@ -86,7 +87,8 @@ pub fn top_lent<
 ) -> Ended
     requires enough { GREATEST_THREADS ≤ length recipes.old.items }
     requires counts { AllByRecursion (λ r. calls r < 2 ^ 63) recipes.old.items }
-    ensures { (s : Status) × (result.status ≡ code_of s) × (result.closed ≡ closed_of s) × EndsLent s (command_of (map (λ w. string_bytes w) words.now))
+    ensures { (s : Status) × (result.status ≡ code_of s) × (result.closed ≡ closed_of s)
+        × EndsLent s (command_of (map (λ w. string_bytes w) words.now))
         (record { left = S.left source.old; faults = S.faults source.old }) (record { left = S.left source.new; faults = S.faults source.new })
         (record { written = K.written sink.old; faults = K.faults sink.old }) (record { written = K.written sink.new; faults = K.faults sink.new })
         (map (λ c. calls c) recipes.old.items) (map (λ c. calls c) recipes.new.items) }
@@ -156,7 +158,8 @@ fn run_input<
 
 /// Says one line; that the sink fails changes no status.
 fn say<K: Sink>(sink: &mut K, line: &[u8])
-    ensures { Says (record { written = K.written sink.old; faults = K.faults sink.old }) (record { written = K.written sink.new; faults = K.faults sink.new }) line.now }
+    ensures { Says (record { written = K.written sink.old; faults = K.faults sink.old })
+        (record { written = K.written sink.new; faults = K.faults sink.new }) line.now }
 {
     let _said = write_whole(sink, line);
 }
@@ -171,7 +174,8 @@ fn answer<R: Threads + Wait + Clone + Drop + Send + Sync + AllocGlobal, K: Sink,
 ) -> Status
     requires enough { GREATEST_THREADS ≤ length recipes.old.items }
     requires counts { AllByRecursion (λ r. calls r < 2 ^ 63) recipes.old.items }
-    ensures { AnsweredLent result text.now (record { written = K.written sink.old; faults = K.faults sink.old }) (record { written = K.written sink.new; faults = K.faults sink.new })
+    ensures { AnsweredLent result text.now (record { written = K.written sink.old; faults = K.faults sink.old })
+        (record { written = K.written sink.new; faults = K.faults sink.new })
         (map (λ c. calls c) recipes.old.items) (map (λ c. calls c) recipes.new.items) }
 {
     match read_script(rt.alloc(), text) {
@@ -183,7 +187,9 @@ fn answer<R: Threads + Wait + Clone + Drop + Send + Sync + AllocGlobal, K: Sink,
 
 /// Tells the first fault of a text that is no script.
 fn refuse<K: Sink>(alloc: Global, fault: ScriptFault, sink: &mut K) -> Status
-    ensures { (input counts : List ℕ) → IsFirstFault input fault → AnsweredLent result input (record { written = K.written sink.old; faults = K.faults sink.old }) (record { written = K.written sink.new; faults = K.faults sink.new }) counts counts }
+    ensures { (input counts : List ℕ) → IsFirstFault input fault → AnsweredLent result input
+        (record { written = K.written sink.old; faults = K.faults sink.old })
+        (record { written = K.written sink.new; faults = K.faults sink.new }) counts counts }
 {
     match fault_text(alloc, fault) {
         Ok(text) => {
@@ -213,7 +219,9 @@ fn put_run<R: Threads + Wait + Clone + Drop + Send + Sync + AllocGlobal, K: Sink
     requires script { IsScript script.now }
     requires enough { GREATEST_THREADS ≤ length recipes.old.items }
     requires counts { AllByRecursion (λ r. calls r < 2 ^ 63) recipes.old.items }
-    ensures { (input : List ℕ) → Spells input script.now → AnsweredLent result input (record { written = K.written sink.old; faults = K.faults sink.old }) (record { written = K.written sink.new; faults = K.faults sink.new })
+    ensures { (input : List ℕ) → Spells input script.now → AnsweredLent result input
+        (record { written = K.written sink.old; faults = K.faults sink.old })
+        (record { written = K.written sink.new; faults = K.faults sink.new })
         (map (λ c. calls c) recipes.old.items) (map (λ c. calls c) recipes.new.items) }
 {
     let (text, closed) = match run_text(rt, script, gate, recipes) {
@@ -236,7 +244,8 @@ fn run_text<R: Threads + Wait + Clone + Drop + Send + Sync + AllocGlobal, G: Gat
     requires script { IsScript script.now }
     requires enough { GREATEST_THREADS ≤ length recipes.old.items }
     requires counts { AllByRecursion (λ r. calls r < 2 ^ 63) recipes.old.items }
-    ensures printed { IfOk result (λ t. PrintsLent script.now t.1 t.0.items (map (λ c. calls c) recipes.old.items) (map (λ c. calls c) recipes.new.items)) }
+    ensures printed { IfOk result (λ t. PrintsLent script.now t.1 t.0.items (map (λ c. calls c) recipes.old.items)
+        (map (λ c. calls c) recipes.new.items)) }
     ensures long { length recipes.new.items ≡ length recipes.old.items }
 {
     let ran = run_script_lent(rt, script, gate, recipes)?;

@@ -1,3 +1,4 @@
+//! How long an input may be.
 ghost use Rattle.std.specs.Prelude.{◌≡◌};
 ghost use Rattle.oakmap.specs.InputLength.{LengthIsAccepted, LengthIsRefused};
 

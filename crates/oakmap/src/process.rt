@@ -1,3 +1,4 @@
+//! The program as a process: its words, its standard input and output, and its exit status.
 ghost use Rattle.std.specs.Prelude.{◌≡◌, Option};
 ghost use Rattle.std.specs.Process.{exit_status};
 ghost use Rattle.oakmap.specs.declared.commands.Command.{Command};

@@ -1,3 +1,4 @@
+//! The recipes by which the threads of a script compute.
 ghost use Rattle.std.specs.Prelude.{◌≡◌, ◌<◌, ◌+◌, ◌^◌, OnOk, length};
 ghost use Rattle.std.specs.List.{AllByRecursion};
 

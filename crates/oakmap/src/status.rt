@@ -1,3 +1,4 @@
+//! The statuses with which the program ends.
 ghost use Rattle.std.specs.Prelude.{◌≡◌};
 ghost use Rattle.oakmap.specs.Ends.{code_of, closed_of};
 

@@ -53,7 +53,8 @@ fn summary_text<R: Threads + Wait + Clone + Drop + Send + Sync + AllocGlobal, G:
     requires workload { IsWorkload asked.calls asked.threads asked.start }
     requires enough { GREATEST_THREADS ≤ length recipes.old.items }
     requires counts { AllByRecursion (λ r. calls r < 2 ^ 63) recipes.old.items }
-    ensures printed { IfOk result (λ t. SummaryLent asked t.1 t.0.items (map (λ c. calls c) recipes.old.items) (map (λ c. calls c) recipes.new.items)) }
+    ensures printed { IfOk result (λ t. SummaryLent asked t.1 t.0.items (map (λ c. calls c) recipes.old.items)
+        (map (λ c. calls c) recipes.new.items)) }
     ensures long { length recipes.new.items ≡ length recipes.old.items }
 {
     let script = gen_script(rt.alloc(), asked.calls, asked.threads, asked.start)?;
@@ -65,7 +66,8 @@ fn summary_text<R: Threads + Wait + Clone + Drop + Send + Sync + AllocGlobal, G:
 /// The summary of a run that came to an end.
 fn summary_of(alloc: Global, asked: Workload, ran: &Ran) -> Result<Vec<u8>, OutOfMemory>
     requires workload { IsWorkload asked.calls asked.threads asked.start }
-    requires run { RunsScript (workload asked.calls asked.threads asked.start) (map (λ v. v.items) ran.now.replies.items) ran.now.finals.items ran.now.recipe_calls.items ran.now.closed }
+    requires run { RunsScript (workload asked.calls asked.threads asked.start)
+        (map (λ v. v.items) ran.now.replies.items) ran.now.finals.items ran.now.recipe_calls.items ran.now.closed }
     ensures { IfOk result (λ v. SummaryCounts asked ran.now.closed v.items ran.now.recipe_calls.items) }
 {
     print_summary(

@@ -1,3 +1,4 @@
+//! A source in memory that gives its bytes in pieces.
 ghost use Rattle.std.specs.Prelude.{◌≡◌, ◌↔◌, Some, IsErr, IfOk, OnErr, Contains, drop, length, min, slice_get};
 ghost use Rattle.std.specs.Io.{ReadsAtMost};
 ghost use Rattle.std.specs.Io.KnownBytes.{ReadConsumes};

@@ -1,3 +1,4 @@
+//! How many bytes a piece has that is cut.
 ghost use Rattle.std.specs.Prelude.{◌≡◌, slice_get};
 ghost use Rattle.outside.specs.Memory.{let_through};
 

@@ -1,3 +1,4 @@
+//! Which reads or writes fail.
 ghost use Rattle.std.specs.Prelude.{◌≡◌, ◌≤◌, ◌↔◌, IsTrue, Contains};
 ghost use Rattle.outside.specs.Cause.{next_count};
 

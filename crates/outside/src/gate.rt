@@ -1,3 +1,4 @@
+//! Gates at which threads wait for their turn.
 /// What a thread of a run asks before it goes on, so that a caller can hold it back until others
 /// have come as far as they should. It tells nothing and changes no reply.
 pub trait Gate: Sync {

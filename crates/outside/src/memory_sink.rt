@@ -1,3 +1,4 @@
+//! A sink in memory that fails where its plan says.
 ghost use Rattle.std.specs.Prelude.{◌≡◌, ◌≤◌, ◌<◌, ◌+◌, ◌-◌, ◌++◌, ◌↔◌, ◌⊎◌, [], Some, IsErr, IfOk, OnErr, Contains, take, length, min, vec_len};
 ghost use Rattle.outside.specs.Cause.{HasCause, next_count, faults_after};
 ghost use Rattle.outside.specs.Taken.{WriteTakes};

@@ -1,3 +1,4 @@
+//! A sink in memory that takes bytes in pieces.
 ghost use Rattle.std.specs.Prelude.{◌≡◌, ◌<◌, ◌+◌, ◌↔◌, ◌⊎◌, [], Some, IsErr, IfOk, OnErr, Contains, length, min, slice_get, vec_len};
 ghost use Rattle.outside.specs.Cause.{HasCause, next_count, faults_after};
 ghost use Rattle.outside.specs.Memory.{let_through};

@@ -1,3 +1,4 @@
+//! A sink over any writer of std.
 ghost use Rattle.std.specs.Prelude.{◌≡◌};
 ghost use Rattle.outside.specs.Cause.{HasCause, faults_after};
 ghost use Rattle.outside.specs.Std.{writer_of, write_faults};

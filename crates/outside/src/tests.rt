@@ -1,3 +1,4 @@
+//! Tests of sources and sinks in memory.
 use crate::{
     CutSource, Failed, FreeGate, Gate, MemorySink, MemorySource, ReadStop, ShortSink, Sink, Source,
     SureSource, read_whole, write_whole,

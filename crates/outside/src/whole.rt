@@ -1,3 +1,4 @@
+//! Reading a source to its end, and writing all bytes to a sink.
 ghost use Rattle.std.specs.Prelude.{◌≤◌, ◌+◌, OnOk, OnErr};
 ghost use Rattle.std.specs.Io.KnownBytes.{Appends};
 ghost use Rattle.outside.specs.Cause.{HasCause};

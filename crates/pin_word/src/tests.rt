@@ -1,3 +1,4 @@
+//! Tests of the words of pins.
 use crate::{count, generation, pack, state};
 use std::test::Fail;
 

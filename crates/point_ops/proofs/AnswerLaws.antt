@@ -14,7 +14,7 @@ use Rattle.oak_core.specs.LastReads.{NotPast}
 use Rattle.oak_core.specs.LifeKeys.{loaded_in}
 use Rattle.oak_core.specs.declared.states.Knowledge.{Knowledge}
 use Rattle.oak_core.specs.Memory.{in_headers}
-use Rattle.oak_core.proofs.CallSteps.{learns_both, met_both, met_none, stands_learns, stands_none}
+use Rattle.oak_core.proofs.calls.CallSteps.{learns_both, met_both, met_none, stands_learns, stands_none}
 use Rattle.value_ops.specs.Pinning.{KnowsLife}
 use Rattle.point_ops.specs.FoundWords.{FoundWord}
 use Rattle.point_ops.specs.Halting.BusyBy.{dead, locked, rose}

@@ -23,11 +23,11 @@ use Rattle.oak_core.specs.PassState.{bare_state}
 use Rattle.oak_core.specs.Lack.{TookBut}
 use Rattle.oak_core.specs.QuietSteps.{MetOnly, Quiet}
 use Rattle.oak_core.specs.Sights.{SightedSince}
-use Rattle.oak_core.proofs.CallSteps.{stands_learns, step_in}
-use Rattle.oak_core.proofs.FoundThere.{found_first, found_later}
-use Rattle.oak_core.proofs.KnownReads.{read_since, read_stays}
-use Rattle.oak_core.proofs.MetLists.{at_behind, at_inside}
-use Rattle.oak_core.proofs.PinsKnown.{has_first, has_later}
+use Rattle.oak_core.proofs.calls.CallSteps.{stands_learns, step_in}
+use Rattle.oak_core.proofs.calls.FoundThere.{found_first, found_later}
+use Rattle.oak_core.proofs.known.KnownReads.{read_since, read_stays}
+use Rattle.oak_core.proofs.memory.MetLists.{at_behind, at_inside}
+use Rattle.oak_core.proofs.known.PinsKnown.{has_first, has_later}
 use Rattle.chunk_ops.specs.Adds.{LeavesCount}
 use Rattle.chunk_ops.specs.AskedRanges.{CoversKey}
 use Rattle.chunk_ops.specs.Contents.{EntryNamed}

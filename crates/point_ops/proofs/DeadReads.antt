@@ -29,20 +29,20 @@ use Rattle.oak_core.specs.Memory.{Memory, in_headers, index, memory}
 use Rattle.oak_core.specs.PassState.{history, knowledge_of, seen_of}
 use Rattle.oak_core.specs.StampLoads.{shows_stamp, stamp_key, wanted_of}
 use Rattle.oak_core.specs.Step.{load, on_headers, Told}
-use Rattle.oak_core.proofs.CallSteps.{learns_both}
-use Rattle.oak_core.proofs.Histories.{seen_stands}
-use Rattle.oak_core.proofs.KnowledgeAfter.{over_knowledge}
-use Rattle.oak_core.proofs.KnownLives.{dead_gone, named_at}
-use Rattle.oak_core.proofs.KnownPlaces.{heard_place, place_length}
-use Rattle.oak_core.proofs.KnownReads.{read_stays}
-use Rattle.oak_core.proofs.LessonLaws.{lesson_taught}
-use Rattle.oak_core.proofs.LessonReach.{reach_here}
-use Rattle.oak_core.proofs.LivesOnce.{begins_once}
-use Rattle.oak_core.proofs.PinTold.{dead_over, dead_stamp, pin_knows}
-use Rattle.oak_core.proofs.PinsKnown.{has_later}
-use Rattle.oak_core.proofs.StampSteps.{stamp_knows, stamp_learns}
-use Rattle.oak_core.proofs.WritesBelow.{before_first}
-use Rattle.oak_core.proofs.Words.{memory_read}
+use Rattle.oak_core.proofs.calls.CallSteps.{learns_both}
+use Rattle.oak_core.proofs.histories.Histories.{seen_stands}
+use Rattle.oak_core.proofs.known.KnowledgeAfter.{over_knowledge}
+use Rattle.oak_core.proofs.known.KnownLives.{dead_gone, named_at}
+use Rattle.oak_core.proofs.known.KnownPlaces.{heard_place, place_length}
+use Rattle.oak_core.proofs.known.KnownReads.{read_stays}
+use Rattle.oak_core.proofs.lessons.LessonLaws.{lesson_taught}
+use Rattle.oak_core.proofs.lessons.LessonReach.{reach_here}
+use Rattle.oak_core.proofs.histories.LivesOnce.{begins_once}
+use Rattle.oak_core.proofs.told.PinTold.{dead_over, dead_stamp, pin_knows}
+use Rattle.oak_core.proofs.known.PinsKnown.{has_later}
+use Rattle.oak_core.proofs.kinds.StampSteps.{stamp_knows, stamp_learns}
+use Rattle.oak_core.proofs.histories.WritesBelow.{before_first}
+use Rattle.oak_core.proofs.memory.Words.{memory_read}
 use Rattle.value_ops.specs.declared.pinning.BadPin.TheVariants.{Dead}
 use Rattle.value_ops.specs.Pinning.{KnowsLife, PinsDud}
 use Rattle.value_ops.proofs.LearnFacts.{learned_met, learned_pin, life_stays, told_at}

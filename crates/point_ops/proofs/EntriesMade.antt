@@ -13,7 +13,7 @@ use Rattle.chunk_core.specs.KeyWords.{low_number, high_number}
 use Rattle.chunk_core.specs.PinnedRooms.{found_key, span_of}
 use Rattle.oak_core.specs.declared.states.PassState.{PassState}
 use Rattle.oak_core.specs.CallSteps.{Learns, Stands}
-use Rattle.oak_core.proofs.CallSteps.{learns_both, stands_learns}
+use Rattle.oak_core.proofs.calls.CallSteps.{learns_both, stands_learns}
 use Rattle.arena_ops.specs.Taking.{Gives}
 use Rattle.chunk_ops.specs.declared.entries.AddHalt.{AddHalt}
 use Rattle.chunk_ops.specs.declared.entries.AddHalt.TheVariants as adds

@@ -13,7 +13,7 @@ use Rattle.oak_core.specs.Finding.{IsOf, finding}
 use Rattle.oak_core.specs.HeaderCalls.{Pins}
 use Rattle.oak_core.specs.Memory.{Memory, in_headers}
 use Rattle.oak_core.specs.Step.{found, load, on_headers}
-use Rattle.oak_core.proofs.CallSteps.{met_both, met_none, step_met}
+use Rattle.oak_core.proofs.calls.CallSteps.{met_both, met_none, step_met}
 use Rattle.value_ops.specs.declared.pinning.BadPin.{BadPin}
 use Rattle.value_ops.specs.declared.pinning.BadPin.TheVariants.{Locked, Dead, Other}
 use Rattle.value_ops.specs.Pinning.{IsCause, LooksUnder, MeetsMore, PinsDud, with_pin}

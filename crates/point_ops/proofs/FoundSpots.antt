@@ -10,8 +10,8 @@ use Rattle.oak_core.specs.CallSteps.{Learns, Stands}
 use Rattle.oak_core.specs.CountReads.{SightedBare}
 use Rattle.oak_core.specs.KeyReads.{home_of}
 use Rattle.oak_core.specs.LastReads.{KnowsLifeOf, ReadsLast}
-use Rattle.oak_core.proofs.LoadedIn.{loaded_in_has}
-use Rattle.oak_core.proofs.CallSteps.{learns_both, learns_none, stands_none, step_since}
+use Rattle.oak_core.proofs.known.LoadedIn.{loaded_in_has}
+use Rattle.oak_core.proofs.calls.CallSteps.{learns_both, learns_none, stands_none, step_since}
 use Rattle.chunk_ops.specs.AskedRanges.{CoversKey}
 use Rattle.chunk_ops.specs.Contents.{EntryNamed, FindsContent, TellsOf}
 use Rattle.chunk_ops.specs.Finds.{FindsKey, FindsMissing, FoundAbsent}

@@ -14,7 +14,7 @@ use Rattle.oak_core.specs.KeyHistories.{home_behind}
 use Rattle.oak_core.specs.LifeKeys.{key_in_loaded}
 use Rattle.oak_core.specs.Memory.{in_headers}
 use Rattle.oak_core.specs.PassState.{HoldsNothing, seen_of}
-use Rattle.oak_core.proofs.CallSteps.{learns_both, stands_learns, stands_none}
+use Rattle.oak_core.proofs.calls.CallSteps.{learns_both, stands_learns, stands_none}
 use Rattle.chunk_ops.specs.PinRecords.{OnlyLearns, PinKept, UnderPin}
 use Rattle.chunk_ops.specs.RoomPins.{PinsOpen, Unpins}
 use Rattle.value_ops.specs.Pinning.{KnowsLife}

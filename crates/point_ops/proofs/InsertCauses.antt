@@ -20,7 +20,7 @@ use Rattle.oak_core.specs.Finding.{FoundThere, had, had_placed, has_block}
 use Rattle.oak_core.specs.Memory.{in_headers}
 use Rattle.oak_core.specs.PassState.{bare_state}
 use Rattle.oak_core.specs.Usage.{is_free}
-use Rattle.oak_core.proofs.FoundThere.{found_later}
+use Rattle.oak_core.proofs.calls.FoundThere.{found_later}
 use Rattle.arena_ops.specs.Looking.{bit_spot}
 use Rattle.arena_ops.specs.Taking.{FindsNone}
 use Rattle.value_ops.specs.Claiming.{FindsNoneFree, FoundPin, FoundTwice, FoundUnfree}

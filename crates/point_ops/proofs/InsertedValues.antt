@@ -24,7 +24,7 @@ use Rattle.oak_core.specs.HeldRows.{HasFresh}
 use Rattle.oak_core.specs.Lack.{TookBut}
 use Rattle.oak_core.specs.MadeWrites.{held_header}
 use Rattle.oak_core.specs.QuietSteps.{MetOnly, Quiet}
-use Rattle.oak_core.proofs.CallSteps.{learns_both, met_none, stands_learns, stands_in}
+use Rattle.oak_core.proofs.calls.CallSteps.{learns_both, met_none, stands_learns, stands_in}
 use Rattle.chunk_ops.specs.declared.entries.EntryNo.{EntryNo}
 use Rattle.chunk_ops.specs.PinRecords.{UnderPin}
 use Rattle.chunk_ops.specs.Setting.{FoundSet}

@@ -19,12 +19,12 @@ use Rattle.oak_core.specs.Learning.{of_key_to, taught_where}
 use Rattle.oak_core.specs.Memory.{memory}
 use Rattle.oak_core.specs.PassState.{history, knowledge_of, seen_of}
 use Rattle.oak_core.specs.Step.{Step, Told}
-use Rattle.oak_core.proofs.Histories.{seen_stands}
-use Rattle.oak_core.proofs.KnownPlaces.{known_place, place_length}
-use Rattle.oak_core.proofs.LessonReach.{reach_here}
-use Rattle.oak_core.proofs.TaughtReads.{begins_shorter}
-use Rattle.oak_core.proofs.TaughtSteps.{taught_remembers}
-use Rattle.oak_core.proofs.WritesBelow.{before_first}
+use Rattle.oak_core.proofs.histories.Histories.{seen_stands}
+use Rattle.oak_core.proofs.known.KnownPlaces.{known_place, place_length}
+use Rattle.oak_core.proofs.lessons.LessonReach.{reach_here}
+use Rattle.oak_core.proofs.lessons.TaughtReads.{begins_shorter}
+use Rattle.oak_core.proofs.lessons.TaughtSteps.{taught_remembers}
+use Rattle.oak_core.proofs.histories.WritesBelow.{before_first}
 use Rattle.point_ops.proofs.RemovalSeen.{taught_just}
 
 module _ (z : Sizes) (call : ℕ) (x : Step) (v : PassState) (n : ℕ) (w : PassState) (t : Told z call x v n w) (key : List ℕ) (at : ℕ) (s : State) (ends : EndsAs (key_number key) at s v.knowledge) where

@@ -14,8 +14,8 @@ use Rattle.oak_core.specs.CallSteps.{Learns, Stands}
 use Rattle.oak_core.specs.CallWrites.{Writes}
 use Rattle.oak_core.specs.Finding.{IsLoadOf, IsOf, LoadsMore}
 use Rattle.oak_core.specs.MadeWrites.{held_header}
-use Rattle.oak_core.proofs.CallSteps.{stands_in}
-use Rattle.oak_core.proofs.HeldRowLaws.{row_mapped}
+use Rattle.oak_core.proofs.calls.CallSteps.{stands_in}
+use Rattle.oak_core.proofs.held.HeldRowLaws.{row_mapped}
 use Rattle.value_ops.specs.declared.locking.Locked.{Locked}
 use Rattle.value_ops.specs.HeldValue.{stamp_held, value_at_lock, value_held}
 use Rattle.value_ops.specs.LockHistories.{LockOf, LocksKey}

@@ -24,9 +24,9 @@ use Rattle.chunk_core.specs.Rooms.{at_count, at_key}
 use Rattle.oak_core.specs.declared.states.PassState.{PassState}
 use Rattle.oak_core.specs.AloneWords.{Runs}
 use Rattle.oak_core.specs.Memory.{Spot, at_given, in_arena, in_headers, in_rooms, index, memory, read}
-use Rattle.oak_core.proofs.AloneRuns.{Then, runs_then, runs_as}
-use Rattle.oak_core.proofs.ArenaNames.{bit_inside}
-use Rattle.oak_core.proofs.Words.{memory_read}
+use Rattle.oak_core.proofs.seats.AloneRuns.{Then, runs_then, runs_as}
+use Rattle.oak_core.proofs.memory.ArenaNames.{bit_inside}
+use Rattle.oak_core.proofs.memory.Words.{memory_read}
 use Rattle.chunk_ops.specs.FindsAlone.{IsUsed}
 use Rattle.chunk_ops.specs.PinRecords.{HasRoomPin, room_pin}
 use Rattle.point_ops.specs.LoneInserts.{IsOfBlock, KeepsBut, KeysStay, MakesBlockIn, MakesBlockUnder}

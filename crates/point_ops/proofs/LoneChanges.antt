@@ -15,8 +15,8 @@ use Rattle.oak_core.specs.declared.states.PassState.{PassState}
 use Rattle.oak_core.specs.AloneWords.{Runs}
 use Rattle.oak_core.specs.Finding.{LoadsMore}
 use Rattle.oak_core.specs.Memory.{in_headers, index}
-use Rattle.oak_core.proofs.AloneRuns.{Then, runs_as, runs_then}
-use Rattle.oak_core.proofs.Words.{memory_read}
+use Rattle.oak_core.proofs.seats.AloneRuns.{Then, runs_as, runs_then}
+use Rattle.oak_core.proofs.memory.Words.{memory_read}
 use Rattle.chunk_ops.specs.Latching.{Never}
 use Rattle.chunk_ops.specs.PinRecords.{HasRoomPin, RoomPinned}
 use Rattle.value_ops.specs.declared.locking.NoLock.{NoLock}

@@ -13,7 +13,7 @@ use Rattle.chunk_core.specs.Rooms.{at_base, at_count, at_key, at_value}
 use Rattle.oak_core.specs.declared.states.PassState.{PassState}
 use Rattle.oak_core.specs.AloneWords.{Runs}
 use Rattle.oak_core.specs.Memory.{Spot, IsInside, at_given, in_arena, in_headers, in_rooms, index, memory, word_count}
-use Rattle.oak_core.proofs.AloneRuns.{Then, runs_then, runs_as, runs_none}
+use Rattle.oak_core.proofs.seats.AloneRuns.{Then, runs_then, runs_as, runs_none}
 use Rattle.chunk_ops.specs.declared.entries.AddHalt.{AddHalt}
 use Rattle.chunk_ops.specs.declared.entries.AddHalt.TheVariants as adds
 use Rattle.chunk_ops.specs.declared.entries.EntryNo.{EntryNo}

@@ -13,7 +13,7 @@ use Rattle.oak_core.specs.declared.states.PassState.{PassState}
 use Rattle.oak_core.specs.AloneWords.{Runs}
 use Rattle.oak_core.specs.Memory.{in_headers}
 use Rattle.oak_core.specs.Usage.{is_free}
-use Rattle.oak_core.proofs.AloneRuns.{Then, runs_then, runs_as}
+use Rattle.oak_core.proofs.seats.AloneRuns.{Then, runs_then, runs_as}
 use Rattle.arena_core.specs.Place.{place_word}
 use Rattle.value_ops.specs.Claiming.{ClaimsHeader, FindsNoneFree, NoneFree, OwnsPin}
 use Rattle.value_ops.specs.Filling.{Fills, FillsWords, FreesPin, Withdraws}

@@ -19,9 +19,9 @@ use Rattle.oak_core.specs.Callers.{AreWritesOf, WritesStand, of_caller}
 use Rattle.oak_core.specs.KeyReads.{history_now}
 use Rattle.oak_core.specs.PassState.{Extends, IsAlone, knowledge_of, numbers_of, of_key, rooted, seen_of, spent_state}
 use Rattle.oak_core.specs.TableState.{TableState}
-use Rattle.oak_core.proofs.Alone.{history_seen, others_are}
-use Rattle.oak_core.proofs.CallerWrites.{caller-cases}
-use Rattle.oak_core.proofs.WrittenHistories.{history_cross, of_key-append, of_key-one, of_key-other}
+use Rattle.oak_core.proofs.seats.Alone.{history_seen, others_are}
+use Rattle.oak_core.proofs.histories.CallerWrites.{caller-cases}
+use Rattle.oak_core.proofs.histories.WrittenHistories.{history_cross, of_key-append, of_key-one, of_key-other}
 use Rattle.chunk_ops.specs.RoomPins.{HadMoment}
 use Rattle.point_ops.specs.LoneReplies.{SeesWhole}
 

@@ -11,8 +11,8 @@ use Rattle.header_core.specs.HeaderHolds.{place_held}
 use Rattle.oak_core.specs.declared.states.PassState.{PassState}
 use Rattle.oak_core.specs.AloneWords.{Runs}
 use Rattle.oak_core.specs.Memory.{IsInside, in_rooms, memory}
-use Rattle.oak_core.proofs.AloneRuns.{Then, runs_then, runs_as}
-use Rattle.oak_core.proofs.MetLists.{at_inside}
+use Rattle.oak_core.proofs.seats.AloneRuns.{Then, runs_then, runs_as}
+use Rattle.oak_core.proofs.memory.MetLists.{at_inside}
 use Rattle.chunk_ops.specs.declared.entries.EntryNo.{EntryNo}
 use Rattle.chunk_ops.specs.declared.entries.Found.TheVariants.{Missing}
 use Rattle.chunk_ops.specs.AskedRanges.{CoversKey}

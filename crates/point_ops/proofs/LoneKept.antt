@@ -25,8 +25,8 @@ use Rattle.oak_core.specs.Finding.{grown}
 use Rattle.oak_core.specs.Memory.{Spot, at_given, in_arena, in_headers, in_rooms, index, memory, read, word_count}
 use Rattle.oak_core.specs.Step.{on_headers}
 use Rattle.oak_core.specs.TableState.{TableState}
-use Rattle.oak_core.proofs.AloneRuns.{Then, moment_after, runs_as, runs_then}
-use Rattle.oak_core.proofs.ArenaNames.{bit_inside}
+use Rattle.oak_core.proofs.seats.AloneRuns.{Then, moment_after, runs_as, runs_then}
+use Rattle.oak_core.proofs.memory.ArenaNames.{bit_inside}
 use Rattle.arena_ops.specs.Looking.{bit_spot}
 use Rattle.arena_ops.specs.Taking.{ClearsBit}
 use Rattle.arena_ops.proofs.PutWords.{spot_from}

@@ -12,8 +12,8 @@ use Rattle.oak_core.specs.Memory.{Spot, IsInside, index, memory, read}
 use Rattle.oak_core.specs.PassState.{IsAlone}
 use Rattle.oak_core.specs.Splitting.{Loads}
 use Rattle.oak_core.specs.Step.{Step, load, on_headers, spot, effect, Told}
-use Rattle.oak_core.proofs.AloneRuns.{DoesStep, Keeps, moment_before, runs_as, step_runs, step_starts}
-use Rattle.oak_core.proofs.Words.{index_apart, memory_read}
+use Rattle.oak_core.proofs.seats.AloneRuns.{DoesStep, Keeps, moment_before, runs_as, step_runs, step_starts}
+use Rattle.oak_core.proofs.memory.Words.{index_apart, memory_read}
 use Rattle.value_ops.specs.Claiming.{ChangesPin, pin_spot}
 use Rattle.value_ops.proofs.StepLeft.{pin_found, small}
 

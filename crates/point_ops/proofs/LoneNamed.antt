@@ -24,8 +24,8 @@ use Rattle.oak_core.specs.KeyReads.{history_now, shown_by, word_now}
 use Rattle.oak_core.specs.KeyStates.{IsHome}
 use Rattle.oak_core.specs.Memory.{Memory, memory}
 use Rattle.oak_core.specs.PassState.{IsAlone, headers_held}
-use Rattle.oak_core.proofs.Alone.{others_are}
-use Rattle.oak_core.proofs.FoundValues.{entry_key_is, pin_holds, value_there}
+use Rattle.oak_core.proofs.seats.Alone.{others_are}
+use Rattle.oak_core.proofs.covers.FoundValues.{entry_key_is, pin_holds, value_there}
 use Rattle.chunk_ops.specs.declared.entries.Content.TheVariants.{Value}
 use Rattle.chunk_ops.specs.Contents.{Says}
 use Rattle.chunk_ops.specs.PinRecords.{HasEntry, room_pin}
@@ -43,7 +43,7 @@ use Rattle.chunk_core.specs.PinnedRooms.{found_in}
 use Rattle.chunk_core.proofs.CoverFacts.{entry_adds}
 use Rattle.chunk_core.proofs.RoomLinks.{found_place, found_stands}
 use Rattle.oak_core.specs.PassState.{rooms_held}
-use Rattle.oak_core.proofs.FoundValues.{numbered}
+use Rattle.oak_core.proofs.covers.FoundValues.{numbered}
 
 module _ (z : Sizes) (words : List ℕ) (v : PassState) (m : Moment z words v) (alone : IsAlone v) (none : v.headers ≡ no_headers) where
   abbrev mem : Memory

@@ -14,9 +14,9 @@ use Rattle.header_core.specs.Headers.{at_pin, at_place, at_stamp}
 use Rattle.oak_core.specs.declared.states.PassState.{PassState}
 use Rattle.oak_core.specs.AloneWords.{Runs}
 use Rattle.oak_core.specs.Memory.{Spot, at_given, in_arena, in_headers, in_rooms, index, memory}
-use Rattle.oak_core.proofs.AloneRuns.{Then, runs_as, runs_then}
-use Rattle.oak_core.proofs.ArenaNames.{bit_inside}
-use Rattle.oak_core.proofs.Words.{memory_read}
+use Rattle.oak_core.proofs.seats.AloneRuns.{Then, runs_as, runs_then}
+use Rattle.oak_core.proofs.memory.ArenaNames.{bit_inside}
+use Rattle.oak_core.proofs.memory.Words.{memory_read}
 use Rattle.arena_ops.specs.Looking.{bit_spot}
 use Rattle.arena_ops.specs.Taking.{ClearsBit}
 use Rattle.chunk_ops.proofs.KeptKeys.{number_other}

@@ -17,7 +17,7 @@ use Rattle.header_core.specs.Headers.{at_pin, at_place, at_stamp}
 use Rattle.oak_core.specs.declared.states.PassState.{PassState}
 use Rattle.oak_core.specs.AloneWords.{Runs}
 use Rattle.oak_core.specs.Memory.{Spot, in_arena, in_headers, in_rooms, memory, read}
-use Rattle.oak_core.proofs.AloneRuns.{Then, runs_as, runs_then}
+use Rattle.oak_core.proofs.seats.AloneRuns.{Then, runs_as, runs_then}
 use Rattle.chunk_ops.specs.declared.entries.Content.TheVariants.{Value}
 use Rattle.chunk_ops.specs.declared.entries.EntryNo.{EntryNo}
 use Rattle.chunk_ops.specs.declared.entries.Found.TheVariants.{Entry}

@@ -19,8 +19,8 @@ use Rattle.arena_ops.specs.Taking.{ClearsBit}
 use Rattle.header_core.specs.declared.states.TheConstants.{LIVE}
 use Rattle.header_core.specs.Headers.{at_pin, at_place, at_stamp}
 use Rattle.oak_core.specs.Memory.{Spot, IsInside, at_given, in_arena, in_headers, in_rooms, index, memory, number_at, read, same_spot, word_count}
-use Rattle.oak_core.proofs.ArenaNames.{bit_inside}
-use Rattle.oak_core.proofs.Words.{memory_read, read-of, same_spot-is}
+use Rattle.oak_core.proofs.memory.ArenaNames.{bit_inside}
+use Rattle.oak_core.proofs.memory.Words.{memory_read, read-of, same_spot-is}
 use Rattle.chunk_ops.proofs.KeptKeys.{number_other}
 use Rattle.value_ops.specs.Claiming.{pin_spot}
 use Rattle.value_ops.specs.Filling.{FreesPin}

@@ -17,7 +17,7 @@ use Rattle.header_core.specs.Headers.{at_pin, at_place, at_stamp}
 use Rattle.oak_core.specs.declared.states.PassState.{PassState}
 use Rattle.oak_core.specs.AloneWords.{Runs}
 use Rattle.oak_core.specs.Memory.{Spot, at_given, in_arena, in_headers, in_rooms, index, memory, read, word_count}
-use Rattle.oak_core.proofs.AloneRuns.{Then, runs_as, runs_then}
+use Rattle.oak_core.proofs.seats.AloneRuns.{Then, runs_as, runs_then}
 use Rattle.arena_ops.proofs.PutWords.{spot_from}
 use Rattle.chunk_ops.proofs.KeptKeys.{number_other}
 use Rattle.value_ops.specs.AloneLocks.{AppliesTo, LocksPin, WritesWords, first_in, pin_in, place_in, put_bytes, put_stamp, stamp_in, value_in}

@@ -6,8 +6,8 @@ use Rattle.oak_core.specs.declared.states.PassState.{PassState}
 use Rattle.oak_core.specs.AloneWords.{LeavesWords, Moment, Runs}
 use Rattle.oak_core.specs.Memory.{memory}
 use Rattle.oak_core.specs.Step.{Step, Told}
-use Rattle.oak_core.proofs.AloneRuns.{Then, moment_after, runs_as, runs_then}
-use Rattle.oak_core.proofs.FoundValues.{pin_holds}
+use Rattle.oak_core.proofs.seats.AloneRuns.{Then, moment_after, runs_as, runs_then}
+use Rattle.oak_core.proofs.covers.FoundValues.{pin_holds}
 use Rattle.chunk_ops.specs.declared.entries.Content.{Content}
 use Rattle.chunk_ops.specs.declared.entries.EntryNo.{EntryNo}
 use Rattle.chunk_ops.specs.declared.entries.Found.TheVariants.{Entry, Missing}

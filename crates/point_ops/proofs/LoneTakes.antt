@@ -32,12 +32,12 @@ use Rattle.oak_core.specs.PassState.{rooms_held}
 use Rattle.oak_core.specs.Rule.{Rule}
 use Rattle.oak_core.specs.Step.{Step, on_arena, spot, effect, found, Told}
 use Rattle.oak_core.specs.TableState.{TableState}
-use Rattle.oak_core.proofs.AloneLast.{appends, last_is}
-use Rattle.oak_core.proofs.AloneRuns.{moment_after}
-use Rattle.oak_core.proofs.ArenaNames.{bit_inside}
-use Rattle.oak_core.proofs.EntryBlocks.{key_some}
-use Rattle.oak_core.proofs.HeadersInArena.{names_named}
-use Rattle.oak_core.proofs.Words.{index_below, memory_read}
+use Rattle.oak_core.proofs.seats.AloneLast.{appends, last_is}
+use Rattle.oak_core.proofs.seats.AloneRuns.{moment_after}
+use Rattle.oak_core.proofs.memory.ArenaNames.{bit_inside}
+use Rattle.oak_core.proofs.owners.EntryBlocks.{key_some}
+use Rattle.oak_core.proofs.owners.HeadersInArena.{names_named}
+use Rattle.oak_core.proofs.memory.Words.{index_below, memory_read}
 use Rattle.arena_ops.specs.Looking.{bit_spot}
 use Rattle.arena_ops.specs.Taking.{SetsBit, Takes}
 use Rattle.chunk_ops.specs.FindsAlone.{IsUsed}

@@ -3,7 +3,7 @@ use Rattle.std.proofs.Common.{◌≡◌, ℕ, suc, ◌+◌, ◌<◌, ◌⊎◌, 
 use Rattle.oak_model.specs.Limits.{Sizes}
 use Rattle.oak_model.proofs.Counting.{test-cases}
 use Rattle.oak_core.specs.Memory.{Spot, IsInside, index, memory, number_at, read, same_spot, word_count}
-use Rattle.oak_core.proofs.Words.{index_below, memory_read, read-of, same_spot-is}
+use Rattle.oak_core.proofs.memory.Words.{index_below, memory_read, read-of, same_spot-is}
 use Rattle.arena_ops.specs.PutWords.{put_from}
 use Rattle.chunk_ops.proofs.KeptKeys.{number_other}
 use Rattle.point_ops.specs.LoneInserts.{KeepsBut}

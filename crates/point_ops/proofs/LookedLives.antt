@@ -16,9 +16,9 @@ use Rattle.oak_core.specs.Memory.{in_headers}
 use Rattle.oak_core.specs.Passes.{state}
 use Rattle.oak_core.specs.PassState.{seen_of}
 use Rattle.oak_core.specs.QuietSteps.{IsQuiet}
-use Rattle.oak_core.proofs.AloneRuns.{Then, runs_as, runs_then}
-use Rattle.oak_core.proofs.CallSteps.{learns_both, stands_learns}
-use Rattle.oak_core.proofs.QuietCalls.{only_both}
+use Rattle.oak_core.proofs.seats.AloneRuns.{Then, runs_as, runs_then}
+use Rattle.oak_core.proofs.calls.CallSteps.{learns_both, stands_learns}
+use Rattle.oak_core.proofs.calls.QuietCalls.{only_both}
 use Rattle.chunk_ops.specs.PinRecords.{OnlyLearns, WordsStay}
 use Rattle.chunk_ops.proofs.MeetingCalls.{stays_then}
 use Rattle.value_ops.specs.declared.pinning.BadPin.{BadPin}

@@ -22,12 +22,12 @@ use Rattle.oak_core.specs.Memory.{Memory, Spot, index, memory}
 use Rattle.oak_core.specs.QuietSteps.{IsQuiet, Quiet}
 use Rattle.oak_core.specs.PassState.{bare_state}
 use Rattle.oak_core.specs.Step.{on_headers, found}
-use Rattle.oak_core.proofs.AloneRuns.{runs_as}
-use Rattle.oak_core.proofs.FoundThere.{found_first, found_later}
-use Rattle.oak_core.proofs.LockTold.{lock_missed, word_found}
-use Rattle.oak_core.proofs.PlainLoads.{met_at}
-use Rattle.oak_core.proofs.QuietCalls.{only_both, quiet_load}
-use Rattle.oak_core.proofs.Words.{index_apart}
+use Rattle.oak_core.proofs.seats.AloneRuns.{runs_as}
+use Rattle.oak_core.proofs.calls.FoundThere.{found_first, found_later}
+use Rattle.oak_core.proofs.told.LockTold.{lock_missed, word_found}
+use Rattle.oak_core.proofs.told.PlainLoads.{met_at}
+use Rattle.oak_core.proofs.calls.QuietCalls.{only_both, quiet_load}
+use Rattle.oak_core.proofs.memory.Words.{index_apart}
 use Rattle.chunk_ops.specs.PinRecords.{OnlyMeets, WordsStay}
 use Rattle.value_ops.specs.declared.locking.NoLock.{NoLock}
 use Rattle.value_ops.specs.declared.locking.NoLock.TheVariants.{Busy, Dead}

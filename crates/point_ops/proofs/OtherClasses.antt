@@ -31,7 +31,7 @@ use Rattle.oak_core.specs.LastReads.{EndsAs}
 use Rattle.oak_core.specs.Memory.{memory}
 use Rattle.oak_core.specs.PassState.{Extends, seen_of}
 use Rattle.oak_core.specs.Step.{on_headers}
-use Rattle.oak_core.proofs.CallSteps.{sights_same}
+use Rattle.oak_core.proofs.calls.CallSteps.{sights_same}
 use Rattle.value_ops.specs.HeldValue.{value_held, words_in}
 use Rattle.value_ops.specs.LockHistories.{LocksKey}
 use Rattle.value_ops.specs.Locking.{LocksHeader}

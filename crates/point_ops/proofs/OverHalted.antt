@@ -9,8 +9,8 @@ use Rattle.oak_core.specs.declared.states.PassState.{PassState}
 use Rattle.oak_core.specs.CallSteps.{Learns, MetMore, Stands}
 use Rattle.oak_core.specs.Finding.{IsOf, LoadsMore}
 use Rattle.oak_core.specs.QuietSteps.{MetOnly, Quiet, TookNone}
-use Rattle.oak_core.proofs.CallSteps.{learns_both, stands_both, stands_in, stands_learns, met_none}
-use Rattle.oak_core.proofs.QuietCalls.{of_took, only_both, quiet_loads, quiet_took}
+use Rattle.oak_core.proofs.calls.CallSteps.{learns_both, stands_both, stands_in, stands_learns, met_none}
+use Rattle.oak_core.proofs.calls.QuietCalls.{of_took, only_both, quiet_loads, quiet_took}
 use Rattle.value_ops.specs.declared.locking.NoLock.TheVariants as no_lock
 use Rattle.value_ops.specs.Locking.{LocksHeader}
 use Rattle.value_ops.specs.Pinning.{KnowsLife}

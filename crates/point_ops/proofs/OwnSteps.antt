@@ -13,8 +13,8 @@ use Rattle.oak_core.specs.Finding.{IsBefore, IsOf}
 use Rattle.oak_core.specs.Lack.{TookBut}
 use Rattle.oak_core.specs.Memory.{in_rooms, index, rooms_at}
 use Rattle.oak_core.specs.QuietSteps.{MetOnly, Quiet, TookNone}
-use Rattle.oak_core.proofs.QuietCalls.{front_stored, only_both, only_map, quiet_stored, quiet_took}
-use Rattle.oak_core.proofs.Words.{rooms_from}
+use Rattle.oak_core.proofs.calls.QuietCalls.{front_stored, only_both, only_map, quiet_stored, quiet_took}
+use Rattle.oak_core.proofs.memory.Words.{rooms_from}
 use Rattle.arena_ops.specs.Taking.{Takes, TookThis}
 use Rattle.chunk_ops.specs.Adds.{LeavesCount}
 use Rattle.point_ops.specs.Inserts.{TakesOnly}

@@ -17,8 +17,8 @@ use Rattle.oak_core.specs.declared.states.PassState.{PassState}
 use Rattle.oak_core.specs.CallSteps.{Stands}
 use Rattle.oak_core.specs.Finding.{IsBefore, IsOf, IsLoadOf, grown}
 use Rattle.oak_core.specs.QuietSteps.{MetOnly, Quiet}
-use Rattle.oak_core.proofs.CallSteps.{stands_both, stands_in}
-use Rattle.oak_core.proofs.QuietCalls.{only_both, quiet_loads}
+use Rattle.oak_core.proofs.calls.CallSteps.{stands_both, stands_in}
+use Rattle.oak_core.proofs.calls.QuietCalls.{only_both, quiet_loads}
 use Rattle.arena_ops.specs.Storing.{StoresBytes, given}
 use Rattle.arena_ops.specs.Taking.{Takes, Gives, FindsNone}
 use Rattle.value_ops.specs.Claiming.{ClaimsHeader, FindsNoneFree}

@@ -8,7 +8,7 @@ use Rattle.oak_core.specs.declared.states.PassState.{PassState}
 use Rattle.oak_core.specs.CallSteps.{Learns, Stands}
 use Rattle.oak_core.specs.PassState.{HoldsNothing}
 use Rattle.oak_core.specs.RebalanceSteps.{KeepsRooms}
-use Rattle.oak_core.proofs.CallSteps.{learns_both, stands_learns}
+use Rattle.oak_core.proofs.calls.CallSteps.{learns_both, stands_learns}
 use Rattle.chunk_ops.specs.PinRecords.{OnlyMeets, UnderPin, room_pin, with_room_pin}
 use Rattle.chunk_ops.specs.RoomPins.{PinsOpen, Unpins}
 use Rattle.point_ops.specs.Halting.{Halts}

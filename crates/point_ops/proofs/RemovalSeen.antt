@@ -15,13 +15,13 @@ use Rattle.oak_core.specs.KeyHistories.{writes_of, home_behind, state_behind, be
 use Rattle.oak_core.specs.Learning.{lessons, reach_of, taught_by}
 use Rattle.oak_core.specs.PassState.{seen_of, history}
 use Rattle.oak_core.specs.Rule.{HistoriesStand}
-use Rattle.oak_core.proofs.Histories.{seen_later}
-use Rattle.oak_core.proofs.KnownPlaces.{place_length}
-use Rattle.oak_core.proofs.KnownReads.{same_state}
-use Rattle.oak_core.proofs.LessonLaws.{heard_taught}
-use Rattle.oak_core.proofs.RemovedReads.{removal_behind}
-use Rattle.oak_core.proofs.Removals.{removed_state, stamp_above}
-use Rattle.oak_core.proofs.WritesBelow.{before-cases, before_first}
+use Rattle.oak_core.proofs.histories.Histories.{seen_later}
+use Rattle.oak_core.proofs.known.KnownPlaces.{place_length}
+use Rattle.oak_core.proofs.known.KnownReads.{same_state}
+use Rattle.oak_core.proofs.lessons.LessonLaws.{heard_taught}
+use Rattle.oak_core.proofs.known.RemovedReads.{removal_behind}
+use Rattle.oak_core.proofs.histories.Removals.{removed_state, stamp_above}
+use Rattle.oak_core.proofs.histories.WritesBelow.{before-cases, before_first}
 
 -- at the end of what is written is the state behind it
 pub state_at_end : (h : List KeyedWrite) → state_at (writes_of h) (length h) ≡ state_behind h

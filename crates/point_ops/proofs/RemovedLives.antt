@@ -19,8 +19,8 @@ use Rattle.oak_core.specs.declared.states.PassState.{PassState}
 use Rattle.oak_core.specs.CallSteps.{Stands}
 use Rattle.oak_core.specs.HeldRows.{BuriesLife}
 use Rattle.oak_core.specs.MayWrite.{IsUnnamed}
-use Rattle.oak_core.proofs.CallSteps.{stands_both, stands_in}
-use Rattle.oak_core.proofs.SetsValue.{held_row}
+use Rattle.oak_core.proofs.calls.CallSteps.{stands_both, stands_in}
+use Rattle.oak_core.proofs.covers.SetsValue.{held_row}
 use Rattle.value_ops.specs.HeldValue.{words_in}
 use Rattle.value_ops.specs.LockHistories.{LockOf, LocksKey}
 use Rattle.value_ops.specs.Locking.{LocksHeader}

@@ -24,8 +24,8 @@ use Rattle.oak_core.specs.Lack.{TookBut}
 use Rattle.oak_core.specs.Memory.{in_headers}
 use Rattle.oak_core.specs.QuietSteps.{MetOnly, Quiet}
 use Rattle.oak_core.specs.Sights.{SightedSince}
-use Rattle.oak_core.proofs.CallSteps.{learns_both, learns_none, met_both, met_none, sights_same, stands_none}
-use Rattle.oak_core.proofs.QuietCalls.{only_both, only_none}
+use Rattle.oak_core.proofs.calls.CallSteps.{learns_both, learns_none, met_both, met_none, sights_same, stands_none}
+use Rattle.oak_core.proofs.calls.QuietCalls.{only_both, only_none}
 use Rattle.chunk_ops.specs.declared.entries.EntryNo.{EntryNo}
 use Rattle.chunk_ops.specs.Adds.{LeavesCount}
 use Rattle.chunk_ops.specs.PinRecords.{OnlyLearns, OnlyMeets, PinKept, UnderPin}

@@ -18,9 +18,9 @@ use Rattle.oak_core.specs.CallSteps.{Stands}
 use Rattle.oak_core.specs.Finding.{IsOf}
 use Rattle.oak_core.specs.HeldRows.{HasFresh}
 use Rattle.oak_core.specs.QuietSteps.{MetOnly}
-use Rattle.oak_core.proofs.CallSteps.{stands_both, stands_in}
-use Rattle.oak_core.proofs.QuietCalls.{only_both}
-use Rattle.oak_core.proofs.SetsValue.{held_row}
+use Rattle.oak_core.proofs.calls.CallSteps.{stands_both, stands_in}
+use Rattle.oak_core.proofs.calls.QuietCalls.{only_both}
+use Rattle.oak_core.proofs.covers.SetsValue.{held_row}
 use Rattle.arena_ops.specs.Taking.{Gives}
 use Rattle.value_ops.specs.Claiming.{ClaimsHeader, FindsNoneFree}
 use Rattle.value_ops.specs.Filling.{Fills, Withdraws}

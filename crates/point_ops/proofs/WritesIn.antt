@@ -19,7 +19,7 @@ use Rattle.oak_core.specs.KnownPlaces.{KnowsPlace}
 use Rattle.oak_core.specs.PassState.{seen_of}
 use Rattle.oak_core.specs.RebalanceSteps.{KeepsRooms}
 use Rattle.oak_core.specs.Sights.{SightedSince}
-use Rattle.oak_core.proofs.CallSteps.{begins_same, learns_both, learns_none, met_both, sights_both, sights_same, stands_learns, stands_none}
+use Rattle.oak_core.proofs.calls.CallSteps.{begins_same, learns_both, learns_none, met_both, sights_both, sights_same, stands_learns, stands_none}
 use Rattle.point_ops.specs.Parts.{Answers, ReadSo, WritesAt, WroteSo}
 use Rattle.point_ops.proofs.Composed.{last_in, sighted_in}
 

@@ -54,10 +54,14 @@ pub(crate) fn compute_life(
     requires kind { (b : List ℕ) → MakesWrite kind (Some b) (Some (recipe_result (told_kind recipe.old) (told_argument recipe.old) b)) }
     ensures own { StaysButScratch pass.old pass.new }
     ensures held { KeepsHeld (state pass.old) (state pass.new) }
-    ensures wrote { IfOk result (λ at. (k : List ℕ) → KnowsLife header generation k (state pass.old).knowledge → (b : List ℕ) × WritesAt (call_of pass.old) k kind (Some b) (Some (recipe_result (told_kind recipe.old) (told_argument recipe.old) b)) at (state pass.old) (state pass.new)) }
+    ensures wrote { IfOk result (λ at. (k : List ℕ) → KnowsLife header generation k (state pass.old).knowledge
+        → (b : List ℕ) × WritesAt (call_of pass.old) k kind (Some b)
+        (Some (recipe_result (told_kind recipe.old) (told_argument recipe.old) b)) at (state pass.old)
+        (state pass.new)) }
     ensures counted { IfOk result (λ _. calls recipe.new ≡ calls recipe.old + 1) }
     ensures uncounted { IfErr result (λ _. calls recipe.new ≡ calls recipe.old) }
-    ensures fed { IfOk result (λ _. (k : List ℕ) → KnowsLife header generation k (state pass.old).knowledge → FedReplaced k (fed recipe.new) (state pass.new)) }
+    ensures fed { IfOk result (λ _. (k : List ℕ) → KnowsLife header generation k (state pass.old).knowledge
+        → FedReplaced k (fed recipe.new) (state pass.new)) }
     ensures unfed { IfErr result (λ _. SaysTheSame (fed recipe.old) (fed recipe.new)) }
     ensures told { (told_kind recipe.new ≡ told_kind recipe.old) × (told_argument recipe.new ≡ told_argument recipe.old) }
     ensures only { IfErr result (λ _. OnlyMeets (call_of pass.old) (state pass.old) (state pass.new)) }
@@ -93,12 +97,18 @@ fn exchange(
     ensures blocks { (state pass.new).blocks ≡ no_blocks }
     ensures headers { (state pass.new).headers ≡ no_headers }
     ensures rooms { (state pass.new).rooms ≡ (state pass.old).rooms }
-    ensures wrote { IfOk result (λ at. (k : List ℕ) → KnowsLife header generation k (state pass.old).knowledge → (b : List ℕ) × WritesAt (call_of pass.old) k kinds.Put (Some b) (Some value.now) at (state pass.old) (state pass.new)) }
+    ensures wrote { IfOk result (λ at. (k : List ℕ) → KnowsLife header generation k (state pass.old).knowledge
+        → (b : List ℕ) × WritesAt (call_of pass.old) k kinds.Put (Some b) (Some value.now) at (state pass.old)
+        (state pass.new)) }
     ensures stands { IfErr result (λ _. Stands (call_of pass.old) (state pass.old) (state pass.new)) }
-    ensures refused { IfErr result (λ why. (why ≡ halts.Busy) × (NoLockBy no_lock.Busy (sizes table.now) (call_of pass.old) header generation (state pass.old) (state pass.new) ⊎ NoLockBy no_lock.Dead (sizes table.now) (call_of pass.old) header generation (state pass.old) (state pass.new))) }
+    ensures refused { IfErr result (λ why. (why ≡ halts.Busy)
+        × (NoLockBy no_lock.Busy (sizes table.now) (call_of pass.old) header generation (state pass.old)
+        (state pass.new) ⊎ NoLockBy no_lock.Dead (sizes table.now) (call_of pass.old) header generation
+        (state pass.old) (state pass.new))) }
     ensures alone { IfErr result (λ _. Runs (UnfreeIn (sizes table.now) header generation) (state pass.old) (state pass.new)) }
     ensures alone_kept { IfOk result (λ _. Runs (KeepsButLife (sizes table.now) header) (state pass.old) (state pass.new)) }
-    ensures alone_swaps { IfOk result (λ at. Runs (SwapsIn (sizes table.now) header block.class block.number (length value.now) at) (state pass.old) (state pass.new)) }
+    ensures alone_swaps { IfOk result (λ at. Runs (SwapsIn (sizes table.now) header block.class block.number
+        (length value.now) at) (state pass.old) (state pass.new)) }
 {
     let Ok(mut locked) = lock(table, pass, header, generation) else {
         give(table, pass, block);
@@ -129,12 +139,19 @@ pub(crate) fn overwrite(
     requires turn { IsNewCall (call_of pass.old) (state pass.old) }
     ensures own { Stays pass.old pass.new }
     ensures held { KeepsHeld (state pass.old) (state pass.new) }
-    ensures wrote { IfOk result (λ at. (k : List ℕ) → KnowsLife header generation k (state pass.old).knowledge → (b : List ℕ) × WritesAt (call_of pass.old) k kinds.Put (Some b) (Some value.now) at (state pass.old) (state pass.new)) }
+    ensures wrote { IfOk result (λ at. (k : List ℕ) → KnowsLife header generation k (state pass.old).knowledge
+        → (b : List ℕ) × WritesAt (call_of pass.old) k kinds.Put (Some b) (Some value.now) at (state pass.old)
+        (state pass.new)) }
     ensures learns { IfErr result (λ _. Learns (call_of pass.old) (state pass.old) (state pass.new)) }
-    ensures halted { IfErr result (λ why. OverHalts why (sizes table.now) (call_of pass.old) header generation value.now (state pass.old) (state pass.new)) }
-    ensures alone { IfErr result (λ why. (r : ℕ) → HasRoomPin (sizes table.now) r (state pass.old) → Runs (OverHaltsIn why (sizes table.now) header generation value.now (state pass.old)) (state pass.old) (state pass.new)) }
-    ensures alone_kept { IfOk result (λ _. (r : ℕ) → HasRoomPin (sizes table.now) r (state pass.old) → Runs (KeepsButLife (sizes table.now) header) (state pass.old) (state pass.new)) }
-    ensures alone_over { IfOk result (λ at. (r : ℕ) → HasRoomPin (sizes table.now) r (state pass.old) → Runs (OverIn (sizes table.now) header at value.now) (state pass.old) (state pass.new)) }
+    ensures halted { IfErr result (λ why. OverHalts why (sizes table.now) (call_of pass.old) header generation
+        value.now (state pass.old) (state pass.new)) }
+    ensures alone { IfErr result (λ why. (r : ℕ) → HasRoomPin (sizes table.now) r (state pass.old)
+        → Runs (OverHaltsIn why (sizes table.now) header generation value.now (state pass.old)) (state pass.old)
+        (state pass.new)) }
+    ensures alone_kept { IfOk result (λ _. (r : ℕ) → HasRoomPin (sizes table.now) r (state pass.old)
+        → Runs (KeepsButLife (sizes table.now) header) (state pass.old) (state pass.new)) }
+    ensures alone_over { IfOk result (λ at. (r : ℕ) → HasRoomPin (sizes table.now) r (state pass.old)
+        → Runs (OverIn (sizes table.now) header at value.now) (state pass.old) (state pass.new)) }
 {
     let class = class_for(value.len());
     let Ok(mut locked) = lock(table, pass, header, generation) else {
@@ -168,11 +185,14 @@ pub(crate) fn remove_life(
     requires turn { IsNewCall (call_of pass.old) (state pass.old) }
     ensures own { Stays pass.old pass.new }
     ensures held { KeepsHeld (state pass.old) (state pass.new) }
-    ensures wrote { IfOk result (λ at. (k : List ℕ) → KnowsLife header generation k (state pass.old).knowledge → HasEntry pin.now.room entry.0 k (state pass.old) → (b : List ℕ) × WritesAt (call_of pass.old) k kinds.Remove (Some b) None at (state pass.old) (state pass.new)) }
+    ensures wrote { IfOk result (λ at. (k : List ℕ) → KnowsLife header generation k (state pass.old).knowledge
+        → HasEntry pin.now.room entry.0 k (state pass.old) → (b : List ℕ) × WritesAt (call_of pass.old) k kinds.Remove
+        (Some b) None at (state pass.old) (state pass.new)) }
     ensures only { IfErr result (λ _. OnlyMeets (call_of pass.old) (state pass.old) (state pass.new)) }
     ensures refused { IfErr result (λ why. NoLockBy why (sizes table.now) (call_of pass.old) header generation (state pass.old) (state pass.new)) }
     ensures alone { IfErr result (λ _. Runs (RefusesLock (sizes table.now) header generation (state pass.old)) (state pass.old) (state pass.new)) }
-    ensures alone_removes { IfOk result (λ at. Runs (RemovesIn (sizes table.now) pin.now.room entry.0 header generation at) (state pass.old) (state pass.new)) }
+    ensures alone_removes { IfOk result (λ at. Runs
+        (RemovesIn (sizes table.now) pin.now.room entry.0 header generation at) (state pass.old) (state pass.new)) }
 {
     let locked = lock(table, pass, header, generation)?;
     let buried = locked.bury(table, pass);

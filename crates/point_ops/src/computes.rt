@@ -76,9 +76,11 @@ fn compute_pinned(
     requires few { calls recipe.old < 2 ^ 64 - 1 }
     ensures own { StaysButScratch pass.old pass.new }
     ensures held { KeepsUnder (sizes table.now) pin.now.room (state pass.old) (state pass.new) }
-    ensures got { IfOk result (λ x. Answers x (call_of pass.old) key.now (Compute (told_kind recipe.old) (told_argument recipe.old)) (state pass.old) (state pass.new)) }
+    ensures got { IfOk result (λ x. Answers x (call_of pass.old) key.now
+        (Compute (told_kind recipe.old) (told_argument recipe.old)) (state pass.old) (state pass.new)) }
     ensures learns { IfErr result (λ _. Learns (call_of pass.old) (state pass.old) (state pass.new)) }
-    ensures halted { IfErr result (λ why. Halts why (sizes table.now) (call_of pass.old) key.now (Compute (told_kind recipe.old) (told_argument recipe.old)) (state pass.old) (state pass.new)) }
+    ensures halted { IfErr result (λ why. Halts why (sizes table.now) (call_of pass.old) key.now
+        (Compute (told_kind recipe.old) (told_argument recipe.old)) (state pass.old) (state pass.new)) }
     ensures busy { IfErr result (λ why. why ≡ halts.Busy) }
     ensures alone { IfErr result (λ _. Runs Never (state pass.old) (state pass.new)) }
     ensures alone_left { IfOk result (λ x. Runs (LeavesUnder x (sizes table.now) pin.now.room key.now) (state pass.old) (state pass.new)) }
@@ -121,11 +123,14 @@ pub fn try_compute(
     requires turn { IsNewCall (call_of pass.old) (state pass.old) }
     requires few { calls recipe.old < 2 ^ 64 - 1 }
     ensures own { StaysButScratch pass.old pass.new }
-    ensures wrote { IfOk result (λ x. WroteFits x (call_of pass.old) key.now (Compute (told_kind recipe.old) (told_argument recipe.old)) (state pass.old) (state pass.new)) }
-    ensures alone_reply { IfOk result (λ x. IsAlone (state pass.old) → WroteAlone x (sizes table.now) key.now (Compute (told_kind recipe.old) (told_argument recipe.old)) (state pass.old) (state pass.new)) }
+    ensures wrote { IfOk result (λ x. WroteFits x (call_of pass.old) key.now
+        (Compute (told_kind recipe.old) (told_argument recipe.old)) (state pass.old) (state pass.new)) }
+    ensures alone_reply { IfOk result (λ x. IsAlone (state pass.old) → WroteAlone x (sizes table.now) key.now
+        (Compute (told_kind recipe.old) (told_argument recipe.old)) (state pass.old) (state pass.new)) }
     ensures refused { IfErr result (λ _. Refuses (call_of pass.old) (state pass.old) (state pass.new)) }
     ensures alone_same { IfErr result (λ _. SameAlone (sizes table.now) (state pass.old) (state pass.new)) }
-    ensures halted { IfErr result (λ why. Halts why (sizes table.now) (call_of pass.old) key.now (Compute (told_kind recipe.old) (told_argument recipe.old)) (state pass.old) (state pass.new)) }
+    ensures halted { IfErr result (λ why. Halts why (sizes table.now) (call_of pass.old) key.now
+        (Compute (told_kind recipe.old) (told_argument recipe.old)) (state pass.old) (state pass.new)) }
     ensures either { IfErr result (λ why. (why ≡ halts.Busy) ⊎ (why ≡ halts.Moved)) }
     ensures alone { IfErr result (λ _. Runs Never (state pass.old) (state pass.new)) }
     ensures alone_left { IfOk result (λ x. Runs (LeavesBy x (sizes table.now) key.now) (state pass.old) (state pass.new)) }
@@ -163,11 +168,14 @@ fn upsert_pinned(
     requires few { calls recipe.old < 2 ^ 64 - 1 }
     ensures own { StaysButScratch pass.old pass.new }
     ensures held { KeepsUnder (sizes table.now) pin.now.room (state pass.old) (state pass.new) }
-    ensures got { IfOk result (λ x. Answers x (call_of pass.old) key.now (Upsert value.now (told_kind recipe.old) (told_argument recipe.old)) (state pass.old) (state pass.new)) }
+    ensures got { IfOk result (λ x. Answers x (call_of pass.old) key.now
+        (Upsert value.now (told_kind recipe.old) (told_argument recipe.old)) (state pass.old) (state pass.new)) }
     ensures learns { IfErr result (λ _. Learns (call_of pass.old) (state pass.old) (state pass.new)) }
-    ensures halted { IfErr result (λ why. Halts why (sizes table.now) (call_of pass.old) key.now (Upsert value.now (told_kind recipe.old) (told_argument recipe.old)) (state pass.old) (state pass.new)) }
+    ensures halted { IfErr result (λ why. Halts why (sizes table.now) (call_of pass.old) key.now
+        (Upsert value.now (told_kind recipe.old) (told_argument recipe.old)) (state pass.old) (state pass.new)) }
     ensures alone { Runs (PutsUnder result (sizes table.now) pin.now.room key.now value.now) (state pass.old) (state pass.new) }
-    ensures alone_left { IfOk result (λ x. Runs (PutLeavesUnder x (sizes table.now) pin.now.room key.now value.now) (state pass.old) (state pass.new)) }
+    ensures alone_left { IfOk result (λ x. Runs (PutLeavesUnder x (sizes table.now) pin.now.room key.now value.now)
+        (state pass.old) (state pass.new)) }
     ensures counted { calls recipe.new ≡ calls recipe.old + times_done result }
     ensures fed { Feeds result key.now (fed recipe.old) (fed recipe.new) (state pass.new) }
     ensures told { (told_kind recipe.new ≡ told_kind recipe.old) × (told_argument recipe.new ≡ told_argument recipe.old) }
@@ -210,12 +218,15 @@ pub fn try_upsert(
     requires value { IsValue value.now }
     requires few { calls recipe.old < 2 ^ 64 - 1 }
     ensures own { StaysButScratch pass.old pass.new }
-    ensures wrote { IfOk result (λ x. WroteFits x (call_of pass.old) key.now (Upsert value.now (told_kind recipe.old) (told_argument recipe.old)) (state pass.old) (state pass.new)) }
-    ensures alone_reply { IfOk result (λ x. IsAlone (state pass.old) → WroteAlone x (sizes table.now) key.now (Upsert value.now (told_kind recipe.old) (told_argument recipe.old)) (state pass.old) (state pass.new)) }
+    ensures wrote { IfOk result (λ x. WroteFits x (call_of pass.old) key.now
+        (Upsert value.now (told_kind recipe.old) (told_argument recipe.old)) (state pass.old) (state pass.new)) }
+    ensures alone_reply { IfOk result (λ x. IsAlone (state pass.old) → WroteAlone x (sizes table.now) key.now
+        (Upsert value.now (told_kind recipe.old) (told_argument recipe.old)) (state pass.old) (state pass.new)) }
     ensures ended { IfOk result (λ _. HadMoment (sizes table.now) (state pass.new)) }
     ensures refused { IfErr result (λ _. Refuses (call_of pass.old) (state pass.old) (state pass.new)) }
     ensures alone_same { IfErr result (λ _. SameAlone (sizes table.now) (state pass.old) (state pass.new)) }
-    ensures halted { IfErr result (λ why. Halts why (sizes table.now) (call_of pass.old) key.now (Upsert value.now (told_kind recipe.old) (told_argument recipe.old)) (state pass.old) (state pass.new)) }
+    ensures halted { IfErr result (λ why. Halts why (sizes table.now) (call_of pass.old) key.now
+        (Upsert value.now (told_kind recipe.old) (told_argument recipe.old)) (state pass.old) (state pass.new)) }
     ensures alone { Runs (PutsIn result (sizes table.now) key.now value.now) (state pass.old) (state pass.new) }
     ensures alone_left { IfOk result (λ x. Runs (PutLeavesBy x (sizes table.now) key.now value.now) (state pass.old) (state pass.new)) }
     ensures counted { calls recipe.new ≡ calls recipe.old + times_done result }

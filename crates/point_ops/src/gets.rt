@@ -61,7 +61,8 @@ fn get_life(
     ensures own { Stays pass.old pass.new }
     ensures only { OnlyLearns (call_of pass.old) (state pass.old) (state pass.new) }
     ensures got { IfOk result (λ x. Gets x (sizes table.now) key.now (state pass.old) (state pass.new)) }
-    ensures refused { IfErr result (λ why. (why ≡ halts.Busy) × FoundWord (sizes table.now) (call_of pass.old) (in_headers (at_pin header)) (IsLockedOut generation) (state pass.old) (state pass.new)) }
+    ensures refused { IfErr result (λ why. (why ≡ halts.Busy) × FoundWord (sizes table.now) (call_of pass.old)
+        (in_headers (at_pin header)) (IsLockedOut generation) (state pass.old) (state pass.new)) }
     ensures alone { IfErr result (λ _. Runs (RefusesLook (sizes table.now) header generation (state pass.old)) (state pass.old) (state pass.new)) }
 {
     match look_at(table, pass, header, generation) {

@@ -56,12 +56,17 @@ fn take_block(table: &OakTable, pass: &mut Pass, class: Class, bytes: &[u8]) -> 
     requires fits { class_of (length bytes.now) ≡ Some class }
     requires none { (state pass.old).blocks ≡ no_blocks }
     ensures own { Stays pass.old pass.new }
-    ensures made { IfOk result (λ b. (b.class ≡ class) × MakesBlock (sizes table.now) (call_of pass.old) b.class b.number bytes.now (state pass.old) (state pass.new)) }
+    ensures made { IfOk result (λ b. (b.class ≡ class) × MakesBlock (sizes table.now)
+        (call_of pass.old) b.class b.number bytes.now (state pass.old) (state pass.new)) }
     ensures back { IfErr result (λ _. GivesAllBack (call_of pass.old) (state pass.old) (state pass.new)) }
     ensures quiet { IfErr result (λ _. Quiet (state pass.old) (state pass.new)) }
-    ensures refused { IfErr result (λ why. (why ≡ halts.NoBlock class) × SetWith (sizes table.now) (call_of pass.old) class (state pass.old) (state pass.old) (state pass.new)) }
-    ensures alone { IfOk result (λ b. (r : ℕ) → HasRoomPin (sizes table.now) r (state pass.old) → Runs (MakesBlockIn (sizes table.now) r b.class b.number) (state pass.old) (state pass.new)) }
-    ensures alone_under { IfOk result (λ b. (r : ℕ) → HasRoomPin (sizes table.now) r (state pass.old) → Runs (MakesBlockUnder (sizes table.now) r (span_of (room_pin (state pass.old))) b.class b.number) (state pass.old) (state pass.new)) }
+    ensures refused { IfErr result (λ why. (why ≡ halts.NoBlock class) × SetWith (sizes table.now)
+        (call_of pass.old) class (state pass.old) (state pass.old) (state pass.new)) }
+    ensures alone { IfOk result (λ b. (r : ℕ) → HasRoomPin (sizes table.now) r (state pass.old)
+        → Runs (MakesBlockIn (sizes table.now) r b.class b.number) (state pass.old) (state pass.new)) }
+    ensures alone_under { IfOk result (λ b. (r : ℕ) → HasRoomPin (sizes table.now) r (state pass.old)
+        → Runs (MakesBlockUnder (sizes table.now) r (span_of (room_pin (state pass.old))) b.class b.number)
+        (state pass.old) (state pass.new)) }
     ensures alone_refused { IfErr result (λ _. Runs (AllSet (sizes table.now) class (λ b. Unit {0})) (state pass.old) (state pass.new)) }
 {
     match take(table, pass, class) {
@@ -85,12 +90,17 @@ pub(crate) fn make_block(
     requires none { (state pass.old).blocks ≡ no_blocks }
     requires bare { (state pass.old).headers ≡ no_headers }
     ensures own { Stays pass.old pass.new }
-    ensures made { IfOk result (λ b. (b.class ≡ class) × MakesBlock (sizes table.now) (call_of pass.old) b.class b.number bytes.now (state pass.old) (state pass.new)) }
+    ensures made { IfOk result (λ b. (b.class ≡ class) × MakesBlock (sizes table.now)
+        (call_of pass.old) b.class b.number bytes.now (state pass.old) (state pass.new)) }
     ensures back { IfErr result (λ _. GivesAllBack (call_of pass.old) (state pass.old) (state pass.new)) }
     ensures quiet { IfErr result (λ _. Quiet (state pass.old) (state pass.new)) }
-    ensures refused { IfErr result (λ why. (why ≡ halts.NoBlock class) × AllTaken (sizes table.now) (call_of pass.old) class None (state pass.old) (state pass.new)) }
-    ensures alone { IfOk result (λ b. (r : ℕ) → HasRoomPin (sizes table.now) r (state pass.old) → Runs (MakesBlockIn (sizes table.now) r b.class b.number) (state pass.old) (state pass.new)) }
-    ensures alone_under { IfOk result (λ b. (r : ℕ) → HasRoomPin (sizes table.now) r (state pass.old) → Runs (MakesBlockUnder (sizes table.now) r (span_of (room_pin (state pass.old))) b.class b.number) (state pass.old) (state pass.new)) }
+    ensures refused { IfErr result (λ why. (why ≡ halts.NoBlock class) × AllTaken (sizes table.now)
+        (call_of pass.old) class None (state pass.old) (state pass.new)) }
+    ensures alone { IfOk result (λ b. (r : ℕ) → HasRoomPin (sizes table.now) r (state pass.old)
+        → Runs (MakesBlockIn (sizes table.now) r b.class b.number) (state pass.old) (state pass.new)) }
+    ensures alone_under { IfOk result (λ b. (r : ℕ) → HasRoomPin (sizes table.now) r (state pass.old)
+        → Runs (MakesBlockUnder (sizes table.now) r (span_of (room_pin (state pass.old))) b.class b.number)
+        (state pass.old) (state pass.new)) }
     ensures alone_refused { IfErr result (λ _. Runs (AllSet (sizes table.now) class (λ b. Unit {0})) (state pass.old) (state pass.new)) }
 {
     take_block(table, pass, class, bytes)
@@ -108,7 +118,8 @@ fn give_back(table: &OakTable, pass: &mut Pass, fresh: Fresh)
     ensures headers { (state pass.new).headers ≡ no_headers }
     ensures rooms { (state pass.new).rooms ≡ (state pass.old).rooms }
     ensures front { MetOnly (IsOf (sizes table.now) (call_of pass.old)) (state pass.old) (state pass.new) }
-    ensures alone { (c : Class) → (b : ℕ) → NamesBlock fresh.header c b (state pass.old) → Runs (GivesBackIn (sizes table.now) fresh.header c b) (state pass.old) (state pass.new) }
+    ensures alone { (c : Class) → (b : ℕ) → NamesBlock fresh.header c b (state pass.old)
+        → Runs (GivesBackIn (sizes table.now) fresh.header c b) (state pass.old) (state pass.new) }
 {
     let block = withdraw(table, pass, fresh);
     give(table, pass, block);
@@ -127,12 +138,18 @@ fn make_fresh(
     requires blocks { (state pass.old).blocks ≡ no_blocks }
     requires headers { (state pass.old).headers ≡ no_headers }
     ensures own { Stays pass.old pass.new }
-    ensures made { IfOk result (λ f. (f.stamp ≡ stamp) × MakesFresh (sizes table.now) (call_of pass.old) f.header f.generation stamp value.now (state pass.old) (state pass.new)) }
-    ensures takes { IfOk result (λ f. (b : ℕ) × NamesBlock f.header class b (state pass.new) × MetOnly (TakesOnly (sizes table.now) class b) (state pass.old) (state pass.new)) }
+    ensures made { IfOk result (λ f. (f.stamp ≡ stamp) × MakesFresh (sizes table.now)
+        (call_of pass.old) f.header f.generation stamp value.now (state pass.old) (state pass.new)) }
+    ensures takes { IfOk result (λ f. (b : ℕ) × NamesBlock f.header class b (state pass.new)
+        × MetOnly (TakesOnly (sizes table.now) class b) (state pass.old) (state pass.new)) }
     ensures back { IfErr result (λ _. GivesAllBack (call_of pass.old) (state pass.old) (state pass.new)) }
     ensures halted { IfErr result (λ why. MakingHalts why (sizes table.now) (call_of pass.old) class (state pass.old) (state pass.new)) }
-    ensures alone { IfOk result (λ f. (b : ℕ) × NamesBlock f.header class b (state pass.new) × ((r : ℕ) → HasRoomPin (sizes table.now) r (state pass.old) → Runs (MakesFreshUnder (sizes table.now) r (span_of (room_pin (state pass.old))) f.header class b) (state pass.old) (state pass.new))) }
-    ensures alone_halted { IfErr result (λ why. (r : ℕ) → HasRoomPin (sizes table.now) r (state pass.old) → Runs (MakingHaltsIn why (sizes table.now) class) (state pass.old) (state pass.new)) }
+    ensures alone { IfOk result (λ f. (b : ℕ) × NamesBlock f.header class b (state pass.new)
+        × ((r : ℕ) → HasRoomPin (sizes table.now) r (state pass.old)
+        → Runs (MakesFreshUnder (sizes table.now) r (span_of (room_pin (state pass.old))) f.header class b)
+        (state pass.old) (state pass.new))) }
+    ensures alone_halted { IfErr result (λ why. (r : ℕ) → HasRoomPin (sizes table.now) r (state pass.old)
+        → Runs (MakingHaltsIn why (sizes table.now) class) (state pass.old) (state pass.new)) }
 {
     let block = make_block(table, pass, class, value)?;
     match claim(table, pass) {
@@ -166,8 +183,10 @@ fn add_entry(table: &OakTable, pass: &mut Pass, pin: &RoomPin, key: &[u8]) -> Re
     ensures under { UnderPin (sizes table.now) (call_of pass.old) pin.now.room (state pass.old) (state pass.new) }
     ensures added { IfOk result (λ i. HasEntry pin.now.room i.0 key.now (state pass.new)) }
     ensures halted { IfErr result (λ why. AddingHalts why (sizes table.now) (call_of pass.old) key.now (state pass.old) (state pass.new)) }
-    ensures alone { IfOk result (λ i. (floor : ℕ) → FloorIsBase None floor (state pass.old) → Runs (EntersFor (sizes table.now) pin.now.room None floor key.now i) (state pass.old) (state pass.new)) }
-    ensures alone_gets { IfOk result (λ i. (floor : ℕ) → Runs (GetsFor None floor (sizes table.now) pin.now.room i key.now) (state pass.old) (state pass.new)) }
+    ensures alone { IfOk result (λ i. (floor : ℕ) → FloorIsBase None floor (state pass.old)
+        → Runs (EntersFor (sizes table.now) pin.now.room None floor key.now i) (state pass.old) (state pass.new)) }
+    ensures alone_gets { IfOk result (λ i. (floor : ℕ)
+        → Runs (GetsFor None floor (sizes table.now) pin.now.room i key.now) (state pass.old) (state pass.new)) }
     ensures alone_halted { IfErr result (λ why. Runs (AddingHaltsIn why (sizes table.now) pin.now.room key.now) (state pass.old) (state pass.new)) }
 {
     let block = take_block(table, pass, class_for(key.len()), key)?;
@@ -198,9 +217,12 @@ fn entry_for(
     ensures own { Stays pass.old pass.new }
     ensures under { UnderPin (sizes table.now) (call_of pass.old) pin.now.room (state pass.old) (state pass.new) }
     ensures added { IfOk result (λ i. HasEntry pin.now.room i.0 key.now (state pass.new)) }
-    ensures halted { IfErr result (λ why. (entry ≡ None) × AddingHalts why (sizes table.now) (call_of pass.old) key.now (state pass.old) (state pass.new)) }
-    ensures alone { IfOk result (λ i. (floor : ℕ) → FloorIsBase entry floor (state pass.old) → Runs (EntersFor (sizes table.now) pin.now.room entry floor key.now i) (state pass.old) (state pass.new)) }
-    ensures alone_gets { IfOk result (λ i. (floor : ℕ) → Runs (GetsFor entry floor (sizes table.now) pin.now.room i key.now) (state pass.old) (state pass.new)) }
+    ensures halted { IfErr result (λ why. (entry ≡ None) × AddingHalts why (sizes table.now)
+        (call_of pass.old) key.now (state pass.old) (state pass.new)) }
+    ensures alone { IfOk result (λ i. (floor : ℕ) → FloorIsBase entry floor (state pass.old)
+        → Runs (EntersFor (sizes table.now) pin.now.room entry floor key.now i) (state pass.old) (state pass.new)) }
+    ensures alone_gets { IfOk result (λ i. (floor : ℕ)
+        → Runs (GetsFor entry floor (sizes table.now) pin.now.room i key.now) (state pass.old) (state pass.new)) }
     ensures alone_halted { IfErr result (λ why. Runs (AddingHaltsIn why (sizes table.now) pin.now.room key.now) (state pass.old) (state pass.new)) }
 {
     match entry {
@@ -224,7 +246,8 @@ fn set_fresh(
     requires entry { (k : List ℕ) × HasEntry pin.now.room entry.0 k (state pass.old) }
     requires floor { floor < 2 ^ 63 }
     requires next { fresh.stamp ≡ floor + 1 }
-    requires fresh { (bytes : List ℕ) × HasFresh (sizes table.now) fresh.header fresh.generation fresh.stamp bytes (state pass.old) × MakesWrite kind None (Some bytes) }
+    requires fresh { (bytes : List ℕ) × HasFresh (sizes table.now) fresh.header fresh.generation fresh.stamp bytes
+        (state pass.old) × MakesWrite kind None (Some bytes) }
     requires one { IsOneHeader fresh.header (state pass.old).headers }
     requires none { (state pass.old).blocks ≡ no_blocks }
     requires turn { IsNewCall (call_of pass.old) (state pass.old) }
@@ -233,11 +256,17 @@ fn set_fresh(
     ensures headers { (state pass.new).headers ≡ no_headers }
     ensures rooms { (state pass.new).rooms ≡ (state pass.old).rooms }
     ensures stamp { IfOk result (λ s. s ≡ floor + 1) }
-    ensures wrote { IfOk result (λ s. (k bytes : List ℕ) → HasEntry pin.now.room entry.0 k (state pass.old) → HasFresh (sizes table.now) fresh.header fresh.generation fresh.stamp bytes (state pass.old) → Writes (call_of pass.old) k kind None (Some bytes) s (state pass.old) (state pass.new)) }
+    ensures wrote { IfOk result (λ s. (k bytes : List ℕ) → HasEntry pin.now.room entry.0 k (state pass.old)
+        → HasFresh (sizes table.now) fresh.header fresh.generation fresh.stamp bytes (state pass.old)
+        → Writes (call_of pass.old) k kind None (Some bytes) s (state pass.old) (state pass.new)) }
     ensures stands { IfErr result (λ _. Stands (call_of pass.old) (state pass.old) (state pass.new)) }
-    ensures halted { IfErr result (λ why. (why ≡ halts.Busy) × ((k : List ℕ) → HasEntry pin.now.room entry.0 k (state pass.old) → FoundSet (sizes table.now) (call_of pass.old) pin.now.room entry.0 floor k (state pass.old) (state pass.new))) }
-    ensures alone { IfOk result (λ _. Runs (SetsIn (sizes table.now) pin.now.room entry.0 floor (home_of fresh.header fresh.generation)) (state pass.old) (state pass.new)) }
-    ensures alone_halted { IfErr result (λ _. (c : Class) → (b : ℕ) → NamesBlock fresh.header c b (state pass.old) → Runs (FindsOther (sizes table.now) pin.now.room entry.0 floor) (state pass.old) (state pass.new)) }
+    ensures halted { IfErr result (λ why. (why ≡ halts.Busy)
+        × ((k : List ℕ) → HasEntry pin.now.room entry.0 k (state pass.old) → FoundSet (sizes table.now)
+        (call_of pass.old) pin.now.room entry.0 floor k (state pass.old) (state pass.new))) }
+    ensures alone { IfOk result (λ _. Runs (SetsIn (sizes table.now) pin.now.room entry.0 floor
+        (home_of fresh.header fresh.generation)) (state pass.old) (state pass.new)) }
+    ensures alone_halted { IfErr result (λ _. (c : Class) → (b : ℕ) → NamesBlock fresh.header c b (state pass.old)
+        → Runs (FindsOther (sizes table.now) pin.now.room entry.0 floor) (state pass.old) (state pass.new)) }
 {
     match set_value(table, pass, pin, entry, floor, fresh, kind) {
         Ok(stamp) => Ok(stamp),
@@ -277,9 +306,14 @@ pub(crate) fn insert(
     ensures stamp { IfOk result (λ s. s ≡ floor + 1) }
     ensures wrote { IfOk result (λ s. Writes (call_of pass.old) key.now kind None (Some value.now) s (state pass.old) (state pass.new)) }
     ensures learns { IfErr result (λ _. Learns (call_of pass.old) (state pass.old) (state pass.new)) }
-    ensures halted { IfErr result (λ why. InsertHalts why (sizes table.now) (call_of pass.old) key.now value.now entry floor (state pass.old) (state pass.new)) }
-    ensures alone { FloorIsBase entry floor (state pass.old) → Runs (InsertsFor result (sizes table.now) pin.now.room entry floor key.now value.now) (state pass.old) (state pass.new) }
-    ensures alone_inserts { IfOk result (λ _. Runs (InsertsKeyFor (sizes table.now) pin.now.room entry floor key.now value.now) (state pass.old) (state pass.new)) }
+    ensures halted { IfErr result (λ why. InsertHalts why (sizes table.now) (call_of pass.old) key.now value.now entry
+        floor (state pass.old) (state pass.new)) }
+    ensures alone { FloorIsBase entry floor (state pass.old)
+        → Runs (InsertsFor result (sizes table.now) pin.now.room entry floor key.now value.now) (state pass.old)
+        (state pass.new) }
+    ensures alone_inserts { IfOk result (λ _. Runs
+        (InsertsKeyFor (sizes table.now) pin.now.room entry floor key.now value.now) (state pass.old)
+        (state pass.new)) }
 {
     let fresh = make_fresh(table, pass, class_for(value.len()), value, floor + 1)?;
     match entry_for(table, pass, pin, entry, key) {

@@ -56,9 +56,11 @@ pub(crate) fn look_at(
     ensures only { OnlyLearns (call_of pass.old) (state pass.old) (state pass.new) }
     ensures knows { KnowsMore (state pass.old).knowledge (state pass.new).knowledge }
     ensures looked { IfOk result (λ x. LooksAt x (sizes table.now) (call_of pass.old) header generation (state pass.old) (state pass.new)) }
-    ensures refused { IfErr result (λ why. (why ≡ halts.Busy) × FoundWord (sizes table.now) (call_of pass.old) (in_headers (at_pin header)) (IsLockedOut generation) (state pass.old) (state pass.new)) }
+    ensures refused { IfErr result (λ why. (why ≡ halts.Busy) × FoundWord (sizes table.now) (call_of pass.old)
+        (in_headers (at_pin header)) (IsLockedOut generation) (state pass.old) (state pass.new)) }
     ensures alone { IfOk result (λ x. Runs (LifeIn x (sizes table.now) header generation (state pass.old)) (state pass.old) (state pass.new)) }
-    ensures alone_refused { IfErr result (λ _. Runs (RefusesLook (sizes table.now) header generation (state pass.old)) (state pass.old) (state pass.new)) }
+    ensures alone_refused { IfErr result (λ _. Runs (RefusesLook (sizes table.now) header generation (state pass.old))
+        (state pass.old) (state pass.new)) }
 {
     match pin_at(table, pass, header, generation) {
         Ok(pin) => Ok(Life::Live {

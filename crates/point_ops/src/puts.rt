@@ -60,7 +60,8 @@ fn put_pinned(
     ensures learns { IfErr result (λ _. Learns (call_of pass.old) (state pass.old) (state pass.new)) }
     ensures halted { IfErr result (λ why. Halts why (sizes table.now) (call_of pass.old) key.now (Put value.now) (state pass.old) (state pass.new)) }
     ensures alone { Runs (PutsUnder result (sizes table.now) pin.now.room key.now value.now) (state pass.old) (state pass.new) }
-    ensures alone_left { IfOk result (λ x. Runs (PutLeavesUnder x (sizes table.now) pin.now.room key.now value.now) (state pass.old) (state pass.new)) }
+    ensures alone_left { IfOk result (λ x. Runs (PutLeavesUnder x (sizes table.now) pin.now.room key.now value.now)
+        (state pass.old) (state pass.new)) }
 {
     match look_up(table, pass, pin, key) {
         Spot::Absent { entry, floor } => {
@@ -103,7 +104,8 @@ pub fn try_put(
     requires value { IsValue value.now }
     ensures own { Stays pass.old pass.new }
     ensures wrote { IfOk result (λ x. WroteFits x (call_of pass.old) key.now (Put value.now) (state pass.old) (state pass.new)) }
-    ensures alone_reply { IfOk result (λ x. IsAlone (state pass.old) → WroteAlone x (sizes table.now) key.now (Put value.now) (state pass.old) (state pass.new)) }
+    ensures alone_reply { IfOk result (λ x. IsAlone (state pass.old) → WroteAlone x (sizes table.now) key.now
+        (Put value.now) (state pass.old) (state pass.new)) }
     ensures ended { IfOk result (λ _. HadMoment (sizes table.now) (state pass.new)) }
     ensures refused { IfErr result (λ _. Refuses (call_of pass.old) (state pass.old) (state pass.new)) }
     ensures alone_same { IfErr result (λ _. SameAlone (sizes table.now) (state pass.old) (state pass.new)) }
@@ -127,11 +129,17 @@ fn keep_life(table: &OakTable, pass: &mut Pass, header: u32, generation: u32) ->
     requires none { (state pass.old).headers ≡ no_headers }
     ensures own { Stays pass.old pass.new }
     ensures only { OnlyLearns (call_of pass.old) (state pass.old) (state pass.new) }
-    ensures kept { IfOk result (λ x. (v k : List ℕ) → KnowsLife header generation k (state pass.old).knowledge → Answers x (call_of pass.old) k (PutNew v) (state pass.old) (state pass.new)) }
-    ensures refused { IfErr result (λ why. (why ≡ halts.Busy) × (FoundWord (sizes table.now) (call_of pass.old) (in_headers (at_pin header)) (IsLockedOut generation) (state pass.old) (state pass.new) ⊎ FoundWord (sizes table.now) (call_of pass.old) (in_headers (at_pin header)) (IsDeadAt generation) (state pass.old) (state pass.new))) }
+    ensures kept { IfOk result (λ x. (v k : List ℕ) → KnowsLife header generation k (state pass.old).knowledge
+        → Answers x (call_of pass.old) k (PutNew v) (state pass.old) (state pass.new)) }
+    ensures refused { IfErr result (λ why. (why ≡ halts.Busy)
+        × (FoundWord (sizes table.now) (call_of pass.old) (in_headers (at_pin header)) (IsLockedOut generation)
+        (state pass.old) (state pass.new) ⊎ FoundWord (sizes table.now) (call_of pass.old)
+        (in_headers (at_pin header)) (IsDeadAt generation) (state pass.old) (state pass.new))) }
     ensures alone { IfOk result (λ _. Runs WordsStay (state pass.old) (state pass.new)) }
-    ensures alone_left { IfOk result (λ x. (r : ℕ) (key value : List ℕ) → Runs (PutLeavesUnder x (sizes table.now) r key value) (state pass.old) (state pass.new)) }
-    ensures alone_refused { IfErr result (λ _. Runs (RefusesLook (sizes table.now) header generation (state pass.old)) (state pass.old) (state pass.new)) }
+    ensures alone_left { IfOk result (λ x. (r : ℕ) (key value : List ℕ)
+        → Runs (PutLeavesUnder x (sizes table.now) r key value) (state pass.old) (state pass.new)) }
+    ensures alone_refused { IfErr result (λ _. Runs (RefusesLook (sizes table.now) header generation (state pass.old))
+        (state pass.old) (state pass.new)) }
 {
     match look_at(table, pass, header, generation) {
         Ok(Life::Live { at }) => Ok(Wrote::Kept { at }),
@@ -161,9 +169,11 @@ fn put_new_pinned(
     ensures held { KeepsUnder (sizes table.now) pin.now.room (state pass.old) (state pass.new) }
     ensures got { IfOk result (λ x. Answers x (call_of pass.old) key.now (PutNew value.now) (state pass.old) (state pass.new)) }
     ensures learns { IfErr result (λ _. Learns (call_of pass.old) (state pass.old) (state pass.new)) }
-    ensures halted { IfErr result (λ why. Halts why (sizes table.now) (call_of pass.old) key.now (PutNew value.now) (state pass.old) (state pass.new)) }
+    ensures halted { IfErr result (λ why. Halts why (sizes table.now) (call_of pass.old) key.now (PutNew value.now)
+        (state pass.old) (state pass.new)) }
     ensures alone { Runs (PutsUnder result (sizes table.now) pin.now.room key.now value.now) (state pass.old) (state pass.new) }
-    ensures alone_left { IfOk result (λ x. Runs (PutLeavesUnder x (sizes table.now) pin.now.room key.now value.now) (state pass.old) (state pass.new)) }
+    ensures alone_left { IfOk result (λ x. Runs (PutLeavesUnder x (sizes table.now) pin.now.room key.now value.now)
+        (state pass.old) (state pass.new)) }
 {
     match look_up(table, pass, pin, key) {
         Spot::Absent { entry, floor } => {
@@ -197,11 +207,13 @@ pub fn try_put_if_absent(
     requires value { IsValue value.now }
     ensures own { Stays pass.old pass.new }
     ensures wrote { IfOk result (λ x. WroteFits x (call_of pass.old) key.now (PutNew value.now) (state pass.old) (state pass.new)) }
-    ensures alone_reply { IfOk result (λ x. IsAlone (state pass.old) → WroteAlone x (sizes table.now) key.now (PutNew value.now) (state pass.old) (state pass.new)) }
+    ensures alone_reply { IfOk result (λ x. IsAlone (state pass.old) → WroteAlone x (sizes table.now) key.now
+        (PutNew value.now) (state pass.old) (state pass.new)) }
     ensures ended { IfOk result (λ _. HadMoment (sizes table.now) (state pass.new)) }
     ensures refused { IfErr result (λ _. Refuses (call_of pass.old) (state pass.old) (state pass.new)) }
     ensures alone_same { IfErr result (λ _. SameAlone (sizes table.now) (state pass.old) (state pass.new)) }
-    ensures halted { IfErr result (λ why. Halts why (sizes table.now) (call_of pass.old) key.now (PutNew value.now) (state pass.old) (state pass.new)) }
+    ensures halted { IfErr result (λ why. Halts why (sizes table.now) (call_of pass.old) key.now (PutNew value.now)
+        (state pass.old) (state pass.new)) }
     ensures alone { Runs (PutsIn result (sizes table.now) key.now value.now) (state pass.old) (state pass.new) }
     ensures alone_left { IfOk result (λ x. Runs (PutLeavesBy x (sizes table.now) key.now value.now) (state pass.old) (state pass.new)) }
 {

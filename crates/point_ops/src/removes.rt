@@ -58,9 +58,16 @@ pub(crate) fn absent_at(
     requires none { (state pass.old).headers ≡ no_headers }
     ensures own { Stays pass.old pass.new }
     ensures only { OnlyLearns (call_of pass.old) (state pass.old) (state pass.new) }
-    ensures absent { IfOk result (λ x. (ask : CellCall) (k : List ℕ) → reply_of None ask ≡ replies.Absent → KnowsLife header generation k (state pass.old).knowledge → NotPast (key_number k) (home_of header generation) (state pass.old).knowledge → loaded_in (call_of pass.old) header generation (state pass.old).knowledge.loaded ≡ true → Answers x (call_of pass.old) k ask (state pass.old) (state pass.new)) }
+    ensures absent { IfOk result (λ x. (ask : CellCall) (k : List ℕ) → reply_of None ask ≡ replies.Absent
+        → KnowsLife header generation k (state pass.old).knowledge → NotPast (key_number k)
+        (home_of header generation) (state pass.old).knowledge → loaded_in (call_of pass.old) header generation
+        (state pass.old).knowledge.loaded ≡ true → Answers x (call_of pass.old) k ask (state pass.old)
+        (state pass.new)) }
     ensures undone { times_done result ≡ 0 }
-    ensures refused { IfErr result (λ why. (why ≡ halts.Busy) × (FoundWord (sizes table.now) (call_of pass.old) (in_headers (at_pin header)) (IsLockedOut generation) (state pass.old) (state pass.new) ⊎ FoundWord (sizes table.now) (call_of pass.old) (in_headers (at_pin header)) (λ n. state_of n ≡ LIVE) (state pass.old) (state pass.new))) }
+    ensures refused { IfErr result (λ why. (why ≡ halts.Busy)
+        × (FoundWord (sizes table.now) (call_of pass.old) (in_headers (at_pin header)) (IsLockedOut generation)
+        (state pass.old) (state pass.new) ⊎ FoundWord (sizes table.now) (call_of pass.old)
+        (in_headers (at_pin header)) (λ n. state_of n ≡ LIVE) (state pass.old) (state pass.new))) }
 {
     match look_at(table, pass, header, generation) {
         Ok(Life::Dead { at }) => Ok(Wrote::Absent { at }),
@@ -119,7 +126,8 @@ pub fn try_remove(table: &OakTable, pass: &mut Pass, hint: Hint, key: &[u8]) -> 
     requires turn { IsNewCall (call_of pass.old) (state pass.old) }
     ensures own { Stays pass.old pass.new }
     ensures wrote { IfOk result (λ x. WroteFits x (call_of pass.old) key.now Remove (state pass.old) (state pass.new)) }
-    ensures alone_reply { IfOk result (λ x. IsAlone (state pass.old) → WroteAlone x (sizes table.now) key.now Remove (state pass.old) (state pass.new)) }
+    ensures alone_reply { IfOk result (λ x. IsAlone (state pass.old) → WroteAlone x (sizes table.now) key.now Remove
+        (state pass.old) (state pass.new)) }
     ensures refused { IfErr result (λ _. Refuses (call_of pass.old) (state pass.old) (state pass.new)) }
     ensures alone_same { IfErr result (λ _. SameAlone (sizes table.now) (state pass.old) (state pass.new)) }
     ensures halted { IfErr result (λ why. Halts why (sizes table.now) (call_of pass.old) key.now Remove (state pass.old) (state pass.new)) }

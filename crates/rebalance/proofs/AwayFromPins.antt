@@ -10,9 +10,9 @@ use Rattle.oak_core.specs.declared.states.Finding.{Finding}
 use Rattle.oak_core.specs.declared.states.PassState.{PassState}
 use Rattle.oak_core.specs.Finding.{IsOf}
 use Rattle.oak_core.specs.Memory.{Spot, in_arena, in_rooms, index, rooms_at}
-use Rattle.oak_core.proofs.Words.{arena_before, index_apart, rooms_from}
-use Rattle.rebalance.specs.declared.rooms.RoomWord.{RoomWord}
-use Rattle.rebalance.specs.declared.rooms.RoomWord.TheVariants.{Base, Count, First, Low, High, Key, Value, Next}
+use Rattle.oak_core.proofs.memory.Words.{arena_before, index_apart, rooms_from}
+use Rattle.rebalance.specs.declared.held_rooms.RoomWord.{RoomWord}
+use Rattle.rebalance.specs.declared.held_rooms.RoomWord.TheVariants.{Base, Count, First, Low, High, Key, Value, Next}
 use Rattle.rebalance.specs.HeldRooms.{IsWithin, spot}
 use Rattle.rebalance.specs.HeldTables.{AwayFromPins}
 use Rattle.rebalance.proofs.HeldMemory.{word_inside}

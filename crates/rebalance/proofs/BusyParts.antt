@@ -7,7 +7,7 @@ use Rattle.oak_core.specs.declared.states.PassState.{PassState}
 use Rattle.oak_core.specs.CallSteps.{MetMore}
 use Rattle.oak_core.specs.Memory.{in_rooms}
 use Rattle.oak_core.specs.Step.{load, on_rooms}
-use Rattle.oak_core.proofs.CallSteps.{met_both, step_in, step_until}
+use Rattle.oak_core.proofs.calls.CallSteps.{met_both, step_in, step_until}
 use Rattle.chunk_ops.specs.AskedRanges.{CoversKey}
 use Rattle.chunk_ops.specs.RoomPins.{FoundMoved}
 use Rattle.rebalance.specs.Busy.{HoldsOff, IsBusyFor}

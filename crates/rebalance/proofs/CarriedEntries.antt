@@ -34,8 +34,8 @@ use Rattle.oak_core.specs.PassState.{rooms_held}
 use Rattle.oak_core.specs.Rule.{Rule}
 use Rattle.oak_core.specs.Step.{load, Told}
 use Rattle.oak_core.specs.TableState.{TableState}
-use Rattle.oak_core.proofs.HeadersInArena.{names_named}
-use Rattle.oak_core.proofs.MetLists.{each_at}
+use Rattle.oak_core.proofs.owners.HeadersInArena.{names_named}
+use Rattle.oak_core.proofs.memory.MetLists.{each_at}
 use Rattle.chunk_ops.specs.RoomLoads.{NamesKey}
 use Rattle.chunk_ops.specs.RoomPins.{HadMoment}
 use Rattle.chunk_ops.proofs.KeyPlaces.{IsKeyPlace, key_place, key_word_few}

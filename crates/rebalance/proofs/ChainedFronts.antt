@@ -7,7 +7,7 @@ use Rattle.chunk_core.specs.declared.holds.RoomCopy.{RoomCopy}
 use Rattle.chunk_core.specs.ChainedRooms.{IsChained}
 use Rattle.oak_core.specs.declared.sorting.SortSlot.{SortSlot}
 use Rattle.oak_core.specs.declared.states.PassState.{PassState}
-use Rattle.rebalance.specs.declared.merging.Taken.{Taken}
+use Rattle.rebalance.specs.declared.chunk_pairs.Taken.{Taken}
 use Rattle.rebalance.specs.Chunks.{CompactsFront, HoldsFront}
 use Rattle.rebalance.specs.Filled.{IsFilled}
 use Rattle.rebalance.specs.Merging.{TakesChunk}

@@ -24,8 +24,8 @@ use Rattle.oak_core.specs.Memory.{memory}
 use Rattle.oak_core.specs.PassState.{rooms_held}
 use Rattle.oak_core.specs.Step.{on_rooms}
 use Rattle.oak_core.specs.Sweeping.{sweep}
-use Rattle.oak_core.proofs.AloneRuns.{Then, runs_as, runs_then}
-use Rattle.oak_core.proofs.CallSteps.{begins_same, met_both, met_none, step_in, step_since}
+use Rattle.oak_core.proofs.seats.AloneRuns.{Then, runs_as, runs_then}
+use Rattle.oak_core.proofs.calls.CallSteps.{begins_same, met_both, met_none, step_in, step_since}
 use Rattle.chunk_ops.specs.AskedRanges.{CoversKey}
 use Rattle.chunk_ops.specs.PinRecords.{OnlyMeets, with_room_pin, room_pin}
 use Rattle.chunk_ops.specs.RoomPins.{AddsRoomPin, DropsRoomPin, HadMoment, PinsOpen, Unpins}

@@ -33,8 +33,8 @@ use Rattle.oak_core.specs.PassState.{rooms_held}
 use Rattle.oak_core.specs.RoomCalls.{ClaimsRoom}
 use Rattle.oak_core.specs.Step.{load, on_rooms, Told}
 use Rattle.oak_core.specs.Usage.{is_free}
-use Rattle.oak_core.proofs.AloneRuns.{moment_after}
-use Rattle.oak_core.proofs.CallSteps.{step_alone, step_since}
+use Rattle.oak_core.proofs.seats.AloneRuns.{moment_after}
+use Rattle.oak_core.proofs.calls.CallSteps.{step_alone, step_since}
 use Rattle.chunk_ops.proofs.MeetingCalls.{stays_then}
 use Rattle.chunk_ops.proofs.PinSteps.{pin_found}
 use Rattle.chunk_ops.proofs.WordLoads.{load_reads}

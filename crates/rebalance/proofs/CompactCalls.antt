@@ -19,8 +19,8 @@ use Rattle.oak_core.specs.declared.states.Swept.{Swept}
 use Rattle.oak_core.specs.CallSteps.{MetMore}
 use Rattle.oak_core.specs.PassState.{HoldsNothing}
 use Rattle.oak_core.specs.Step.{on_rooms}
-use Rattle.oak_core.proofs.CallSteps.{step_since, step_until}
-use Rattle.oak_core.proofs.FullClaims.{claims_none}
+use Rattle.oak_core.proofs.calls.CallSteps.{step_since, step_until}
+use Rattle.oak_core.proofs.covers.FullClaims.{claims_none}
 use Rattle.rebalance.specs.Calls.{ComesToHold, Compacts, Leaves, OpensWith, SweepsKey}
 use Rattle.rebalance.specs.Copies.{copy_span}
 use Rattle.rebalance.specs.Chunks.{CompactsFront, HoldsFor, OpensFront, WorksBeside}

@@ -14,8 +14,8 @@ use Rattle.chunk_core.specs.Spans.{past_high, within}
 use Rattle.chunk_core.proofs.SpanLaws.{high-none, high-some, past-le}
 use Rattle.oak_core.specs.declared.states.PassState.{PassState}
 use Rattle.oak_core.specs.AloneWords.{Runs}
-use Rattle.oak_core.proofs.MetLists.{at_inside}
-use Rattle.oak_core.proofs.AloneRuns.{Then, runs_as, runs_none, runs_then}
+use Rattle.oak_core.proofs.memory.MetLists.{at_inside}
+use Rattle.oak_core.proofs.seats.AloneRuns.{Then, runs_as, runs_none, runs_then}
 use Rattle.chunk_ops.specs.Latching.{Never}
 use Rattle.chunk_ops.specs.LoneRooms.{HasNoRoom}
 use Rattle.chunk_ops.specs.RoomPins.{HadMoment}

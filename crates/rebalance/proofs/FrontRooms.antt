@@ -21,7 +21,7 @@ use Rattle.chunk_core.specs.RoomRule.{in_room_state, room_state}
 use Rattle.chunk_core.specs.ValueWord.{names_header}
 use Rattle.chunk_core.proofs.HeldRooms.{room_rows, row_here}
 use Rattle.oak_core.specs.declared.states.PassState.{PassState}
-use Rattle.oak_core.proofs.MetLists.{each_at}
+use Rattle.oak_core.proofs.memory.MetLists.{each_at}
 use Rattle.oak_core.specs.Memory.{memory}
 use Rattle.oak_core.specs.PassState.{rooms_held}
 use Rattle.rebalance.specs.CarriedKeys.{HaveKeys}

@@ -20,8 +20,8 @@ use Rattle.oak_core.specs.PassState.{rooms_held}
 use Rattle.oak_core.specs.RoomCalls.{NamesRoomPin, FreezesRoom}
 use Rattle.oak_core.specs.Splitting.{Loads}
 use Rattle.oak_core.specs.Step.{Step, load, on_rooms, Told}
-use Rattle.oak_core.proofs.AloneRuns.{moment_after, runs_as, DoesStep, Then, load_runs, runs_then, step_runs}
-use Rattle.oak_core.proofs.CallSteps.{step_alone, step_since, step_met}
+use Rattle.oak_core.proofs.seats.AloneRuns.{moment_after, runs_as, DoesStep, Then, load_runs, runs_then, step_runs}
+use Rattle.oak_core.proofs.calls.CallSteps.{step_alone, step_since, step_met}
 use Rattle.chunk_ops.specs.PinRecords.{HasRoomPin, RoomPinned, pin_or, room_pin}
 use Rattle.chunk_ops.proofs.MeetingCalls.{stays_then}
 use Rattle.chunk_ops.proofs.PinSteps.{pin_found}

@@ -9,8 +9,8 @@ use Rattle.oak_core.specs.AloneWords.{Runs}
 use Rattle.oak_core.specs.PassState.{HoldsNothing}
 use Rattle.oak_core.specs.RoomLacks.{ClaimsFull, HeldFull, RoomLackFound}
 use Rattle.oak_core.specs.Step.{on_rooms}
-use Rattle.oak_core.proofs.CallSteps.{met_none, step_since}
-use Rattle.oak_core.proofs.FullClaims.{claims_both, claims_none}
+use Rattle.oak_core.proofs.calls.CallSteps.{met_none, step_since}
+use Rattle.oak_core.proofs.covers.FullClaims.{claims_both, claims_none}
 use Rattle.chunk_ops.specs.Latching.{Never}
 use Rattle.chunk_ops.specs.LoneRooms.{HasElsewhere, NeverElsewhere}
 use Rattle.chunk_ops.proofs.LoneRoomLaws.{bare_elsewhere}

@@ -30,7 +30,7 @@ use Rattle.oak_core.specs.declared.states.Swept.{Swept}
 use Rattle.oak_core.specs.Lack.{InSwept}
 use Rattle.oak_core.specs.Step.{on_rooms}
 use Rattle.oak_core.specs.Sweeping.{sweep, valueless}
-use Rattle.oak_core.proofs.CallSteps.{met_both, step_in, step_since}
+use Rattle.oak_core.proofs.calls.CallSteps.{met_both, step_in, step_since}
 use Rattle.rebalance.specs.declared.reading.Read.{Read}
 use Rattle.rebalance.specs.Calls.{OpensWith, SweepsKey}
 use Rattle.rebalance.specs.Chunks.{WorksBeside, held_row, keys_in}

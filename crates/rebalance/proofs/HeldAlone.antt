@@ -24,8 +24,8 @@ use Rattle.oak_core.specs.Memory.{Memory, memory}
 use Rattle.oak_core.specs.PassState.{rooms_held}
 use Rattle.oak_core.specs.RoomCalls.{HoldsRoomWord}
 use Rattle.oak_core.specs.Step.{on_rooms, Told}
-use Rattle.oak_core.proofs.AloneRuns.{moment_after, DoesStep, runs_as, step_runs}
-use Rattle.oak_core.proofs.CallSteps.{step_alone, step_since}
+use Rattle.oak_core.proofs.seats.AloneRuns.{moment_after, DoesStep, runs_as, step_runs}
+use Rattle.oak_core.proofs.calls.CallSteps.{step_alone, step_since}
 use Rattle.chunk_ops.specs.RoomPins.{HadMoment}
 use Rattle.chunk_ops.proofs.MeetingCalls.{stays_then}
 use Rattle.chunk_ops.proofs.PinSteps.{pin_found}

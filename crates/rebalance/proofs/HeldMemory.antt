@@ -12,8 +12,8 @@ use Rattle.chunk_core.specs.RoomCopies.{copy_of}
 use Rattle.chunk_core.specs.RoomReads.{copy_at, words_at}
 use Rattle.chunk_core.specs.RoomRule.{IsWholeCopy}
 use Rattle.chunk_core.specs.Rooms.{RoomMemory, read_room, IsInRooms}
-use Rattle.rebalance.specs.declared.rooms.RoomWord.{RoomWord}
-use Rattle.rebalance.specs.declared.rooms.RoomWord.TheVariants.{Base, Count, First, Low, High, Key, Value, Next}
+use Rattle.rebalance.specs.declared.held_rooms.RoomWord.{RoomWord}
+use Rattle.rebalance.specs.declared.held_rooms.RoomWord.TheVariants.{Base, Count, First, Low, High, Key, Value, Next}
 use Rattle.rebalance.specs.HeldRooms.{IsWithin, spot}
 use Rattle.rebalance.specs.Mirrors.{copy_or, entry_words, held_memory}
 

@@ -22,8 +22,8 @@ use Rattle.chunk_core.proofs.RangeMoves.{greater-cases}
 use Rattle.oak_core.specs.declared.sorting.SortSlot.{SortSlot}
 use Rattle.oak_core.specs.declared.states.PassState.{PassState}
 use Rattle.oak_core.specs.Step.{on_rooms}
-use Rattle.oak_core.proofs.CallSteps.{step_since}
-use Rattle.rebalance.specs.declared.merging.Taken.{Taken}
+use Rattle.oak_core.proofs.calls.CallSteps.{step_since}
+use Rattle.rebalance.specs.declared.chunk_pairs.Taken.{Taken}
 use Rattle.rebalance.specs.Bounds.{KeepsButBounds, Sets}
 use Rattle.rebalance.specs.Chunks.{held_row, keys_in}
 use Rattle.rebalance.specs.Entries.{entries}

@@ -29,10 +29,10 @@ use Rattle.oak_core.specs.PassState.{blocks_of}
 use Rattle.oak_core.specs.RoomCalls.{StoresRoom}
 use Rattle.oak_core.specs.Step.{block_back, blocks_dropped, on_arena}
 use Rattle.arena_core.specs.ArenaStep.{clear_bit}
-use Rattle.oak_core.proofs.AloneRuns.{moment_after}
+use Rattle.oak_core.proofs.seats.AloneRuns.{moment_after}
 use Rattle.arena_ops.specs.Taking.{Gives}
 use Rattle.chunk_ops.specs.RoomPins.{HadMoment}
-use Rattle.rebalance.specs.declared.rooms.RoomWord.TheVariants.{Key}
+use Rattle.rebalance.specs.declared.held_rooms.RoomWord.TheVariants.{Key}
 use Rattle.rebalance.specs.HeldRooms.{IsLoose}
 use Rattle.rebalance.specs.HeldTables.{AwayFromPins, HoldsAlone, WorksOnRooms}
 use Rattle.rebalance.specs.LoneWords.{no_room}

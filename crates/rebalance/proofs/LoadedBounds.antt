@@ -14,7 +14,7 @@ use Rattle.chunk_ops.proofs.StoredLaws.{Filled, filled_more, filled_all}
 use Rattle.chunk_ops.proofs.WordParts.{word_part, part_small, part_long}
 use Rattle.rebalance.specs.declared.ranges.Bound.{Bound}
 use Rattle.rebalance.specs.declared.ranges.Bound.TheVariants.{Low, High}
-use Rattle.rebalance.specs.declared.rooms.RoomWord.{RoomWord}
+use Rattle.rebalance.specs.declared.held_rooms.RoomWord.{RoomWord}
 use Rattle.rebalance.specs.HeldRooms.{spot}
 use Rattle.rebalance.specs.Ranges.{word_of_bound, bound_words, bound_bytes}
 

@@ -30,9 +30,9 @@ use Rattle.oak_core.specs.Memory.{Memory, memory}
 use Rattle.oak_core.specs.PassState.{IsAlone, rooms_held, spent_state}
 use Rattle.oak_core.specs.Step.{Step, load, give_number, on_arena, on_headers, on_rooms, store_locked, note_full, state_after}
 use Rattle.oak_core.specs.TableState.{TableState}
-use Rattle.oak_core.proofs.Alone.{others_are}
-use Rattle.oak_core.proofs.AloneRuns.{runs_as}
-use Rattle.oak_core.proofs.OneOwner.{below_two}
+use Rattle.oak_core.proofs.seats.Alone.{others_are}
+use Rattle.oak_core.proofs.seats.AloneRuns.{runs_as}
+use Rattle.oak_core.proofs.owners.OneOwner.{below_two}
 use Rattle.chunk_ops.specs.LoneRooms.{FreezesNone, HasNoRoom}
 use Rattle.chunk_ops.specs.RoomPins.{HadMoment}
 use Rattle.chunk_ops.proofs.LoneRoomLaws.{lone_room}

@@ -10,7 +10,7 @@ use Rattle.chunk_core.specs.declared.states.TheConstants.{HELD, OPEN}
 use Rattle.chunk_core.proofs.HeldRooms.{room_rows, row_else}
 use Rattle.oak_core.specs.declared.states.PassState.{PassState}
 use Rattle.oak_core.specs.AloneWords.{Runs}
-use Rattle.oak_core.proofs.AloneRuns.{Then, runs_as, runs_then}
+use Rattle.oak_core.proofs.seats.AloneRuns.{Then, runs_as, runs_then}
 use Rattle.rebalance.specs.Chunks.{held_row}
 use Rattle.rebalance.specs.Halving.{HoldsPair}
 use Rattle.rebalance.specs.LoneWords.{LeavesBut, MovesWith, OpensBoth, held_by, leaves_both, leaves_more, no_room, these_two, this_room}

@@ -12,7 +12,7 @@ use Rattle.chunk_core.specs.declared.states.TheConstants.{OPEN}
 use Rattle.chunk_core.specs.RoomReads.{copy_at}
 use Rattle.chunk_core.specs.Rooms.{at_room_pin}
 use Rattle.oak_core.specs.Memory.{Memory, Spot, in_rooms, same_spot, memory_of, write, IsInside, is_inside, index, number_at, memory}
-use Rattle.oak_core.proofs.Words.{index_apart, inside_is, is_inside-true, number_at-in, number_at-out, read-of, same_spot-is, same_spot-self}
+use Rattle.oak_core.proofs.memory.Words.{index_apart, inside_is, is_inside-true, number_at-in, number_at-out, read-of, same_spot-is, same_spot-self}
 use Rattle.chunk_ops.specs.RoomPins.{AddsRoomPin, DropsRoomPin}
 use Rattle.rebalance.specs.LoneWords.{LeavesBut, MovesRoom, leaves_same, no_room, this_room, state_in}
 

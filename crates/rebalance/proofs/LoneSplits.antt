@@ -9,7 +9,7 @@ use Rattle.oak_core.specs.declared.states.PassState.{PassState}
 use Rattle.oak_core.specs.AloneWords.{Runs}
 use Rattle.oak_core.specs.CallSteps.{StepOfCall}
 use Rattle.oak_core.specs.Step.{Step}
-use Rattle.oak_core.proofs.AloneRuns.{Then, runs_as, runs_then}
+use Rattle.oak_core.proofs.seats.AloneRuns.{Then, runs_as, runs_then}
 use Rattle.chunk_ops.specs.LoneRooms.{HasNoRoom}
 use Rattle.chunk_ops.specs.RoomPins.{HadMoment}
 use Rattle.rebalance.specs.LoneCalls.{AllOpen, Divided, HalvesRoom}

@@ -10,8 +10,8 @@ use Rattle.oak_core.specs.AloneWords.{Moment, Runs}
 use Rattle.oak_core.specs.Memory.{in_rooms, index, memory}
 use Rattle.oak_core.specs.PassState.{IsAlone}
 use Rattle.oak_core.specs.Step.{on_rooms, spot, effect, Step, Told}
-use Rattle.oak_core.proofs.AloneRuns.{Keeps, runs_as, step_runs, step_starts, words_stand}
-use Rattle.oak_core.proofs.Words.{index_below}
+use Rattle.oak_core.proofs.seats.AloneRuns.{Keeps, runs_as, step_runs, step_starts, words_stand}
+use Rattle.oak_core.proofs.memory.Words.{index_below}
 use Rattle.chunk_ops.proofs.PinSteps.{pin_found}
 use Rattle.rebalance.specs.LoneWords.{MovesRoom, MovesWith, room_in}
 use Rattle.rebalance.proofs.LonePins.{moves_stored}

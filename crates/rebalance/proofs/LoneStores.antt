@@ -19,9 +19,9 @@ use Rattle.oak_core.specs.AloneWords.{Runs}
 use Rattle.oak_core.specs.Memory.{Memory, in_arena, in_rooms, index, memory, word_count}
 use Rattle.oak_core.specs.Splitting.{Loads}
 use Rattle.oak_core.specs.Step.{on_arena, on_rooms, Told}
-use Rattle.oak_core.proofs.AloneRuns.{loads_run, runs_as}
-use Rattle.oak_core.proofs.KeepsArena.{arena_inside}
-use Rattle.oak_core.proofs.Words.{memory_set}
+use Rattle.oak_core.proofs.seats.AloneRuns.{loads_run, runs_as}
+use Rattle.oak_core.proofs.kinds.KeepsArena.{arena_inside}
+use Rattle.oak_core.proofs.memory.Words.{memory_set}
 use Rattle.chunk_ops.specs.PinRecords.{WordsStay}
 use Rattle.rebalance.specs.LoneWords.{LeavesBut, held_by, no_room}
 use Rattle.rebalance.proofs.LoneSteps.{StepAt, step_at}

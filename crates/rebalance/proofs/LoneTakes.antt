@@ -11,7 +11,7 @@ use Rattle.chunk_core.proofs.HeldRooms.{room_rows, row_else}
 use Rattle.oak_core.specs.declared.states.PassState.{PassState}
 use Rattle.oak_core.specs.AloneWords.{Runs}
 use Rattle.oak_core.specs.PassState.{HoldsNothing}
-use Rattle.oak_core.proofs.AloneRuns.{Then, runs_as, runs_then}
+use Rattle.oak_core.proofs.seats.AloneRuns.{Then, runs_as, runs_then}
 use Rattle.chunk_ops.specs.LoneRooms.{HasNoRoom}
 use Rattle.chunk_ops.specs.RoomPins.{AddsRoomPin, DropsRoomPin, HadMoment}
 use Rattle.rebalance.specs.Chunks.{held_row}

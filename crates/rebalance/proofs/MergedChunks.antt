@@ -21,12 +21,12 @@ use Rattle.oak_core.specs.declared.states.PassState.{PassState}
 use Rattle.oak_core.specs.AloneWords.{Runs}
 use Rattle.oak_core.specs.PassState.{HoldsNothing}
 use Rattle.oak_core.specs.Step.{on_rooms}
-use Rattle.oak_core.proofs.CallSteps.{step_in}
-use Rattle.oak_core.proofs.FullClaims.{claims_none}
+use Rattle.oak_core.proofs.calls.CallSteps.{step_in}
+use Rattle.oak_core.proofs.covers.FullClaims.{claims_none}
 use Rattle.rebalance.specs.declared.answers.Busy.{Busy}
-use Rattle.rebalance.specs.declared.merging.Merged.{Merged}
-use Rattle.rebalance.specs.declared.merging.Merged.TheVariants.{Joined, Apart}
-use Rattle.rebalance.specs.declared.merging.Taken.{Taken}
+use Rattle.rebalance.specs.declared.chunk_pairs.Merged.{Merged}
+use Rattle.rebalance.specs.declared.chunk_pairs.Merged.TheVariants.{Joined, Apart}
+use Rattle.rebalance.specs.declared.chunk_pairs.Taken.{Taken}
 use Rattle.chunk_ops.specs.LoneRooms.{HasElsewhere, HasNoRoom, NeverElsewhere}
 use Rattle.rebalance.specs.Busy.{GivesUpMerging, IsBusyFor}
 use Rattle.rebalance.specs.Calls.{IsSorted, Merges, Rewrites}

@@ -20,7 +20,7 @@ use Rattle.chunk_core.specs.ValueWord.{names_header}
 use Rattle.chunk_core.proofs.SpanLaws.{high-none, high-some, past-cases}
 use Rattle.oak_core.specs.declared.sorting.SortSlot.{SortSlot}
 use Rattle.oak_core.specs.declared.states.PassState.{PassState}
-use Rattle.rebalance.specs.declared.merging.Taken.{Taken}
+use Rattle.rebalance.specs.declared.chunk_pairs.Taken.{Taken}
 use Rattle.rebalance.specs.Chunks.{HoldsFront, held_row, keys_in}
 use Rattle.rebalance.specs.Filled.{IsFilled}
 use Rattle.rebalance.specs.Merging.{HoldsPair, TakesChunk}

@@ -18,8 +18,8 @@ use Rattle.oak_core.specs.RoomCalls.{OpensRoom, RetiresRoom}
 use Rattle.oak_core.specs.Rule.{Rule}
 use Rattle.oak_core.specs.Step.{on_rooms}
 use Rattle.oak_core.specs.TableState.{TableState}
-use Rattle.oak_core.proofs.AloneRuns.{moment_after}
-use Rattle.oak_core.proofs.CallSteps.{step_alone}
+use Rattle.oak_core.proofs.seats.AloneRuns.{moment_after}
+use Rattle.oak_core.proofs.calls.CallSteps.{step_alone}
 use Rattle.chunk_ops.proofs.PinSteps.{pin_found, small}
 use Rattle.rebalance.specs.Holding.{StandsBeside, SweepsBeside, Opens, Retires}
 use Rattle.rebalance.proofs.LoneSteps.{room_moves, room_moves_with}

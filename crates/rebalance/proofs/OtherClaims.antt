@@ -9,8 +9,8 @@ use Rattle.oak_core.specs.Memory.{in_rooms, index}
 use Rattle.oak_core.specs.QuietSteps.{MetOnly}
 use Rattle.oak_core.specs.RoomCalls.{ClaimsRoom}
 use Rattle.oak_core.specs.Step.{load, Told}
-use Rattle.oak_core.proofs.QuietCalls.{only_both}
-use Rattle.oak_core.proofs.RoomNames.{one_room}
+use Rattle.oak_core.proofs.calls.QuietCalls.{only_both}
+use Rattle.oak_core.proofs.memory.RoomNames.{one_room}
 use Rattle.rebalance.specs.Holding.{ClaimsOthers, IsAtAnother}
 
 -- what was met is no less

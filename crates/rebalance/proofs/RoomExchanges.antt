@@ -15,7 +15,7 @@ use Rattle.oak_core.specs.AloneWords.{Runs}
 use Rattle.oak_core.specs.Memory.{Memory, in_rooms, index, memory}
 use Rattle.oak_core.specs.RoomCalls.{FreezesRoom, HoldsRoomWord, ClaimsRoom}
 use Rattle.oak_core.specs.Step.{on_rooms, Told}
-use Rattle.oak_core.proofs.AloneRuns.{DoesStep, runs_as, step_runs}
+use Rattle.oak_core.proofs.seats.AloneRuns.{DoesStep, runs_as, step_runs}
 use Rattle.chunk_ops.specs.PinRecords.{WordsStay}
 use Rattle.chunk_ops.proofs.PinSteps.{pin_found}
 use Rattle.rebalance.specs.Holding.{StandsBeside, TriesBeside, with_frozen, with_moving, with_claimed}

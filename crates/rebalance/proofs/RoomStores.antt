@@ -27,10 +27,10 @@ use Rattle.oak_core.specs.AloneWords.{Runs}
 use Rattle.oak_core.specs.Memory.{memory}
 use Rattle.oak_core.specs.RoomCalls.{StoresRoom}
 use Rattle.oak_core.specs.Step.{blocks_dropped, on_rooms, MayOnRooms, Told}
-use Rattle.oak_core.proofs.AloneRuns.{moment_after}
+use Rattle.oak_core.proofs.seats.AloneRuns.{moment_after}
 use Rattle.chunk_ops.specs.RoomPins.{HadMoment}
-use Rattle.rebalance.specs.declared.rooms.RoomWord.{RoomWord}
-use Rattle.rebalance.specs.declared.rooms.RoomWord.TheVariants.{Base, Count, First, Low, High, Key, Value, Next}
+use Rattle.rebalance.specs.declared.held_rooms.RoomWord.{RoomWord}
+use Rattle.rebalance.specs.declared.held_rooms.RoomWord.TheVariants.{Base, Count, First, Low, High, Key, Value, Next}
 use Rattle.rebalance.specs.HeldRooms.{IsPlain, IsWithin, spot}
 use Rattle.rebalance.specs.HeldTables.{AwayFromPins, HoldsAlone, HoldsRoom, IsHeldAs, IsHeldRow, RowsStay, WorksOnRooms, away_both, away_none, carried_in, is_valued, valued}
 use Rattle.rebalance.specs.ListedRows.{rows_of}

@@ -35,14 +35,14 @@ use Rattle.oak_core.specs.Rule.{Rule}
 use Rattle.oak_core.specs.Splitting.{Loads}
 use Rattle.oak_core.specs.Step.{load}
 use Rattle.oak_core.specs.TableState.{TableState}
-use Rattle.oak_core.proofs.AloneRuns.{moment_after}
-use Rattle.oak_core.proofs.MetLists.{at_inside}
-use Rattle.oak_core.proofs.PlainLoads.{LoadTeachesNothing, met_at, plain_or_taught, plain_teaches}
-use Rattle.oak_core.proofs.QuietLoads.{met_quiet, unfound_teaches, unpinned_teaches}
+use Rattle.oak_core.proofs.seats.AloneRuns.{moment_after}
+use Rattle.oak_core.proofs.memory.MetLists.{at_inside}
+use Rattle.oak_core.proofs.told.PlainLoads.{LoadTeachesNothing, met_at, plain_or_taught, plain_teaches}
+use Rattle.oak_core.proofs.told.QuietLoads.{met_quiet, unfound_teaches, unpinned_teaches}
 use Rattle.chunk_ops.specs.PinRecords.{WordsStay}
 use Rattle.chunk_ops.specs.RoomPins.{HadMoment}
 use Rattle.chunk_ops.proofs.WordLoads.{load_at, load_reads, only_loaded}
-use Rattle.rebalance.specs.declared.rooms.RoomWord.{RoomWord}
+use Rattle.rebalance.specs.declared.held_rooms.RoomWord.{RoomWord}
 use Rattle.rebalance.specs.HeldRooms.{IsWithin, spot}
 use Rattle.rebalance.specs.HeldTables.{AwayFromPins, HoldsAlone, HoldsOnlyRooms, HoldsRoom, IsHeldRow, SeesValue, WorksOnRooms, valued}
 use Rattle.rebalance.specs.ListedRows.{rows_of}

@@ -16,7 +16,7 @@ use Rattle.chunk_core.specs.ValueWord.{names_header}
 use Rattle.oak_core.specs.declared.states.PassState.{PassState}
 use Rattle.oak_core.specs.AloneWords.{Runs}
 use Rattle.oak_core.specs.Sweeping.{valueless}
-use Rattle.oak_core.proofs.AloneRuns.{Then, runs_as, runs_none, runs_then}
+use Rattle.oak_core.proofs.seats.AloneRuns.{Then, runs_as, runs_none, runs_then}
 use Rattle.rebalance.specs.Calls.{HasMuchAbove, IsLast, Merges, Rewrites}
 use Rattle.rebalance.specs.Copies.{copy_span, values_in}
 use Rattle.rebalance.specs.LoneCalls.{Divided, JoinsRooms, NoneOpened, RewritesBoth, RewritesRoom, SettlesWords}

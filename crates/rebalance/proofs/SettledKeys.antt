@@ -8,7 +8,7 @@ use Rattle.oak_core.specs.declared.states.Knowledge.{Knowledge}
 use Rattle.oak_core.specs.declared.states.Numbers.{Numbers}
 use Rattle.oak_core.specs.declared.states.PassState.{PassState}
 use Rattle.oak_core.specs.PassState.{HoldsNothing}
-use Rattle.oak_core.proofs.CallSteps.{begins_same, met_both, met_none}
+use Rattle.oak_core.proofs.calls.CallSteps.{begins_same, met_both, met_none}
 use Rattle.rebalance.specs.Calls.{Leaves, SweepsKey}
 use Rattle.rebalance.specs.Merging.{SweepsBelow, SweepsUpTo}
 use Rattle.rebalance.proofs.LeastKey.{none_below}

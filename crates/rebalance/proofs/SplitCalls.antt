@@ -16,8 +16,8 @@ use Rattle.oak_core.specs.declared.states.PassState.{PassState}
 use Rattle.oak_core.specs.AloneWords.{Runs}
 use Rattle.oak_core.specs.PassState.{HoldsNothing}
 use Rattle.oak_core.specs.Step.{on_rooms}
-use Rattle.oak_core.proofs.AloneRuns.{Then, runs_then}
-use Rattle.oak_core.proofs.CallSteps.{met_both}
+use Rattle.oak_core.proofs.seats.AloneRuns.{Then, runs_then}
+use Rattle.oak_core.proofs.calls.CallSteps.{met_both}
 use Rattle.rebalance.specs.declared.reading.Read.{Read}
 use Rattle.rebalance.specs.Calls.{FindsNoRoom, Halves, Loosens}
 use Rattle.rebalance.specs.Chunks.{CompactsFront, HoldsFor, HoldsFront, OpensFront, ReadsFront, WorksBeside}

@@ -16,8 +16,8 @@ use Rattle.chunk_core.specs.RoomCopies.{changed, copy_in, copy_of, copy_with, en
 use Rattle.chunk_core.specs.RoomRule.{IsWholeCopy}
 use Rattle.chunk_core.specs.RoomStep.{of_key, of_value, of_next, put_room}
 use Rattle.chunk_core.specs.Rooms.{RoomSpot, at_base, at_count, at_first, at_low, at_high, at_key, at_value, at_next, room_at}
-use Rattle.rebalance.specs.declared.rooms.RoomWord.{RoomWord}
-use Rattle.rebalance.specs.declared.rooms.RoomWord.TheVariants.{Base, Count, First, Low, High, Key, Value, Next}
+use Rattle.rebalance.specs.declared.held_rooms.RoomWord.{RoomWord}
+use Rattle.rebalance.specs.declared.held_rooms.RoomWord.TheVariants.{Base, Count, First, Low, High, Key, Value, Next}
 use Rattle.rebalance.specs.HeldRooms.{IsWithin, spot}
 use Rattle.rebalance.specs.Mirrors.{copy_or, entry_words, held_memory}
 

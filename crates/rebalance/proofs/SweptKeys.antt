@@ -20,7 +20,7 @@ use Rattle.oak_core.specs.declared.states.PassState.{PassState}
 use Rattle.oak_core.specs.declared.states.Swept.{Swept}
 use Rattle.oak_core.specs.CallSteps.{MetMore}
 use Rattle.oak_core.specs.Lack.{InSwept, IsBelow}
-use Rattle.oak_core.proofs.MetLists.{at_behind}
+use Rattle.oak_core.proofs.memory.MetLists.{at_behind}
 use Rattle.chunk_ops.proofs.WordParts.{part_small}
 use Rattle.rebalance.specs.Calls.{SweepsKey}
 use Rattle.rebalance.specs.Copies.{copy_span}

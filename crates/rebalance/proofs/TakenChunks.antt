@@ -26,8 +26,8 @@ use Rattle.oak_core.specs.Lack.{IsBelow}
 use Rattle.oak_core.specs.PassState.{HoldsNothing}
 use Rattle.oak_core.specs.Step.{on_rooms}
 use Rattle.oak_core.specs.Sweeping.{valueless}
-use Rattle.oak_core.proofs.CallSteps.{step_in, step_since, step_until}
-use Rattle.rebalance.specs.declared.merging.Taken.{Taken}
+use Rattle.oak_core.proofs.calls.CallSteps.{step_in, step_since, step_until}
+use Rattle.rebalance.specs.declared.chunk_pairs.Taken.{Taken}
 use Rattle.rebalance.specs.declared.reading.Read.{Read}
 use Rattle.rebalance.specs.Calls.{ComesToHold, Leaves, OpensWith, Rewrites}
 use Rattle.rebalance.specs.Copies.{copy_span}

@@ -14,7 +14,7 @@ use Rattle.oak_core.specs.AloneWords.{Runs}
 use Rattle.oak_core.specs.Memory.{in_rooms, index, memory}
 use Rattle.oak_core.specs.RoomCalls.{ClaimsRoom}
 use Rattle.oak_core.specs.Step.{load, on_rooms, Told}
-use Rattle.oak_core.proofs.AloneRuns.{DoesStep, Then, load_runs, runs_as, runs_then, step_runs}
+use Rattle.oak_core.proofs.seats.AloneRuns.{DoesStep, Then, load_runs, runs_as, runs_then, step_runs}
 use Rattle.chunk_ops.proofs.WordLoads.{load_reads}
 use Rattle.rebalance.specs.LoneWords.{IsTaken, NoneFree, state_in}
 use Rattle.rebalance.proofs.LoneChunks.{lone_count}

@@ -28,12 +28,12 @@ use Rattle.oak_core.specs.FoundBehind.{FoundBehind}
 use Rattle.oak_core.specs.Memory.{Memory, in_rooms, index, memory}
 use Rattle.oak_core.specs.QuietSteps.{MetOnly}
 use Rattle.oak_core.specs.RoomLacks.{ClaimedFull, ClaimsFull, FoundWhole, HeldFull, IsFullFor, RoomLackFound}
-use Rattle.oak_core.proofs.CallSteps.{met_both}
-use Rattle.oak_core.proofs.MetLists.{at_shorter, each_at, from_behind}
-use Rattle.oak_core.proofs.QuietCalls.{only_none}
-use Rattle.oak_core.proofs.Words.{memory_set}
+use Rattle.oak_core.proofs.calls.CallSteps.{met_both}
+use Rattle.oak_core.proofs.memory.MetLists.{at_shorter, each_at, from_behind}
+use Rattle.oak_core.proofs.calls.QuietCalls.{only_none}
+use Rattle.oak_core.proofs.memory.Words.{memory_set}
 use Rattle.rebalance.specs.declared.reading.Read.{Read}
-use Rattle.rebalance.specs.declared.rooms.RoomWord.TheVariants.{Value}
+use Rattle.rebalance.specs.declared.held_rooms.RoomWord.TheVariants.{Value}
 use Rattle.rebalance.specs.Copies.{copy_span}
 use Rattle.rebalance.specs.Chunks.{HoldsFor, ReadsFront}
 use Rattle.rebalance.specs.HeldTables.{AwayFromPins, SeesValue, away_both}

@@ -4,8 +4,8 @@ use Rattle.std.specs.List.{slice_index_or}
 use Rattle.chunk_core.specs.RoomStep.{put_room}
 use Rattle.chunk_core.specs.Rooms.{RoomMemory, at_key, at_value, at_next}
 use Rattle.oak_core.specs.declared.sorting.SortSlot.{SortSlot}
-use Rattle.rebalance.specs.declared.rooms.RoomWord.{RoomWord}
-use Rattle.rebalance.specs.declared.rooms.RoomWord.TheVariants.{First, Next}
+use Rattle.rebalance.specs.declared.held_rooms.RoomWord.{RoomWord}
+use Rattle.rebalance.specs.declared.held_rooms.RoomWord.TheVariants.{First, Next}
 use Rattle.rebalance.specs.Entries.{entries}
 use Rattle.rebalance.specs.Slots.{entry_of}
 

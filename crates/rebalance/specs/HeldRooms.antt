@@ -10,8 +10,8 @@ use Rattle.chunk_core.specs.declared.holds.MovingRange.{MovingRange}
 use Rattle.chunk_core.specs.declared.layout.TheConstants.{BOUND_WORDS}
 use Rattle.chunk_core.specs.Rooms.{RoomSpot, at_base, at_count, at_first, at_low, at_high, at_key, at_value, at_next}
 use Rattle.chunk_core.specs.ValueWord.{names_header}
-use Rattle.rebalance.specs.declared.rooms.RoomWord.{RoomWord}
-use Rattle.rebalance.specs.declared.rooms.RoomWord.TheVariants.{Base, Count, First, Low, High, Key, Value, Next}
+use Rattle.rebalance.specs.declared.held_rooms.RoomWord.{RoomWord}
+use Rattle.rebalance.specs.declared.held_rooms.RoomWord.TheVariants.{Base, Count, First, Low, High, Key, Value, Next}
 
 -- the word of a room
 abbrev pub spot : ℕ → RoomWord → RoomSpot

@@ -32,7 +32,7 @@ use Rattle.oak_core.specs.Passes.{IsPassOf, state, slots_of, key as sizes, call_
 use Rattle.oak_core.specs.Scratch.{StaysButSlots}
 use Rattle.chunk_ops.specs.RoomLoads.{NamesKey}
 use Rattle.chunk_ops.specs.RoomPins.{HadMoment}
-use Rattle.rebalance.specs.declared.held.HeldTable.{HeldTable}
+use Rattle.rebalance.specs.declared.held_table.HeldTable.{HeldTable}
 use Rattle.rebalance.specs.HeldRooms.{IsNamed}
 use Rattle.rebalance.specs.ListedRows.{rows_of}
 use Rattle.rebalance.specs.LoneWords.{LeavesBut, held_by, no_room, runs_leave_both, runs_leave_more, runs_leave_none}

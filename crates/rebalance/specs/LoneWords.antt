@@ -13,7 +13,7 @@ use Rattle.chunk_core.specs.Spans.{within}
 use Rattle.oak_core.specs.declared.states.PassState.{PassState}
 use Rattle.oak_core.specs.AloneWords.{Runs}
 use Rattle.oak_core.specs.Memory.{memory}
-use Rattle.oak_core.proofs.AloneRuns.{Then, runs_as, runs_none, runs_then}
+use Rattle.oak_core.proofs.seats.AloneRuns.{Then, runs_as, runs_none, runs_then}
 use Rattle.chunk_ops.specs.LoneRooms.{HasNoRoom}
 use Rattle.chunk_ops.specs.PinRecords.{WordsStay, room_pin}
 use Rattle.rebalance.specs.Copies.{copy_span}

@@ -22,7 +22,7 @@ use Rattle.oak_core.specs.AloneWords.{Runs}
 use Rattle.oak_core.specs.CallSteps.{StepOfCall}
 use Rattle.oak_core.specs.Lack.{IsBelow}
 use Rattle.oak_core.specs.Step.{on_rooms}
-use Rattle.rebalance.specs.declared.merging.Taken.{Taken}
+use Rattle.rebalance.specs.declared.chunk_pairs.Taken.{Taken}
 use Rattle.rebalance.specs.Calls.{ComesToHold, IsSorted, StaysApart, SweepsKey}
 use Rattle.rebalance.specs.Copies.{copy_span, values_in}
 use Rattle.rebalance.specs.Chunks.{HoldsFront, IsRewritten, WorksBeside, held_row, keys_in}

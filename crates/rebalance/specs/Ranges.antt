@@ -9,8 +9,8 @@ use Rattle.chunk_ops.specs.declared.stored.StoredKey.{StoredKey}
 use Rattle.chunk_ops.specs.Stored.{IsStored}
 use Rattle.rebalance.specs.declared.ranges.Bound.{Bound}
 use Rattle.rebalance.specs.declared.ranges.Bound.TheVariants.{Low, High}
-use Rattle.rebalance.specs.declared.rooms.RoomWord.{RoomWord}
-use Rattle.rebalance.specs.declared.rooms.RoomWord.TheVariants as room_word
+use Rattle.rebalance.specs.declared.held_rooms.RoomWord.{RoomWord}
+use Rattle.rebalance.specs.declared.held_rooms.RoomWord.TheVariants as room_word
 
 -- word j of a bound
 abbrev pub word_of_bound : Bound → ℕ → RoomWord

@@ -5,7 +5,7 @@ use Rattle.oak_core.specs.declared.states.PassState.{PassState}
 use Rattle.oak_core.specs.declared.states.Rebalanced.{Rebalanced}
 use Rattle.oak_core.specs.AloneWords.{Runs}
 use Rattle.oak_core.specs.CallSteps.{MetMore, Stands}
-use Rattle.oak_core.proofs.CallSteps.{met_both, met_none}
+use Rattle.oak_core.proofs.calls.CallSteps.{met_both, met_none}
 use Rattle.oak_model.specs.Limits.{Sizes}
 use Rattle.chunk_ops.specs.PinRecords.{OnlyMeets, WordsStay, with_room_pin}
 use Rattle.chunk_ops.specs.RoomPins.{DropsRoomPin, HadMoment}

@@ -4,7 +4,7 @@ ghost use Rattle.oak_model.specs.declared.limits.TheConstants.{GREATEST_KEY};
 ghost use Rattle.chunk_core.specs.declared.layout.TheConstants.{BOUND_WORDS};
 ghost use Rattle.rebalance.specs.Bounds.{Sets, KeepsButBounds, bound_word};
 
-use crate::rooms::{HeldRooms, RoomWord};
+use crate::held_rooms::{HeldRooms, RoomWord};
 use chunk_core::layout::BOUND_WORDS;
 use chunk_ops::{KEY_WORDS, StoredKey};
 

@@ -22,9 +22,9 @@ ghost use Rattle.rebalance.specs.HeldTables.{WorksOnRooms};
 ghost use Rattle.rebalance.specs.Merging.{HoldsCompacted};
 
 use crate::fronts::compact_front;
-use crate::held::HeldTable;
-use crate::holding::{freeze_pinned, hold_frozen, open_held};
+use crate::held_table::HeldTable;
 use crate::ranges::has_key;
+use crate::room_steps::{freeze_pinned, hold_frozen, open_held};
 use chunk_ops::{Moved, RoomPin, StoredKey, pin_for, unpin};
 use oak_core::{OakTable, Pass};
 use oak_model::GREATEST_ENTRIES;
@@ -40,7 +40,8 @@ fn hold_pinned(table: &OakTable, pass: &mut Pass, pin: RoomPin, looks: u32) -> b
     requires claim { (state pass.old).rooms.claim ≡ None }
     requires some { 0 < looks }
     ensures own { Stays pass.old pass.new }
-    ensures holds { result ≡ true → (w : RoomCopy) × (g : MovingRange) × HoldsPinned (sizes table.now) (call_of pass.old) pin.room w g (state pass.old) (state pass.new) }
+    ensures holds { result ≡ true → (w : RoomCopy) × (g : MovingRange) × HoldsPinned (sizes table.now)
+        (call_of pass.old) pin.room w g (state pass.old) (state pass.new) }
     ensures loses { result ≡ false → LosesPinned (sizes table.now) (call_of pass.old) looks pin.room (state pass.old) (state pass.new) }
 {
     let room = pin.room;
@@ -55,11 +56,14 @@ fn hold_pinned(table: &OakTable, pass: &mut Pass, pin: RoomPin, looks: u32) -> b
 /// Whether the range of the front room has the key.
 fn front_has(table: &OakTable, pass: &mut Pass, room: u32, key: &StoredKey) -> bool
     requires own { IsPassOf table.now pass.old }
-    requires front { (w : RoomCopy) × (g : MovingRange) × (hs : List HeldRoom) × (gs : List MovingRange) × HoldsFront (sizes table.now) room w g hs gs (state pass.old) }
+    requires front { (w : RoomCopy) × (g : MovingRange) × (hs : List HeldRoom) × (gs : List MovingRange)
+        × HoldsFront (sizes table.now) room w g hs gs (state pass.old) }
     ensures own { Stays pass.old pass.new }
     ensures works { WorksOnRooms (sizes table.now) (call_of pass.old) (state pass.old) (state pass.new) }
     ensures rooms { (state pass.new).rooms ≡ (state pass.old).rooms }
-    ensures has { (w : RoomCopy) (g : MovingRange) (hs : List HeldRoom) (gs : List MovingRange) (b : List ℕ) → HoldsFront (sizes table.now) room w g hs gs (state pass.old) → IsStored key.now b → MatchBool result (within (copy_span w) (key_number b) ≡ 1) (within (copy_span w) (key_number b) ≡ 1 → ⊥) }
+    ensures has { (w : RoomCopy) (g : MovingRange) (hs : List HeldRoom) (gs : List MovingRange) (b : List ℕ)
+        → HoldsFront (sizes table.now) room w g hs gs (state pass.old) → IsStored key.now b
+        → MatchBool result (within (copy_span w) (key_number b) ≡ 1) (within (copy_span w) (key_number b) ≡ 1 → ⊥) }
 {
     // Reading the slots shows how many there are, before and behind.
     prove!(pass.sorting().slots().len() == GREATEST_ENTRIES as usize);
@@ -71,9 +75,12 @@ fn front_has(table: &OakTable, pass: &mut Pass, room: u32, key: &StoredKey) -> b
 /// Opens the front room, whose entries links name in turn, over all of its range.
 pub(crate) fn open_front(table: &OakTable, pass: &mut Pass, room: u32)
     requires own { IsPassOf table.now pass.old }
-    requires front { (w : RoomCopy) × (g : MovingRange) × (hs : List HeldRoom) × (gs : List MovingRange) × HoldsFront (sizes table.now) room w g hs gs (state pass.old) × IsChained (sizes table.now) w }
+    requires front { (w : RoomCopy) × (g : MovingRange) × (hs : List HeldRoom) × (gs : List MovingRange)
+        × HoldsFront (sizes table.now) room w g hs gs (state pass.old) × IsChained (sizes table.now) w }
     ensures own { Stays pass.old pass.new }
-    ensures opens { (w : RoomCopy) (g : MovingRange) (hs : List HeldRoom) (gs : List MovingRange) → HoldsFront (sizes table.now) room w g hs gs (state pass.old) → OpensFront (sizes table.now) (call_of pass.old) room w hs gs (state pass.old) (state pass.new) }
+    ensures opens { (w : RoomCopy) (g : MovingRange) (hs : List HeldRoom) (gs : List MovingRange)
+        → HoldsFront (sizes table.now) room w g hs gs (state pass.old) → OpensFront (sizes table.now)
+        (call_of pass.old) room w hs gs (state pass.old) (state pass.new) }
 {
     open_held(table, pass, room);
 }
@@ -103,7 +110,8 @@ pub(crate) fn try_hold(table: &OakTable, pass: &mut Pass, key: &[u8], looks: u32
     requires compacted { HoldsCompacted (sizes table.now) (state pass.old) }
     requires some { 0 < looks }
     ensures own { StaysButSlots pass.old pass.new }
-    ensures holds { IfSome result (λ r. (w : RoomCopy) × (g : MovingRange) × HoldsFor (sizes table.now) (call_of pass.old) key.now r w g (state pass.old) (state pass.new)) }
+    ensures holds { IfSome result (λ r. (w : RoomCopy) × (g : MovingRange) × HoldsFor (sizes table.now)
+        (call_of pass.old) key.now r w g (state pass.old) (state pass.new)) }
     ensures back { IfNone result (ComesBack (sizes table.now) (call_of pass.old) (state pass.old) (state pass.new)) }
     ensures busy { IfNone result (IsBusyFor (sizes table.now) (call_of pass.old) looks key.now (state pass.old) (state pass.new)) }
     ensures swept { IfNone result (SweepsOff (sizes table.now) (call_of pass.old) key.now (state pass.old) (state pass.new)) }

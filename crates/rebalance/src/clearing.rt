@@ -6,7 +6,7 @@ ghost use Rattle.chunk_core.specs.Rooms.{at_key, at_value};
 ghost use Rattle.rebalance.specs.Filled.{ClearsEntries, bare_entry};
 ghost use Rattle.rebalance.specs.HeldRooms.{AllValued};
 
-use crate::rooms::{HeldRooms, RoomWord};
+use crate::held_rooms::{HeldRooms, RoomWord};
 
 /// Makes the key word of an entry 0.
 fn clear_key<H: HeldRooms>(rooms: &mut H, room: u32, i: u32)

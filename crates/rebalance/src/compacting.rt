@@ -1,70 +1,56 @@
-//! The entries of a held room, read, sorted and stored again.
-ghost use Rattle.std.specs.Prelude.{◌≡◌, ℕ, ◌<◌, ◌≤◌, take};
-ghost use Rattle.oak_model.specs.Counts.{Each};
-ghost use Rattle.chunk_core.specs.LinkedEntries.{entries_in};
-ghost use Rattle.chunk_core.specs.ValueWord.{names_header};
-ghost use Rattle.rebalance.specs.Compacted.{IsHeldRoom, ReadsSorted, IsCompacted, in_use};
-ghost use Rattle.rebalance.specs.Dropping.{DropsKeys, dropped_ranges};
-ghost use Rattle.rebalance.specs.Entries.{dropped};
-ghost use Rattle.rebalance.specs.HeldRooms.{AllValued};
-ghost use Rattle.rebalance.specs.Read.{HasRead};
-ghost use Rattle.rebalance.specs.Slots.{AllNamed};
+//! Compacting a chunk.
+ghost use Rattle.std.specs.Prelude.{◌≡◌, ◌<◌, IfErr, IfOk};
+ghost use Rattle.oak_model.specs.Key.{IsKey};
+ghost use Rattle.oak_core.specs.Passes.{IsPassOf, state, key as sizes, call_of};
+ghost use Rattle.oak_core.specs.PassState.{HoldsNothing};
+ghost use Rattle.oak_core.specs.Scratch.{StaysButSlots};
+ghost use Rattle.rebalance.specs.Busy.{GivesUp};
+ghost use Rattle.rebalance.specs.Calls.{Compacts};
 
-use crate::entries::entries_in;
-use crate::filling::fill_room;
-use crate::reading::{Read, read_entries};
-use crate::rooms::{HeldRooms, RoomWord};
+use crate::answers::Busy;
+use crate::chunks::{LOOKS, open_front, try_hold};
+use crate::fronts::compact_front;
+use oak_core::{OakTable, Pass};
+use std::sync::Wait;
+use std::thread;
 
-/// Reads the entries in use of a held room: those with a value to the first slots, in their order; the
-/// others are dropped.
-fn read_room<H: HeldRooms>(rooms: &mut H, room: u32) -> Read
-    requires held { H.held rooms.old room }
-    requires within { entries_in ((H.rooms rooms.old).count room) ≤ H.entries rooms.old }
-    requires room { let m = H.rooms rooms.old in IsHeldRoom (H.names rooms.old) (H.keys rooms.old) (H.ranges rooms.old) m room (entries_in (m.count room)) }
-    ensures stays { H.stays rooms.old rooms.new }
-    ensures sees { let m = H.rooms rooms.old in (i : ℕ) → i < entries_in (m.count room) → names_header (m.value room i) ≡ 1 → H.sees rooms.old rooms.new room i }
-    ensures rooms { DropsKeys room (entries_in ((H.rooms rooms.old).count room)) (H.rooms rooms.old) (H.rooms rooms.new) }
-    ensures ranges { H.ranges rooms.new ≡ dropped_ranges (dropped (in_use (H.rooms rooms.old) room)) (H.ranges rooms.old) }
-    ensures few { result.kept ≤ H.entries rooms.old }
-    ensures read { let m = H.rooms rooms.old in HasRead (H.keys rooms.old) m room (m.base room) (entries_in (m.count room)) (H.slots rooms.new) result }
+/// Drops the entries without a value of the chunk that covers the key, and makes the others its sorted
+/// prefix, with nothing behind it. The answer is how many were dropped, exactly those that had no value
+/// while the chunk was held. It claims no room, nor tries to. It waits for nobody: `Busy` comes only where
+/// another pass had moved or frozen the chunk, or at each of so many looks at its pin word other passes had
+/// pinned it; to a pass that is alone it never comes.
+pub fn try_compact(table: &OakTable, pass: &mut Pass, key: &[u8], looks: u32) -> Result<u32, Busy>
+    requires own { IsPassOf table.now pass.old }
+    requires key { IsKey key.now }
+    requires idle { HoldsNothing (state pass.old) }
+    requires some { 0 < looks }
+    ensures own { StaysButSlots pass.old pass.new }
+    ensures compacted { IfOk result (λ n. Compacts (sizes table.now) (call_of pass.old) key.now n (state pass.old) (state pass.new)) }
+    ensures busy { IfErr result (λ _. GivesUp (sizes table.now) (call_of pass.old) looks key.now (state pass.old) (state pass.new)) }
+    ensures unclaimed { (state pass.new).findings.rebalances.claims ≡ (state pass.old).findings.rebalances.claims }
 {
-    let count = entries_in(rooms.load(room, RoomWord::Count));
-    read_entries(rooms, room, count)
+    let Some(room) = try_hold(table, pass, key, looks) else {
+        return Err(Busy);
+    };
+    let read = compact_front(table, pass, room);
+    open_front(table, pass, room);
+    Ok(read.dropped as u32)
 }
 
-/// Reads the entries of a held room: those with a value, in the order of their keys, to the first slots;
-/// the others are dropped.
-pub(crate) fn read_sorted<H: HeldRooms>(rooms: &mut H, room: u32) -> Read
-    requires held { H.held rooms.old room }
-    requires within { entries_in ((H.rooms rooms.old).count room) ≤ H.entries rooms.old }
-    requires room { let m = H.rooms rooms.old in IsHeldRoom (H.names rooms.old) (H.keys rooms.old) (H.ranges rooms.old) m room (entries_in (m.count room)) }
-    ensures stays { H.stays rooms.old rooms.new }
-    ensures sees { let m = H.rooms rooms.old in (i : ℕ) → i < entries_in (m.count room) → names_header (m.value room i) ≡ 1 → H.sees rooms.old rooms.new room i }
-    ensures rooms { DropsKeys room (entries_in ((H.rooms rooms.old).count room)) (H.rooms rooms.old) (H.rooms rooms.new) }
-    ensures ranges { H.ranges rooms.new ≡ dropped_ranges (dropped (in_use (H.rooms rooms.old) room)) (H.ranges rooms.old) }
-    ensures read { ReadsSorted (H.keys rooms.old) (H.rooms rooms.old) room (H.slots rooms.new) result }
-    ensures named { AllNamed (take result.kept (H.slots rooms.new)) }
+/// Compacts the chunk that covers the key as [`try_compact`] does. It waits until no pin stands on the chunk.
+pub fn compact<R: Wait>(rt: &R, table: &OakTable, pass: &mut Pass, key: &[u8]) -> u32
+    requires own { IsPassOf table.now pass.old }
+    requires key { IsKey key.now }
+    requires idle { HoldsNothing (state pass.old) }
+    ensures own { StaysButSlots pass.old pass.new }
+    ensures compacted { Compacts (sizes table.now) (call_of pass.old) key.now result (state pass.old) (state pass.new) }
+    ensures unclaimed { (state pass.new).findings.rebalances.claims ≡ (state pass.old).findings.rebalances.claims }
 {
-    let read = read_room(rooms, room);
-    rooms.sort(read.kept);
-    read
-}
-
-/// Compacts a held room: its entries are then those that had a value, in the order of their keys, with
-/// nothing behind them. No other entry that the ranges carry lacks a value.
-pub(crate) fn compact_held<H: HeldRooms>(rooms: &mut H, room: u32) -> Read
-    requires held { H.held rooms.old room }
-    requires within { entries_in ((H.rooms rooms.old).count room) ≤ H.entries rooms.old }
-    requires room { let m = H.rooms rooms.old in IsHeldRoom (H.names rooms.old) (H.keys rooms.old) (H.ranges rooms.old) m room (entries_in (m.count room)) }
-    requires valued { Each AllValued (dropped_ranges (dropped (in_use (H.rooms rooms.old) room)) (H.ranges rooms.old)) }
-    ensures stays { H.stays rooms.old rooms.new }
-    ensures sees { let m = H.rooms rooms.old in (i : ℕ) → i < entries_in (m.count room) → names_header (m.value room i) ≡ 1 → H.sees rooms.old rooms.new room i }
-    ensures rooms { IsCompacted (H.entries rooms.old) room (entries_in ((H.rooms rooms.old).count room)) (take result.kept (H.slots rooms.new)) result.base (H.rooms rooms.old) (H.rooms rooms.new) }
-    ensures ranges { H.ranges rooms.new ≡ dropped_ranges (dropped (in_use (H.rooms rooms.old) room)) (H.ranges rooms.old) }
-    ensures read { ReadsSorted (H.keys rooms.old) (H.rooms rooms.old) room (H.slots rooms.new) result }
-    ensures named { AllNamed (take result.kept (H.slots rooms.new)) }
-{
-    let read = read_sorted(rooms, room);
-    fill_room(rooms, room, 0, read.kept, read.base);
-    read
+    for _ in rt.forever() {
+        if let Ok(dropped) = try_compact(table, pass, key, LOOKS) {
+            return dropped;
+        }
+        thread::yield_now();
+    }
+    unreachable!()
 }

@@ -1,10 +1,8 @@
 //! Entries, as their key word and their value word.
 ghost use Rattle.std.specs.Prelude.{◌≡◌};
-ghost use Rattle.chunk_core.specs.LinkedEntries.{entries_in};
 ghost use Rattle.rebalance.specs.Entries.{has_value};
 
-/// The least value word that names a header.
-const NAMES: u64 = 1 << 63;
+use chunk_core::value_word::NAMES;
 
 /// An entry: its key word and its value word.
 #[derive(Clone, Copy, Debug)]
@@ -20,14 +18,4 @@ impl Entry {
     {
         self.value >= NAMES
     }
-}
-
-/// What one more in the sorted prefix adds to a count word.
-const PREFIX: u64 = 1 << 16;
-
-/// The number of entries in use that a count word tells.
-pub(crate) fn entries_in(word: u64) -> u32
-    ensures { result ≡ entries_in word }
-{
-    (word % PREFIX) as u32
 }

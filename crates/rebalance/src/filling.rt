@@ -7,11 +7,9 @@ ghost use Rattle.rebalance.specs.HeldRooms.{AllValued};
 ghost use Rattle.rebalance.specs.Slots.{AllNamed};
 
 use crate::clearing::clear_entries;
-use crate::rooms::{HeldRooms, RoomWord};
+use crate::held_rooms::{HeldRooms, RoomWord};
+use chunk_core::count_word::SORTED_ENTRY;
 use oak_core::SortSlot;
-
-/// What one more entry, in the sorted prefix, adds to a count word.
-const ENTRY: u64 = (1 << 16) + 1;
 
 /// The link of entry `i` of `n` that are linked one behind the other.
 fn next_of(i: usize, n: usize) -> u64
@@ -97,7 +95,7 @@ pub(crate) fn fill_room<H: HeldRooms>(rooms: &mut H, room: u32, from: usize, n: 
     store_slots(rooms, room, from, 0, n);
     rooms.store(room, RoomWord::Base, base);
     rooms.store(room, RoomWord::First, first_of(n));
-    rooms.store(room, RoomWord::Count, n as u64 * ENTRY);
+    rooms.store(room, RoomWord::Count, n as u64 * SORTED_ENTRY);
 }
 
 /// Makes the first `n` slots entries of a held room behind its first `start` entries, which are linked one
@@ -119,7 +117,7 @@ pub(crate) fn append_slots<H: HeldRooms>(
     ensures rooms { Appends room start (take n (H.slots rooms.old)) base (H.rooms rooms.old) (H.rooms rooms.new) }
 {
     rooms.store(room, RoomWord::Base, base);
-    rooms.store(room, RoomWord::Count, (start + n) as u64 * ENTRY);
+    rooms.store(room, RoomWord::Count, (start + n) as u64 * SORTED_ENTRY);
     store_slots(rooms, room, 0, start, n);
     if n > 0 {
         rooms.store(room, link_to(start as u32), start as u64 + 1);

@@ -15,10 +15,10 @@ ghost use Rattle.rebalance.specs.HeldTables.{Apart, HoldsAlone, IsHeldRow, SeesV
 ghost use Rattle.rebalance.specs.Mirrors.{held_memory};
 ghost use Rattle.rebalance.specs.Slots.{AllNamed};
 
-use crate::compacting::{compact_held, read_sorted};
 use crate::filling::fill_room;
-use crate::held::HeldTable;
+use crate::held_table::HeldTable;
 use crate::reading::Read;
+use crate::rewriting::{compact_held, read_sorted};
 use oak_core::{OakTable, Pass};
 use oak_model::GREATEST_ENTRIES;
 
@@ -26,9 +26,14 @@ use oak_model::GREATEST_ENTRIES;
 /// and nothing is behind it.
 pub(crate) fn compact_front(table: &OakTable, pass: &mut Pass, room: u32) -> Read
     requires own { IsPassOf table.now pass.old }
-    requires front { (w : RoomCopy) × (g : MovingRange) × (hs : List HeldRoom) × (gs : List MovingRange) × HoldsFront (sizes table.now) room w g hs gs (state pass.old) × Each AllValued gs }
+    requires front { (w : RoomCopy) × (g : MovingRange) × (hs : List HeldRoom) × (gs : List MovingRange)
+        × HoldsFront (sizes table.now) room w g hs gs (state pass.old) × Each AllValued gs }
     ensures own { StaysButSlots pass.old pass.new }
-    ensures compacted { (w : RoomCopy) (g : MovingRange) (hs : List HeldRoom) (gs : List MovingRange) → HoldsFront (sizes table.now) room w g hs gs (state pass.old) → Each AllValued gs → Each (IsHeldRow (sizes table.now)) hs → Apart hs → CompactsFront (sizes table.now) (call_of pass.old) room result.dropped (take result.kept (slots_of pass.new)) w hs gs (state pass.old) (state pass.new) }
+    ensures compacted { (w : RoomCopy) (g : MovingRange) (hs : List HeldRoom) (gs : List MovingRange)
+        → HoldsFront (sizes table.now) room w g hs gs (state pass.old) → Each AllValued gs
+        → Each (IsHeldRow (sizes table.now)) hs → Apart hs → CompactsFront (sizes table.now)
+        (call_of pass.old) room result.dropped (take result.kept (slots_of pass.new)) w hs gs (state pass.old)
+        (state pass.new) }
     ensures many { length (take result.kept (slots_of pass.new)) ≡ result.kept }
     ensures base { result.base ≡ (held_memory (state pass.new).rooms.held).base room }
 {
@@ -42,10 +47,12 @@ pub(crate) fn compact_front(table: &OakTable, pass: &mut Pass, room: u32) -> Rea
 /// and the others are dropped.
 pub(crate) fn read_front(table: &OakTable, pass: &mut Pass, room: u32) -> Read
     requires own { IsPassOf table.now pass.old }
-    requires front { (w : RoomCopy) × (g : MovingRange) × (hs : List HeldRoom) × (gs : List MovingRange) × HoldsFront (sizes table.now) room w g hs gs (state pass.old) }
+    requires front { (w : RoomCopy) × (g : MovingRange) × (hs : List HeldRoom) × (gs : List MovingRange)
+        × HoldsFront (sizes table.now) room w g hs gs (state pass.old) }
     ensures own { StaysButSlots pass.old pass.new }
     ensures reads { ReadsFront (sizes table.now) (call_of pass.old) room (slots_of pass.new) result (state pass.old) (state pass.new) }
-    ensures sees { let m = held_memory (state pass.old).rooms.held in (i : ℕ) → i < entries_in (m.count room) → names_header (m.value room i) ≡ 1 → SeesValue (sizes table.now) room i (state pass.old) (state pass.new) }
+    ensures sees { let m = held_memory (state pass.old).rooms.held in (i : ℕ) → i < entries_in (m.count room)
+        → names_header (m.value room i) ≡ 1 → SeesValue (sizes table.now) room i (state pass.old) (state pass.new) }
 {
     let read = read_sorted(&mut HeldTable { table, pass }, room);
     // Reading the slots shows how many there are.
@@ -64,7 +71,8 @@ pub(crate) fn fill_front(table: &OakTable, pass: &mut Pass, room: u32, read: &Re
     ensures own { Stays pass.old pass.new }
     ensures works { WorksOnRooms (sizes table.now) (call_of pass.old) (state pass.old) (state pass.new) }
     ensures ranges { (state pass.new).rooms.moving ≡ (state pass.old).rooms.moving }
-    ensures filled { Fills (sizes table.now).entries room (take read.now.kept (slots_of pass.old)) read.now.base (held_memory (state pass.old).rooms.held) (held_memory (state pass.new).rooms.held) }
+    ensures filled { Fills (sizes table.now).entries room (take read.now.kept (slots_of pass.old)) read.now.base
+        (held_memory (state pass.old).rooms.held) (held_memory (state pass.new).rooms.held) }
 {
     // Reading the slots shows how many there are, before and behind.
     prove!(pass.sorting().slots().len() == GREATEST_ENTRIES as usize);

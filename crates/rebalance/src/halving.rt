@@ -4,10 +4,10 @@ ghost use Rattle.chunk_core.specs.declared.holds.RoomCopy.{RoomCopy};
 ghost use Rattle.oak_core.specs.Passes.{IsPassOf, Stays, state, key as sizes, call_of, slots_of};
 ghost use Rattle.rebalance.specs.Halving.{HasWhole, HoldsPair, OpensHalves, StoresHalves};
 
-use crate::held::HeldTable;
-use crate::holding::open_held;
+use crate::held_table::HeldTable;
 use crate::reading::Read;
-use crate::splitting::split_held;
+use crate::room_steps::open_held;
+use crate::storing_halves::split_held;
 use oak_core::{OakTable, Pass};
 use oak_model::GREATEST_ENTRIES;
 
@@ -18,7 +18,9 @@ fn store_halves(table: &OakTable, pass: &mut Pass, room: u32, upper: u32, read: 
     requires pair { (w : RoomCopy) × (c : RoomCopy) × (g : MovingRange) × HoldsPair (sizes table.now) room upper w c g (state pass.old) }
     requires whole { HasWhole (sizes table.now) room (slots_of pass.old) read.now (state pass.old) }
     ensures own { Stays pass.old pass.new }
-    ensures stores { (w c : RoomCopy) (g : MovingRange) → HoldsPair (sizes table.now) room upper w c g (state pass.old) → StoresHalves (sizes table.now) (call_of pass.old) room upper w g (state pass.old) (state pass.new) }
+    ensures stores { (w c : RoomCopy) (g : MovingRange) → HoldsPair (sizes table.now) room upper w c g
+        (state pass.old) → StoresHalves (sizes table.now) (call_of pass.old) room upper w g (state pass.old)
+        (state pass.new) }
 {
     // Reading the slots shows how many there are, before and behind.
     prove!(pass.sorting().slots().len() == GREATEST_ENTRIES as usize);
@@ -39,7 +41,9 @@ pub(crate) fn halve(table: &OakTable, pass: &mut Pass, room: u32, upper: u32, re
     requires pair { (w : RoomCopy) × (c : RoomCopy) × (g : MovingRange) × HoldsPair (sizes table.now) room upper w c g (state pass.old) }
     requires whole { HasWhole (sizes table.now) room (slots_of pass.old) read.now (state pass.old) }
     ensures own { Stays pass.old pass.new }
-    ensures halves { (w c : RoomCopy) (g : MovingRange) → HoldsPair (sizes table.now) room upper w c g (state pass.old) → OpensHalves (sizes table.now) (call_of pass.old) room upper w (state pass.old) (state pass.new) }
+    ensures halves { (w c : RoomCopy) (g : MovingRange) → HoldsPair (sizes table.now) room upper w c g
+        (state pass.old) → OpensHalves (sizes table.now) (call_of pass.old) room upper w (state pass.old)
+        (state pass.new) }
 {
     store_halves(table, pass, room, upper, read);
     open_held(table, pass, upper);

@@ -3,27 +3,27 @@
 
 mod answers;
 mod bounds;
+mod chunk_pairs;
 mod chunks;
 mod clearing;
 mod compacting;
-mod compacts;
 mod entries;
 mod filling;
 mod fronts;
 mod halving;
-mod held;
-mod holding;
-mod merges;
+mod held_rooms;
+mod held_table;
 mod merging;
 mod ranges;
 mod reading;
-mod rooms;
-mod settles;
-mod splits;
+mod rewriting;
+mod room_steps;
+mod settling;
 mod splitting;
+mod storing_halves;
 
 pub use answers::{Busy, NoRoom, Split};
-pub use compacts::{compact, try_compact};
-pub use merges::{merge, try_merge};
-pub use settles::{settle, try_settle};
-pub use splits::{split, try_split};
+pub use compacting::{compact, try_compact};
+pub use merging::{merge, try_merge};
+pub use settling::{settle, try_settle};
+pub use splitting::{split, try_split};

@@ -10,7 +10,7 @@ ghost use Rattle.chunk_core.specs.Spans.{within};
 ghost use Rattle.chunk_ops.specs.Stored.{IsStored};
 ghost use Rattle.rebalance.specs.Ranges.{IsHighKey, bound_bytes, bound_words, high_words, low_words, word_of_bound};
 
-use crate::rooms::{HeldRooms, RoomWord};
+use crate::held_rooms::{HeldRooms, RoomWord};
 use arena_core::words::{WORD, first_bytes};
 use chunk_ops::{KEY_WORDS, StoredKey};
 
@@ -90,7 +90,9 @@ pub(crate) fn has_key<H: HeldRooms>(rooms: &mut H, room: u32, key: &StoredKey) -
     ensures rooms { H.rooms rooms.new ≡ H.rooms rooms.old }
     ensures ranges { H.ranges rooms.new ≡ H.ranges rooms.old }
     ensures slots { H.slots rooms.new ≡ H.slots rooms.old }
-    ensures has { (b : List ℕ) → IsStored key.now b → MatchBool result (within (span_in (H.rooms rooms.old) room) (key_number b) ≡ 1) (within (span_in (H.rooms rooms.old) room) (key_number b) ≡ 1 → ⊥) }
+    ensures has { (b : List ℕ) → IsStored key.now b
+        → MatchBool result (within (span_in (H.rooms rooms.old) room) (key_number b) ≡ 1)
+        (within (span_in (H.rooms rooms.old) room) (key_number b) ≡ 1 → ⊥) }
 {
     let low = load_low(rooms, room);
     if key.order(&low).is_lt() {

@@ -11,7 +11,7 @@ ghost use Rattle.rebalance.specs.HeldRooms.{IsLoose};
 ghost use Rattle.rebalance.specs.Read.{HasRead};
 
 use crate::entries::Entry;
-use crate::rooms::{HeldRooms, RoomWord};
+use crate::held_rooms::{HeldRooms, RoomWord};
 use arena_core::place::length_in;
 use arena_core::words::{WORD, first_bytes};
 use chunk_ops::{KEY_WORDS, StoredKey};
@@ -53,9 +53,15 @@ fn read_entry<H: HeldRooms>(rooms: &mut H, room: u32, i: u32, read: &mut Read)
     ensures sees { names_header ((H.rooms rooms.old).value room i) ≡ 1 → H.sees rooms.old rooms.new room i }
     ensures many { read.new.kept + read.new.dropped ≡ read.old.kept + read.old.dropped + 1 }
     ensures rooms { (m : RoomMemory) → DropsKeys room i m (H.rooms rooms.old) → DropsKeys room (i + 1) m (H.rooms rooms.new) }
-    ensures ranges { (m : RoomMemory) (gs : List MovingRange) → DropsKeys room i m (H.rooms rooms.old) → H.ranges rooms.old ≡ dropped_ranges (dropped (entries m room i)) gs → H.ranges rooms.new ≡ dropped_ranges (dropped (entries m room (i + 1))) gs }
-    ensures loose { (w : ℕ) → (names_header ((H.rooms rooms.old).value room i) ≡ 0 → w ≢ (H.rooms rooms.old).key room i) → IsLoose w (H.ranges rooms.old) → IsLoose w (H.ranges rooms.new) }
-    ensures read { (keys : ℕ → List ℕ) (m : RoomMemory) (b : ℕ) → let now = H.rooms rooms.old in (names_header (now.value room i) ≡ 1 → keys (now.key room i) ≡ H.keys rooms.old (now.key room i)) → DropsKeys room i m now → HasRead keys m room b i (H.slots rooms.old) read.old → HasRead keys m room b (i + 1) (H.slots rooms.new) read.new }
+    ensures ranges { (m : RoomMemory) (gs : List MovingRange) → DropsKeys room i m (H.rooms rooms.old)
+        → H.ranges rooms.old ≡ dropped_ranges (dropped (entries m room i)) gs → H.ranges rooms.new ≡ dropped_ranges
+        (dropped (entries m room (i + 1))) gs }
+    ensures loose { (w : ℕ) → (names_header ((H.rooms rooms.old).value room i) ≡ 0
+        → w ≢ (H.rooms rooms.old).key room i) → IsLoose w (H.ranges rooms.old) → IsLoose w (H.ranges rooms.new) }
+    ensures read { (keys : ℕ → List ℕ) (m : RoomMemory) (b : ℕ) → let now = H.rooms rooms.old in
+        (names_header (now.value room i) ≡ 1 → keys (now.key room i) ≡ H.keys rooms.old (now.key room i))
+        → DropsKeys room i m now → HasRead keys m room b i (H.slots rooms.old) read.old
+        → HasRead keys m room b (i + 1) (H.slots rooms.new) read.new }
 {
     let place = rooms.load(room, RoomWord::Key(i));
     let value = rooms.load(room, RoomWord::Value(i));
@@ -83,14 +89,17 @@ pub(crate) fn read_entries<H: HeldRooms>(rooms: &mut H, room: u32, count: u32) -
     requires held { H.held rooms.old room }
     requires within { count ≤ H.entries rooms.old }
     requires named { let m = H.rooms rooms.old in (i : ℕ) → i < count → names_header (m.value room i) ≡ 1 → H.names rooms.old (m.key room i) }
-    requires loose { let m = H.rooms rooms.old in (i : ℕ) → i < count → names_header (m.value room i) ≡ 0 → IsLoose (m.key room i) (H.ranges rooms.old) }
+    requires loose { let m = H.rooms rooms.old in (i : ℕ) → i < count → names_header (m.value room i) ≡ 0
+        → IsLoose (m.key room i) (H.ranges rooms.old) }
     requires apart { let m = H.rooms rooms.old in (i j : ℕ) → i < j → j < count → m.key room i ≢ m.key room j }
     ensures stays { H.stays rooms.old rooms.new }
     ensures sees { let m = H.rooms rooms.old in (i : ℕ) → i < count → names_header (m.value room i) ≡ 1 → H.sees rooms.old rooms.new room i }
     ensures rooms { DropsKeys room count (H.rooms rooms.old) (H.rooms rooms.new) }
     ensures ranges { H.ranges rooms.new ≡ dropped_ranges (dropped (entries (H.rooms rooms.old) room count)) (H.ranges rooms.old) }
     ensures many { result.kept + result.dropped ≡ count }
-    ensures read { (keys : ℕ → List ℕ) → let m = H.rooms rooms.old in ((i : ℕ) → i < count → names_header (m.value room i) ≡ 1 → keys (m.key room i) ≡ H.keys rooms.old (m.key room i)) → HasRead keys m room (m.base room) count (H.slots rooms.new) result }
+    ensures read { (keys : ℕ → List ℕ) → let m = H.rooms rooms.old in
+        ((i : ℕ) → i < count → names_header (m.value room i) ≡ 1 → keys (m.key room i) ≡ H.keys rooms.old
+        (m.key room i)) → HasRead keys m room (m.base room) count (H.slots rooms.new) result }
 {
     let mut read = Read {
         kept: 0,

@@ -1,65 +1,85 @@
-//! The slots of one held room, stored into two.
-ghost use Rattle.std.specs.Prelude.{◌≡◌, ◌≢◌, ◌-◌, ◌<◌, ◌≤◌, ◌/◌, take};
-ghost use Rattle.std.specs.List.{slice_index_or};
-ghost use Rattle.oak_model.specs.Counts.{Each};
-ghost use Rattle.oak_model.specs.declared.limits.TheConstants.{GREATEST_ENTRIES, GREATEST_KEY};
-ghost use Rattle.oak_core.specs.declared.sorting.SortSlot.{SortSlot};
-ghost use Rattle.rebalance.specs.Filled.{FillsBoth, slots_from};
-ghost use Rattle.rebalance.specs.HeldRooms.{AllValued};
-ghost use Rattle.rebalance.specs.Slots.{AllNamed, key_of};
-ghost use Rattle.rebalance.specs.Split.{Splits};
+//! Splitting a chunk.
+ghost use Rattle.std.specs.Prelude.{◌≡◌, ℕ, ◌<◌, IfErr, IfOk};
+ghost use Rattle.oak_model.specs.Key.{IsKey};
+ghost use Rattle.oak_core.specs.Passes.{IsPassOf, state, key as sizes, call_of};
+ghost use Rattle.oak_core.specs.PassState.{HoldsNothing};
+ghost use Rattle.oak_core.specs.Scratch.{StaysButSlots};
+ghost use Rattle.rebalance.specs.Busy.{GivesUp};
+ghost use Rattle.rebalance.specs.Calls.{Loosens, Halves, FindsNoRoom};
 
-use crate::bounds::{copy_high, store_high, store_low};
-use crate::filling::fill_room;
-use crate::rooms::HeldRooms;
-use chunk_ops::StoredKey;
+use crate::answers::{Busy, NoRoom, Split};
+use crate::chunks::{LOOKS, open_front, try_hold};
+use crate::fronts::{fill_front, read_front};
+use crate::halving::halve;
+use crate::room_steps::claim_free;
+use oak_core::{OakTable, Pass};
+use std::sync::Wait;
+use std::thread;
 
-/// Stores the lower half of the first `n` slots into one held room and the others into another one.
-fn fill_halves<H: HeldRooms>(rooms: &mut H, low: u32, high: u32, n: usize, base: u64)
-    requires low { H.held rooms.old low }
-    requires high { H.held rooms.old high }
-    requires apart { low ≢ high }
-    requires within { n ≤ H.entries rooms.old }
-    requires named { AllNamed (take n (H.slots rooms.old)) }
-    requires valued { Each AllValued (H.ranges rooms.old) }
-    ensures stays { H.stays rooms.old rooms.new }
-    ensures ranges { H.ranges rooms.new ≡ H.ranges rooms.old }
-    ensures slots { H.slots rooms.new ≡ H.slots rooms.old }
-    ensures rooms { let half = n / 2 in FillsBoth (H.entries rooms.old) low high (take half (H.slots rooms.old)) (slots_from half (n - half) (H.slots rooms.old)) base (H.rooms rooms.old) (H.rooms rooms.new) }
+/// Compacts the chunk that covers the key, and where each of its entries had a value, so that none was
+/// dropped, opens its range as two, the upper half in a room that was free. `NoRoom` comes only where
+/// every other room was found not free in this call; the chunk is opened again with the same range, base
+/// and entries, which are its sorted prefix. Each room that it claims, or tries to claim, it claims while it
+/// holds the chunk, which was full when it came to hold it. It waits for nobody: `Busy` comes only where
+/// another pass had moved or frozen the chunk, or at each of so many looks at its pin word other passes had
+/// pinned it; to a pass that is alone it never comes.
+pub fn try_split(
+    table: &OakTable,
+    pass: &mut Pass,
+    key: &[u8],
+    looks: u32,
+) -> Result<Result<Split, NoRoom>, Busy>
+    requires own { IsPassOf table.now pass.old }
+    requires key { IsKey key.now }
+    requires idle { HoldsNothing (state pass.old) }
+    requires some { 0 < looks }
+    ensures own { StaysButSlots pass.old pass.new }
+    ensures loosened { result ≡ Ok (Ok Split.Loosened) → Loosens (sizes table.now) (call_of pass.old) key.now (state pass.old) (state pass.new) }
+    ensures halved { (room : ℕ) → result ≡ Ok (Ok (Split.Halved room)) → Halves (sizes table.now)
+        (call_of pass.old) key.now room (state pass.old) (state pass.new) }
+    ensures none { IfOk result (λ answer. IfErr answer
+        (λ _. FindsNoRoom (sizes table.now) (call_of pass.old) key.now (state pass.old) (state pass.new))) }
+    ensures busy { IfErr result (λ _. GivesUp (sizes table.now) (call_of pass.old) looks key.now (state pass.old) (state pass.new)) }
 {
-    let half = n / 2;
-    fill_room(rooms, low, 0, half, base);
-    fill_room(rooms, high, half, n - half, base);
+    let Some(room) = try_hold(table, pass, key, looks) else {
+        return Err(Busy);
+    };
+    let read = read_front(table, pass, room);
+    if read.kept < table.entries() as usize {
+        fill_front(table, pass, room, &read);
+        open_front(table, pass, room);
+        return Ok(Ok(Split::Loosened));
+    }
+    let Some(upper) = claim_free(table, pass, room) else {
+        fill_front(table, pass, room, &read);
+        open_front(table, pass, room);
+        return Ok(Err(NoRoom));
+    };
+    halve(table, pass, room, upper, &read);
+    Ok(Ok(Split::Halved { room: upper }))
 }
 
-/// The key of a slot.
-fn slot_key<H: HeldRooms>(rooms: &H, i: usize) -> StoredKey
-    requires { i < GREATEST_ENTRIES }
-    ensures { (d : SortSlot) → result ≡ key_of (slice_index_or (H.slots rooms.now) i d) }
+/// Splits the chunk that covers the key as [`try_split`] does. It waits until no pin stands on the chunk.
+pub fn split<R: Wait>(
+    rt: &R,
+    table: &OakTable,
+    pass: &mut Pass,
+    key: &[u8],
+) -> Result<Split, NoRoom>
+    requires own { IsPassOf table.now pass.old }
+    requires key { IsKey key.now }
+    requires idle { HoldsNothing (state pass.old) }
+    ensures own { StaysButSlots pass.old pass.new }
+    ensures loosened { result ≡ Ok Split.Loosened → Loosens (sizes table.now) (call_of pass.old) key.now (state pass.old) (state pass.new) }
+    ensures halved { (room : ℕ) → result ≡ Ok (Split.Halved room) → Halves (sizes table.now)
+        (call_of pass.old) key.now room (state pass.old) (state pass.new) }
+    ensures none { IfErr result (λ _. FindsNoRoom (sizes table.now) (call_of pass.old) key.now (state pass.old) (state pass.new)) }
 {
-    let slot = rooms.slot(i);
-    StoredKey::from_words(slot.words, slot.length)
-}
-
-/// Splits the first `n` slots, which have the entries of a held room in the order of their keys, into two
-/// held rooms, the second of which gets the upper half and begins at the first key of that.
-pub(crate) fn split_held<H: HeldRooms>(rooms: &mut H, low: u32, high: u32, n: usize, base: u64)
-    requires low { H.held rooms.old low }
-    requires high { H.held rooms.old high }
-    requires apart { low ≢ high }
-    requires some { 0 < n }
-    requires within { n ≤ H.entries rooms.old }
-    requires named { AllNamed (take n (H.slots rooms.old)) }
-    requires valued { Each AllValued (H.ranges rooms.old) }
-    requires keys { (d : SortSlot) → (slice_index_or (H.slots rooms.old) (n / 2) d).length ≤ GREATEST_KEY }
-    ensures stays { H.stays rooms.old rooms.new }
-    ensures ranges { H.ranges rooms.new ≡ H.ranges rooms.old }
-    ensures slots { H.slots rooms.new ≡ H.slots rooms.old }
-    ensures rooms { (d : SortSlot) → let half = n / 2 in let slots = H.slots rooms.old in Splits (H.entries rooms.old) low high (take half slots) (slots_from half (n - half) slots) (key_of (slice_index_or slots half d)) base (H.rooms rooms.old) (H.rooms rooms.new) }
-{
-    let middle = slot_key(rooms, n / 2);
-    copy_high(rooms, low, high);
-    store_low(rooms, high, &middle);
-    store_high(rooms, low, &middle);
-    fill_halves(rooms, low, high, n, base);
+    for _ in rt.forever() {
+        if let Ok(answer) = try_split(table, pass, key, LOOKS) {
+            return answer;
+        }
+        thread::yield_now();
+    }
+    unreachable!()
 }

@@ -14,8 +14,8 @@ use Rattle.oak_core.specs.CallSteps.{Stands}
 use Rattle.oak_core.specs.Finding.{IsLoadOf, IsOf, LoadsMore, grown}
 use Rattle.oak_core.specs.PassState.{HoldsNothing}
 use Rattle.oak_core.specs.Passes.{Stays, call_of, key as sizes, slots_of, state}
-use Rattle.oak_core.proofs.CallSteps.{stands_learns}
-use Rattle.oak_core.proofs.QuietCalls.{quiet_loads}
+use Rattle.oak_core.proofs.calls.CallSteps.{stands_learns}
+use Rattle.oak_core.proofs.calls.QuietCalls.{quiet_loads}
 use Rattle.chunk_ops.specs.Latching.{Never}
 use Rattle.chunk_ops.proofs.MeetingCalls.{stays_then, then_stays}
 use Rattle.value_ops.specs.declared.pinned_value.PinnedValue.{PinnedValue}

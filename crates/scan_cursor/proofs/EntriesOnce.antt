@@ -35,8 +35,8 @@ use Rattle.oak_core.specs.declared.states.PassState.{PassState}
 use Rattle.oak_core.specs.Memory.{Memory, in_rooms, memory}
 use Rattle.oak_core.specs.PassState.{rooms_held}
 use Rattle.oak_core.specs.Step.{Told, load}
-use Rattle.oak_core.proofs.CountTold.{count_found, pin_counted}
-use Rattle.oak_core.proofs.MetLists.{at_inside}
+use Rattle.oak_core.proofs.told.CountTold.{count_found, pin_counted}
+use Rattle.oak_core.proofs.memory.MetLists.{at_inside}
 use Rattle.chunk_ops.specs.Finds.{CountsRoom}
 use Rattle.chunk_ops.specs.PinRecords.{HasEntry, HasRoomPin, pin_or, room_pin}
 use Rattle.chunk_ops.proofs.EntryKeys.{key_in-is}

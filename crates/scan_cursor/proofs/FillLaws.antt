@@ -12,7 +12,7 @@ use Rattle.oak_core.specs.PassState.{HoldsNothing}
 use Rattle.oak_core.specs.Passes.{Stays, call_of, slots_of, state}
 use Rattle.oak_core.specs.QuietSteps.{Quiet}
 use Rattle.oak_core.specs.Scratch.{StaysButSlots}
-use Rattle.oak_core.proofs.CallSteps.{stands_learns}
+use Rattle.oak_core.proofs.calls.CallSteps.{stands_learns}
 use Rattle.chunk_ops.specs.PinRecords.{OnlyMeets, with_room_pin}
 use Rattle.chunk_ops.specs.RoomPins.{Unpins}
 use Rattle.scan_cursor.specs.declared.walking.Stepped.TheVariants.{Passed}

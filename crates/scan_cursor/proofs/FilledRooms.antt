@@ -19,7 +19,7 @@ use Rattle.oak_core.specs.declared.states.PassState.{PassState}
 use Rattle.oak_core.specs.AloneWords.{Runs}
 use Rattle.oak_core.specs.KnownPlaces.{ReadAt}
 use Rattle.oak_core.specs.Sights.{SightedSince}
-use Rattle.oak_core.proofs.MetLists.{at_inside}
+use Rattle.oak_core.proofs.memory.MetLists.{at_inside}
 use Rattle.chunk_ops.specs.Listing.{ListsRoom}
 use Rattle.chunk_ops.specs.PinRecords.{HasEntry, OnlyLearns, PinStays, RoomPinned, WordsStay, pin_or, room_pin, with_room_pin}
 use Rattle.chunk_ops.proofs.EntryKeys.{key_in-is}

@@ -16,7 +16,7 @@ use Rattle.oak_model.proofs.KeyLaws.{is_key-is, is_key-of, same_is, same_itself}
 use Rattle.oak_model.proofs.NumberLaws.{key_number_is}
 use Rattle.oak_core.specs.declared.sorting.SortSlot.{SortSlot}
 use Rattle.oak_core.specs.declared.states.PassState.{PassState}
-use Rattle.oak_core.proofs.MetLists.{at_inside}
+use Rattle.oak_core.proofs.memory.MetLists.{at_inside}
 use Rattle.chunk_ops.specs.PinRecords.{HasEntry}
 use Rattle.chunk_ops.specs.Stored.{IsStored}
 use Rattle.chunk_ops.proofs.BelowCounts.{get_at}

@@ -27,8 +27,8 @@ use Rattle.scan_cursor.specs.Scanned.{HasScanned, greatest_of, least_key, least_
 use Rattle.scan_cursor.specs.Views.{ReadsKey, View}
 use Rattle.scan_cursor.proofs.KeyWindows.{order_is, within_is}
 use Rattle.scan_cursor.proofs.RoomRanges.{number_least, number_most}
-use Rattle.oak_core.proofs.ClosedReads.{closed_is, closed_none}
-use Rattle.oak_core.proofs.KnownReads.{writes_extend}
+use Rattle.oak_core.proofs.calls.ClosedReads.{closed_is, closed_none}
+use Rattle.oak_core.proofs.known.KnownReads.{writes_extend}
 use Rattle.oak_model.proofs.KeyLaws.{is_key-is}
 
 -- ---- the range by numbers

@@ -10,9 +10,9 @@ use Rattle.oak_core.specs.CallSteps.{Learns}
 use Rattle.oak_core.specs.KeyReads.{home_of}
 use Rattle.oak_core.specs.LastReads.{ReadsLast}
 use Rattle.oak_core.specs.QuietSteps.{IsQuiet, Quiet}
-use Rattle.oak_core.proofs.LoadedIn.{loaded_in_has}
-use Rattle.oak_core.proofs.CallSteps.{learns_both, stands_learns}
-use Rattle.oak_core.proofs.QuietCalls.{only_both as quiet_both}
+use Rattle.oak_core.proofs.known.LoadedIn.{loaded_in_has}
+use Rattle.oak_core.proofs.calls.CallSteps.{learns_both, stands_learns}
+use Rattle.oak_core.proofs.calls.QuietCalls.{only_both as quiet_both}
 use Rattle.chunk_ops.specs.declared.entries.Content.TheVariants.{Value}
 use Rattle.chunk_ops.specs.Contents.{FindsContent, FindsLife}
 use Rattle.chunk_ops.specs.Finds.{FoundAbsent}

@@ -17,12 +17,12 @@ use Rattle.oak_core.specs.Memory.{memory}
 use Rattle.oak_core.specs.PassState.{HoldsNothing}
 use Rattle.oak_core.specs.QuietSteps.{IsQuiet}
 use Rattle.oak_core.specs.Step.{on_headers}
-use Rattle.oak_core.proofs.AloneRuns.{moment_after, runs_as}
-use Rattle.oak_core.proofs.CallSteps.{learns_both}
-use Rattle.oak_core.proofs.KnownHeaders.{known_life}
-use Rattle.oak_core.proofs.KnownLives.{named_at}
-use Rattle.oak_core.proofs.LoadedIn.{loaded_in_later}
-use Rattle.oak_core.proofs.QuietCalls.{only_both}
+use Rattle.oak_core.proofs.seats.AloneRuns.{moment_after, runs_as}
+use Rattle.oak_core.proofs.calls.CallSteps.{learns_both}
+use Rattle.oak_core.proofs.known.KnownHeaders.{known_life}
+use Rattle.oak_core.proofs.known.KnownLives.{named_at}
+use Rattle.oak_core.proofs.known.LoadedIn.{loaded_in_later}
+use Rattle.oak_core.proofs.calls.QuietCalls.{only_both}
 use Rattle.chunk_ops.specs.PinRecords.{WordsStay}
 use Rattle.chunk_ops.proofs.MeetingCalls.{then_stays}
 use Rattle.value_ops.specs.declared.pinned_value.PinnedValue.{PinnedValue}

@@ -20,7 +20,7 @@ use Rattle.oak_core.specs.KeyReads.{history_now, shown_by, word_now}
 use Rattle.oak_core.specs.KeyStates.{IsHome}
 use Rattle.oak_core.specs.Memory.{Memory, in_rooms, memory, number_at, same_spot}
 use Rattle.oak_core.specs.PassState.{HoldsNothing, rooms_held}
-use Rattle.oak_core.proofs.AloneRuns.{Then, runs_as, runs_then}
+use Rattle.oak_core.proofs.seats.AloneRuns.{Then, runs_as, runs_then}
 use Rattle.chunk_ops.specs.declared.entries.Content.TheVariants.{Value}
 use Rattle.chunk_ops.specs.declared.entries.EntryNo.{EntryNo}
 use Rattle.chunk_ops.specs.Contents.{Says}

@@ -10,11 +10,11 @@ use Rattle.oak_core.specs.declared.states.Sight.{Sight}
 use Rattle.oak_core.specs.CallSteps.{Learns}
 use Rattle.oak_core.specs.QuietSteps.{IsQuiet, Quiet}
 use Rattle.oak_core.specs.Sights.{SightedSince}
-use Rattle.oak_core.proofs.CallSteps.{learns_both, learns_none}
-use Rattle.oak_core.proofs.KnownReads.{read_since, read_stays}
-use Rattle.oak_core.proofs.PinsKnown.{has_later}
-use Rattle.oak_core.proofs.QuietCalls.{only_both, only_none}
-use Rattle.oak_core.proofs.TaughtSteps.{sighted_later}
+use Rattle.oak_core.proofs.calls.CallSteps.{learns_both, learns_none}
+use Rattle.oak_core.proofs.known.KnownReads.{read_since, read_stays}
+use Rattle.oak_core.proofs.known.PinsKnown.{has_later}
+use Rattle.oak_core.proofs.calls.QuietCalls.{only_both, only_none}
+use Rattle.oak_core.proofs.lessons.TaughtSteps.{sighted_later}
 use Rattle.scan_cursor.specs.declared.reading.Here.{Here}
 use Rattle.scan_cursor.specs.declared.reading.Here.TheVariants.{Present, Absent, Again}
 use Rattle.scan_cursor.specs.Reading.{ReadsHere}

@@ -21,13 +21,13 @@ use Rattle.oak_core.specs.LastReads.{NotPast}
 use Rattle.oak_core.specs.Lessons.{KnowsRemoval, LessonsStand}
 use Rattle.oak_core.specs.Memory.{memory}
 use Rattle.oak_core.specs.PassState.{Extends, knowledge_of, seen_of}
-use Rattle.oak_core.proofs.Histories.{seen_stands}
-use Rattle.oak_core.proofs.KnownPlaces.{each_is, place_length}
-use Rattle.oak_core.proofs.LivesOnce.{begins_once}
-use Rattle.oak_core.proofs.RemovalsKnown.{known_removal}
-use Rattle.oak_core.proofs.RemovedReads.{removal_behind, removal_read}
-use Rattle.oak_core.proofs.Removals.{stamp_above}
-use Rattle.oak_core.proofs.WritesBelow.{before-cases}
+use Rattle.oak_core.proofs.histories.Histories.{seen_stands}
+use Rattle.oak_core.proofs.known.KnownPlaces.{each_is, place_length}
+use Rattle.oak_core.proofs.histories.LivesOnce.{begins_once}
+use Rattle.oak_core.proofs.known.RemovalsKnown.{known_removal}
+use Rattle.oak_core.proofs.known.RemovedReads.{removal_behind, removal_read}
+use Rattle.oak_core.proofs.histories.Removals.{stamp_above}
+use Rattle.oak_core.proofs.histories.WritesBelow.{before-cases}
 
 -- writes without one of a life are all before its removal
 none_of_life : (home n s : ℕ) (a more : List KeyedWrite) → StampsRise s (writes_of (a ++ more)) → homes_in home a ≡ 0 → (w : KeyedWrite) → Has w (a ++ more) → w.home ≡ home → w.write.stamp ≡ n → length a ≤ length (before (suc n) (a ++ more))

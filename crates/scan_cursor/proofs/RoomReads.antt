@@ -10,7 +10,7 @@ use Rattle.chunk_core.specs.declared.states.TheConstants.{OPEN}
 use Rattle.oak_core.specs.KeyReads.{home_of}
 use Rattle.oak_core.specs.LastReads.{KnowsLifeOf}
 use Rattle.oak_core.specs.LifeKeys.{loaded_in}
-use Rattle.oak_core.proofs.LoadedIn.{loaded_in_has}
+use Rattle.oak_core.proofs.known.LoadedIn.{loaded_in_has}
 use Rattle.oak_core.specs.declared.states.Numbers.{Numbers}
 use Rattle.oak_core.specs.declared.states.PassState.{PassState}
 use Rattle.oak_core.specs.AloneWords.{Runs}
@@ -18,8 +18,8 @@ use Rattle.oak_core.specs.CallSteps.{Learns}
 use Rattle.oak_core.specs.CountReads.{ReadAbsent, SightedBare}
 use Rattle.oak_core.specs.PassState.{HoldsNothing}
 use Rattle.oak_core.specs.QuietSteps.{Quiet}
-use Rattle.oak_core.proofs.AloneRuns.{Then, runs_as, runs_then}
-use Rattle.oak_core.proofs.CallSteps.{learns_both, stands_learns}
+use Rattle.oak_core.proofs.seats.AloneRuns.{Then, runs_as, runs_then}
+use Rattle.oak_core.proofs.calls.CallSteps.{learns_both, stands_learns}
 use Rattle.chunk_ops.specs.AskedRanges.{CoversKey}
 use Rattle.chunk_ops.specs.Contents.{FindsContent, SaysIn, TellsOf}
 use Rattle.chunk_ops.specs.Finds.{FindsMissing}

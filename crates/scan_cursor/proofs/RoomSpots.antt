@@ -16,8 +16,8 @@ use Rattle.chunk_core.specs.Spans.{Span}
 use Rattle.oak_core.specs.declared.states.Numbers.{Numbers}
 use Rattle.oak_core.specs.declared.states.PassState.{PassState}
 use Rattle.oak_core.specs.PassState.{HoldsNothing}
-use Rattle.oak_core.proofs.CallSteps.{stands_learns}
-use Rattle.chunk_ops.specs.declared.pins.RoomPin.{RoomPin}
+use Rattle.oak_core.proofs.calls.CallSteps.{stands_learns}
+use Rattle.chunk_ops.specs.declared.room_pins.RoomPin.{RoomPin}
 use Rattle.chunk_ops.specs.AskedRanges.{CoversKey, EndsUnder}
 use Rattle.chunk_ops.specs.PinnedBounds.{low_length, low_bound, high_bound}
 use Rattle.chunk_ops.specs.PinRecords.{HasBounds, OnlyMeets, room_pin, with_room_pin}

@@ -1,7 +1,7 @@
 -- What a scan does to the words of the table where its pass is alone: nothing, but for the pin of the present value.
 use Rattle.std.specs.Prelude.{ℕ, List, Option, Some, None}
 use Rattle.oak_model.specs.Limits.{Sizes}
-use Rattle.oak_core.proofs.AloneRuns.{Then}
+use Rattle.oak_core.proofs.seats.AloneRuns.{Then}
 use Rattle.chunk_ops.specs.PinRecords.{WordsStay}
 use Rattle.value_ops.specs.declared.pinned_value.PinnedValue.{PinnedValue}
 use Rattle.value_ops.specs.Pinning.{AddsPin, DropsPin}

@@ -19,7 +19,8 @@ use oak_core::{OakTable, Pass, SortSlot};
 
 /// Whether `key` lies behind `from` in the direction of the scan.
 fn is_behind(key: &StoredKey, from: &StoredKey, way: Way) -> bool
-    ensures { (k q : List ℕ) → IsStored from.now k → IsStored key.now q → IsKey k → IsKey q → (result ≡ true → IsBehind way k q) × (result ≡ false → IsBehind way k q → ⊥) }
+    ensures { (k q : List ℕ) → IsStored from.now k → IsStored key.now q → IsKey k → IsKey q
+        → (result ≡ true → IsBehind way k q) × (result ≡ false → IsBehind way k q → ⊥) }
 {
     match way {
         Way::Up => from.order(key).is_lt(),
@@ -41,7 +42,9 @@ fn load_slot(
     requires entry { (q : List ℕ) × HasEntry pin.now.room entry.0 q (state pass.old) }
     ensures own { Stays pass.old pass.new }
     ensures only { OnlyLearns (call_of pass.old) (state pass.old) (state pass.new) }
-    ensures loads { let z = sizes table.now in let call = call_of pass.old in (k q : List ℕ) → IsStored from.now k → IsKey k → HasEntry pin.now.room entry.0 q (state pass.old) → LoadsSlot result way k q (view_of z call (state pass.old)) (view_of z call (state pass.new)) }
+    ensures loads { let z = sizes table.now in let call = call_of pass.old in (k q : List ℕ) → IsStored from.now k
+        → IsKey k → HasEntry pin.now.room entry.0 q (state pass.old) → LoadsSlot result way k q
+        (view_of z call (state pass.old)) (view_of z call (state pass.new)) }
 {
     let key = entry_key(table, pass, pin, entry);
     if !is_behind(&key, from, way) {
@@ -71,8 +74,11 @@ fn fill_slots(table: &OakTable, pass: &mut Pass, pin: &RoomPin, key: &[u8], way:
     ensures few { result ≤ GREATEST_ENTRIES }
     ensures has { HasRoom (sizes table.now) pin.now.room (state pass.new) }
     ensures room { room_at (state pass.new) ≡ room_at (state pass.old) }
-    ensures later { let z = sizes table.now in let call = call_of pass.old in Later (view_of z call (state pass.old)) (view_of z call (state pass.new)) }
-    ensures loaded { let z = sizes table.now in let call = call_of pass.old in let bound = bound_in way (room_at (state pass.old)) in HasLoaded (view_of z call (state pass.old)) (view_of z call (state pass.new)) (ahead_from way key.now bound) (ahead_past way key.now bound) (take result (slots_of pass.new)) }
+    ensures later { let z = sizes table.now in let call = call_of pass.old in Later (view_of z call (state pass.old))
+        (view_of z call (state pass.new)) }
+    ensures loaded { let z = sizes table.now in let call = call_of pass.old in let bound = bound_in way
+        (room_at (state pass.old)) in HasLoaded (view_of z call (state pass.old)) (view_of z call (state pass.new))
+        (ahead_from way key.now bound) (ahead_past way key.now bound) (take result (slots_of pass.new)) }
     ensures still { Runs WordsStay (state pass.old) (state pass.new) }
 {
     // Reading the slots shows how many there are.
@@ -114,8 +120,12 @@ pub(crate) fn gather(
     ensures few { result ≤ GREATEST_ENTRIES }
     ensures has { HasRoom (sizes table.now) pin.now.room (state pass.new) }
     ensures room { room_at (state pass.new) ≡ room_at (state pass.old) }
-    ensures later { let z = sizes table.now in let call = call_of pass.old in Later (view_of z call (state pass.old)) (view_of z call (state pass.new)) }
-    ensures gathered { let z = sizes table.now in let call = call_of pass.old in let bound = bound_in way (room_at (state pass.old)) in IsGathered way (view_of z call (state pass.old)) (view_of z call (state pass.new)) (ahead_from way key.now bound) (ahead_past way key.now bound) (slots_ahead way 0 result (slots_of pass.new)) }
+    ensures later { let z = sizes table.now in let call = call_of pass.old in Later (view_of z call (state pass.old))
+        (view_of z call (state pass.new)) }
+    ensures gathered { let z = sizes table.now in let call = call_of pass.old in let bound = bound_in way
+        (room_at (state pass.old)) in IsGathered way (view_of z call (state pass.old))
+        (view_of z call (state pass.new)) (ahead_from way key.now bound) (ahead_past way key.now bound)
+        (slots_ahead way 0 result (slots_of pass.new)) }
     ensures still { Runs WordsStay (state pass.old) (state pass.new) }
 {
     let n = fill_slots(table, pass, pin, key, way);

@@ -32,8 +32,11 @@ pub(crate) fn read_life(table: &OakTable, pass: &mut Pass, header: u32, generati
     requires idle { HoldsNothing (state pass.old) }
     requires known { IsKnown header generation (view_of (sizes table.now) (call_of pass.old) (state pass.old)) }
     ensures own { Stays pass.old pass.new }
-    ensures later { let z = sizes table.now in let call = call_of pass.old in Later (view_of z call (state pass.old)) (view_of z call (state pass.new)) }
-    ensures here { let z = sizes table.now in let call = call_of pass.old in (k : List ℕ) (m : View) → KnowsLast k header generation m → Later m (view_of z call (state pass.old)) → ReadsHere result k m (view_of z call (state pass.new)) }
+    ensures later { let z = sizes table.now in let call = call_of pass.old in Later (view_of z call (state pass.old))
+        (view_of z call (state pass.new)) }
+    ensures here { let z = sizes table.now in let call = call_of pass.old in (k : List ℕ) (m : View)
+        → KnowsLast k header generation m → Later m (view_of z call (state pass.old))
+        → ReadsHere result k m (view_of z call (state pass.new)) }
     ensures still { LeavesHere result (sizes table.now) (state pass.old) (state pass.new) }
     ensures taken { result ≡ Here.Again → FindsTaken (sizes table.now) (call_of pass.old) header generation (state pass.old) (state pass.new) }
 {
@@ -53,7 +56,8 @@ fn look_up(table: &OakTable, pass: &mut Pass, pin: &RoomPin, key: &[u8]) -> Opti
     requires pinned { HasRoomPin (sizes table.now) pin.now.room (state pass.old) }
     ensures own { Stays pass.old pass.new }
     ensures under { UnderPin (sizes table.now) (call_of pass.old) pin.now.room (state pass.old) (state pass.new) }
-    ensures found { let z = sizes table.now in let call = call_of pass.old in LooksUp result key.now (view_of z call (state pass.old)) (view_of z call (state pass.new)) }
+    ensures found { let z = sizes table.now in let call = call_of pass.old in
+        LooksUp result key.now (view_of z call (state pass.old)) (view_of z call (state pass.new)) }
     ensures quiet { Quiet (state pass.old) (state pass.new) }
     ensures still { Runs WordsStay (state pass.old) (state pass.new) }
     ensures named { IfSome result (λ life. NamesLife (sizes table.now) pin.now.room key.now life.0 life.1 (state pass.old) (state pass.new)) }
@@ -74,10 +78,13 @@ pub(crate) fn read_key(table: &OakTable, pass: &mut Pass, key: &[u8]) -> Here
     requires key { IsKey key.now × AreBytes key.now }
     requires idle { HoldsNothing (state pass.old) }
     ensures own { Stays pass.old pass.new }
-    ensures later { let z = sizes table.now in let call = call_of pass.old in Later (view_of z call (state pass.old)) (view_of z call (state pass.new)) }
-    ensures here { let z = sizes table.now in let call = call_of pass.old in ReadsHere result key.now (view_of z call (state pass.old)) (view_of z call (state pass.new)) }
+    ensures later { let z = sizes table.now in let call = call_of pass.old in Later (view_of z call (state pass.old))
+        (view_of z call (state pass.new)) }
+    ensures here { let z = sizes table.now in let call = call_of pass.old in ReadsHere result key.now
+        (view_of z call (state pass.old)) (view_of z call (state pass.new)) }
     ensures still { LeavesHere result (sizes table.now) (state pass.old) (state pass.new) }
-    ensures again { let z = sizes table.now in let call = call_of pass.old in result ≡ Here.Again → LooksInVain key.now (view_of z call (state pass.old)) (view_of z call (state pass.new)) }
+    ensures again { let z = sizes table.now in let call = call_of pass.old in result ≡ Here.Again
+        → LooksInVain key.now (view_of z call (state pass.old)) (view_of z call (state pass.new)) }
 {
     let Ok(pin) = pin_covering(table, pass, key) else {
         return Here::Again;

@@ -28,10 +28,13 @@ pub(crate) fn pin_ahead(
     requires key { is_key mark.now.key ≡ true }
     requires idle { HoldsNothing (state pass.old) }
     ensures own { Stays pass.old pass.new }
-    ensures later { let z = sizes table.now in let call = call_of pass.old in Later (view_of z call (state pass.old)) (view_of z call (state pass.new)) }
+    ensures later { let z = sizes table.now in let call = call_of pass.old in Later (view_of z call (state pass.old))
+        (view_of z call (state pass.new)) }
     ensures ahead { IfOk result (λ p. IsAhead (sizes table.now) p.room way mark.now.past mark.now.key (state pass.new)) }
     ensures moved { IfErr result (λ _. HoldsNothing (state pass.new)) }
-    ensures vain { let z = sizes table.now in let call = call_of pass.old in IfErr result (λ _. LooksInVain mark.now.key (view_of z call (state pass.old)) (view_of z call (state pass.new))) }
+    ensures vain { let z = sizes table.now in let call = call_of pass.old in
+        IfErr result (λ _. LooksInVain mark.now.key (view_of z call (state pass.old))
+        (view_of z call (state pass.new))) }
     ensures still { IfOk result (λ p. Runs (AddsRoomPin (sizes table.now) p.room) (state pass.old) (state pass.new)) }
     ensures stays { IfErr result (λ _. Runs WordsStay (state pass.old) (state pass.new)) }
 {

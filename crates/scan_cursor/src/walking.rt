@@ -97,7 +97,8 @@ fn is_beyond(way: Way, key: &[u8], low: &[u8], high: &[u8]) -> bool
     requires key { is_key key.now ≡ true }
     requires low { is_key low.now ≡ true }
     requires high { is_key high.now ≡ true }
-    ensures { MatchBool result (IsBeyond way (key_number low.now) (key_number high.now) key.now) (IsBeyond way (key_number low.now) (key_number high.now) key.now → ⊥) }
+    ensures { MatchBool result (IsBeyond way (key_number low.now) (key_number high.now) key.now)
+        (IsBeyond way (key_number low.now) (key_number high.now) key.now → ⊥) }
 {
     match way {
         Way::Up => is_above(key, high),
@@ -153,9 +154,12 @@ fn refill(table: &OakTable, pass: &mut Pass, walk: &mut Walk, way: Way) -> Stepp
     requires going { walk.old.mark.ended ≡ false }
     requires unloaded { walk.old.gathered ≡ false }
     ensures own { StaysButSlots pass.old pass.new }
-    ensures steps { let z = sizes table.now in (low high : ℕ) → IsWalk way low high (course_of way z walk.old pass.old) → WalkSteps result way low high (course_of way z walk.old pass.old) (course_of way z walk.new pass.new) }
+    ensures steps { let z = sizes table.now in (low high : ℕ)
+        → IsWalk way low high (course_of way z walk.old pass.old) → WalkSteps result way low high
+        (course_of way z walk.old pass.old) (course_of way z walk.new pass.new) }
     ensures still { Runs (LeavesValue (sizes table.now) None (given_by result)) (state pass.old) (state pass.new) }
-    ensures nearer { (high : ℕ) → key_number walk.old.mark.key ≤ high → result ≡ Stepped.Passed → steps_left way high walk.new < steps_left way high walk.old }
+    ensures nearer { (high : ℕ) → key_number walk.old.mark.key ≤ high → result ≡ Stepped.Passed
+        → steps_left way high walk.new < steps_left way high walk.old }
     ensures again { let z = sizes table.now in result ≡ Stepped.Again → LooksInVain walk.old.mark.key (view_at z pass.old) (view_at z pass.new) }
 {
     let Ok(pin) = pin_ahead(table, pass, &walk.mark, way) else {
@@ -177,7 +181,9 @@ fn read_mark(table: &OakTable, pass: &mut Pass, walk: &mut Walk) -> Stepped
     requires at { walk.old.mark.past ≡ false }
     requires going { walk.old.mark.ended ≡ false }
     ensures own { StaysButSlots pass.old pass.new }
-    ensures steps { let z = sizes table.now in (way : Way) (low high : ℕ) → IsWalk way low high (course_of way z walk.old pass.old) → WalkSteps result way low high (course_of way z walk.old pass.old) (course_of way z walk.new pass.new) }
+    ensures steps { let z = sizes table.now in (way : Way) (low high : ℕ)
+        → IsWalk way low high (course_of way z walk.old pass.old) → WalkSteps result way low high
+        (course_of way z walk.old pass.old) (course_of way z walk.new pass.new) }
     ensures still { Runs (LeavesValue (sizes table.now) None (given_by result)) (state pass.old) (state pass.new) }
     ensures nearer { (way : Way) (high : ℕ) → result ≡ Stepped.Passed → steps_left way high walk.new < steps_left way high walk.old }
     ensures again { let z = sizes table.now in result ≡ Stepped.Again → LooksInVain walk.old.mark.key (view_at z pass.old) (view_at z pass.new) }
@@ -252,7 +258,8 @@ fn take_slot(
     requires gathered { walk.old.gathered ≡ true }
     requires some { walk.old.from < walk.old.to }
     ensures own { StaysButSlots pass.old pass.new }
-    ensures steps { let z = sizes table.now in WalkSteps result way (key_number low.now) (key_number high.now) (course_of way z walk.old pass.old) (course_of way z walk.new pass.new) }
+    ensures steps { let z = sizes table.now in WalkSteps result way (key_number low.now) (key_number high.now)
+        (course_of way z walk.old pass.old) (course_of way z walk.new pass.new) }
     ensures still { Runs (LeavesValue (sizes table.now) None (given_by result)) (state pass.old) (state pass.new) }
     ensures nearer { result ≡ Stepped.Passed → steps_left way (key_number high.now) walk.new < steps_left way (key_number high.now) walk.old }
     ensures on { result ≢ Stepped.Again }
@@ -293,7 +300,8 @@ fn go_ahead(
     requires past { walk.old.mark.past ≡ true }
     requires gathered { walk.old.gathered ≡ true }
     ensures own { StaysButSlots pass.old pass.new }
-    ensures steps { let z = sizes table.now in WalkSteps result way (key_number low.now) (key_number high.now) (course_of way z walk.old pass.old) (course_of way z walk.new pass.new) }
+    ensures steps { let z = sizes table.now in WalkSteps result way (key_number low.now) (key_number high.now)
+        (course_of way z walk.old pass.old) (course_of way z walk.new pass.new) }
     ensures still { Runs (LeavesValue (sizes table.now) None (given_by result)) (state pass.old) (state pass.new) }
     ensures nearer { result ≡ Stepped.Passed → steps_left way (key_number high.now) walk.new < steps_left way (key_number high.now) walk.old }
     ensures on { result ≢ Stepped.Again }
@@ -325,7 +333,8 @@ fn step(
     requires walk { IsWalk way (key_number low.now) (key_number high.now) (course_of way (sizes table.now) walk.old pass.old) }
     requires going { walk.old.mark.ended ≡ false }
     ensures own { StaysButSlots pass.old pass.new }
-    ensures steps { let z = sizes table.now in WalkSteps result way (key_number low.now) (key_number high.now) (course_of way z walk.old pass.old) (course_of way z walk.new pass.new) }
+    ensures steps { let z = sizes table.now in WalkSteps result way (key_number low.now) (key_number high.now)
+        (course_of way z walk.old pass.old) (course_of way z walk.new pass.new) }
     ensures still { Runs (LeavesValue (sizes table.now) None (given_by result)) (state pass.old) (state pass.new) }
     ensures nearer { result ≡ Stepped.Passed → steps_left way (key_number high.now) walk.new < steps_left way (key_number high.now) walk.old }
     ensures again { let z = sizes table.now in result ≡ Stepped.Again → LooksInVain walk.old.mark.key (view_at z pass.old) (view_at z pass.new) }
@@ -356,10 +365,15 @@ fn walk_to(
     requires walk { IsWalk way (key_number low.now) (key_number high.now) (course_of way (sizes table.now) walk.old pass.old) }
     requires going { walk.old.mark.ended ≡ false }
     ensures own { StaysButSlots pass.old pass.new }
-    ensures goes { let z = sizes table.now in IfOk result (λ o. WalksOrEnds o way (key_number low.now) (key_number high.now) (course_of way z walk.old pass.old) (course_of way z walk.new pass.new)) }
+    ensures goes { let z = sizes table.now in IfOk result
+        (λ o. WalksOrEnds o way (key_number low.now) (key_number high.now) (course_of way z walk.old pass.old)
+        (course_of way z walk.new pass.new)) }
     ensures still { IfOk result (λ o. Runs (LeavesValue (sizes table.now) None o) (state pass.old) (state pass.new)) }
-    ensures waits { let z = sizes table.now in IfErr result (λ _. WalkSteps Stepped.Again way (key_number low.now) (key_number high.now) (course_of way z walk.old pass.old) (course_of way z walk.new pass.new)) }
-    ensures vain { let z = sizes table.now in IfErr result (λ _. IsInVain (key_number low.now) (key_number high.now) (view_at z pass.old) (view_at z pass.new)) }
+    ensures waits { let z = sizes table.now in IfErr result
+        (λ _. WalkSteps Stepped.Again way (key_number low.now) (key_number high.now)
+        (course_of way z walk.old pass.old) (course_of way z walk.new pass.new)) }
+    ensures vain { let z = sizes table.now in IfErr result
+        (λ _. IsInVain (key_number low.now) (key_number high.now) (view_at z pass.old) (view_at z pass.new)) }
 {
     loop {
         match step(table, pass, walk, low, high, way) {
@@ -390,10 +404,15 @@ pub(crate) fn try_walk(
     requires going { walk.old.mark.ended ≡ false }
     requires some { 0 < looks }
     ensures own { StaysButSlots pass.old pass.new }
-    ensures goes { let z = sizes table.now in IfOk result (λ o. WalksOrEnds o way (key_number low.now) (key_number high.now) (course_of way z walk.old pass.old) (course_of way z walk.new pass.new)) }
+    ensures goes { let z = sizes table.now in IfOk result
+        (λ o. WalksOrEnds o way (key_number low.now) (key_number high.now) (course_of way z walk.old pass.old)
+        (course_of way z walk.new pass.new)) }
     ensures still { IfOk result (λ o. Runs (LeavesValue (sizes table.now) None o) (state pass.old) (state pass.new)) }
-    ensures waits { let z = sizes table.now in IfErr result (λ _. WalkSteps Stepped.Again way (key_number low.now) (key_number high.now) (course_of way z walk.old pass.old) (course_of way z walk.new pass.new)) }
-    ensures vain { let z = sizes table.now in IfErr result (λ _. AreInVain looks (key_number low.now) (key_number high.now) (view_at z pass.old) (view_at z pass.new)) }
+    ensures waits { let z = sizes table.now in IfErr result
+        (λ _. WalkSteps Stepped.Again way (key_number low.now) (key_number high.now)
+        (course_of way z walk.old pass.old) (course_of way z walk.new pass.new)) }
+    ensures vain { let z = sizes table.now in IfErr result
+        (λ _. AreInVain looks (key_number low.now) (key_number high.now) (view_at z pass.old) (view_at z pass.new)) }
     ensures alone { IfErr result (λ _. Runs Never (state pass.old) (state pass.new)) }
 {
     for _ in 0..looks {

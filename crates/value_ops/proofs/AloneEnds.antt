@@ -19,9 +19,9 @@ use Rattle.oak_core.specs.HeaderCalls.{Unlocks, MarksDead}
 use Rattle.oak_core.specs.Memory.{Memory, in_headers, index}
 use Rattle.oak_core.specs.Step.{on_headers}
 use Rattle.oak_core.specs.TableState.{TableState}
-use Rattle.oak_core.proofs.AloneRuns.{Then, runs_then, runs_as}
-use Rattle.oak_core.proofs.HeaderStanding.{small_pin}
-use Rattle.oak_core.proofs.Words.{memory_read, memory_set}
+use Rattle.oak_core.proofs.seats.AloneRuns.{Then, runs_then, runs_as}
+use Rattle.oak_core.proofs.held.HeaderStanding.{small_pin}
+use Rattle.oak_core.proofs.memory.Words.{memory_read, memory_set}
 use Rattle.value_ops.specs.AloneLocks.{pin_in, put_pin, put_place, stamp_in, put_stamp, IsLockedIn, IsDeadIn, UnlocksPin, WritesWords, BuriesWords, ChangesWord, RenewsPin}
 use Rattle.value_ops.specs.Claiming.{pin_spot}
 use Rattle.value_ops.specs.UnderLock.{HoldsLock, HasLock, HasBuried, next_stamp, StoresNext, WritesOver, GivesUp, Buries, Exchanges, Renews}

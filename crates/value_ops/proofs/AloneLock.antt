@@ -10,8 +10,8 @@ use Rattle.oak_core.specs.HeaderCalls.{Locks}
 use Rattle.oak_core.specs.Memory.{index}
 use Rattle.oak_core.specs.Splitting.{Loads}
 use Rattle.oak_core.specs.Step.{on_headers}
-use Rattle.oak_core.proofs.AloneRuns.{Then, runs_then, runs_as}
-use Rattle.oak_core.proofs.Words.{memory_read}
+use Rattle.oak_core.proofs.seats.AloneRuns.{Then, runs_then, runs_as}
+use Rattle.oak_core.proofs.memory.Words.{memory_read}
 use Rattle.value_ops.specs.AloneLocks.{pin_in, LocksPin, RefusesPin}
 use Rattle.value_ops.specs.Claiming.{pin_spot}
 use Rattle.value_ops.specs.Locking.{may_lock, refusal}

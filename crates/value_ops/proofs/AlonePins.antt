@@ -12,8 +12,8 @@ use Rattle.oak_core.specs.AloneWords.{Runs}
 use Rattle.oak_core.specs.Memory.{Spot, in_headers, index, IsInside, memory}
 use Rattle.oak_core.specs.Splitting.{Loads}
 use Rattle.oak_core.specs.Step.{on_headers, Told}
-use Rattle.oak_core.proofs.AloneRuns.{DoesStep, Then, step_runs, load_runs, runs_then, runs_as, runs_none}
-use Rattle.oak_core.proofs.Words.{index_apart, memory_read}
+use Rattle.oak_core.proofs.seats.AloneRuns.{DoesStep, Then, step_runs, load_runs, runs_then, runs_as, runs_none}
+use Rattle.oak_core.proofs.memory.Words.{index_apart, memory_read}
 use Rattle.value_ops.specs.AloneLocks.{FindsWord}
 use Rattle.value_ops.specs.Claiming.{pin_spot, ChangesPin}
 use Rattle.value_ops.specs.Pinning.{WordsStay}

@@ -17,8 +17,8 @@ use Rattle.oak_core.specs.HeaderCalls.{ChangesPlace}
 use Rattle.oak_core.specs.Memory.{in_arena, in_headers, index, memory}
 use Rattle.oak_core.specs.Step.{on_headers, store_locked}
 use Rattle.oak_core.specs.TableState.{TableState}
-use Rattle.oak_core.proofs.AloneRuns.{Then, runs_then, runs_as}
-use Rattle.oak_core.proofs.Words.{index_apart, memory_read}
+use Rattle.oak_core.proofs.seats.AloneRuns.{Then, runs_then, runs_as}
+use Rattle.oak_core.proofs.memory.Words.{index_apart, memory_read}
 use Rattle.value_ops.specs.Pinning.{WordsStay}
 use Rattle.arena_ops.specs.PutWords.{put_from, PutsWord, PutsBytes}
 use Rattle.value_ops.specs.AloneLocks.{place_in, put_place, first_in, put_bytes, value_in, AppliesTo, RefillsWords}

@@ -8,8 +8,8 @@ use Rattle.oak_core.specs.AloneWords.{Moment, Runs}
 use Rattle.oak_core.specs.Memory.{Spot, index, IsInside, memory, read}
 use Rattle.oak_core.specs.Splitting.{Loads}
 use Rattle.oak_core.specs.Step.{Step, load, on_headers, spot, effect, Told}
-use Rattle.oak_core.proofs.AloneRuns.{Keeps, step_runs, step_starts, moment_before, runs_as}
-use Rattle.oak_core.proofs.Words.{index_apart, memory_read}
+use Rattle.oak_core.proofs.seats.AloneRuns.{Keeps, step_runs, step_starts, moment_before, runs_as}
+use Rattle.oak_core.proofs.memory.Words.{index_apart, memory_read}
 
 -- the pass was in the state v, and the step found the number n in its word and left what becomes of it
 pub record DoesAt (z : Sizes) (x : Step) (v : PassState) (n : ℕ) (before after : List ℕ) : Type 0 where

@@ -26,9 +26,9 @@ use Rattle.oak_core.specs.Finding.{finding, noted, LoadsMore}
 use Rattle.oak_core.specs.HeaderCalls.{ChangesPlace}
 use Rattle.oak_core.specs.PassState.{blocks_of}
 use Rattle.oak_core.specs.Step.{MayOnHeaders, same_block}
-use Rattle.oak_core.proofs.HeaderStanding.{parts}
-use Rattle.oak_core.proofs.OneOwner.{unowned_held}
-use Rattle.oak_core.proofs.Words.{header_before}
+use Rattle.oak_core.proofs.held.HeaderStanding.{parts}
+use Rattle.oak_core.proofs.owners.OneOwner.{unowned_held}
+use Rattle.oak_core.proofs.memory.Words.{header_before}
 use Rattle.value_ops.specs.HeldValue.{words_in}
 use Rattle.value_ops.specs.UnderLock.{HasLock, ComesTo, LoadsPlace, Exchanges}
 use Rattle.value_ops.proofs.ComesFurther.{comes_as, blocks_met, headers_met, comes_since, lock_met, headers_come}

@@ -21,14 +21,14 @@ use Rattle.oak_core.specs.PassState.{headers_held}
 use Rattle.oak_core.specs.Splitting.{Loads}
 use Rattle.oak_core.specs.Step.{on_headers}
 use Rattle.oak_core.specs.Usage.{is_free}
-use Rattle.oak_core.proofs.AloneRuns.{DoesStep, Then, step_runs, load_runs, runs_then, runs_as}
-use Rattle.oak_core.proofs.FoundThere.{met_here, found_later}
-use Rattle.oak_core.proofs.HeaderStanding.{knows, stand}
-use Rattle.oak_core.proofs.MetMore.{grown_twice, grown_none, told_of}
-use Rattle.oak_core.proofs.Words.{index_apart, memory_read, header_before}
+use Rattle.oak_core.proofs.seats.AloneRuns.{DoesStep, Then, step_runs, load_runs, runs_then, runs_as}
+use Rattle.oak_core.proofs.calls.FoundThere.{met_here, found_later}
+use Rattle.oak_core.proofs.held.HeaderStanding.{knows, stand}
+use Rattle.oak_core.proofs.calls.MetMore.{grown_twice, grown_none, told_of}
+use Rattle.oak_core.proofs.memory.Words.{index_apart, memory_read, header_before}
 use Rattle.value_ops.specs.Claiming.{NoneFree, OwnsPin, pin_spot, FoundPin, FoundUnfree, FoundTwice, Looked, ClaimsHeader}
 use Rattle.value_ops.proofs.ExchangeFacts.{met_word, word_is, hit, missed}
-use Rattle.oak_core.proofs.PlainLoads.{met_at}
+use Rattle.oak_core.proofs.told.PlainLoads.{met_at}
 
 pub free_word : (n : ℕ) → is_free n ≡ true → IsFreeWord n
 free_word n e = let b = both_true (state_of n == FREE) (count_of n == 0) e in record { state = eqb-true (state_of n) FREE b.0; count = eqb-true (count_of n) 0 b.1 }

@@ -17,10 +17,10 @@ use Rattle.oak_core.specs.Memory.{headers_at, index, memory}
 use Rattle.oak_core.specs.Finding.{had, grown, IsOf, IsLoadOf}
 use Rattle.oak_core.specs.Step.{on_headers}
 use Rattle.oak_core.specs.Usage.{is_free}
-use Rattle.oak_core.proofs.AloneRuns.{Then, runs_then, runs_as, runs_none}
-use Rattle.oak_core.proofs.FoundThere.{found_first, found_later}
-use Rattle.oak_core.proofs.HeaderPlaces.{pin_place}
-use Rattle.oak_core.proofs.MetMore.{grown_twice, grown_none, told_of}
+use Rattle.oak_core.proofs.seats.AloneRuns.{Then, runs_then, runs_as, runs_none}
+use Rattle.oak_core.proofs.calls.FoundThere.{found_first, found_later}
+use Rattle.oak_core.proofs.memory.HeaderPlaces.{pin_place}
+use Rattle.oak_core.proofs.calls.MetMore.{grown_twice, grown_none, told_of}
 use Rattle.value_ops.specs.Claiming.{NoneFree, OwnsPin, pin_spot, FoundUnfree, FoundTwice, Looked, FindsNoneFree, ClaimsHeader}
 
 module _ (z : Sizes) (call : ℕ) where

@@ -18,13 +18,13 @@ use Rattle.oak_core.specs.Finding.{grown, noted, IsOf, IsLoadOf, LoadsMore}
 use Rattle.oak_core.specs.Memory.{Spot, in_headers, index, IsInside, rooms_at}
 use Rattle.oak_core.specs.Splitting.{Loads}
 use Rattle.value_ops.specs.UnderLock.{HasLock, HoldsLock, HasBuried, ComesTo, EndsTo}
-use Rattle.oak_core.proofs.Words.{header_before}
-use Rattle.oak_core.proofs.MetMore.{grown_twice, grown_none}
-use Rattle.oak_core.proofs.PlainLoads.{met_at}
+use Rattle.oak_core.proofs.memory.Words.{header_before}
+use Rattle.oak_core.proofs.calls.MetMore.{grown_twice, grown_none}
+use Rattle.oak_core.proofs.told.PlainLoads.{met_at}
 use Rattle.value_ops.proofs.LockRows.{lock_row_mapped}
 use Rattle.value_ops.proofs.LockedLoads.{met_locked}
 use Rattle.oak_core.specs.CallSteps.{Learns}
-use Rattle.oak_core.proofs.CallSteps.{stands_learns}
+use Rattle.oak_core.proofs.calls.CallSteps.{stands_learns}
 
 -- what a state comes to
 

@@ -10,7 +10,7 @@ use Rattle.oak_core.specs.declared.states.PassState.{PassState}
 use Rattle.oak_core.specs.Memory.{Memory, index, memory}
 use Rattle.oak_core.specs.Finding.{finding, noted}
 use Rattle.oak_core.specs.TableState.{TableState}
-use Rattle.oak_core.proofs.Words.{memory_read}
+use Rattle.oak_core.proofs.memory.Words.{memory_read}
 use Rattle.value_ops.specs.Claiming.{pin_spot}
 
 -- a word has room for one state more

@@ -10,8 +10,8 @@ use Rattle.oak_core.specs.AloneWords.{Runs}
 use Rattle.oak_core.specs.HeaderCalls.{StoresPlace, StoresStamp, Opens}
 use Rattle.oak_core.specs.Memory.{Spot, in_headers, index, IsInside, memory}
 use Rattle.oak_core.specs.Step.{on_headers}
-use Rattle.oak_core.proofs.AloneRuns.{DoesStep, Then, step_runs, runs_then, runs_as}
-use Rattle.oak_core.proofs.Words.{index_apart, memory_read}
+use Rattle.oak_core.proofs.seats.AloneRuns.{DoesStep, Then, step_runs, runs_then, runs_as}
+use Rattle.oak_core.proofs.memory.Words.{index_apart, memory_read}
 use Rattle.arena_ops.specs.Taking.{SetsWord}
 use Rattle.value_ops.specs.Claiming.{pin_spot, ChangesPin}
 use Rattle.value_ops.specs.Filling.{FillsWords}

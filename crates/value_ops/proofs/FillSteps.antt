@@ -23,14 +23,14 @@ use Rattle.oak_core.specs.Finding.{finding, grown, noted}
 use Rattle.oak_core.specs.HeaderCalls.{StoresPlace, StoresStamp, Opens}
 use Rattle.oak_core.specs.PassState.{headers_held, blocks_of}
 use Rattle.oak_core.specs.Step.{found, on_headers, MayOnHeaders}
-use Rattle.oak_core.proofs.HeaderStanding.{knows, stand, at_headers, parts, place_of}
-use Rattle.oak_core.proofs.Words.{memory_read, header_before}
+use Rattle.oak_core.proofs.held.HeaderStanding.{knows, stand, at_headers, parts, place_of}
+use Rattle.oak_core.proofs.memory.Words.{memory_read, header_before}
 use Rattle.value_ops.proofs.FillRuns.{fill_runs}
 use Rattle.value_ops.proofs.StepLeft.{pin_found}
 use Rattle.value_ops.specs.Claiming.{pin_spot}
 use Rattle.value_ops.specs.Filling.{filled_state, Fills}
 use Rattle.value_ops.proofs.FillFacts.{fits_class, is_place, placed_here, stamped_place, freshened_known}
-use Rattle.oak_core.proofs.MetMore.{grown_twice}
+use Rattle.oak_core.proofs.calls.MetMore.{grown_twice}
 use Rattle.arena_core.proofs.HeldWords.{held_words}
 
 module _ (z : Sizes) (call h : ℕ) (c : Class) (b len stamp : ℕ) (v : PassState) (inside : h < z.headers) (own : 0 < in_state h OWNED v.headers) (held : HoldsBlock z (class_number c) b v.blocks) (small : b < 2 ^ 32) (fits : class_of len ≡ Some c) where

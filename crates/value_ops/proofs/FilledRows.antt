@@ -23,9 +23,9 @@ use Rattle.oak_core.specs.HeaderCalls.{Opens}
 use Rattle.oak_core.specs.HeldRows.{HasFresh}
 use Rattle.oak_core.specs.MadeWrites.{held_header}
 use Rattle.oak_core.specs.Memory.{memory}
-use Rattle.oak_core.proofs.HeaderStanding.{at_headers}
-use Rattle.oak_core.proofs.HeldRowLaws.{row_mapped}
-use Rattle.oak_core.proofs.SetsValue.{held_row}
+use Rattle.oak_core.proofs.held.HeaderStanding.{at_headers}
+use Rattle.oak_core.proofs.held.HeldRowLaws.{row_mapped}
+use Rattle.oak_core.proofs.covers.SetsValue.{held_row}
 use Rattle.value_ops.specs.Filling.{Fills}
 use Rattle.value_ops.proofs.FillFacts.{fits_class}
 use Rattle.value_ops.proofs.StepLeft.{pin_found}

@@ -17,8 +17,8 @@ use Rattle.oak_core.specs.Memory.{memory}
 use Rattle.oak_core.specs.Finding.{finding}
 use Rattle.oak_core.specs.HeaderCalls.{Releases}
 use Rattle.oak_core.specs.PassState.{headers_held}
-use Rattle.oak_core.proofs.HeaderStanding.{knows, stand, at_headers}
-use Rattle.oak_core.proofs.Words.{header_before}
+use Rattle.oak_core.proofs.held.HeaderStanding.{knows, stand, at_headers}
+use Rattle.oak_core.proofs.memory.Words.{header_before}
 use Rattle.value_ops.specs.Claiming.{pin_spot}
 use Rattle.value_ops.specs.Filling.{FreesPin, IsFreed, ReleasesOwned}
 use Rattle.value_ops.proofs.AlonePins.{pin_changes}

@@ -32,9 +32,9 @@ use Rattle.oak_core.specs.Owners.{block_of_header, blocks_of_header, header_bloc
 use Rattle.oak_core.specs.PassState.{headers_held}
 use Rattle.oak_core.specs.Rule.{Rule}
 use Rattle.oak_core.specs.TableState.{TableState}
-use Rattle.oak_core.proofs.HeaderBlocks.{IsTrueBlock, blocks_true}
-use Rattle.oak_core.proofs.HeaderStanding.{knows, stand, at_headers, parts, place_of}
-use Rattle.oak_core.proofs.OwnerLaws.{live_inside, owner_counts, place_below, names_itself}
+use Rattle.oak_core.proofs.owners.HeaderBlocks.{IsTrueBlock, blocks_true}
+use Rattle.oak_core.proofs.held.HeaderStanding.{knows, stand, at_headers, parts, place_of}
+use Rattle.oak_core.proofs.owners.OwnerLaws.{live_inside, owner_counts, place_below, names_itself}
 use Rattle.value_ops.specs.HeldValue.{stamp_held, words_in}
 use Rattle.arena_core.proofs.HeldWords.{words_are}
 

@@ -20,8 +20,8 @@ use Rattle.oak_core.specs.Memory.{memory}
 use Rattle.oak_core.specs.PassState.{headers_held, knowledge_of}
 use Rattle.oak_core.specs.Rule.{Rule}
 use Rattle.oak_core.specs.TableState.{TableState}
-use Rattle.oak_core.proofs.HeaderStanding.{knows}
-use Rattle.oak_core.proofs.KnownLaws.{known_some}
+use Rattle.oak_core.proofs.held.HeaderStanding.{knows}
+use Rattle.oak_core.proofs.known.KnownLaws.{known_some}
 use Rattle.value_ops.specs.Claiming.{holds_header}
 
 -- a header in this state is in use: live, locked, or dead and not taken back

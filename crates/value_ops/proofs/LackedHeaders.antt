@@ -13,8 +13,8 @@ use Rattle.oak_core.specs.Finding.{had, IsLoadOf}
 use Rattle.oak_core.specs.FoundBehind.{FoundBehind}
 use Rattle.oak_core.specs.Lack.{FoundTaken, FoundRenewed, KeySwept, Lacks, TookBut}
 use Rattle.oak_core.specs.Memory.{index}
-use Rattle.oak_core.proofs.FoundThere.{found_behind}
-use Rattle.oak_core.proofs.Lacked.{lacks_then}
+use Rattle.oak_core.proofs.calls.FoundThere.{found_behind}
+use Rattle.oak_core.proofs.calls.Lacked.{lacks_then}
 use Rattle.value_ops.specs.Claiming.{pin_spot, FoundPin, FoundUnfree, FoundTwice, FindsNoneFree}
 
 module _ (z : Sizes) (call : ℕ) (v w : PassState) (idle : v.headers ≡ no_headers) (none : FindsNoneFree z call v w) where

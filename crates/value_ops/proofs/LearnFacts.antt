@@ -20,11 +20,11 @@ use Rattle.oak_core.specs.Memory.{Spot, IsInside, in_headers, index}
 use Rattle.oak_core.specs.PassState.{knowledge_of}
 use Rattle.oak_core.specs.Splitting.{Loads}
 use Rattle.oak_core.specs.Step.{Step, load, on_headers, Told}
-use Rattle.oak_core.proofs.CallSteps.{learns_both, learns_none, stands_learns}
-use Rattle.oak_core.proofs.PinTold.{pin_knows, pin_learns}
-use Rattle.oak_core.proofs.StampSteps.{stamp_knows, stamp_learns}
-use Rattle.oak_core.proofs.TaughtSteps.{heard_more, loaded_same, over_later, removal_stays, seen_more}
-use Rattle.oak_core.proofs.Words.{header_before, index_apart}
+use Rattle.oak_core.proofs.calls.CallSteps.{learns_both, learns_none, stands_learns}
+use Rattle.oak_core.proofs.told.PinTold.{pin_knows, pin_learns}
+use Rattle.oak_core.proofs.kinds.StampSteps.{stamp_knows, stamp_learns}
+use Rattle.oak_core.proofs.lessons.TaughtSteps.{heard_more, loaded_same, over_later, removal_stays, seen_more}
+use Rattle.oak_core.proofs.memory.Words.{header_before, index_apart}
 use Rattle.value_ops.specs.Pinning.{with_pin, FindsGone, KnowsLife, KnowsMore, MeetsMore, OnlyLearns}
 
 -- as OnlyLearns, but for what the pass has of headers

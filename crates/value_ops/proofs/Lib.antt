@@ -44,3 +44,4 @@ pub mod ReadFacts
 pub mod ReadRounds
 pub mod ViewFacts
 pub mod LoadedViews
+pub mod FrontBytes

@@ -20,9 +20,9 @@ use Rattle.oak_core.specs.PassState.{headers_held}
 use Rattle.oak_core.specs.Rule.{Rule}
 use Rattle.oak_core.specs.Splitting.{Loads}
 use Rattle.oak_core.specs.TableState.{TableState}
-use Rattle.oak_core.proofs.HeadersInArena.{pin_fact, live_stocked}
-use Rattle.oak_core.proofs.OwnerLaws.{live_inside, owner_counts, names_itself}
-use Rattle.oak_core.proofs.Words.{index_apart, memory_read}
+use Rattle.oak_core.proofs.owners.HeadersInArena.{pin_fact, live_stocked}
+use Rattle.oak_core.proofs.owners.OwnerLaws.{live_inside, owner_counts, names_itself}
+use Rattle.oak_core.proofs.memory.Words.{index_apart, memory_read}
 use Rattle.value_ops.specs.PinnedValues.{IsPlaced}
 use Rattle.arena_core.proofs.ClassRooms.{place_room}
 

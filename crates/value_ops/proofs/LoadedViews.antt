@@ -10,7 +10,7 @@ use Rattle.oak_core.specs.declared.states.PassState.{PassState}
 use Rattle.oak_core.specs.KeyReads.{home_of}
 use Rattle.oak_core.specs.LastReads.{KnowsLifeOf}
 use Rattle.oak_core.specs.LifeKeys.{first_of, key_in_loaded, key_in_logs, key_known}
-use Rattle.oak_core.proofs.HomeWords.{home_is}
+use Rattle.oak_core.proofs.memory.HomeWords.{home_is}
 use Rattle.value_ops.specs.Views.{KnowsView, LoadedView, Viewed}
 
 -- the first that was loaded stays the first

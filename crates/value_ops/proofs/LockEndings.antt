@@ -25,9 +25,9 @@ use Rattle.oak_core.specs.Memory.{in_headers, index, memory}
 use Rattle.oak_core.specs.PassState.{headers_held}
 use Rattle.oak_core.specs.Rule.{Rule}
 use Rattle.oak_core.specs.TableState.{TableState}
-use Rattle.oak_core.proofs.SetsValue.{held_row}
-use Rattle.oak_core.proofs.WritesCounted.{writes_counted}
-use Rattle.oak_core.proofs.HeldRowLaws.{row_mapped}
+use Rattle.oak_core.proofs.covers.SetsValue.{held_row}
+use Rattle.oak_core.proofs.histories.WritesCounted.{writes_counted}
+use Rattle.oak_core.proofs.held.HeldRowLaws.{row_mapped}
 use Rattle.value_ops.specs.HeldValue.{stamp_held, value_held, value_locked, value_at_lock}
 use Rattle.value_ops.specs.UnderLock.{HasLock, LockRow, IsUnchanged, IsAsAtLock, ComesTo, StoresNext, next_stamp}
 use Rattle.value_ops.proofs.ComesFurther.{headers_come}

@@ -23,12 +23,12 @@ use Rattle.value_ops.specs.declared.locking.NoLock.TheVariants.{Busy, Dead}
 use Rattle.value_ops.specs.Locking.{LocksHeader, may_lock, IsDeadAt, refusal, LooksOnce, IsBusy, IsNoLock, FindsNoLock}
 use Rattle.value_ops.proofs.KnownStates.{IsInUse, known_state, known_free}
 use Rattle.value_ops.proofs.LoadFacts.{found_is}
-use Rattle.oak_core.proofs.Words.{header_before}
-use Rattle.oak_core.proofs.MetMore.{grown_twice, told_of}
-use Rattle.oak_core.proofs.PlainLoads.{met_at}
+use Rattle.oak_core.proofs.memory.Words.{header_before}
+use Rattle.oak_core.proofs.calls.MetMore.{grown_twice, told_of}
+use Rattle.oak_core.proofs.told.PlainLoads.{met_at}
 use Rattle.value_ops.proofs.ComesFurther.{loads_learn}
-use Rattle.oak_core.proofs.LockTold.{word_found, lock_missed, lock_learns, lock_blocks, lock_rooms, lock_held}
-use Rattle.oak_core.proofs.CallSteps.{learns_both}
+use Rattle.oak_core.proofs.told.LockTold.{word_found, lock_missed, lock_learns, lock_blocks, lock_rooms, lock_held}
+use Rattle.oak_core.proofs.calls.CallSteps.{learns_both}
 use Rattle.oak_core.specs.LifeKeys.{key_known, key_or}
 use Rattle.oak_core.specs.PassState.{headers_held}
 use Rattle.header_core.proofs.HeldHeaders.{held_in}

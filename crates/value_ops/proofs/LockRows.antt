@@ -6,7 +6,7 @@ use native.Mathlib.Decide.{ℕ_discrete}
 use Rattle.header_core.specs.HeaderHolds.{generation_held, place_held}
 use Rattle.header_core.specs.declared.holds.HeldHeader.{HeldHeader}
 use Rattle.oak_core.specs.MadeWrites.{held_header}
-use Rattle.oak_core.proofs.HeldRowLaws.{row_mapped}
+use Rattle.oak_core.proofs.held.HeldRowLaws.{row_mapped}
 use Rattle.value_ops.specs.HeldValue.{stamp_held, words_in, value_locked, value_at_lock}
 use Rattle.value_ops.specs.UnderLock.{LockRow}
 

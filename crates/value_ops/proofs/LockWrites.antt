@@ -24,11 +24,11 @@ use Rattle.oak_core.specs.Memory.{memory}
 use Rattle.oak_core.specs.PassState.{knowledge_of}
 use Rattle.oak_core.specs.Rule.{Rule}
 use Rattle.oak_core.specs.Step.{on_headers, Told}
-use Rattle.oak_core.proofs.CallSteps.{step_met}
-use Rattle.oak_core.proofs.KnowledgeAfter.{changed_knowledge, removal_knowledge, unchanged_knowledge}
-use Rattle.oak_core.proofs.SetsValue.{held_row}
-use Rattle.oak_core.proofs.WriteTold.{Notes, writes_of_call, writes_since}
-use Rattle.oak_core.proofs.HeldRowLaws.{row_mapped}
+use Rattle.oak_core.proofs.calls.CallSteps.{step_met}
+use Rattle.oak_core.proofs.known.KnowledgeAfter.{changed_knowledge, removal_knowledge, unchanged_knowledge}
+use Rattle.oak_core.proofs.covers.SetsValue.{held_row}
+use Rattle.oak_core.proofs.told.WriteTold.{Notes, writes_of_call, writes_since}
+use Rattle.oak_core.proofs.held.HeldRowLaws.{row_mapped}
 use Rattle.value_ops.specs.HeldValue.{value_held}
 use Rattle.value_ops.specs.LockHistories.{LockOf}
 use Rattle.value_ops.specs.UnderLock.{HasBuried, ComesTo, StoresNext, HasLock}

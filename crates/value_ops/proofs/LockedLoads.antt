@@ -21,7 +21,7 @@ use Rattle.oak_core.specs.Rule.{Rule}
 use Rattle.oak_core.specs.Splitting.{Loads}
 use Rattle.oak_core.specs.StampLoads.{finds_life, shows_stamp, stamp_key}
 use Rattle.oak_core.specs.TableState.{TableState}
-use Rattle.oak_core.proofs.QuietLoads.{met_quiet, unshown_teaches}
+use Rattle.oak_core.proofs.told.QuietLoads.{met_quiet, unshown_teaches}
 use Rattle.value_ops.proofs.HeldValues.{state_is}
 
 -- the pass that has the lock pinned the header at no time that counts

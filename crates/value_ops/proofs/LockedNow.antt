@@ -16,7 +16,7 @@ use Rattle.oak_core.specs.declared.states.PassState.{PassState}
 use Rattle.oak_core.specs.Memory.{Memory, memory}
 use Rattle.oak_core.specs.Finding.{grown}
 use Rattle.oak_core.specs.PassState.{headers_held}
-use Rattle.oak_core.proofs.Words.{memory_read}
+use Rattle.oak_core.proofs.memory.Words.{memory_read}
 use Rattle.value_ops.specs.Claiming.{pin_spot, holds_header}
 use Rattle.value_ops.specs.Locking.{LocksHeader}
 use Rattle.value_ops.specs.UnderLock.{HasLock, IsAsAtLock, IsUnchanged}
@@ -26,7 +26,7 @@ use Rattle.oak_model.specs.KeyNumber.{key_number}
 use Rattle.oak_core.specs.KeyReads.{value_in}
 use Rattle.oak_core.specs.LifeKeys.{key_known, key_or}
 use Rattle.oak_core.specs.MadeWrites.{held_header}
-use Rattle.oak_core.proofs.LockTold.{lock_sighted, lock_place, lock_state}
+use Rattle.oak_core.proofs.told.LockTold.{lock_sighted, lock_place, lock_state}
 use Rattle.value_ops.specs.HeldValue.{value_held, words_in, stamp_held, value_locked, value_at_lock}
 use Rattle.value_ops.specs.LockHistories.{LocksKey}
 

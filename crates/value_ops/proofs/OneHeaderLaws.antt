@@ -18,7 +18,7 @@ use Rattle.header_core.specs.HeaderStep.{owned_at, placed_at, stamped_at, freshe
 use Rattle.oak_core.specs.declared.states.PassState.{PassState}
 use Rattle.oak_core.specs.Memory.{memory}
 use Rattle.oak_core.specs.PassState.{IsAlone, bare_state}
-use Rattle.oak_core.proofs.Alone.{numbers_alone}
+use Rattle.oak_core.proofs.seats.Alone.{numbers_alone}
 use Rattle.arena_ops.specs.Taking.{Takes, Gives, Stores}
 use Rattle.value_ops.specs.Claiming.{ClaimsHeader}
 use Rattle.value_ops.specs.Filling.{ReleasesOwned, Fills, Withdraws}

@@ -25,12 +25,12 @@ use Rattle.oak_core.specs.PassState.{headers_held}
 use Rattle.oak_core.specs.QuietSteps.{IsQuiet, Quiet}
 use Rattle.oak_core.specs.Splitting.{Loads}
 use Rattle.oak_core.specs.Step.{load, on_headers, found, MayOnHeaders, Told}
-use Rattle.oak_core.proofs.HeadersInArena.{pin_fact}
-use Rattle.oak_core.proofs.MetMore.{grown_twice, grown_none}
-use Rattle.oak_core.proofs.AloneRuns.{Then, runs_then, runs_as, runs_none}
-use Rattle.oak_core.proofs.PinTold.{dead_over, dead_stamp, none_over, other_over, over_found, over_removal, over_stamp, pin_quiet}
-use Rattle.oak_core.proofs.QuietCalls.{only_both, only_none, quiet_load, quiet_pin_header, quiet_unpin_header}
-use Rattle.oak_core.proofs.Words.{index_apart, memory_read, header_before}
+use Rattle.oak_core.proofs.owners.HeadersInArena.{pin_fact}
+use Rattle.oak_core.proofs.calls.MetMore.{grown_twice, grown_none}
+use Rattle.oak_core.proofs.seats.AloneRuns.{Then, runs_then, runs_as, runs_none}
+use Rattle.oak_core.proofs.told.PinTold.{dead_over, dead_stamp, none_over, other_over, over_found, over_removal, over_stamp, pin_quiet}
+use Rattle.oak_core.proofs.calls.QuietCalls.{only_both, only_none, quiet_load, quiet_pin_header, quiet_unpin_header}
+use Rattle.oak_core.proofs.memory.Words.{index_apart, memory_read, header_before}
 use Rattle.value_ops.specs.declared.pinning.BadPin.{BadPin}
 use Rattle.value_ops.specs.declared.pinning.BadPin.TheVariants.{Locked, Dead, Other}
 use Rattle.value_ops.specs.AloneLocks.{FindsWord}
@@ -41,13 +41,13 @@ use Rattle.value_ops.proofs.KnownStates.{IsInUse, known_state}
 use Rattle.value_ops.proofs.AlonePins.{load_finds, load_stays, none_stays, both_stay, pin_changes, undone}
 use Rattle.value_ops.proofs.LearnFacts.{Learned, gone_later, headers_loaded, learned_both, learned_met, learned_none, learned_pin, learned_stamp, life_stays, only_learned, told_at}
 use Rattle.value_ops.proofs.StepLeft.{pin_found, small}
-use Rattle.oak_core.proofs.PlainLoads.{met_at}
+use Rattle.oak_core.proofs.told.PlainLoads.{met_at}
 use Rattle.oak_core.specs.declared.states.Sight.{Sight}
 use Rattle.oak_core.specs.LifeKeys.{loaded_in}
 use Rattle.oak_core.specs.Sights.{SightedSince}
-use Rattle.oak_core.proofs.LoadedIn.{loaded_now}
-use Rattle.oak_core.proofs.StampTold.{stamp_sighted}
-use Rattle.oak_core.proofs.TaughtSteps.{sighted_later}
+use Rattle.oak_core.proofs.known.LoadedIn.{loaded_now}
+use Rattle.oak_core.proofs.told.StampTold.{stamp_sighted}
+use Rattle.oak_core.proofs.lessons.TaughtSteps.{sighted_later}
 
 -- a pass may undo its pin
 pub may_unpin : (z : Sizes) (h : ℕ) (v : PassState) → PinsHeader z h v → MayOnHeaders z (unpin_header h) v

@@ -13,10 +13,10 @@ use Rattle.oak_core.specs.Memory.{in_headers, index, rooms_at}
 use Rattle.oak_core.specs.Sights.{SightedSince}
 use Rattle.oak_core.specs.Splitting.{Loads}
 use Rattle.oak_core.specs.Step.{load, Told}
-use Rattle.oak_core.proofs.KnownReads.{read_since}
-use Rattle.oak_core.proofs.PlainLoads.{met_at}
-use Rattle.oak_core.proofs.StampTold.{stamp_home, stamp_reads}
-use Rattle.oak_core.proofs.Words.{header_before}
+use Rattle.oak_core.proofs.known.KnownReads.{read_since}
+use Rattle.oak_core.proofs.told.PlainLoads.{met_at}
+use Rattle.oak_core.proofs.told.StampTold.{stamp_home, stamp_reads}
+use Rattle.oak_core.proofs.memory.Words.{header_before}
 use Rattle.value_ops.specs.Pinning.{HasPin, KnowsLife}
 use Rattle.value_ops.specs.PinnedValues.{LearnsByLoads, ReadsLife, value_of}
 use Rattle.value_ops.proofs.AlonePins.{both_stay, load_stays}

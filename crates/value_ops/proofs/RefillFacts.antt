@@ -21,7 +21,7 @@ use Rattle.oak_core.specs.Memory.{Memory, in_headers, memory}
 use Rattle.oak_core.specs.Finding.{finding, noted}
 use Rattle.oak_core.specs.HeaderCalls.{ChangesPlace}
 use Rattle.oak_core.specs.Step.{MayOnHeaders, same_block}
-use Rattle.oak_core.proofs.Words.{header_before}
+use Rattle.oak_core.proofs.memory.Words.{header_before}
 use Rattle.oak_model.specs.WordBytes.{bytes_of}
 use Rattle.value_ops.specs.Rewriting.{HasWords}
 use Rattle.value_ops.specs.HeldValue.{words_in}

@@ -24,7 +24,7 @@ use Rattle.oak_core.specs.Memory.{Memory, memory}
 use Rattle.oak_core.specs.Finding.{finding, noted, LoadsMore}
 use Rattle.oak_core.specs.HeaderCalls.{TakesBack}
 use Rattle.oak_core.specs.Step.{found, on_headers, MayOnHeaders}
-use Rattle.oak_core.proofs.Words.{header_before}
+use Rattle.oak_core.proofs.memory.Words.{header_before}
 use Rattle.value_ops.specs.Claiming.{pin_spot}
 use Rattle.value_ops.specs.HeldValue.{words_in}
 use Rattle.value_ops.specs.UnderLock.{HasBuried, ComesTo, LoadsPlace, Renews, state_taken_back}

@@ -19,7 +19,7 @@ use Rattle.header_core.proofs.HeldHeaders.{held_in}
 use Rattle.oak_core.specs.declared.states.PassState.{PassState}
 use Rattle.oak_core.specs.Finding.{LoadsMore}
 use Rattle.oak_core.specs.Memory.{in_arena, index}
-use Rattle.oak_core.proofs.OwnerLaws.{place_below}
+use Rattle.oak_core.proofs.owners.OwnerLaws.{place_below}
 use Rattle.oak_model.specs.WordBytes.{bytes_of}
 use Rattle.value_ops.specs.Rewriting.{HasWords}
 use Rattle.value_ops.specs.HeldValue.{words_in, value_held}

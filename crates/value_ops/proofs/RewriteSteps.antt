@@ -13,8 +13,8 @@ use Rattle.oak_core.specs.declared.states.PassState.{PassState}
 use Rattle.oak_core.specs.ArenaCalls.{of_locked, NamesWord, MayStoreTo, Writes}
 use Rattle.oak_core.specs.Memory.{in_arena, index, rooms_at, word_count, memory}
 use Rattle.oak_core.specs.Splitting.{Loads}
-use Rattle.oak_core.proofs.OwnerLaws.{place_below}
-use Rattle.oak_core.proofs.Words.{arena_before, index_below}
+use Rattle.oak_core.proofs.owners.OwnerLaws.{place_below}
+use Rattle.oak_core.proofs.memory.Words.{arena_before, index_below}
 use Rattle.arena_core.proofs.PlaceLaws.{class_below}
 use Rattle.oak_model.specs.Class.{class_number}
 use Rattle.value_ops.specs.Rewriting.{HasWords}

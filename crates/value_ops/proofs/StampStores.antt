@@ -17,7 +17,7 @@ use Rattle.oak_core.specs.Memory.{in_headers, index}
 use Rattle.oak_core.specs.Finding.{LoadsMore}
 use Rattle.oak_core.specs.HeaderCalls.{StoresStamp}
 use Rattle.oak_core.specs.Splitting.{Loads}
-use Rattle.oak_core.proofs.Words.{header_before}
+use Rattle.oak_core.proofs.memory.Words.{header_before}
 use Rattle.oak_core.specs.Step.{MayOnHeaders}
 use Rattle.value_ops.specs.HeldValue.{stamp_held, words_in}
 use Rattle.value_ops.specs.UnderLock.{HasBlock, HasLock, next_stamp, ComesTo, HoldsLock}

@@ -19,7 +19,7 @@ use Rattle.oak_core.specs.Rule.{Rule}
 use Rattle.oak_core.specs.Schedule.{Event, steps, splits, joins, Goes, IsSchedule}
 use Rattle.oak_core.specs.Step.{Step, load, give_number, on_arena, on_headers, on_rooms, store_locked, note_full, May, state_after}
 use Rattle.oak_core.specs.TableState.{TableState}
-use Rattle.oak_core.proofs.RoomPins.{pin_by_room}
+use Rattle.oak_core.proofs.covers.RoomPins.{pin_by_room}
 use Rattle.value_ops.specs.Readers.{StandsAt, KeepsBlock, IsUnpin, Undoes}
 use Rattle.value_ops.proofs.LoadFacts.{holds, live_block, block_owned}
 

@@ -12,9 +12,9 @@ use Rattle.oak_core.specs.Memory.{Memory, in_headers, index, IsInside, write, me
 use Rattle.oak_core.specs.Rule.{Rule}
 use Rattle.oak_core.specs.Step.{on_headers, effect, spot, found, state_after, Told}
 use Rattle.oak_core.specs.TableState.{TableState}
-use Rattle.oak_core.proofs.EachEvent.{rule_keeps}
-use Rattle.oak_core.proofs.HeaderStanding.{small_pin}
-use Rattle.oak_core.proofs.Words.{memory_read, memory_set}
+use Rattle.oak_core.proofs.kinds.EachEvent.{rule_keeps}
+use Rattle.oak_core.proofs.held.HeaderStanding.{small_pin}
+use Rattle.oak_core.proofs.memory.Words.{memory_read, memory_set}
 use Rattle.value_ops.specs.Claiming.{pin_spot}
 use Rattle.value_ops.specs.Filling.{table_behind, IsLeft}
 

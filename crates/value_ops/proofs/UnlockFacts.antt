@@ -15,7 +15,7 @@ use Rattle.oak_core.specs.declared.states.PassState.{PassState}
 use Rattle.oak_core.specs.Memory.{memory, in_headers}
 use Rattle.oak_core.specs.HeaderCalls.{Unlocks, MarksDead}
 use Rattle.oak_core.specs.Step.{on_headers, MayOnHeaders, Told, found}
-use Rattle.oak_core.proofs.Words.{header_before}
+use Rattle.oak_core.proofs.memory.Words.{header_before}
 use Rattle.value_ops.specs.HeldValue.{stamp_held}
 use Rattle.value_ops.specs.UnderLock.{HasBuried, HasValue, StoresNext, EndsLock, Buries, EndsTo}
 use Rattle.value_ops.proofs.ComesFurther.{ends_after, ends_as, headers_end}

@@ -11,9 +11,9 @@ use Rattle.arena_core.proofs.ArenaSizes.{few_words}
 use Rattle.oak_core.specs.declared.states.PassState.{PassState}
 use Rattle.oak_core.specs.Memory.{Spot, IsInside, in_arena, index, rooms_at, word_count}
 use Rattle.oak_core.specs.Passes.{state, key, call_of}
-use Rattle.oak_core.proofs.ArenaPlaces.{bytes_place, few_bits, few_bytes}
-use Rattle.oak_core.proofs.Words.{index_below, arena_before}
-use Rattle.oak_core.proofs.SamePass.{stays_both}
+use Rattle.oak_core.proofs.memory.ArenaPlaces.{bytes_place, few_bits, few_bytes}
+use Rattle.oak_core.proofs.memory.Words.{index_below, arena_before}
+use Rattle.oak_core.proofs.seats.SamePass.{stays_both}
 use Rattle.arena_ops.proofs.PutWords.{spot_from}
 use Rattle.oak_core.specs.declared.table.Pass.{Pass}
 use Rattle.value_ops.specs.declared.pinned_value.PinnedValue.{PinnedValue}

@@ -11,12 +11,12 @@ use Rattle.oak_core.specs.Passes.{state}
 use Rattle.oak_core.specs.PassState.{seen_of}
 use Rattle.oak_core.specs.QuietSteps.{IsQuiet}
 use Rattle.oak_core.specs.Sights.{SightedSince}
-use Rattle.oak_core.proofs.AloneRuns.{runs_as}
-use Rattle.oak_core.proofs.CallSteps.{begins_same}
-use Rattle.oak_core.proofs.KnownHeaders.{known_life}
-use Rattle.oak_core.proofs.KnownReads.{read_since}
-use Rattle.oak_core.proofs.PinTold.{dead_over, other_over}
-use Rattle.oak_core.proofs.QuietCalls.{only_both}
+use Rattle.oak_core.proofs.seats.AloneRuns.{runs_as}
+use Rattle.oak_core.proofs.calls.CallSteps.{begins_same}
+use Rattle.oak_core.proofs.known.KnownHeaders.{known_life}
+use Rattle.oak_core.proofs.known.KnownReads.{read_since}
+use Rattle.oak_core.proofs.told.PinTold.{dead_over, other_over}
+use Rattle.oak_core.proofs.calls.QuietCalls.{only_both}
 use Rattle.value_ops.specs.declared.pinning.BadPin.{BadPin}
 use Rattle.value_ops.specs.declared.pinning.BadPin.TheVariants.{Locked, Dead, Other}
 use Rattle.value_ops.specs.declared.reading.Reading.{Reading}

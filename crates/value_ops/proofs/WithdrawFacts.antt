@@ -21,8 +21,8 @@ use Rattle.oak_core.specs.Finding.{finding, grown, noted, IsLoadOf}
 use Rattle.oak_core.specs.HeaderCalls.{Releases}
 use Rattle.oak_core.specs.Splitting.{Loads}
 use Rattle.oak_core.specs.Step.{found, on_headers, MayOnHeaders}
-use Rattle.oak_core.proofs.MetMore.{grown_twice, told_of}
-use Rattle.oak_core.proofs.Words.{header_before}
+use Rattle.oak_core.proofs.calls.MetMore.{grown_twice, told_of}
+use Rattle.oak_core.proofs.memory.Words.{header_before}
 use Rattle.value_ops.specs.Claiming.{pin_spot}
 use Rattle.value_ops.specs.Filling.{FreesPin, Withdraws}
 use Rattle.value_ops.specs.HeldValue.{words_in}
@@ -31,7 +31,7 @@ use Rattle.value_ops.proofs.FreedFacts.{freed, frees}
 use Rattle.value_ops.proofs.AlonePins.{load_stays, stays_then}
 use Rattle.value_ops.proofs.HeldValues.{block_at, block_inside, class_low}
 use Rattle.value_ops.proofs.StampStores.{held_place}
-use Rattle.oak_core.proofs.PlainLoads.{met_at}
+use Rattle.oak_core.proofs.told.PlainLoads.{met_at}
 
 module _ (z : Sizes) (call h g : ℕ) (v : PassState) (inside : h < z.headers) (fresh_at : IsFreshAt h g v.headers) (idle : v.headers.pin ≡ None) where
   fresh : 0 < in_state h LIVE v.headers

@@ -50,7 +50,8 @@ impl Buried {
         requires unnamed { IsUnnamed self.header (state pass.old).headers }
         ensures own { Stays pass.old pass.new }
         ensures held { HoldsBlock (key table.now) (class_number result.class) result.number (state pass.new).blocks }
-        ensures renewed { Renews (key table.now) (call_of pass.old) self.header self.generation result.class result.number (state pass.old) (state pass.new) }
+        ensures renewed { Renews (key table.now) (call_of pass.old) self.header self.generation result.class
+            result.number (state pass.old) (state pass.new) }
         ensures alone { Runs (RenewsPin (key table.now) self.header self.generation result.class result.number) (state pass.old) (state pass.new) }
     {
         let Buried {

@@ -39,8 +39,10 @@ fn claim_one(table: &OakTable, pass: &mut Pass, word: u32) -> bool
     requires own { IsPassOf table.now pass.old }
     requires names { (h : ℕ) × NamesPin (key table.now) h word }
     ensures own { Stays pass.old pass.new }
-    ensures claimed { (h : ℕ) → NamesPin (key table.now) h word → result ≡ true → ClaimsHeader (key table.now) (call_of pass.old) h (state pass.old) (state pass.new) }
-    ensures taken { (h : ℕ) → NamesPin (key table.now) h word → result ≡ false → Looked (key table.now) (call_of pass.old) (state pass.old) (state pass.new) (λ k. k ≡ h) }
+    ensures claimed { (h : ℕ) → NamesPin (key table.now) h word → result ≡ true → ClaimsHeader (key table.now)
+        (call_of pass.old) h (state pass.old) (state pass.new) }
+    ensures taken { (h : ℕ) → NamesPin (key table.now) h word → result ≡ false → Looked (key table.now)
+        (call_of pass.old) (state pass.old) (state pass.new) (λ k. k ≡ h) }
 {
     let seen = load(table, pass, word);
     if !is_free(seen) {

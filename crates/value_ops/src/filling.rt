@@ -48,8 +48,11 @@ pub fn fill(
     ensures header { result.header ≡ owned.header }
     ensures stamp { result.stamp ≡ stamp }
     ensures fresh { IsFreshAt result.header result.generation (state pass.new).headers }
-    ensures has { HasFresh (key table.now) result.header result.generation stamp (take len (bytes_of (words_held (class_number block.class) block.number (state pass.old).blocks.held))) (state pass.new) }
-    ensures filled { Fills (key table.now) (call_of pass.old) owned.header block.class block.number len stamp result.generation (state pass.old) (state pass.new) }
+    ensures has { HasFresh (key table.now) result.header result.generation stamp
+        (take len (bytes_of (words_held (class_number block.class) block.number (state pass.old).blocks.held)))
+        (state pass.new) }
+    ensures filled { Fills (key table.now) (call_of pass.old) owned.header block.class block.number len stamp
+        result.generation (state pass.old) (state pass.new) }
 {
     let Owned { header } = owned;
     let Block { class, number } = block;

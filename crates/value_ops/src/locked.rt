@@ -36,7 +36,8 @@ impl Locked {
         requires locked { HasLock (key table.now) self.now.header self.now.generation (state pass.old) }
         ensures own { Stays pass.old pass.new }
         ensures met { LoadsMore (key table.now) (call_of pass.old) (state pass.old) (state pass.new) }
-        ensures loaded { Loads (key table.now) (call_of pass.old) (index (key table.now) (in_headers (at_stamp self.now.header))) (state pass.old) result (state pass.new) }
+        ensures loaded { Loads (key table.now) (call_of pass.old)
+            (index (key table.now) (in_headers (at_stamp self.now.header))) (state pass.old) result (state pass.new) }
         ensures stamp { result ≡ stamp_held self.now.header (state pass.old).headers.held }
         ensures alone { Runs (FindsWord (key table.now) (in_headers (at_stamp self.now.header)) result) (state pass.old) (state pass.new) }
     {
@@ -82,8 +83,10 @@ impl Locked {
         ensures same { self.new ≡ self.old }
         ensures locked { HasLock (key table.now) self.new.header self.new.generation (state pass.new) }
         ensures held { HoldsBlock (key table.now) (class_number result.class) result.number (state pass.new).blocks }
-        ensures changed { Exchanges (key table.now) (call_of pass.old) self.old.header block.class block.number len result.class result.number (state pass.old) (state pass.new) }
-        ensures alone { Runs (ChangesWord (key table.now) self.old.header block.class block.number len result.class result.number) (state pass.old) (state pass.new) }
+        ensures changed { Exchanges (key table.now) (call_of pass.old) self.old.header block.class block.number len
+            result.class result.number (state pass.old) (state pass.new) }
+        ensures alone { Runs (ChangesWord (key table.now) self.old.header block.class block.number len result.class
+            result.number) (state pass.old) (state pass.new) }
     {
         let Block { class, number } = block;
         let old = self.place(table, pass);
@@ -102,7 +105,8 @@ impl Locked {
         ensures own { Stays pass.old pass.new }
         ensures stamp { result ≡ next_stamp (stamp_held self.now.header (state pass.old).headers.held) }
         ensures next { StoresNext (key table.now) (call_of pass.old) self.now.header result (state pass.old) (state pass.new) }
-        ensures stored { ComesTo (key table.now) (call_of pass.old) (state pass.old).blocks.held (stamped_at self.now.header result (state pass.old).headers.held) (state pass.old) (state pass.new) }
+        ensures stored { ComesTo (key table.now) (call_of pass.old) (state pass.old).blocks.held
+            (stamped_at self.now.header result (state pass.old).headers.held) (state pass.old) (state pass.new) }
     {
         let stamp = self.stamp(table, pass).saturating_add(1);
         steps::store_field(table, pass, table.stamp_at(self.header), stamp);
@@ -117,10 +121,14 @@ impl Locked {
         requires own { IsPassOf table.now pass.old }
         requires locked { HasLock (key table.now) self.header self.generation (state pass.old) }
         requires new_call { IsNewCall (call_of pass.old) (state pass.old) }
-        requires makes { MakesWrite kind (Some (value_locked self.header (state pass.old).headers.held)) (Some (value_held self.header (state pass.old).headers.held)) }
+        requires makes { MakesWrite kind (Some (value_locked self.header (state pass.old).headers.held))
+            (Some (value_held self.header (state pass.old).headers.held)) }
         ensures own { Stays pass.old pass.new }
         ensures stamp { result ≡ stamp_held self.header (state pass.old).headers.held + 1 }
-        ensures wrote { (of before : List ℕ) (stamp : ℕ) → LockOf (key table.now) of self.header self.generation before stamp (state pass.old) → Writes (call_of pass.old) of kind (Some before) (Some (value_held self.header (state pass.old).headers.held)) result (state pass.old) (state pass.new) }
+        ensures wrote { (of before : List ℕ) (stamp : ℕ)
+            → LockOf (key table.now) of self.header self.generation before stamp (state pass.old)
+            → Writes (call_of pass.old) of kind (Some before)
+            (Some (value_held self.header (state pass.old).headers.held)) result (state pass.old) (state pass.new) }
         ensures unlocked { WritesOver (key table.now) (call_of pass.old) self.header self.generation kind result (state pass.old) (state pass.new) }
         ensures alone { Runs (WritesWords (key table.now) self.header self.generation result) (state pass.old) (state pass.new) }
     {
@@ -140,8 +148,12 @@ impl Locked {
         requires locked { HasLock (key table.now) self.header self.generation (state pass.old) }
         requires new_call { IsNewCall (call_of pass.old) (state pass.old) }
         ensures own { Stays pass.old pass.new }
-        ensures wrote { (of before : List ℕ) (stamp : ℕ) → LockOf (key table.now) of self.header self.generation before stamp (state pass.old) → Writes (call_of pass.old) of Remove (Some before) None result.stamp (state pass.old) (state pass.new) }
-        ensures buries { (of before : List ℕ) (stamp : ℕ) → LockOf (key table.now) of self.header self.generation before stamp (state pass.old) → BuriesLife of result.header result.generation result.stamp true (state pass.new) }
+        ensures wrote { (of before : List ℕ) (stamp : ℕ)
+            → LockOf (key table.now) of self.header self.generation before stamp (state pass.old)
+            → Writes (call_of pass.old) of Remove (Some before) None result.stamp (state pass.old) (state pass.new) }
+        ensures buries { (of before : List ℕ) (stamp : ℕ)
+            → LockOf (key table.now) of self.header self.generation before stamp (state pass.old)
+            → BuriesLife of result.header result.generation result.stamp true (state pass.new) }
         ensures header { (result.header ≡ self.header) × (result.generation ≡ self.generation) }
         ensures has { HasBuried (key table.now) result.header result.generation result.stamp (state pass.new) }
         ensures stamp { result.stamp ≡ stamp_held self.header (state pass.old).headers.held + 1 }
@@ -165,7 +177,8 @@ impl Locked {
         requires locked { HasLock (key table.now) self.header self.generation (state pass.old) }
         requires unchanged { IsUnchanged self.header (state pass.old).headers.held }
         ensures own { Stays pass.old pass.new }
-        ensures unlocked { GivesUp (key table.now) (call_of pass.old) self.header self.generation (stamp_held self.header (state pass.old).headers.held) (state pass.old) (state pass.new) }
+        ensures unlocked { GivesUp (key table.now) (call_of pass.old) self.header self.generation
+            (stamp_held self.header (state pass.old).headers.held) (state pass.old) (state pass.new) }
         ensures alone { Runs (UnlocksPin (key table.now) self.header self.generation) (state pass.old) (state pass.new) }
     {
         let Locked {

@@ -63,9 +63,12 @@ pub fn lock(
     requires inside { header < (key table.now).headers }
     requires known { 0 < knows_life header generation (state pass.old).knowledge }
     ensures own { Stays pass.old pass.new }
-    ensures locked { IfOk result (λ l. (l.header ≡ header) × (l.generation ≡ generation) × LocksHeader (key table.now) (call_of pass.old) header generation (state pass.old) (state pass.new)) }
-    ensures has { IfOk result (λ l. HasLock (key table.now) l.header l.generation (state pass.new) × IsUnchanged l.header (state pass.new).headers.held) }
-    ensures keys { IfOk result (λ l. (of : List ℕ) → key_known header generation (state pass.old).knowledge ≡ Some of → LocksKey (key table.now) (call_of pass.old) of l.header l.generation (state pass.old) (state pass.new)) }
+    ensures locked { IfOk result (λ l. (l.header ≡ header) × (l.generation ≡ generation) × LocksHeader (key table.now)
+        (call_of pass.old) header generation (state pass.old) (state pass.new)) }
+    ensures has { IfOk result (λ l. HasLock (key table.now) l.header l.generation (state pass.new)
+        × IsUnchanged l.header (state pass.new).headers.held) }
+    ensures keys { IfOk result (λ l. (of : List ℕ) → key_known header generation (state pass.old).knowledge ≡ Some of
+        → LocksKey (key table.now) (call_of pass.old) of l.header l.generation (state pass.old) (state pass.new)) }
     ensures alone { IfOk result (λ _. Runs (LocksPin (key table.now) header generation) (state pass.old) (state pass.new)) }
     ensures refused { IfErr result (λ why. FindsNoLock (key table.now) (call_of pass.old) header generation why (state pass.old) (state pass.new)) }
     ensures refused_alone { IfErr result (λ why. Runs (RefusesPin (key table.now) header generation why) (state pass.old) (state pass.new)) }

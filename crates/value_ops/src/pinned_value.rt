@@ -1,5 +1,5 @@
 //! Values under a good pin.
-ghost use Rattle.std.specs.Prelude.{◌≡◌, ◌≢◌, ◌+◌, ◌*◌, ◌<◌, ◌≤◌, ◌++◌, ◌↔◌, IsTrue, MatchBool, ℕ, List, length, take, slice_index, slice_range};
+ghost use Rattle.std.specs.Prelude.{◌≡◌, ◌≢◌, ◌+◌, ◌*◌, ◌<◌, ◌≤◌, ◌++◌, ◌↔◌, IsTrue, MatchBool, ℕ, List, length, take, drop, min, slice_index, slice_range};
 ghost use Rattle.std.specs.Int.{w64, from_be_bytes};
 ghost use Rattle.arena_core.specs.Words.{bytes_in};
 ghost use Rattle.header_core.specs.declared.holds.PinnedHeader.{PinnedHeader};
@@ -32,7 +32,9 @@ impl HeaderPin {
         ensures pinned { IsPinnedValue (key table.now) result (state pass.new) }
         ensures header { result.header ≡ self.header }
         ensures only { LearnsByLoads (key table.now) (call_of pass.old) (state pass.old) (state pass.new) }
-        ensures reads { (of : List ℕ) → KnowsLife self.header self.generation of (state pass.old).knowledge → ReadsLife self.header self.generation of (stamp_under (state pass.new)) (value_under (state pass.new)) (state pass.old) (state pass.new) }
+        ensures reads { (of : List ℕ) → KnowsLife self.header self.generation of (state pass.old).knowledge
+            → ReadsLife self.header self.generation of (stamp_under (state pass.new)) (value_under (state pass.new))
+            (state pass.old) (state pass.new) }
         ensures found { FindsStamp (key table.now) (call_of pass.old) self.header (stamp_under (state pass.new)) (state pass.old) (state pass.new) }
     {
         let HeaderPin {
@@ -107,7 +109,8 @@ impl PinnedValue {
         requires long { length other.now ≡ length (value_under (state pass.old)) }
         requires inside { WORD * i < length (value_under (state pass.old)) }
         ensures reads { ReadsPinned (key table.now) self pass.old pass.new }
-        ensures same { MatchBool result (bytes_in i other.now ≡ bytes_in i (value_under (state pass.old))) (bytes_in i other.now ≢ bytes_in i (value_under (state pass.old))) }
+        ensures same { MatchBool result (bytes_in i other.now ≡ bytes_in i (value_under (state pass.old)))
+            (bytes_in i other.now ≢ bytes_in i (value_under (state pass.old))) }
     {
         is_word(other, i, self.word(table, pass, i))
     }
@@ -131,16 +134,31 @@ impl PinnedValue {
         true
     }
 
-    /// Copies the bytes of the value in word `i` to their place in `out`.
+    /// Copies the bytes of the value in word `i` to their place in `out`, as many as there are places.
     fn copy_word(self, table: &OakTable, pass: &mut Pass, out: &mut [u8], i: usize)
         requires own { IsPassOf table.now pass.old }
         requires pinned { IsPinnedValue (key table.now) self (state pass.old) }
-        requires long { length out.old ≡ length (value_under (state pass.old)) }
-        requires inside { WORD * i < length (value_under (state pass.old)) }
+        requires front { length out.old ≤ length (value_under (state pass.old)) }
+        requires inside { WORD * i < length out.old }
         ensures reads { ReadsPinned (key table.now) self pass.old pass.new }
-        ensures copied { take (WORD * i + WORD) out.new ≡ take (WORD * i) out.old ++ bytes_in i (value_under (state pass.old)) }
+        ensures copied { take (WORD * i + WORD) out.new ≡ take (WORD * i) out.old ++ bytes_in i
+            (take (length out.old) (value_under (state pass.old))) }
     {
         put_word(out, i, self.word(table, pass, i));
+    }
+
+    /// Copies the front of the value to `out`, as many bytes as it has places. Each word in which they stand is loaded
+    /// once.
+    fn copy_front(self, table: &OakTable, pass: &mut Pass, out: &mut [u8])
+        requires own { IsPassOf table.now pass.old }
+        requires pinned { IsPinnedValue (key table.now) self (state pass.old) }
+        requires front { length out.old ≤ length (value_under (state pass.old)) }
+        ensures reads { ReadsPinned (key table.now) self pass.old pass.new }
+        ensures copied { out.new ≡ take (length out.old) (value_under (state pass.old)) }
+    {
+        for i in 0..out.len().div_ceil(WORD) {
+            self.copy_word(table, pass, out, i);
+        }
     }
 
     /// Copies the value to `out`, which is as long. Each word of the value is loaded once.
@@ -151,9 +169,20 @@ impl PinnedValue {
         ensures reads { ReadsPinned (key table.now) self pass.old pass.new }
         ensures copied { out.new ≡ value_under (state pass.old) }
     {
-        for i in 0..out.len().div_ceil(WORD) {
-            self.copy_word(table, pass, out, i);
-        }
+        self.copy_front(table, pass, out);
+    }
+
+    /// Copies the front of the value to the front of `out`, as many bytes as both have: how many.
+    pub fn copy_prefix(self, table: &OakTable, pass: &mut Pass, out: &mut [u8]) -> usize
+        requires own { IsPassOf table.now pass.old }
+        requires pinned { IsPinnedValue (key table.now) self (state pass.old) }
+        ensures reads { ReadsPinned (key table.now) self pass.old pass.new }
+        ensures many { result ≡ min (length out.old) (length (value_under (state pass.old))) }
+        ensures copied { out.new ≡ take result (value_under (state pass.old)) ++ drop result out.old }
+    {
+        let many = out.len().min(self.length);
+        self.copy_front(table, pass, &mut out[..many]);
+        many
     }
 
     /// Undoes the pin. It makes no other step, and takes no block.

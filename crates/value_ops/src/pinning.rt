@@ -51,7 +51,8 @@ pub fn pin_at(
     requires known { KnowsHeader header generation (state pass.old) }
     requires unpinned { (state pass.old).headers.pin ≡ None }
     ensures own { Stays pass.old pass.new }
-    ensures good { IfOk result (λ p. (p.header ≡ header) × (p.generation ≡ generation) × PinsLive (key table.now) (call_of pass.old) header generation (state pass.old) (state pass.new)) }
+    ensures good { IfOk result (λ p. (p.header ≡ header) × (p.generation ≡ generation) × PinsLive (key table.now)
+        (call_of pass.old) header generation (state pass.old) (state pass.new)) }
     ensures bad { IfErr result (λ why. PinsDud (key table.now) (call_of pass.old) header generation why (state pass.old) (state pass.new)) }
 {
     let word = table.pin_at(header);

@@ -1,5 +1,5 @@
 //! Readings: the bytes of a value under a good pin.
-ghost use Rattle.std.specs.Prelude.{◌≡◌, ◌+◌, ◌*◌, ◌<◌, ◌≤◌, ◌↔◌, IsTrue, ℕ, List, length, slice_index, slice_range};
+ghost use Rattle.std.specs.Prelude.{◌≡◌, ◌+◌, ◌*◌, ◌<◌, ◌≤◌, ◌↔◌, ◌++◌, IfOk, IsTrue, ℕ, List, length, take, drop, min, slice_index, slice_range};
 ghost use Rattle.std.specs.Int.{w64, from_be_bytes};
 ghost use Rattle.header_core.specs.declared.holds.PinnedHeader.{PinnedHeader};
 ghost use Rattle.oak_core.specs.Passes.{IsPassOf, Stays, state, key, call_of};
@@ -10,6 +10,8 @@ ghost use Rattle.value_ops.specs.Reading.{IsReading, ReadsOn, value, stamp, head
 use crate::pinned_value::PinnedValue;
 use crate::pinning::HeaderPin;
 use oak_core::{OakTable, Pass};
+use oak_model::OutOfMemory;
+use std::alloc::Global;
 
 /// A value that is read under a good pin. It borrows the pass until [`Reading::done`] undoes the pin,
 /// and can't be dropped. Its calls load words of the value's block, and change nothing.
@@ -29,7 +31,9 @@ impl HeaderPin {
         ensures reading { IsReading result }
         ensures own { Stays pass.old result.pass.now }
         ensures only { LearnsByLoads (key table.now) (call_of pass.old) (state pass.old) (state result.pass.now) }
-        ensures reads { (of : List ℕ) → KnowsLife self.header self.generation of (state pass.old).knowledge → ReadsLife self.header self.generation of (stamp result) (value result) (state pass.old) (state result.pass.now) }
+        ensures reads { (of : List ℕ) → KnowsLife self.header self.generation of (state pass.old).knowledge
+            → ReadsLife self.header self.generation of (stamp result) (value result) (state pass.old)
+            (state result.pass.now) }
         ensures found { FindsStamp (key table.now) (call_of pass.old) self.header (stamp result) (state pass.old) (state result.pass.now) }
     {
         let value = self.value(table, pass);
@@ -98,11 +102,36 @@ impl Reading<'_> {
         self.value.copy_into(self.table, self.pass, out);
     }
 
+    /// Copies the front of the value to the front of `out`, as many bytes as both have: how many. Each word in which they
+    /// stand is loaded once.
+    pub fn copy_prefix(&mut self, out: &mut [u8]) -> usize
+        requires { IsReading self.old }
+        ensures same_reference { self.new.pass.ghost_name ≡ self.old.pass.ghost_name }
+        ensures reads { ReadsOn self.old self.new }
+        ensures many { result ≡ min (length out.old) (length (value self.old)) }
+        ensures copied { out.new ≡ take result (value self.old) ++ drop result out.old }
+    {
+        self.value.copy_prefix(self.table, self.pass, out)
+    }
+
+    /// A copy of the value.
+    pub fn to_vec(&mut self, alloc: Global) -> Result<Vec<u8>, OutOfMemory>
+        requires { IsReading self.old }
+        ensures same_reference { self.new.pass.ghost_name ≡ self.old.pass.ghost_name }
+        ensures reads { ReadsOn self.old self.new }
+        ensures copied { IfOk result (λ v. v.items ≡ value self.old) }
+    {
+        let mut bytes = vec![in alloc; 0u8; self.len()]?;
+        self.copy_into(bytes.as_mut_slice());
+        Ok(bytes)
+    }
+
     /// Undoes the pin. It makes no other step, and takes no block.
     pub fn done(self)
         requires { IsReading self }
         ensures own { Stays self.entry.pass.now self.exit.1.0.now }
-        ensures undone { EndsPin (key self.entry.table.now) (call_of self.entry.pass.now) (header self.entry) (state self.entry.pass.now) (state self.exit.1.0.now) }
+        ensures undone { EndsPin (key self.entry.table.now) (call_of self.entry.pass.now) (header self.entry)
+            (state self.entry.pass.now) (state self.exit.1.0.now) }
     {
         let Reading { table, pass, value } = self;
         value.unpin(table, pass);

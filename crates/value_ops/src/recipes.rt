@@ -1,3 +1,4 @@
+//! Recipes: what computes a value anew, and the one of a script's steps.
 ghost use Rattle.std.specs.Prelude.{◌≡◌, ◌<◌, ◌+◌, ◌-◌, ◌^◌, ℕ, List};
 ghost use Rattle.oak_model.specs.declared.recipes.RecipeKind.{RecipeKind};
 ghost use Rattle.oak_model.specs.declared.recipes.RecipeKind.TheVariants.{Rev};

@@ -43,7 +43,8 @@ impl Locked {
         requires words { HasWords (key table.now) self.now.header self.now.generation first (state pass.old) }
         requires inside { i < length (words_in self.now.header (state pass.old).headers.held) }
         ensures own { Stays pass.old pass.new }
-        ensures stored { ComesTo (key table.now) (call_of pass.old) (state pass.old).blocks.held (reworded self.now.header i word (state pass.old).headers.held) (state pass.old) (state pass.new) }
+        ensures stored { ComesTo (key table.now) (call_of pass.old) (state pass.old).blocks.held
+            (reworded self.now.header i word (state pass.old).headers.held) (state pass.old) (state pass.new) }
         ensures alone { Runs (PutsWord (first + i) word) (state pass.old) (state pass.new) }
     {
         steps::store_word(table, pass, first + i as u32, word);
@@ -87,7 +88,10 @@ impl Locked {
         requires words { HasWords (key table.now) self.now.header self.now.generation first (state pass.old) }
         requires room { length bytes.now ≤ 8 * length (words_in self.now.header (state pass.old).headers.held) }
         ensures own { Stays pass.old pass.new }
-        ensures stored { ComesTo (key table.now) (call_of pass.old) (state pass.old).blocks.held (with_words self.now.header (words_over bytes.now (words_in self.now.header (state pass.old).headers.held)) (state pass.old).headers.held) (state pass.old) (state pass.new) }
+        ensures stored { ComesTo (key table.now) (call_of pass.old) (state pass.old).blocks.held
+            (with_words self.now.header (words_over bytes.now
+            (words_in self.now.header (state pass.old).headers.held)) (state pass.old).headers.held) (state pass.old)
+            (state pass.new) }
         ensures alone { Runs (PutsBytes first bytes.now) (state pass.old) (state pass.new) }
     {
         for i in 0..bytes.len().div_ceil(WORD) {
@@ -104,8 +108,11 @@ impl Locked {
         ensures own { StaysButScratch pass.old pass.new }
         ensures same { self.new ≡ self.old }
         ensures locked { HasLock (key table.now) self.new.header self.new.generation (state pass.new) }
-        ensures applied { Rewrites (key table.now) (call_of pass.old) self.old.header (recipe_result (told_kind recipe.old) (told_argument recipe.old) (value_held self.old.header (state pass.old).headers.held)) (state pass.old) (state pass.new) }
-        ensures alone { Runs (AppliesTo (key table.now) self.old.header (told_kind recipe.old) (told_argument recipe.old)) (state pass.old) (state pass.new) }
+        ensures applied { Rewrites (key table.now) (call_of pass.old) self.old.header
+            (recipe_result (told_kind recipe.old) (told_argument recipe.old)
+            (value_held self.old.header (state pass.old).headers.held)) (state pass.old) (state pass.new) }
+        ensures alone { Runs (AppliesTo (key table.now) self.old.header (told_kind recipe.old)
+            (told_argument recipe.old)) (state pass.old) (state pass.new) }
         ensures once { calls recipe.new ≡ calls recipe.old + 1 }
         ensures fed { fed recipe.new (value_held self.old.header (state pass.old).headers.held) }
         ensures kind { told_kind recipe.new ≡ told_kind recipe.old }
@@ -123,11 +130,13 @@ impl Locked {
     pub fn fill(&mut self, table: &OakTable, pass: &mut Pass, bytes: &[u8])
         requires own { IsPassOf table.now pass.old }
         requires locked { HasLock (key table.now) self.old.header self.old.generation (state pass.old) }
-        requires fits { (c : Class) × (class_of (length bytes.now) ≡ Some c) × (class_in (place_held self.old.header (state pass.old).headers.held) ≡ class_number c) }
+        requires fits { (c : Class) × (class_of (length bytes.now) ≡ Some c)
+            × (class_in (place_held self.old.header (state pass.old).headers.held) ≡ class_number c) }
         ensures own { Stays pass.old pass.new }
         ensures same { self.new ≡ self.old }
         ensures locked { HasLock (key table.now) self.new.header self.new.generation (state pass.new) }
-        ensures filled { (c : Class) × (b : ℕ) × Refills (key table.now) (call_of pass.old) self.old.header c b bytes.now (state pass.old) (state pass.new) }
+        ensures filled { (c : Class) × (b : ℕ) × Refills (key table.now) (call_of pass.old) self.old.header c b
+            bytes.now (state pass.old) (state pass.new) }
         ensures alone { Runs (RefillsWords (key table.now) self.old.header bytes.now) (state pass.old) (state pass.new) }
     {
         let place = self.place(table, pass);

@@ -96,7 +96,9 @@ impl ValueView {
         requires known { KnowsView (key table.now) self.now (state pass.old) }
         requires unpinned { (state pass.old).headers.pin ≡ None }
         ensures own { Stays pass.old pass.new }
-        ensures good { IfOk result (λ p. (p.header ≡ self.now.header) × (p.generation ≡ self.now.generation) × PinsLive (key table.now) (call_of pass.old) self.now.header self.now.generation (state pass.old) (state pass.new)) }
+        ensures good { IfOk result (λ p. (p.header ≡ self.now.header) × (p.generation ≡ self.now.generation)
+            × PinsLive (key table.now) (call_of pass.old) self.now.header self.now.generation (state pass.old)
+            (state pass.new)) }
         ensures bad { IfErr result (λ why. NotRead (key table.now) (call_of pass.old) self.now why (state pass.old) (state pass.new)) }
     {
         match pin_at(table, pass, self.header, self.generation) {
@@ -109,7 +111,8 @@ impl ValueView {
     /// block.
     pub fn read<'p>(&self, table: &'p OakTable, pass: &'p mut Pass) -> Result<Reading<'p>, NoRead>
         requires { IsPassOf table.now pass.old × KnowsView (key table.now) self.now (state pass.old) × ((state pass.old).headers.pin ≡ None) }
-        ensures* rests { sem 𝓛 (RestsIfErr table_pass.the_row pass.entry (λ r. r.pass.ghost_name) result (λ n. IfErr result (λ why. RestsUnread (key table.now) (call_of pass.old) self.now why pass.old n))) }
+        ensures* rests { sem 𝓛 (RestsIfErr table_pass.the_row pass.entry (λ r. r.pass.ghost_name) result
+            (λ n. IfErr result (λ why. RestsUnread (key table.now) (call_of pass.old) self.now why pass.old n))) }
         ensures same_reference { IfOk result (λ r. r.pass.ghost_name ≡ pass.entry.ghost_name) }
         ensures table { IfOk result (λ r. r.table ≡ table.entry) }
         ensures own { IfOk result (λ r. Stays pass.old r.pass.now) }
@@ -127,7 +130,8 @@ pub fn read_view<'p>(
     view: &ValueView,
 ) -> Result<Reading<'p>, NoRead>
     requires { IsPassOf table.now pass.old × KnowsView (key table.now) view.now (state pass.old) × ((state pass.old).headers.pin ≡ None) }
-    ensures* rests { sem 𝓛 (RestsIfErr table_pass.the_row pass.entry (λ r. r.pass.ghost_name) result (λ n. IfErr result (λ why. RestsUnread (key table.now) (call_of pass.old) view.now why pass.old n))) }
+    ensures* rests { sem 𝓛 (RestsIfErr table_pass.the_row pass.entry (λ r. r.pass.ghost_name) result
+        (λ n. IfErr result (λ why. RestsUnread (key table.now) (call_of pass.old) view.now why pass.old n))) }
     ensures same_reference { IfOk result (λ r. r.pass.ghost_name ≡ pass.entry.ghost_name) }
     ensures table { IfOk result (λ r. r.table ≡ table.entry) }
     ensures own { IfOk result (λ r. Stays pass.old r.pass.now) }

@@ -1,3 +1,4 @@
+//! Tests of headers that are claimed, filled, withdrawn and released.
 ghost use Rattle.std.specs.Prelude.{◌≡◌, ◌<◌};
 ghost use Rattle.oak_model.specs.declared.classes.Class.TheVariants.{B16};
 ghost use Rattle.oak_model.specs.Class.{class_number};

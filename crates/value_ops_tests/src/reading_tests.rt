@@ -1,3 +1,4 @@
+//! Tests of readings.
 ghost use Rattle.std.specs.Prelude.{◌≡◌, ◌<◌, ◌≤◌, None, Some, IfSome, IfNone, length};
 ghost use Rattle.oak_model.specs.declared.classes.Class.TheVariants.{B16};
 ghost use Rattle.oak_model.specs.Class.{class_number, class_of};

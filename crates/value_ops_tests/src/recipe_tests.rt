@@ -1,3 +1,4 @@
+//! Tests of recipes.
 ghost use Rattle.std.specs.Prelude.{◌≡◌, length};
 
 use oak_core::Writing;

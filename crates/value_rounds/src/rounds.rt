@@ -1,3 +1,4 @@
+//! The rounds that are timed: a value is claimed, filled, read and given back.
 ghost use Rattle.std.specs.Prelude.{◌≡◌, ◌<◌, None, Some, IfSome, IfNone, length};
 ghost use Rattle.oak_model.specs.declared.classes.Class.TheVariants.{B16};
 ghost use Rattle.oak_model.specs.Class.{class_number};
@@ -124,7 +125,9 @@ fn read_pinned(pin: HeaderPin, table: &OakTable, pass: &mut Pass, number: u64) -
     requires own { IsPassOf table.now pass.old }
     requires pinned { (p : PinnedHeader) × HasPin (key table.now) pin.header pin.generation p (state pass.old) }
     ensures own { Stays pass.old pass.new }
-    ensures undone { (first : PassState) × (last : PassState) × OnlyLearns (key table.now) (call_of pass.old) (state pass.old) first × OnlyLoads (key table.now) (call_of pass.old) first last × MeetsMore (key table.now) (call_of pass.old) (with_pin None last) (state pass.new) }
+    ensures undone { (first : PassState) × (last : PassState) × OnlyLearns (key table.now) (call_of pass.old)
+        (state pass.old) first × OnlyLoads (key table.now) (call_of pass.old) first last × MeetsMore (key table.now)
+        (call_of pass.old) (with_pin None last) (state pass.new) }
 {
     let mut reading = pin.reading(table, pass);
     let read = read_eight(&mut reading, number);

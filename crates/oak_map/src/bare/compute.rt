@@ -39,10 +39,14 @@ pub fn try_compute(
     requires some { 0 < looks }
     ensures own { StaysButScratch pass.old pass.new }
     ensures holds { HoldsAsBefore (state pass.old) (state pass.new) }
-    ensures wrote { IfOk result (λ x. WroteFits x (call_of pass.old) key.now (Compute (told_kind recipe.old) (told_argument recipe.old)) (state pass.old) (state pass.new)) }
-    ensures alone_reply { IfOk result (λ x. IsAlone (state pass.old) → WroteAlone x (sizes table.now) key.now (Compute (told_kind recipe.old) (told_argument recipe.old)) (state pass.old) (state pass.new)) }
+    ensures wrote { IfOk result (λ x. WroteFits x (call_of pass.old) key.now
+        (Compute (told_kind recipe.old) (told_argument recipe.old)) (state pass.old) (state pass.new)) }
+    ensures alone_reply { IfOk result (λ x. IsAlone (state pass.old) → WroteAlone x (sizes table.now) key.now
+        (Compute (told_kind recipe.old) (told_argument recipe.old)) (state pass.old) (state pass.new)) }
     ensures alone_left { IfOk result (λ x. Runs (LeavesBy x (sizes table.now) key.now) (state pass.old) (state pass.new)) }
-    ensures busy { IfErr result (λ _. GivesUp (IsHalted (sizes table.now) (call_of pass.old) key.now (Compute (told_kind recipe.old) (told_argument recipe.old))) (call_of pass.old) looks (state pass.old) (state pass.new)) }
+    ensures busy { IfErr result (λ _. GivesUp (IsHalted (sizes table.now) (call_of pass.old) key.now
+        (Compute (told_kind recipe.old) (told_argument recipe.old))) (call_of pass.old) looks (state pass.old)
+        (state pass.new)) }
     ensures counted { IfOk result (λ x. calls recipe.new ≡ calls recipe.old + times_done (Ok x)) }
     ensures uncounted { IfErr result (λ _. calls recipe.new ≡ calls recipe.old) }
     ensures fed { IfOk result (λ x. Feeds (Ok x) key.now (fed recipe.old) (fed recipe.new) (state pass.new)) }

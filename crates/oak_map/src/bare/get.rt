@@ -26,7 +26,8 @@ pub fn try_get<'p>(
     requires idle { HoldsNothing (state pass.old) }
     requires key { IsKey key.now }
     requires some { 0 < looks }
-    ensures* rests { sem 𝓛 (RestsIfErr table_pass.the_row pass.entry (λ r. r.pass.ghost_name) result (λ n. IfErr result (λ why. RestsWithout (sizes table.now) key.now looks why pass.old n))) }
+    ensures* rests { sem 𝓛 (RestsIfErr table_pass.the_row pass.entry (λ r. r.pass.ghost_name) result
+        (λ n. IfErr result (λ why. RestsWithout (sizes table.now) key.now looks why pass.old n))) }
     ensures same_reference { IfOk result (λ r. r.pass.ghost_name ≡ pass.entry.ghost_name) }
     ensures lends { IfOk result (λ r. LendsFor table.now key.now pass.old r) }
 {

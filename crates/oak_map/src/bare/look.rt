@@ -25,7 +25,8 @@ pub fn try_look<'p>(
     requires idle { HoldsNothing (state pass.old) }
     requires known { KnowsView (sizes table.now) view.now (state pass.old) }
     requires some { 0 < looks }
-    ensures* rests { sem 𝓛 (RestsIfErr table_pass.the_row pass.entry (λ r. r.pass.ghost_name) result (λ n. IfErr result (λ why. RestsUnseen (sizes table.now) view.now looks why pass.old n))) }
+    ensures* rests { sem 𝓛 (RestsIfErr table_pass.the_row pass.entry (λ r. r.pass.ghost_name) result
+        (λ n. IfErr result (λ why. RestsUnseen (sizes table.now) view.now looks why pass.old n))) }
     ensures same_reference { IfOk result (λ r. r.pass.ghost_name ≡ pass.entry.ghost_name) }
     ensures lends { IfOk result (λ r. LendsLifeFor table.now view.now pass.old r) }
 {

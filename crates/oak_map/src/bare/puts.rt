@@ -43,10 +43,15 @@ pub fn try_put(
     ensures idle { HoldsNothing (state pass.new) }
     ensures wrote { IfOk result (λ x. PutFits x (sizes table.now) (call_of pass.old) key.now (Put value.now) (state pass.old) (state pass.new)) }
     ensures claims { ClaimsFull (sizes table.now) (state pass.old) (state pass.new) }
-    ensures alone_reply { IfOk result (λ x. IsAlone (state pass.old) → PutAlone x (sizes table.now) key.now (Put value.now) (state pass.old) (state pass.new)) }
-    ensures alone { IfOk result (λ x. Runs (PutsAlone (sizes table.now) key.now (Put value.now) (state pass.old) x) (state pass.old) (state pass.new)) }
-    ensures alone_rooms { IfOk result (λ _. IsAlone (state pass.old) → Runs (RoomsAlone (sizes table.now) key.now (Put value.now) (state pass.old) (state pass.new)) (state pass.old) (state pass.new)) }
-    ensures busy { IfErr result (λ _. StopsTrying (sizes table.now) (call_of pass.old) looks key.now (Put value.now) (state pass.old) (state pass.new)) }
+    ensures alone_reply { IfOk result (λ x. IsAlone (state pass.old) → PutAlone x (sizes table.now) key.now
+        (Put value.now) (state pass.old) (state pass.new)) }
+    ensures alone { IfOk result (λ x. Runs (PutsAlone (sizes table.now) key.now (Put value.now) (state pass.old) x)
+        (state pass.old) (state pass.new)) }
+    ensures alone_rooms { IfOk result (λ _. IsAlone (state pass.old)
+        → Runs (RoomsAlone (sizes table.now) key.now (Put value.now) (state pass.old) (state pass.new))
+        (state pass.old) (state pass.new)) }
+    ensures busy { IfErr result (λ _. StopsTrying (sizes table.now) (call_of pass.old) looks key.now (Put value.now)
+        (state pass.old) (state pass.new)) }
 {
     try_to_put(table, pass, key, value, &mut PutOver, looks)
 }
@@ -70,10 +75,15 @@ pub fn try_put_if_absent(
     ensures idle { HoldsNothing (state pass.new) }
     ensures wrote { IfOk result (λ x. PutFits x (sizes table.now) (call_of pass.old) key.now (PutNew value.now) (state pass.old) (state pass.new)) }
     ensures claims { ClaimsFull (sizes table.now) (state pass.old) (state pass.new) }
-    ensures alone_reply { IfOk result (λ x. IsAlone (state pass.old) → PutAlone x (sizes table.now) key.now (PutNew value.now) (state pass.old) (state pass.new)) }
-    ensures alone { IfOk result (λ x. Runs (PutsAlone (sizes table.now) key.now (PutNew value.now) (state pass.old) x) (state pass.old) (state pass.new)) }
-    ensures alone_rooms { IfOk result (λ _. IsAlone (state pass.old) → Runs (RoomsAlone (sizes table.now) key.now (PutNew value.now) (state pass.old) (state pass.new)) (state pass.old) (state pass.new)) }
-    ensures busy { IfErr result (λ _. StopsTrying (sizes table.now) (call_of pass.old) looks key.now (PutNew value.now) (state pass.old) (state pass.new)) }
+    ensures alone_reply { IfOk result (λ x. IsAlone (state pass.old) → PutAlone x (sizes table.now) key.now
+        (PutNew value.now) (state pass.old) (state pass.new)) }
+    ensures alone { IfOk result (λ x. Runs (PutsAlone (sizes table.now) key.now (PutNew value.now) (state pass.old) x)
+        (state pass.old) (state pass.new)) }
+    ensures alone_rooms { IfOk result (λ _. IsAlone (state pass.old)
+        → Runs (RoomsAlone (sizes table.now) key.now (PutNew value.now) (state pass.old) (state pass.new))
+        (state pass.old) (state pass.new)) }
+    ensures busy { IfErr result (λ _. StopsTrying (sizes table.now) (call_of pass.old) looks key.now
+        (PutNew value.now) (state pass.old) (state pass.new)) }
 {
     try_to_put(table, pass, key, value, &mut PutIfAbsent, looks)
 }
@@ -97,12 +107,20 @@ pub fn try_upsert(
     requires some { 0 < looks }
     ensures own { StaysButRoom pass.old pass.new }
     ensures idle { HoldsNothing (state pass.new) }
-    ensures wrote { IfOk result (λ x. PutFits x (sizes table.now) (call_of pass.old) key.now (Upsert value.now (told_kind recipe.old) (told_argument recipe.old)) (state pass.old) (state pass.new)) }
+    ensures wrote { IfOk result (λ x. PutFits x (sizes table.now) (call_of pass.old) key.now
+        (Upsert value.now (told_kind recipe.old) (told_argument recipe.old)) (state pass.old) (state pass.new)) }
     ensures claims { ClaimsFull (sizes table.now) (state pass.old) (state pass.new) }
-    ensures alone_reply { IfOk result (λ x. IsAlone (state pass.old) → PutAlone x (sizes table.now) key.now (Upsert value.now (told_kind recipe.old) (told_argument recipe.old)) (state pass.old) (state pass.new)) }
-    ensures alone { IfOk result (λ x. Runs (PutsAlone (sizes table.now) key.now (Upsert value.now (told_kind recipe.old) (told_argument recipe.old)) (state pass.old) x) (state pass.old) (state pass.new)) }
-    ensures alone_rooms { IfOk result (λ _. IsAlone (state pass.old) → Runs (RoomsAlone (sizes table.now) key.now (Upsert value.now (told_kind recipe.old) (told_argument recipe.old)) (state pass.old) (state pass.new)) (state pass.old) (state pass.new)) }
-    ensures busy { IfErr result (λ _. StopsTrying (sizes table.now) (call_of pass.old) looks key.now (Upsert value.now (told_kind recipe.old) (told_argument recipe.old)) (state pass.old) (state pass.new)) }
+    ensures alone_reply { IfOk result (λ x. IsAlone (state pass.old) → PutAlone x (sizes table.now) key.now
+        (Upsert value.now (told_kind recipe.old) (told_argument recipe.old)) (state pass.old) (state pass.new)) }
+    ensures alone { IfOk result (λ x. Runs (PutsAlone (sizes table.now) key.now
+        (Upsert value.now (told_kind recipe.old) (told_argument recipe.old)) (state pass.old) x) (state pass.old)
+        (state pass.new)) }
+    ensures alone_rooms { IfOk result (λ _. IsAlone (state pass.old)
+        → Runs (RoomsAlone (sizes table.now) key.now
+        (Upsert value.now (told_kind recipe.old) (told_argument recipe.old)) (state pass.old) (state pass.new))
+        (state pass.old) (state pass.new)) }
+    ensures busy { IfErr result (λ _. StopsTrying (sizes table.now) (call_of pass.old) looks key.now
+        (Upsert value.now (told_kind recipe.old) (told_argument recipe.old)) (state pass.old) (state pass.new)) }
     ensures counted { IfOk result (λ x. calls recipe.new ≡ calls recipe.old + times_done (Ok x)) }
     ensures uncounted { IfErr result (λ _. calls recipe.new ≡ calls recipe.old) }
     ensures fed { IfOk result (λ x. Feeds (Ok x) key.now (fed recipe.old) (fed recipe.new) (state pass.new)) }

@@ -29,9 +29,11 @@ pub fn try_remove(table: &OakTable, pass: &mut Pass, key: &[u8], looks: u32) -> 
     ensures own { Stays pass.old pass.new }
     ensures holds { HoldsAsBefore (state pass.old) (state pass.new) }
     ensures wrote { IfOk result (λ x. WroteFits x (call_of pass.old) key.now Remove (state pass.old) (state pass.new)) }
-    ensures alone_reply { IfOk result (λ x. IsAlone (state pass.old) → WroteAlone x (sizes table.now) key.now Remove (state pass.old) (state pass.new)) }
+    ensures alone_reply { IfOk result (λ x. IsAlone (state pass.old) → WroteAlone x (sizes table.now) key.now Remove
+        (state pass.old) (state pass.new)) }
     ensures alone_left { IfOk result (λ x. Runs (LeavesBy x (sizes table.now) key.now) (state pass.old) (state pass.new)) }
-    ensures busy { IfErr result (λ _. GivesUp (IsHalted (sizes table.now) (call_of pass.old) key.now Remove) (call_of pass.old) looks (state pass.old) (state pass.new)) }
+    ensures busy { IfErr result (λ _. GivesUp (IsHalted (sizes table.now) (call_of pass.old) key.now Remove)
+        (call_of pass.old) looks (state pass.old) (state pass.new)) }
 {
     for _ in 0..looks {
         if let Ok(wrote) = hinted::try_remove(table, pass, key) {

@@ -30,7 +30,8 @@ pub fn try_view(table: &OakTable, pass: &mut Pass, key: &[u8], looks: u32) -> Re
     ensures got { IfOk result (λ x. GotFits x (sizes table.now) (call_of pass.old) key.now (state pass.old) (state pass.new)) }
     ensures alone_reply { IfOk result (λ x. IsAlone (state pass.old) → GotAlone x (sizes table.now) key.now (state pass.old) (state pass.new)) }
     ensures alone { Runs StayAll (state pass.old) (state pass.new) }
-    ensures busy { IfErr result (λ _. GivesUp (IsHalted (sizes table.now) (call_of pass.old) key.now Get) (call_of pass.old) looks (state pass.old) (state pass.new)) }
+    ensures busy { IfErr result (λ _. GivesUp (IsHalted (sizes table.now) (call_of pass.old) key.now Get)
+        (call_of pass.old) looks (state pass.old) (state pass.new)) }
 {
     for _ in 0..looks {
         if let Ok(got) = hinted::try_get(table, pass, key) {

@@ -1,6 +1,6 @@
 use Rattle.std.proofs.Common.{◌≡◌, ◌≤◌, ◌<◌, ◌/◌, arith}
 use Rattle.oak_core.specs.Passes.{state, key, call_of}
-use Rattle.oak_core.proofs.SamePass.{stays_both}
+use Rattle.oak_core.proofs.seats.SamePass.{stays_both}
 use Rattle.arena_ops.proofs.LookLaws.{takes_behind, looked_only}
 use Rattle.arena_ops.proofs.SearchLaws.{looked_in, takes_in, next_word}
 use Rattle.arena_ops.proofs.searching.take_between.Goals as goal

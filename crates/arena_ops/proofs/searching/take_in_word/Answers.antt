@@ -7,10 +7,10 @@ use Rattle.arena_core.specs.ArenaStep.{take_bit}
 use Rattle.oak_core.specs.Memory.{in_arena}
 use Rattle.oak_core.specs.Passes.{state, key, call_of}
 use Rattle.oak_core.specs.Step.{on_arena}
-use Rattle.oak_core.proofs.KeepsArena.{class_below}
-use Rattle.oak_core.proofs.MetMore.{told_in}
-use Rattle.oak_core.proofs.Words.{index_below}
-use Rattle.oak_core.proofs.SamePass.{stays_both}
+use Rattle.oak_core.proofs.kinds.KeepsArena.{class_below}
+use Rattle.oak_core.proofs.calls.MetMore.{told_in}
+use Rattle.oak_core.proofs.memory.Words.{index_below}
+use Rattle.oak_core.proofs.seats.SamePass.{stays_both}
 use Rattle.arena_ops.specs.Looking.{Looked}
 use Rattle.arena_ops.proofs.BitFacts.{loaded, set_before, now_taken}
 use Rattle.arena_ops.proofs.LookLaws.{takes_behind}

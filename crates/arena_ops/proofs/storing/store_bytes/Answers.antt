@@ -1,6 +1,6 @@
 use Rattle.std.proofs.Common.{◌*◌, ◌<◌, length, refl, sym, subst, ◌∙◌, ℕ}
 use Rattle.oak_core.specs.Passes.{state, key, call_of}
-use Rattle.oak_core.proofs.SamePass.{stays_both}
+use Rattle.oak_core.proofs.seats.SamePass.{stays_both}
 use Rattle.arena_ops.specs.Taking.{Stores}
 use Rattle.arena_core.proofs.WordLaws.{words_at, words_done, word_of_loop}
 use Rattle.arena_ops.proofs.StoredBytes.{none_stored, one_stored, bytes_stored, word_inside}

@@ -3,7 +3,7 @@ use Rattle.oak_model.specs.Limits.{Sizes}
 use Rattle.oak_core.specs.AloneWords.{Runs}
 use Rattle.oak_core.specs.Passes.{state, key as sizes, call_of}
 use Rattle.oak_core.specs.QuietSteps.{TookNone}
-use Rattle.oak_core.proofs.QuietCalls.{only_both, quiet_took}
+use Rattle.oak_core.proofs.calls.QuietCalls.{only_both, quiet_took}
 use Rattle.chunk_ops.specs.Finds.{FindsKey, FindsMissing}
 use Rattle.chunk_ops.specs.FindsAlone.{CountedIn, FindsIn, as_found}
 use Rattle.chunk_ops.specs.Latching.{AddsUnder}

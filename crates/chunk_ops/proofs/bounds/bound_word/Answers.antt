@@ -2,7 +2,7 @@ use Rattle.std.proofs.Common.{arith}
 use Rattle.oak_model.specs.Limits.{Sizes}
 use Rattle.oak_core.specs.Memory.{in_rooms}
 use Rattle.oak_core.specs.Passes.{state, key, call_of}
-use Rattle.oak_core.proofs.Words.{index_below}
+use Rattle.oak_core.proofs.memory.Words.{index_below}
 use Rattle.chunk_ops.specs.PinnedBounds.{bound_spot}
 use Rattle.chunk_ops.proofs.WordLoads.{bound_inside, bound_loaded, load_at, only_loaded, bound_plain}
 use Rattle.chunk_ops.proofs.RoomTries.{pins_load}

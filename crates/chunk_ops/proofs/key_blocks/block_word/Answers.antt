@@ -4,7 +4,7 @@ use Rattle.oak_model.specs.Limits.{Sizes}
 use Rattle.arena_core.specs.Arena.{at_bytes}
 use Rattle.oak_core.specs.Memory.{in_arena}
 use Rattle.oak_core.specs.Passes.{state, key, call_of}
-use Rattle.oak_core.proofs.Words.{index_below}
+use Rattle.oak_core.proofs.memory.Words.{index_below}
 use Rattle.chunk_ops.proofs.HeldBytes.{held_inside, word_loaded}
 use Rattle.chunk_ops.proofs.WordLoads.{only_loaded}
 use Rattle.chunk_ops.proofs.key_blocks.block_word.Goals as goal

@@ -3,7 +3,7 @@ use Rattle.oak_model.specs.Class.{class_number}
 use Rattle.oak_model.specs.WordBytes.{bytes_of}
 use Rattle.arena_core.specs.Blocks.{words_held}
 use Rattle.oak_core.specs.Passes.{state, call_of}
-use Rattle.oak_core.proofs.SamePass.{stays_both}
+use Rattle.oak_core.proofs.seats.SamePass.{stays_both}
 use Rattle.chunk_ops.proofs.HeldBytes.{copied_word, copied_all}
 use Rattle.chunk_ops.proofs.MeetingCalls.{only_both, only_in}
 use Rattle.chunk_ops.proofs.key_blocks.held_bytes.Goals as goal

@@ -6,7 +6,7 @@ use Rattle.oak_core.specs.AloneWords.{Runs}
 use Rattle.oak_core.specs.Passes.{state, key, call_of}
 use Rattle.oak_core.specs.QuietSteps.{TookNone}
 use Rattle.oak_core.specs.RoomCalls.{PublishesEntry}
-use Rattle.oak_core.proofs.QuietCalls.{only_both, quiet_took}
+use Rattle.oak_core.proofs.calls.QuietCalls.{only_both, quiet_took}
 use Rattle.chunk_ops.specs.Latching.{AddsUnder}
 use Rattle.chunk_ops.specs.PinRecords.{room_pin}
 use Rattle.chunk_ops.proofs.EntryAdds.{may_publish, adds_each}

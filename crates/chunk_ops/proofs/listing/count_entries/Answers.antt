@@ -3,7 +3,7 @@ use Rattle.oak_model.specs.Limits.{Sizes}
 use Rattle.chunk_core.specs.Rooms.{at_count}
 use Rattle.oak_core.specs.Memory.{in_rooms}
 use Rattle.oak_core.specs.Passes.{state, key as sizes, call_of}
-use Rattle.oak_core.proofs.Words.{index_below}
+use Rattle.oak_core.proofs.memory.Words.{index_below}
 use Rattle.chunk_ops.specs.Listing.{ListsRoom}
 use Rattle.chunk_ops.proofs.ListedEntries.{lists_room}
 use Rattle.chunk_ops.proofs.WordLoads.{load_at}

@@ -6,8 +6,8 @@ use Rattle.arena_core.specs.Place.{class_in, block_in}
 use Rattle.arena_core.specs.Words.{word_of}
 use Rattle.oak_core.specs.Memory.{in_arena}
 use Rattle.oak_core.specs.Passes.{state, key as sizes, call_of}
-use Rattle.oak_core.proofs.SamePass.{stays_both}
-use Rattle.oak_core.proofs.Words.{index_below}
+use Rattle.oak_core.proofs.seats.SamePass.{stays_both}
+use Rattle.oak_core.proofs.memory.Words.{index_below}
 use Rattle.chunk_ops.proofs.FoundEntries.{class_is, word_at, pin_still, entry_still}
 use Rattle.chunk_ops.proofs.ListedEntries.{key_inside, key_bytes_small, key_word_part}
 use Rattle.chunk_ops.proofs.MeetingCalls.{only_both, only_in}

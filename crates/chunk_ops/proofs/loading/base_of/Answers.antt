@@ -3,7 +3,7 @@ use Rattle.oak_model.specs.Limits.{Sizes}
 use Rattle.chunk_core.specs.Rooms.{at_base}
 use Rattle.oak_core.specs.Memory.{in_rooms}
 use Rattle.oak_core.specs.Passes.{state, key, call_of}
-use Rattle.oak_core.proofs.Words.{index_below}
+use Rattle.oak_core.proofs.memory.Words.{index_below}
 use Rattle.chunk_ops.proofs.WordLoads.{base_loaded, load_at, only_loaded}
 use Rattle.chunk_ops.proofs.loading.base_of.Goals as goal
 

@@ -4,7 +4,7 @@ use Rattle.arena_core.specs.Arena.{at_bytes, block_words, blocks}
 use Rattle.arena_core.specs.Place.{class_in, block_in}
 use Rattle.oak_core.specs.Memory.{in_arena}
 use Rattle.oak_core.specs.Passes.{state, key, call_of}
-use Rattle.oak_core.proofs.Words.{index_below}
+use Rattle.oak_core.proofs.memory.Words.{index_below}
 use Rattle.chunk_ops.proofs.FoundEntries.{block_inside, byte_found, class_is, pin_still, entry_still, word_at}
 use Rattle.chunk_ops.proofs.MeetingCalls.{only_both, only_in}
 use Rattle.chunk_ops.proofs.WordLoads.{only_loaded}

@@ -3,7 +3,7 @@ use Rattle.oak_model.specs.Limits.{Sizes}
 use Rattle.chunk_core.specs.Rooms.{at_key}
 use Rattle.oak_core.specs.Memory.{in_rooms}
 use Rattle.oak_core.specs.Passes.{state, key, call_of}
-use Rattle.oak_core.proofs.Words.{index_below}
+use Rattle.oak_core.proofs.memory.Words.{index_below}
 use Rattle.chunk_ops.proofs.FoundEntries.{key_word_found}
 use Rattle.chunk_ops.proofs.WordLoads.{found_inside, load_at, only_loaded}
 use Rattle.chunk_ops.proofs.loading.key_word.Goals as goal

@@ -1,7 +1,7 @@
 use Rattle.std.proofs.Common.{◌≡◌, ℕ, sym, subst, arith}
 use Rattle.chunk_core.specs.ValueWord.{names_header, header_in, generation_in}
 use Rattle.oak_core.specs.KeyReads.{home_of}
-use Rattle.oak_core.proofs.HomeWords.{home_names}
+use Rattle.oak_core.proofs.memory.HomeWords.{home_names}
 use Rattle.chunk_ops.proofs.setting.life_word.Goals as goal
 
 pub returns-clause-names : goal.returns-clause-names

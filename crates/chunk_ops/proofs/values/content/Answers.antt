@@ -3,7 +3,7 @@ use Rattle.oak_model.specs.Limits.{Sizes}
 use Rattle.chunk_core.specs.Rooms.{at_value}
 use Rattle.oak_core.specs.Memory.{in_rooms}
 use Rattle.oak_core.specs.Passes.{state, key, call_of}
-use Rattle.oak_core.proofs.Words.{index_below}
+use Rattle.oak_core.proofs.memory.Words.{index_below}
 use Rattle.chunk_ops.proofs.ContentLoads.{content_found, content_tells, content_only, content_alone}
 use Rattle.chunk_ops.proofs.WordLoads.{found_inside, load_at}
 use Rattle.chunk_ops.proofs.values.content.Goals as goal

@@ -1,6 +1,6 @@
 use Rattle.std.proofs.Common.{◌∙◌, ◌≡◌}
 use Rattle.oak_core.specs.Passes.{state}
-use Rattle.oak_core.proofs.Alone.{numbers_alone}
+use Rattle.oak_core.proofs.seats.Alone.{numbers_alone}
 use Rattle.chunk_ops_tests.proofs.adding_tests.two_threads_add_to_one_room.Goals as goal
 
 pub split_and_add-requires-clause-alone : goal.split_and_add-requires-clause-alone

@@ -2,7 +2,7 @@ use Rattle.std.proofs.Common.{arith}
 use Rattle.chunk_core.specs.Rooms.{at_room_pin}
 use Rattle.oak_core.specs.Memory.{in_rooms}
 use Rattle.oak_core.specs.Passes.{key}
-use Rattle.oak_core.proofs.Words.{index_below}
+use Rattle.oak_core.proofs.memory.Words.{index_below}
 use Rattle.chunk_ops_tests.proofs.tests.no_pin_left.Goals as goal
 
 pub load-word-requires-clause-inside : goal.load-word-requires-clause-inside

@@ -1,8 +1,8 @@
 use Rattle.std.proofs.Common.{◌≡◌, ◌+◌, ◌*◌, ◌<◌, suc, refl, ap, subst, arith, List, ℕ, set}
 use Rattle.oak_model.specs.Limits.{Sizes}
 use Rattle.oak_core.specs.Memory.{rooms_at, word_count}
-use Rattle.oak_core.proofs.OpeningWords.{IsLaid, none_laid, more_laid, all_laid}
-use Rattle.oak_core.proofs.Words.{rooms_begin}
+use Rattle.oak_core.proofs.openings.OpeningWords.{IsLaid, none_laid, more_laid, all_laid}
+use Rattle.oak_core.proofs.memory.Words.{rooms_begin}
 use Rattle.oak_model.specs.contracts.shapes.Shape.{the_view}
 use Rattle.oak_core.proofs.first_words.opening_words.Goals as goal
 

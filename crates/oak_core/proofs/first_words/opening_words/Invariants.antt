@@ -1,4 +1,4 @@
-use Rattle.oak_core.proofs.OpeningWords.{IsLaid}
+use Rattle.oak_core.proofs.openings.OpeningWords.{IsLaid}
 use Rattle.oak_core.proofs.first_words.opening_words.Given as goal
 
 abbrev pub invariant-loop-header : goal.invariant-loop-header

@@ -1,7 +1,7 @@
 use Rattle.std.proofs.Common.{arith}
 use Rattle.oak_core.specs.Passes.{key, opened_at, call_of}
-use Rattle.oak_core.proofs.HeaderNames.{pin_below}
-use Rattle.oak_core.proofs.LockNames.{allows_lock}
+use Rattle.oak_core.proofs.memory.HeaderNames.{pin_below}
+use Rattle.oak_core.proofs.memory.LockNames.{allows_lock}
 use Rattle.oak_core.proofs.header_steps.lock_header.Goals as goal
 
 pub exchange_said-requires-clause-rule : goal.exchange_said-requires-clause-rule

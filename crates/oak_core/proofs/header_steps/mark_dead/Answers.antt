@@ -1,7 +1,7 @@
 use Rattle.std.proofs.Common.{arith}
 use Rattle.oak_core.specs.Passes.{key, opened_at, call_of}
-use Rattle.oak_core.proofs.HeaderNames.{pin_below}
-use Rattle.oak_core.proofs.LockNames.{allows_bury}
+use Rattle.oak_core.proofs.memory.HeaderNames.{pin_below}
+use Rattle.oak_core.proofs.memory.LockNames.{allows_bury}
 use Rattle.oak_core.proofs.header_steps.mark_dead.Goals as goal
 
 pub add_said-requires-clause-rule : goal.add_said-requires-clause-rule

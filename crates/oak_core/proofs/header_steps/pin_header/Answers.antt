@@ -1,6 +1,6 @@
 use Rattle.std.proofs.Common.{arith}
 use Rattle.oak_core.specs.Passes.{key, opened_at, call_of}
-use Rattle.oak_core.proofs.HeaderNames.{pin_below, allows_pin}
+use Rattle.oak_core.proofs.memory.HeaderNames.{pin_below, allows_pin}
 use Rattle.oak_core.proofs.header_steps.pin_header.Goals as goal
 
 pub add_wanted-requires-clause-rule : goal.add_wanted-requires-clause-rule

@@ -1,6 +1,6 @@
 use Rattle.std.proofs.Common.{arith}
 use Rattle.oak_core.specs.Passes.{key, opened_at, call_of}
-use Rattle.oak_core.proofs.FieldNames.{field_below, allows_field}
+use Rattle.oak_core.proofs.memory.FieldNames.{field_below, allows_field}
 use Rattle.oak_core.proofs.header_steps.store_field.Goals as goal
 
 pub store_said-requires-clause-rule : goal.store_said-requires-clause-rule

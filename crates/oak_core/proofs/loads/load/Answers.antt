@@ -1,6 +1,6 @@
 use Rattle.oak_core.specs.Passes.{state, key, opened_at, call_of}
-use Rattle.oak_core.proofs.Allowed.{allows_load}
-use Rattle.oak_core.proofs.AloneRuns.{loads_run}
+use Rattle.oak_core.proofs.seats.Allowed.{allows_load}
+use Rattle.oak_core.proofs.seats.AloneRuns.{loads_run}
 use Rattle.oak_core.proofs.loads.load.Goals as goal
 
 pub load_said-requires-clause-rule : goal.load_said-requires-clause-rule

@@ -1,6 +1,6 @@
 use Rattle.std.proofs.Common.{arith}
 use Rattle.oak_core.specs.Passes.{key, opened_at, call_of}
-use Rattle.oak_core.proofs.RoomNames.{latch_below, allows_latch}
+use Rattle.oak_core.proofs.memory.RoomNames.{latch_below, allows_latch}
 use Rattle.oak_core.proofs.room_steps.latch.Goals as goal
 
 pub exchange_said-requires-clause-rule : goal.exchange_said-requires-clause-rule

@@ -1,7 +1,7 @@
 use Rattle.std.proofs.Common.{arith}
 use Rattle.oak_core.specs.Passes.{key, opened_at, call_of}
-use Rattle.oak_core.proofs.RebalanceNames.{allows_open_room}
-use Rattle.oak_core.proofs.RoomNames.{room_pin_below}
+use Rattle.oak_core.proofs.memory.RebalanceNames.{allows_open_room}
+use Rattle.oak_core.proofs.memory.RoomNames.{room_pin_below}
 use Rattle.oak_core.proofs.room_steps.open_room.Goals as goal
 
 pub sub_said-requires-clause-rule : goal.sub_said-requires-clause-rule

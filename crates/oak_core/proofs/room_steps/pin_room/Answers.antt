@@ -1,6 +1,6 @@
 use Rattle.std.proofs.Common.{arith}
 use Rattle.oak_core.specs.Passes.{key, opened_at, call_of}
-use Rattle.oak_core.proofs.RoomNames.{room_pin_below, allows_pin_room}
+use Rattle.oak_core.proofs.memory.RoomNames.{room_pin_below, allows_pin_room}
 use Rattle.oak_core.proofs.room_steps.pin_room.Goals as goal
 
 pub add_said-found-requires-clause-rule : goal.add_said-found-requires-clause-rule

@@ -1,6 +1,6 @@
 use Rattle.std.proofs.Common.{arith}
 use Rattle.oak_core.specs.Passes.{key, opened_at, call_of}
-use Rattle.oak_core.proofs.RoomNames.{count_below, allows_publish}
+use Rattle.oak_core.proofs.memory.RoomNames.{count_below, allows_publish}
 use Rattle.oak_core.proofs.room_steps.publish_entry.Goals as goal
 
 pub store_said-requires-clause-rule : goal.store_said-requires-clause-rule

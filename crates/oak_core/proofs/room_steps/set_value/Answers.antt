@@ -1,7 +1,7 @@
 use Rattle.std.proofs.Common.{arith}
 use Rattle.chunk_core.specs.RoomStep.{of_value}
 use Rattle.oak_core.specs.Passes.{key, opened_at, call_of}
-use Rattle.oak_core.proofs.RoomNames.{entry_below, allows_set}
+use Rattle.oak_core.proofs.memory.RoomNames.{entry_below, allows_set}
 use Rattle.oak_core.proofs.room_steps.set_value.Goals as goal
 
 pub exchange_of_kind-requires-clause-rule : goal.exchange_of_kind-requires-clause-rule

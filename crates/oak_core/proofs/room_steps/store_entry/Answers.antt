@@ -1,6 +1,6 @@
 use Rattle.std.proofs.Common.{arith}
 use Rattle.oak_core.specs.Passes.{key, opened_at, call_of}
-use Rattle.oak_core.proofs.RoomNames.{entry_below, allows_entry}
+use Rattle.oak_core.proofs.memory.RoomNames.{entry_below, allows_entry}
 use Rattle.oak_core.proofs.room_steps.store_entry.Goals as goal
 
 pub store_said-requires-clause-rule : goal.store_said-requires-clause-rule

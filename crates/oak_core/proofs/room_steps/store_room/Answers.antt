@@ -1,6 +1,6 @@
 use Rattle.std.proofs.Common.{arith}
 use Rattle.oak_core.specs.Passes.{key, opened_at, call_of}
-use Rattle.oak_core.proofs.RebalanceNames.{room_word_below, allows_room_word}
+use Rattle.oak_core.proofs.memory.RebalanceNames.{room_word_below, allows_room_word}
 use Rattle.oak_core.proofs.room_steps.store_room.Goals as goal
 
 pub store_said-requires-clause-rule : goal.store_said-requires-clause-rule

@@ -1,6 +1,6 @@
 use Rattle.std.proofs.Common.{arith}
 use Rattle.oak_core.specs.Passes.{key, opened_at, call_of}
-use Rattle.oak_core.proofs.RoomNames.{latch_below, allows_unlatch}
+use Rattle.oak_core.proofs.memory.RoomNames.{latch_below, allows_unlatch}
 use Rattle.oak_core.proofs.room_steps.unlatch.Goals as goal
 
 pub store_said-requires-clause-rule : goal.store_said-requires-clause-rule

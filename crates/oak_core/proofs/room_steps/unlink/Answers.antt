@@ -1,7 +1,7 @@
 use Rattle.std.proofs.Common.{arith}
 use Rattle.chunk_core.specs.RoomStep.{of_value}
 use Rattle.oak_core.specs.Passes.{key, opened_at, call_of}
-use Rattle.oak_core.proofs.RoomNames.{entry_below, allows_unlink}
+use Rattle.oak_core.proofs.memory.RoomNames.{entry_below, allows_unlink}
 use Rattle.oak_core.proofs.room_steps.unlink.Goals as goal
 
 pub store_said-requires-clause-rule : goal.store_said-requires-clause-rule

@@ -1,11 +1,11 @@
 use Rattle.std.proofs.Common.{arith}
 use Rattle.oak_core.specs.Schedule.{opening}
-use Rattle.oak_core.proofs.BasesRise.{bases_rise}
-use Rattle.oak_core.proofs.EachEvent.{schedule_keeps}
-use Rattle.oak_core.proofs.HeldAlone.{held_alone}
-use Rattle.oak_core.proofs.Opening.{opening_rule}
-use Rattle.oak_core.proofs.Rebalances.{rebalance_keys, held_dud}
-use Rattle.oak_core.proofs.SinceOpening.{at_opening}
+use Rattle.oak_core.proofs.covers.BasesRise.{bases_rise}
+use Rattle.oak_core.proofs.kinds.EachEvent.{schedule_keeps}
+use Rattle.oak_core.proofs.covers.HeldAlone.{held_alone}
+use Rattle.oak_core.proofs.openings.Opening.{opening_rule}
+use Rattle.oak_core.proofs.covers.Rebalances.{rebalance_keys, held_dud}
+use Rattle.oak_core.proofs.openings.SinceOpening.{at_opening}
 use Rattle.oak_core.proofs.schedules.every_schedule.Goals as goal
 
 pub returns-clause-from_any_state : goal.returns-clause-from_any_state

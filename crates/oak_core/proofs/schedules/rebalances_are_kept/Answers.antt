@@ -1,6 +1,6 @@
 use Rattle.std.proofs.Common.{◌∙◌, ap}
 use Rattle.oak_core.specs.declared.states.PassState.{PassState}
-use Rattle.oak_core.proofs.RebalancesKept.{none_rebalances, room_kept_by}
+use Rattle.oak_core.proofs.covers.RebalancesKept.{none_rebalances, room_kept_by}
 use Rattle.oak_core.proofs.schedules.rebalances_are_kept.Goals as goal
 
 pub returns-clause-kept : goal.returns-clause-kept

@@ -1,6 +1,6 @@
 use Rattle.std.proofs.Common.{arith}
 use Rattle.oak_core.specs.Passes.{key, opened_at, call_of}
-use Rattle.oak_core.proofs.ArenaNames.{mask_below, allows_clear}
+use Rattle.oak_core.proofs.memory.ArenaNames.{mask_below, allows_clear}
 use Rattle.oak_core.proofs.steps.clear_bit.Goals as goal
 
 pub and_said-requires-clause-rule : goal.and_said-requires-clause-rule

@@ -1,6 +1,6 @@
 use Rattle.std.proofs.Common.{arith}
 use Rattle.oak_core.specs.Passes.{key, opened_at, call_of}
-use Rattle.oak_core.proofs.ArenaNames.{word_below, allows_store}
+use Rattle.oak_core.proofs.memory.ArenaNames.{word_below, allows_store}
 use Rattle.oak_core.proofs.steps.store_word.Goals as goal
 
 pub store_said-requires-clause-rule : goal.store_said-requires-clause-rule

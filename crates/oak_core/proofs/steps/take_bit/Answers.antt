@@ -1,6 +1,6 @@
 use Rattle.std.proofs.Common.{arith}
 use Rattle.oak_core.specs.Passes.{key, opened_at, call_of}
-use Rattle.oak_core.proofs.ArenaNames.{bit_below, allows_take}
+use Rattle.oak_core.proofs.memory.ArenaNames.{bit_below, allows_take}
 use Rattle.oak_core.proofs.steps.take_bit.Goals as goal
 
 pub or_said-requires-clause-rule : goal.or_said-requires-clause-rule

@@ -1,4 +1,4 @@
-use Rattle.oak_core.proofs.Alone.{numbers_alone}
+use Rattle.oak_core.proofs.seats.Alone.{numbers_alone}
 use Rattle.oak_core_tests.proofs.pass_tests.a_pinned_room.Goals as goal
 
 pub pin_and_unpin-requires-clause-alone : goal.pin_and_unpin-requires-clause-alone

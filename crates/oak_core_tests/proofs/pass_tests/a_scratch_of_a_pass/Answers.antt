@@ -1,4 +1,4 @@
-use Rattle.oak_core.proofs.Alone.{numbers_alone}
+use Rattle.oak_core.proofs.seats.Alone.{numbers_alone}
 use Rattle.oak_core_tests.proofs.pass_tests.a_scratch_of_a_pass.Goals as goal
 
 pub write_between_loads-requires-clause-alone : goal.write_between_loads-requires-clause-alone

@@ -1,7 +1,7 @@
 use Rattle.std.proofs.Common.{ap, ◌∙◌}
 use Rattle.oak_core.specs.declared.table.Pass.{Pass}
 use Rattle.oak_core.specs.Passes.{state}
-use Rattle.oak_core.proofs.Alone.{numbers_alone}
+use Rattle.oak_core.proofs.seats.Alone.{numbers_alone}
 use Rattle.oak_core_tests.proofs.pass_tests.hints_of_a_pass.Goals as goal
 
 pub close-requires-clause-alone : goal.close-requires-clause-alone

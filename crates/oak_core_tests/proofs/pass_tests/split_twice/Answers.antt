@@ -9,7 +9,7 @@ use Rattle.oak_core.specs.Passes.{state, key, call_of}
 use Rattle.oak_core.specs.PassState.{bare_state, has_number, IsAlone}
 use Rattle.oak_core.specs.Opening.{first_state}
 use Rattle.oak_core.specs.Splitting.{SplitsOff}
-use Rattle.oak_core.proofs.Alone.{alone_again, numbers_alone}
+use Rattle.oak_core.proofs.seats.Alone.{alone_again, numbers_alone}
 use Rattle.oak_core_tests.proofs.pass_tests.split_twice.Goals as goal
 
 -- the number 0 is taken, so of two the other is 1

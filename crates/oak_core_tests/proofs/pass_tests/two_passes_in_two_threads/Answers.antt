@@ -1,6 +1,6 @@
 use Rattle.std.proofs.Common.{◌∙◌, ◌≡◌}
 use Rattle.oak_core.specs.Passes.{state}
-use Rattle.oak_core.proofs.Alone.{numbers_alone}
+use Rattle.oak_core.proofs.seats.Alone.{numbers_alone}
 use Rattle.oak_core_tests.proofs.pass_tests.two_passes_in_two_threads.Goals as goal
 
 pub split_and_join-requires-clause-alone : goal.split_and_join-requires-clause-alone

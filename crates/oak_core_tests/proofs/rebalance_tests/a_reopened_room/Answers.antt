@@ -1,4 +1,4 @@
-use Rattle.oak_core.proofs.Alone.{numbers_alone}
+use Rattle.oak_core.proofs.seats.Alone.{numbers_alone}
 use Rattle.oak_core_tests.proofs.rebalance_tests.a_reopened_room.Goals as goal
 
 pub close_and_reopen-requires-clause-alone : goal.close_and_reopen-requires-clause-alone

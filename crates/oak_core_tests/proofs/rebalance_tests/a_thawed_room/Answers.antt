@@ -1,4 +1,4 @@
-use Rattle.oak_core.proofs.Alone.{numbers_alone}
+use Rattle.oak_core.proofs.seats.Alone.{numbers_alone}
 use Rattle.oak_core_tests.proofs.rebalance_tests.a_thawed_room.Goals as goal
 
 pub split_and_thaw-requires-clause-alone : goal.split_and_thaw-requires-clause-alone

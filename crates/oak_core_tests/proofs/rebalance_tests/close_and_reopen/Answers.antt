@@ -9,9 +9,9 @@ use Rattle.oak_core.specs.declared.states.PassState.{PassState}
 use Rattle.oak_core.specs.Passes.{state, key, call_of}
 use Rattle.oak_core.specs.RoomCalls.{NamesRoomPin, NamesRoomWord}
 use Rattle.oak_core.specs.Schedule.{opening}
-use Rattle.oak_core.proofs.ReopenedPass.{next_word, may_hold, comes_to_hold, may_store, holds_stored, may_open, holds_no_more, else_then, else_frozen, else_held, else_stored, else_opened, else_loaded, holds_nothing, alone_still}
-use Rattle.oak_core.proofs.ReopenedSteps.{HasPin, opened_pin, pin_stands, frozen_rooms}
-use Rattle.oak_core.proofs.RoomNames.{room_pin_below}
+use Rattle.oak_core.proofs.openings.ReopenedPass.{next_word, may_hold, comes_to_hold, may_store, holds_stored, may_open, holds_no_more, else_then, else_frozen, else_held, else_stored, else_opened, else_loaded, holds_nothing, alone_still}
+use Rattle.oak_core.proofs.openings.ReopenedSteps.{HasPin, opened_pin, pin_stands, frozen_rooms}
+use Rattle.oak_core.proofs.memory.RoomNames.{room_pin_below}
 use Rattle.oak_core_tests.proofs.rebalance_tests.close_and_reopen.Goals as goal
 
 pub freeze-before-requires-clause-names : goal.freeze-before-requires-clause-names

@@ -16,10 +16,10 @@ use Rattle.oak_core.specs.Passes.{state, key, call_of}
 use Rattle.oak_core.specs.RoomCalls.{NamesRoomPin}
 use Rattle.oak_core.specs.Step.{on_rooms, Told}
 use Rattle.oak_core.specs.Thawing.{ThawsRoom}
-use Rattle.oak_core.proofs.ReopenedPass.{else_then, else_frozen, holds_nothing}
-use Rattle.oak_core.proofs.ReopenedRoom.{freezing}
-use Rattle.oak_core.proofs.ReopenedSteps.{frozen_once}
-use Rattle.oak_core.proofs.Words.{memory_read}
+use Rattle.oak_core.proofs.openings.ReopenedPass.{else_then, else_frozen, holds_nothing}
+use Rattle.oak_core.proofs.openings.ReopenedRoom.{freezing}
+use Rattle.oak_core.proofs.openings.ReopenedSteps.{frozen_once}
+use Rattle.oak_core.proofs.memory.Words.{memory_read}
 use Rattle.oak_core_tests.proofs.rebalance_tests.freeze_and_thaw.Goals as goal
 
 -- the words of a room with one pin, open and frozen

@@ -12,7 +12,7 @@ use Rattle.oak_core.specs.PassState.{HoldsNothing}
 use Rattle.oak_core.specs.Passes.{state, key, call_of}
 use Rattle.oak_core.specs.RoomCalls.{NamesRoomPin}
 use Rattle.oak_core.specs.Step.{on_rooms, Told, MayOnRooms}
-use Rattle.oak_core.proofs.ReopenedPass.{StaysElse, else_then, holds_nothing}
+use Rattle.oak_core.proofs.openings.ReopenedPass.{StaysElse, else_then, holds_nothing}
 use Rattle.oak_core_tests.proofs.rebalance_tests.pin_round_a_thaw.Goals as goal
 
 module _ (z : Sizes) (call next n k : ℕ) (u v w : PassState) (idle : HoldsNothing u) (t : Told z call (on_rooms (pin_room 0)) u n v) where

@@ -1,6 +1,6 @@
 use Rattle.std.proofs.Common.{ℕ, subst}
 use Rattle.oak_core.specs.Passes.{call_of, key as sizes, state}
-use Rattle.oak_core.proofs.SamePass.{stays_both}
+use Rattle.oak_core.proofs.seats.SamePass.{stays_both}
 use Rattle.value_ops.specs.Views.{Viewed}
 use Rattle.oak_map.specs.Finding.{PinsView}
 use Rattle.oak_map.specs.GivingUp.{GivesUpLife}

@@ -1,6 +1,6 @@
 use Rattle.std.proofs.Common.{ℕ, subst}
 use Rattle.oak_core.specs.Passes.{call_of, key as sizes, state}
-use Rattle.oak_core.proofs.SamePass.{stays_both}
+use Rattle.oak_core.proofs.seats.SamePass.{stays_both}
 use Rattle.point_ops.specs.Replies.{Refuses}
 use Rattle.point_ops.proofs.Outcomes.{err_map, ok_map}
 use Rattle.oak_map.specs.Finding.{PinsKey}

@@ -1,6 +1,6 @@
 use Rattle.std.proofs.Common.{ℕ, refl, subst, arith}
 use Rattle.oak_core.specs.Passes.{call_of, key as sizes, state}
-use Rattle.oak_core.proofs.SamePass.{stays_both}
+use Rattle.oak_core.proofs.seats.SamePass.{stays_both}
 use Rattle.value_ops.specs.declared.views.NoRead.{NoRead}
 use Rattle.value_ops.specs.declared.views.NoRead.TheVariants.{Busy, Gone}
 use Rattle.value_ops.specs.Pinning.{PinsLive}

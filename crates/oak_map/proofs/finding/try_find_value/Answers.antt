@@ -1,8 +1,8 @@
 use Rattle.std.proofs.Common.{ℕ, refl, subst, arith}
 use Rattle.oak_core.specs.Passes.{call_of, key as sizes, state}
 use Rattle.oak_core.specs.QuietSteps.{IsQuiet}
-use Rattle.oak_core.proofs.QuietCalls.{only_both, only_none}
-use Rattle.oak_core.proofs.SamePass.{stays_both}
+use Rattle.oak_core.proofs.calls.QuietCalls.{only_both, only_none}
+use Rattle.oak_core.proofs.seats.SamePass.{stays_both}
 use Rattle.oak_map.specs.Finding.{PinsKey, TriesAgain}
 use Rattle.oak_map.specs.GivingUp.{NotLent}
 use Rattle.oak_map.specs.Lending.{FindsAbsent}

@@ -1,4 +1,4 @@
-use Rattle.oak_core.proofs.Alone.{numbers_alone}
+use Rattle.oak_core.proofs.seats.Alone.{numbers_alone}
 use Rattle.oak_map.specs.Maps.{state}
 use Rattle.oak_map.proofs.index_tests.a_pass_looks_while_another_splits.Goals as goal
 

@@ -1,6 +1,6 @@
 use Rattle.std.proofs.Common.{refl, sym, subst}
 use Rattle.oak_core.specs.PassState.{IsAlone}
-use Rattle.oak_core.proofs.Alone.{alone_again}
+use Rattle.oak_core.proofs.seats.Alone.{alone_again}
 use Rattle.oak_map.specs.Maps.{call_of, sizes, state}
 use Rattle.oak_map.proofs.index_tests.tries_of_gets.Goals as goal
 

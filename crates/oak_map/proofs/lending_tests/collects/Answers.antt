@@ -3,7 +3,7 @@ use Rattle.oak_core.specs.declared.states.PassState.{PassState}
 use Rattle.oak_core.specs.declared.table.Pass.{Pass}
 use Rattle.oak_core.specs.Passes.{state as table_state}
 use Rattle.oak_core.specs.QuietSteps.{IsQuiet, Quiet}
-use Rattle.oak_core.proofs.QuietCalls.{only_both}
+use Rattle.oak_core.proofs.calls.QuietCalls.{only_both}
 use Rattle.scan_cursor.specs.Cursors.{under}
 use Rattle.oak_map.proofs.lending_tests.collects.Goals as goal
 

@@ -1,7 +1,7 @@
 use Rattle.std.proofs.Common.{ap, ◌∙◌}
 use Rattle.oak_core.specs.declared.table.Pass.{Pass}
 use Rattle.oak_core.specs.Passes.{state as table_state}
-use Rattle.oak_core.proofs.Alone.{numbers_alone}
+use Rattle.oak_core.proofs.seats.Alone.{numbers_alone}
 use Rattle.oak_map.proofs.lending_tests.lent_values.Goals as goal
 
 pub close-requires-clause-alone : goal.close-requires-clause-alone

@@ -1,7 +1,7 @@
 use Rattle.std.proofs.Common.{ℕ, List, Option, IfSome, sym, subst}
 use Rattle.oak_model.specs.Key.{IsKey}
 use Rattle.oak_core.specs.Passes.{call_of, state}
-use Rattle.oak_core.proofs.SamePass.{stays_both}
+use Rattle.oak_core.proofs.seats.SamePass.{stays_both}
 use Rattle.chunk_ops.proofs.MeetingCalls.{only_both, only_in}
 use Rattle.oak_map.proofs.mending.mend.Goals as goal
 

@@ -1,7 +1,7 @@
 use Rattle.std.proofs.Common.{◌<◌, ◌≤◌, ◌∙◌, sym, subst, arith}
 use Rattle.oak_model.proofs.Lists.{each_map}
 use Rattle.oak_core.specs.declared.states.KeyedWrite.{KeyedWrite}
-use Rattle.oak_core.proofs.Alone.{numbers_alone}
+use Rattle.oak_core.proofs.seats.Alone.{numbers_alone}
 use Rattle.point_ops.specs.TestStates.{IsReady, WroteBy}
 use Rattle.point_ops.proofs.TestLaws.{ready_later}
 use Rattle.oak_map.specs.Maps.{call_of, sizes, state}

@@ -1,6 +1,6 @@
 use Rattle.std.proofs.Common.{sym, subst}
 use Rattle.oak_core.specs.PassState.{IsAlone}
-use Rattle.oak_core.proofs.Alone.{alone_again}
+use Rattle.oak_core.proofs.seats.Alone.{alone_again}
 use Rattle.oak_map.specs.Maps.{call_of, sizes, state}
 use Rattle.oak_map.proofs.thread_tests.split_and_work.Goals as goal
 

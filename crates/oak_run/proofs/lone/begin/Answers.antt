@@ -2,7 +2,7 @@ use Rattle.std.proofs.Common.{◌≡◌, sym, ap, ◌∙◌, subst}
 use Rattle.oak_model.specs.Limits.{Sizes}
 use Rattle.oak_core.specs.declared.states.PassState.{PassState}
 use Rattle.oak_core.specs.Opening.{first_state}
-use Rattle.oak_core.proofs.Alone.{numbers_alone}
+use Rattle.oak_core.proofs.seats.Alone.{numbers_alone}
 use Rattle.oak_map.specs.Maps.{call_of, sizes, state}
 use Rattle.oak_run.specs.Reads.{IsOnlyThread}
 use Rattle.oak_run.proofs.OnlyThreads.{nothing_written, only_thread}

@@ -2,7 +2,7 @@ use Rattle.std.proofs.Common.{rules, ◌≡◌, ℕ, IfOk, sym, ap, ◌∙◌, s
 use Rattle.oak_core.specs.declared.table.Pass.{Pass}
 use Rattle.oak_core.specs.Passes.{Stays, call_of as table_call, key as table_sizes, state as table_state}
 use Rattle.oak_core.specs.PassState.{HoldsNothing}
-use Rattle.oak_core.proofs.SamePass.{stays_both}
+use Rattle.oak_core.proofs.seats.SamePass.{stays_both}
 use Rattle.value_ops.specs.Reading.{stamp, value}
 use Rattle.oak_map.specs.Maps.{sizes}
 use Rattle.oak_map.specs.Rests.{RestsOver}

@@ -12,7 +12,7 @@ use Rattle.header_core.specs.declared.holds.HeldHeader.{HeldHeader}
 use Rattle.oak_core.specs.declared.states.PassState.{PassState}
 use Rattle.oak_core.specs.CallSteps.{Stands}
 use Rattle.oak_core.specs.Passes.{state, key as sizes, call_of}
-use Rattle.oak_core.proofs.CallSteps.{stands_both, stands_in}
+use Rattle.oak_core.proofs.calls.CallSteps.{stands_both, stands_in}
 use Rattle.value_ops.specs.OneHeader.{IsOneHeader, IsOneBlock}
 use Rattle.value_ops.proofs.OneHeaderLaws.{given_headers, given_none}
 use Rattle.point_ops.proofs.AloneHeld.{exchanged_block, exchanged_value, gave_stands, locked_one, one_mapped, wrote_none}

@@ -8,7 +8,7 @@ use Rattle.point_ops.proofs.LoneLooks.{refused_lock}
 use Rattle.point_ops.specs.LoneLives.{OverHaltsIn}
 use denote.Enum.Bare.{same_true}
 use Rattle.oak_model.specs.Class.{class_of}
-use Rattle.oak_core.proofs.AloneRuns.{runs_then}
+use Rattle.oak_core.proofs.seats.AloneRuns.{runs_then}
 use Rattle.value_ops.specs.AloneLocks.{FindsClass, RefillsWords}
 use Rattle.point_ops.proofs.LoneKept.{behind_block, lock_whole, refills_kept, round_alone}
 use denote.Enum.Bare.{same_false}
@@ -22,8 +22,8 @@ use Rattle.header_core.specs.declared.holds.HeldHeader.{HeldHeader}
 use Rattle.oak_core.specs.declared.states.PassState.{PassState}
 use Rattle.oak_core.specs.CallSteps.{Learns, Stands}
 use Rattle.oak_core.specs.Passes.{state, key as sizes, call_of}
-use Rattle.oak_core.proofs.CallSteps.{learns_both, stands_both, stands_in, stands_learns}
-use Rattle.oak_core.proofs.KnownHeaders.{known_life}
+use Rattle.oak_core.proofs.calls.CallSteps.{learns_both, stands_both, stands_in, stands_learns}
+use Rattle.oak_core.proofs.known.KnownHeaders.{known_life}
 use Rattle.value_ops.specs.HeldValue.{words_in}
 use Rattle.value_ops.specs.UnderLock.{words_over}
 use Rattle.value_ops.proofs.ComesFurther.{lock_met}

@@ -11,7 +11,7 @@ use Rattle.oak_core.specs.declared.states.PassState.{PassState}
 use Rattle.oak_core.specs.CallWrites.{Writes}
 use Rattle.oak_core.specs.HeldRows.{BuriesLife}
 use Rattle.oak_core.specs.Passes.{state, key as sizes, call_of}
-use Rattle.oak_core.proofs.CallSteps.{stands_none}
+use Rattle.oak_core.proofs.calls.CallSteps.{stands_none}
 use Rattle.point_ops.proofs.NoLockFacts.{refused_by, refused_only}
 use Rattle.point_ops.proofs.RemovedLives.{entry_buried, life_buried, life_unnamed, removed_held, removed_stands}
 use Rattle.point_ops.proofs.WritesIn.{wrote_next, wrote_until}

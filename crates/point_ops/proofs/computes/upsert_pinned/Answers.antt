@@ -7,7 +7,7 @@ use Rattle.oak_model.specs.declared.writes.Kind.{Kind}
 use Rattle.oak_model.specs.Recipe.{recipe_result}
 use Rattle.oak_core.specs.CallWrites.{MakesWrite}
 use Rattle.oak_core.specs.Passes.{state, key as sizes, call_of}
-use Rattle.oak_core.proofs.CallSteps.{stands_learns}
+use Rattle.oak_core.proofs.calls.CallSteps.{stands_learns}
 use Rattle.point_ops.proofs.SpotLaws.{held_under, inserted, looked_held, looked_learns, rewrote, uninserted, unlocked}
 use Rattle.std.specs.Prelude.{Ok, Err}
 use Rattle.point_ops.specs.declared.halts.Halt.TheVariants.{Busy}

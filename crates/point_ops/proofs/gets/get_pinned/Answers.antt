@@ -3,7 +3,7 @@ use Rattle.point_ops.proofs.LoneSpots.{spot_stays}
 use Rattle.std.proofs.Common.{◌∙◌}
 use Rattle.oak_core.specs.Passes.{state, key as sizes, call_of}
 use Rattle.oak_core.specs.QuietSteps.{IsQuiet}
-use Rattle.oak_core.proofs.QuietCalls.{only_both}
+use Rattle.oak_core.proofs.calls.QuietCalls.{only_both}
 use Rattle.point_ops.proofs.GetLaws.{learned_under, looked_gets, looked_locked}
 use Rattle.point_ops.proofs.Outcomes.{ok_map, err_map}
 use Rattle.point_ops.proofs.gets.get_pinned.Goals as goal

@@ -1,7 +1,7 @@
 use Rattle.std.proofs.Common.{◌∙◌, ap, refl}
 use Rattle.oak_core.specs.declared.fresh.Fresh.{Fresh}
 use Rattle.oak_core.specs.Passes.{state, key as sizes, call_of}
-use Rattle.oak_core.proofs.CallSteps.{met_none, stands_in}
+use Rattle.oak_core.proofs.calls.CallSteps.{met_none, stands_in}
 use Rattle.value_ops.proofs.OneHeaderLaws.{without_one}
 use Rattle.point_ops.proofs.Composed.{set_in}
 use Rattle.point_ops.proofs.LoneInserting.{names_kept, other_alone}

@@ -12,7 +12,7 @@ use Rattle.oak_model.specs.declared.cells.CellCall.TheVariants.{Remove}
 use Rattle.oak_model.specs.declared.cells.CellReply.TheVariants as replies
 use Rattle.oak_model.specs.declared.writes.Kind.TheVariants as kinds
 use Rattle.oak_core.specs.Passes.{state, key as sizes, call_of}
-use Rattle.oak_core.proofs.CallSteps.{stands_learns}
+use Rattle.oak_core.proofs.calls.CallSteps.{stands_learns}
 use Rattle.value_ops.specs.declared.locking.NoLock.{NoLock}
 use Rattle.point_ops.specs.Changes.{NoLockBy}
 use Rattle.point_ops.specs.Halting.{Halts}

@@ -2,7 +2,7 @@ use Rattle.chunk_ops.specs.declared.entries.Content.TheVariants.{Floor, Value}
 use Rattle.point_ops.proofs.LoneSpots.{base_behind, missing_alone, says_alone}
 use Rattle.oak_core.specs.Passes.{state, key as sizes, call_of}
 use Rattle.oak_core.specs.QuietSteps.{IsQuiet}
-use Rattle.oak_core.proofs.QuietCalls.{only_both}
+use Rattle.oak_core.proofs.calls.QuietCalls.{only_both}
 use Rattle.point_ops.proofs.FoundSpots.{away_at_base, away_at_floor, named_life, under_learns, under_meets}
 use Rattle.point_ops.proofs.spots.look_up.Goals as goal
 

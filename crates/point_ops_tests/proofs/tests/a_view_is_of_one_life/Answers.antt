@@ -1,6 +1,6 @@
 use Rattle.std.proofs.Common.{◌∙◌}
 use Rattle.oak_core.specs.Passes.{state}
-use Rattle.oak_core.proofs.Alone.{numbers_alone}
+use Rattle.oak_core.proofs.seats.Alone.{numbers_alone}
 use Rattle.point_ops_tests.proofs.tests.a_view_is_of_one_life.Goals as goal
 
 pub close-requires-clause-alone : goal.close-requires-clause-alone

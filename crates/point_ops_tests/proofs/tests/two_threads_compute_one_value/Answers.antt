@@ -1,6 +1,6 @@
 use Rattle.std.proofs.Common.{◌∙◌}
 use Rattle.oak_core.specs.Passes.{state}
-use Rattle.oak_core.proofs.Alone.{numbers_alone}
+use Rattle.oak_core.proofs.seats.Alone.{numbers_alone}
 use Rattle.point_ops_tests.proofs.tests.two_threads_compute_one_value.Goals as goal
 
 pub split_and_flip-requires-clause-alone : goal.split_and_flip-requires-clause-alone

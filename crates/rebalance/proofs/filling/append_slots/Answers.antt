@@ -3,7 +3,7 @@ use Rattle.std.proofs.lemmas.List.{length-take-le}
 use Rattle.chunk_core.specs.RoomStep.{put_room}
 use Rattle.chunk_core.specs.Rooms.{RoomMemory, at_count}
 use Rattle.oak_core.specs.declared.sorting.SortSlot.{SortSlot}
-use Rattle.rebalance.specs.declared.rooms.RoomWord.{RoomWord}
+use Rattle.rebalance.specs.declared.held_rooms.RoomWord.{RoomWord}
 use Rattle.rebalance.specs.Filled.{Appends, StoresSlots, count_of, link_to}
 use Rattle.rebalance.specs.HeldRooms.{spot}
 use Rattle.rebalance.proofs.AppendLaws.{counted, appends_after}

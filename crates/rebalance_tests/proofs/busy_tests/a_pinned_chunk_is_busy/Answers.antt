@@ -1,5 +1,5 @@
 use Rattle.oak_core.specs.Passes.{state}
-use Rattle.oak_core.proofs.Alone.{numbers_alone}
+use Rattle.oak_core.proofs.seats.Alone.{numbers_alone}
 use Rattle.rebalance_tests.proofs.busy_tests.a_pinned_chunk_is_busy.Goals as goal
 
 pub split_and_try-requires-clause-alone : goal.split_and_try-requires-clause-alone

@@ -1,7 +1,7 @@
 use Rattle.std.proofs.Common.{sym, subst}
 use Rattle.oak_core.specs.Passes.{state, key as sizes, call_of}
 use Rattle.oak_core.specs.PassState.{IsAlone}
-use Rattle.oak_core.proofs.Alone.{alone_again}
+use Rattle.oak_core.proofs.seats.Alone.{alone_again}
 use Rattle.rebalance_tests.proofs.busy_tests.split_and_try.Goals as goal
 
 pub returns-clause-alone : goal.returns-clause-alone

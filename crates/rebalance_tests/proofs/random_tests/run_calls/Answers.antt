@@ -1,6 +1,6 @@
 use Rattle.std.proofs.Common.{◌∙◌}
 use Rattle.oak_core.specs.Passes.{state}
-use Rattle.oak_core.proofs.Alone.{numbers_alone}
+use Rattle.oak_core.proofs.seats.Alone.{numbers_alone}
 use Rattle.rebalance_tests.proofs.random_tests.run_calls.Goals as goal
 
 pub ends_as-requires-clause-alone : goal.ends_as-requires-clause-alone

@@ -1,5 +1,5 @@
 use Rattle.oak_core.specs.Passes.{state}
-use Rattle.oak_core.proofs.Alone.{numbers_alone}
+use Rattle.oak_core.proofs.seats.Alone.{numbers_alone}
 use Rattle.rebalance_tests.proofs.thread_tests.one_thread_writes_while_another_rebalances.Goals as goal
 
 pub split_and_work-wrote-requires-clause-alone : goal.split_and_work-wrote-requires-clause-alone

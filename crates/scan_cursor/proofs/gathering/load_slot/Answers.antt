@@ -6,7 +6,7 @@ use Rattle.chunk_ops.specs.declared.entries.Content.TheVariants.{Value}
 use Rattle.chunk_ops.specs.Contents.{FindsContent, FindsLife, TellsOf}
 use Rattle.chunk_ops.specs.declared.stored.StoredKey.{StoredKey}
 use Rattle.chunk_ops.specs.Stored.{IsStored}
-use Rattle.oak_core.proofs.CallSteps.{stands_learns}
+use Rattle.oak_core.proofs.calls.CallSteps.{stands_learns}
 use Rattle.scan_cursor.specs.Views.{KnowsLast, view_of}
 use Rattle.scan_cursor.proofs.GatherViews.{entry_kept, knows_last, last_read, later_of, learned_both, learned_in, learns_only, read_from}
 use Rattle.scan_cursor.proofs.gathering.load_slot.Goals as goal

@@ -2,7 +2,7 @@ use Rattle.std.proofs.Common.{subst}
 use Rattle.oak_core.specs.AloneWords.{Runs}
 use Rattle.oak_core.specs.Passes.{state, key as sizes, call_of}
 use Rattle.oak_core.specs.QuietSteps.{IsQuiet}
-use Rattle.oak_core.proofs.QuietCalls.{only_both}
+use Rattle.oak_core.proofs.calls.QuietCalls.{only_both}
 use Rattle.chunk_ops.specs.declared.entries.Content.{Content}
 use Rattle.chunk_ops.specs.declared.entries.Content.TheVariants.{Value}
 use Rattle.chunk_ops.specs.declared.entries.Found.{Found}

@@ -1,6 +1,6 @@
 use Rattle.std.proofs.Common.{refl, ◌∙◌}
 use Rattle.oak_core.specs.Passes.{state, key as sizes, call_of}
-use Rattle.oak_core.proofs.CallSteps.{stands_learns}
+use Rattle.oak_core.proofs.calls.CallSteps.{stands_learns}
 use Rattle.chunk_ops.specs.AskedRanges.{CoversKey}
 use Rattle.scan_cursor.proofs.RoomReads.{room_absent, room_here, room_known, room_later, room_leaves, room_nothing, room_stays, room_then}
 use Rattle.scan_cursor.proofs.VainLooks.{moved_covering, room_vain}

@@ -1,7 +1,7 @@
 use Rattle.std.proofs.Common.{◌≡◌, ◌≤◌, ◌<◌, arith}
 use Rattle.oak_model.specs.Limits.{Sizes}
 use Rattle.oak_core.specs.Passes.{state, key, call_of}
-use Rattle.oak_core.proofs.SamePass.{stays_both}
+use Rattle.oak_core.proofs.seats.SamePass.{stays_both}
 use Rattle.value_ops.proofs.ClaimLaws.{claims_behind, looked_in, claims_in, next_header, names_pin, pin_room, looked_only, looked_none}
 use Rattle.value_ops.proofs.claiming.claim_between.Goals as goal
 

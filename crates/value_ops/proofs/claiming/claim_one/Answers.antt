@@ -6,10 +6,10 @@ use Rattle.header_core.specs.HeaderStep.{claim_header}
 use Rattle.oak_core.specs.Passes.{state, key, call_of}
 use Rattle.oak_core.specs.Step.{on_headers}
 use Rattle.oak_core.specs.Usage.{is_free}
-use Rattle.oak_core.proofs.HeaderNames.{pin_below}
+use Rattle.oak_core.proofs.memory.HeaderNames.{pin_below}
 use Rattle.value_ops.proofs.ExchangeFacts.{state_fits}
 use Rattle.value_ops.proofs.ClaimLaws.{claims_behind}
-use Rattle.oak_core.proofs.MetMore.{told_in}
+use Rattle.oak_core.proofs.calls.MetMore.{told_in}
 use Rattle.value_ops.proofs.ClaimFacts.{free_word, loaded, loaded_unfree, claims, lost}
 use Rattle.value_ops.proofs.claiming.claim_one.Goals as goal
 

@@ -13,7 +13,7 @@ use Rattle.oak_core.specs.Step.{on_headers, MayOnHeaders}
 use Rattle.value_ops.specs.Filling.{Fills}
 use Rattle.value_ops.proofs.FilledRows.{filled_fresh}
 use Rattle.value_ops.proofs.FillSteps.{may_place, may_stamp, may_open, fills, fresh}
-use Rattle.oak_core.proofs.MetMore.{told_in}
+use Rattle.oak_core.proofs.calls.MetMore.{told_in}
 use Rattle.value_ops.proofs.filling.fill.Goals as goal
 
 -- the first store, of the place word that was made

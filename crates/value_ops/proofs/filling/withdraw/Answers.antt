@@ -10,9 +10,9 @@ use Rattle.oak_core.specs.HeaderCalls.{Releases}
 use Rattle.oak_core.specs.Memory.{in_headers}
 use Rattle.oak_core.specs.Passes.{state, key, call_of}
 use Rattle.oak_core.specs.Step.{on_headers}
-use Rattle.oak_core.proofs.Words.{index_below}
+use Rattle.oak_core.proofs.memory.Words.{index_below}
 use Rattle.value_ops.specs.Filling.{Withdraws}
-use Rattle.oak_core.proofs.MetMore.{told_in}
+use Rattle.oak_core.proofs.calls.MetMore.{told_in}
 use Rattle.value_ops.proofs.WithdrawFacts.{may_release, withdraws, holds_block}
 use Rattle.value_ops.proofs.filling.withdraw.Goals as goal
 

@@ -7,12 +7,12 @@ use Rattle.value_ops.specs.AloneLocks.{RefusesPin}
 use Rattle.value_ops.proofs.AloneLock.{refuses_first, never_lost, locks_alone}
 use Rattle.oak_core.specs.Passes.{state, key, call_of}
 use Rattle.oak_core.specs.Step.{on_headers}
-use Rattle.oak_core.proofs.HeaderNames.{pin_below}
+use Rattle.oak_core.proofs.memory.HeaderNames.{pin_below}
 use Rattle.value_ops.specs.declared.locking.NoLock.{NoLock}
 use Rattle.value_ops.specs.Locking.{LocksHeader, FindsNoLock}
 use Rattle.value_ops.proofs.ExchangeFacts.{state_fits}
 use Rattle.value_ops.proofs.LockFacts.{live_word, refused_first, may_be_locked, refused_second, locks}
-use Rattle.oak_core.proofs.MetMore.{told_in}
+use Rattle.oak_core.proofs.calls.MetMore.{told_in}
 use Rattle.value_ops.proofs.locking.lock.Goals as goal
 use Rattle.value_ops.proofs.LockedNow.{has_lock, is_unchanged, locks_key}
 

@@ -5,7 +5,7 @@ use Rattle.oak_core.specs.declared.states.PassState.{PassState}
 use Rattle.oak_core.specs.HeaderCalls.{NamesPin, Pins}
 use Rattle.oak_core.specs.Memory.{in_headers}
 use Rattle.oak_core.specs.Passes.{state, key, call_of}
-use Rattle.oak_core.proofs.Words.{index_below}
+use Rattle.oak_core.proofs.memory.Words.{index_below}
 use Rattle.value_ops.proofs.PinFacts.{pins_now, pins_later, pinned_live, dead_left, locked_dud, dead_dud, other_dud}
 use Rattle.value_ops.proofs.pinning.pin_at.Goals as goal
 

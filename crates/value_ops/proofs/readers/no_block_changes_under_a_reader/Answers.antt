@@ -1,7 +1,7 @@
 use Rattle.std.proofs.Common.{arith}
 use Rattle.oak_core.specs.Schedule.{opening}
-use Rattle.oak_core.proofs.EachEvent.{schedule_keeps}
-use Rattle.oak_core.proofs.Opening.{opening_rule}
+use Rattle.oak_core.proofs.kinds.EachEvent.{schedule_keeps}
+use Rattle.oak_core.proofs.openings.Opening.{opening_rule}
 use Rattle.value_ops.proofs.StandingPins.{block_kept}
 use Rattle.value_ops.proofs.readers.no_block_changes_under_a_reader.Goals as goal
 

@@ -1,7 +1,7 @@
 use Rattle.std.proofs.Common.{◌≡◌, ℕ, sym, refl, ap, subst}
 use mathlib.Core.Option.{some}
 use Rattle.oak_core.specs.Passes.{state, key, call_of}
-use Rattle.oak_core.proofs.SamePass.{stays_both}
+use Rattle.oak_core.proofs.seats.SamePass.{stays_both}
 use Rattle.value_ops.specs.Pinning.{KnowsLife}
 use Rattle.value_ops.specs.PinnedValues.{FindsStamp, LearnsByLoads, ReadsLife}
 use Rattle.value_ops.specs.Reading.{stamp, value}

@@ -4,7 +4,7 @@ use Rattle.oak_model.specs.Limits.{Sizes}
 use Rattle.oak_core.specs.Memory.{memory}
 use Rattle.oak_core.specs.Closing.{closed_key, closed_words}
 use Rattle.oak_core.specs.Usage.{used_blocks}
-use Rattle.oak_core.proofs.UsedWords.{row_more, row_full}
+use Rattle.oak_core.proofs.memory.UsedWords.{row_more, row_full}
 use Rattle.oak_core.proofs.closing.Closed.usage.Goals as goal
 
 pub loop-class-preserved : goal.loop-class-preserved

@@ -6,7 +6,7 @@ use Rattle.oak_model.specs.Counts.{below}
 use Rattle.arena_core.specs.Arena.{bit_words}
 use Rattle.oak_core.specs.Memory.{memory}
 use Rattle.oak_core.specs.Closing.{closed_key, closed_words}
-use Rattle.oak_core.proofs.UsedWords.{bits_word, counted_more}
+use Rattle.oak_core.proofs.memory.UsedWords.{bits_word, counted_more}
 use Rattle.oak_core.proofs.closing.Closed.used_blocks.Goals as goal
 
 pub loop-i-init : goal.loop-i-init

@@ -5,7 +5,7 @@ use Rattle.oak_model.proofs.Counting.{one_if_le}
 use Rattle.oak_core.specs.Memory.{memory, word_count}
 use Rattle.oak_core.specs.Closing.{closed_key, closed_words}
 use Rattle.oak_core.specs.Usage.{is_open}
-use Rattle.oak_core.proofs.UsedWords.{room_word, counted_more, one_of_test}
+use Rattle.oak_core.proofs.memory.UsedWords.{room_word, counted_more, one_of_test}
 use Rattle.oak_core.proofs.closing.Closed.used_chunks.Goals as goal
 
 pub loop-room-init : goal.loop-room-init

@@ -5,7 +5,7 @@ use Rattle.oak_model.proofs.Counting.{one_if_le}
 use Rattle.oak_core.specs.Memory.{memory}
 use Rattle.oak_core.specs.Closing.{closed_key, closed_words}
 use Rattle.oak_core.specs.Usage.{is_free}
-use Rattle.oak_core.proofs.UsedWords.{header_word, counted_more, one_of_test}
+use Rattle.oak_core.proofs.memory.UsedWords.{header_word, counted_more, one_of_test}
 use Rattle.oak_core.proofs.closing.Closed.used_headers.Goals as goal
 
 pub loop-header-init : goal.loop-header-init

@@ -1,5 +1,5 @@
 use Rattle.oak_core.specs.Closing.{closed_words}
-use Rattle.oak_core.proofs.UsedWords.{read_at}
+use Rattle.oak_core.proofs.memory.UsedWords.{read_at}
 use Rattle.oak_core.proofs.closing.Closed.word.Goals as goal
 
 pub returns : goal.returns

@@ -2,7 +2,7 @@ use Rattle.std.proofs.Common.{arith}
 use Rattle.oak_model.specs.declared.limits.TheConstants.{CLASSES}
 use Rattle.oak_model.specs.Limits.{Sizes}
 use Rattle.oak_core.specs.Offsets.{bits_begin, bytes_begin}
-use Rattle.oak_core.proofs.UsedWords.{row_full}
+use Rattle.oak_core.proofs.memory.UsedWords.{row_full}
 use Rattle.oak_core.proofs.offsets.Offsets.of.Goals as goal
 
 pub returns : goal.returns

@@ -3,7 +3,7 @@ use Rattle.std.proofs.lemmas.List.{take-append-le}
 use Rattle.std.specs.List.{refill}
 use Rattle.std.specs.Vec.{with_items_from}
 use Rattle.oak_core.specs.declared.sorting.SortSlot.{SortSlot}
-use Rattle.oak_core.proofs.Refills.{refill_of_front}
+use Rattle.oak_core.proofs.memory.Refills.{refill_of_front}
 use Rattle.oak_core.proofs.sorting.Sorting.front_mut.Goals as goal
 
 -- nothing is cut off in front

@@ -2,7 +2,7 @@ use Rattle.std.proofs.Common.{◌^◌, ◌<◌, subst, arith}
 use Rattle.oak_model.specs.Limits.{Sizes}
 use Rattle.oak_core.specs.Memory.{word_count}
 use Rattle.oak_core.specs.Passes.{key}
-use Rattle.oak_core.proofs.RoomPlaces.{behind_below}
+use Rattle.oak_core.proofs.memory.RoomPlaces.{behind_below}
 use Rattle.oak_core.proofs.table.OakTable.behind_pin.Goals as goal
 
 pub overflow_add-result : goal.overflow_add-result

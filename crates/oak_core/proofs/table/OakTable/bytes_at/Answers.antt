@@ -3,8 +3,8 @@ use Rattle.oak_model.specs.Class.{class_number}
 use Rattle.arena_core.specs.Arena.{at_bytes}
 use Rattle.oak_core.specs.Memory.{in_arena, index}
 use Rattle.oak_core.specs.Passes.{key}
-use Rattle.oak_core.proofs.KeepsArena.{class_below}
-use Rattle.oak_core.proofs.OffsetPlaces.{fits, bytes_number}
+use Rattle.oak_core.proofs.kinds.KeepsArena.{class_below}
+use Rattle.oak_core.proofs.memory.OffsetPlaces.{fits, bytes_number}
 use Rattle.oak_core.proofs.table.OakTable.bytes_at.Goals as goal
 
 pub returns : goal.returns

@@ -3,11 +3,11 @@ use Rattle.std.specs.Slots.{slots_items}
 use Rattle.oak_model.specs.Limits.{Sizes}
 use Rattle.oak_core.specs.Passes.{state, key, opened_at}
 use Rattle.oak_core.specs.Running.{table_of}
-use Rattle.oak_core.proofs.Alone.{ends, others_are}
-use Rattle.oak_core.proofs.SinceOpening.{ends_from, is_unworn}
-use Rattle.oak_core.proofs.ClosedFulls.{FullsFound, all_found}
+use Rattle.oak_core.proofs.seats.Alone.{ends, others_are}
+use Rattle.oak_core.proofs.openings.SinceOpening.{ends_from, is_unworn}
+use Rattle.oak_core.proofs.calls.ClosedFulls.{FullsFound, all_found}
 use Rattle.oak_core.proofs.table.OakTable.close.Goals as goal
-use Rattle.oak_core.proofs.KnownHere.{places_at_end, PlacesKnown}
+use Rattle.oak_core.proofs.known.KnownHere.{places_at_end, PlacesKnown}
 
 pub returns-clause-ends : goal.returns-clause-ends
 returns-clause-ends c = let f = c.close_with.ensures.values.2 in ends (key c.args.self) (table_of f.0) f.1.0.rule c.args.pass.seat.id (state c.args.pass) f.1.1 c.requires.alone _ f.2

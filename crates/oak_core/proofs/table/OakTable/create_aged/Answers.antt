@@ -1,5 +1,5 @@
 use Rattle.std.proofs.Common.{◌∙◌, ap}
-use Rattle.oak_core.proofs.Opening.{opens_at, opened_at, leaves_at}
+use Rattle.oak_core.proofs.openings.Opening.{opens_at, opened_at, leaves_at}
 use Rattle.oak_model.specs.contracts.shapes.Shape.{the_view}
 use Rattle.oak_core.specs.declared.table.Opened.{Opened}
 use Rattle.oak_core.proofs.table.OakTable.create_aged.Goals as goal

@@ -1,6 +1,6 @@
 use Rattle.std.proofs.Common.{◌∙◌}
 use Rattle.oak_core.specs.Passes.{key}
-use Rattle.oak_core.proofs.RoomPlaces.{high_behind}
+use Rattle.oak_core.proofs.memory.RoomPlaces.{high_behind}
 use Rattle.oak_core.proofs.table.OakTable.high_at.Goals as goal
 
 pub returns : goal.returns

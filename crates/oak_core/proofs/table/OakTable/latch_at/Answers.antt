@@ -1,6 +1,6 @@
 use Rattle.std.proofs.Common.{◌∙◌}
 use Rattle.oak_core.specs.Passes.{key}
-use Rattle.oak_core.proofs.RoomPlaces.{latch_behind}
+use Rattle.oak_core.proofs.memory.RoomPlaces.{latch_behind}
 use Rattle.oak_core.proofs.table.OakTable.latch_at.Goals as goal
 
 pub returns : goal.returns

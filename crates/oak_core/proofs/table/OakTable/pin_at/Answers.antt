@@ -2,7 +2,7 @@ use Rattle.std.proofs.Common.{arith}
 use Rattle.header_core.specs.Headers.{at_pin}
 use Rattle.oak_core.specs.Memory.{in_headers}
 use Rattle.oak_core.specs.Passes.{key}
-use Rattle.oak_core.proofs.OffsetPlaces.{fits, pin_number}
+use Rattle.oak_core.proofs.memory.OffsetPlaces.{fits, pin_number}
 use Rattle.oak_core.proofs.table.OakTable.pin_at.Goals as goal
 
 pub returns : goal.returns

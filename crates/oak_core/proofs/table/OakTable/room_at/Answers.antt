@@ -2,7 +2,7 @@ use Rattle.std.proofs.Common.{ℕ, ◌*◌, arith}
 use Rattle.chunk_core.specs.Rooms.{at_room_pin}
 use Rattle.oak_core.specs.Memory.{in_rooms}
 use Rattle.oak_core.specs.Passes.{key}
-use Rattle.oak_core.proofs.OffsetPlaces.{fits, room_number}
+use Rattle.oak_core.proofs.memory.OffsetPlaces.{fits, room_number}
 use Rattle.oak_core.proofs.table.OakTable.room_at.Goals as goal
 
 pub returns : goal.returns

@@ -2,7 +2,7 @@ use Rattle.std.proofs.Common.{arith}
 use Rattle.header_core.specs.Headers.{at_stamp}
 use Rattle.oak_core.specs.Memory.{in_headers}
 use Rattle.oak_core.specs.Passes.{key}
-use Rattle.oak_core.proofs.OffsetPlaces.{fits, stamp_behind}
+use Rattle.oak_core.proofs.memory.OffsetPlaces.{fits, stamp_behind}
 use Rattle.oak_core.proofs.table.OakTable.stamp_at.Goals as goal
 
 pub returns : goal.returns

@@ -2,8 +2,8 @@ use Rattle.std.proofs.Common.{ℕ, ◌+◌, ◌∙◌, ap, arith}
 use Rattle.chunk_core.specs.Rooms.{at_value}
 use Rattle.oak_core.specs.Memory.{in_rooms}
 use Rattle.oak_core.specs.Passes.{key}
-use Rattle.oak_core.proofs.OffsetPlaces.{fits}
-use Rattle.oak_core.proofs.RoomPlaces.{value_behind}
+use Rattle.oak_core.proofs.memory.OffsetPlaces.{fits}
+use Rattle.oak_core.proofs.memory.RoomPlaces.{value_behind}
 use Rattle.oak_core.proofs.table.OakTable.value_at.Goals as goal
 
 pub returns : goal.returns

@@ -1,6 +1,6 @@
 use Rattle.std.proofs.Common.{rules}
 use Rattle.oak_core.specs.Passes.{key, opened_at}
-use Rattle.oak_core.proofs.Allowed.{splits}
+use Rattle.oak_core.proofs.seats.Allowed.{splits}
 use Rattle.oak_core.proofs.table.Pass.cut.Goals as goal
 
 pub split_seat-seat-requires : goal.split_seat-seat-requires

@@ -1,5 +1,5 @@
 use Rattle.oak_core.specs.Passes.{key, opened_at, call_of}
-use Rattle.oak_core.proofs.Allowed.{allows_give, one_shifted}
+use Rattle.oak_core.proofs.seats.Allowed.{allows_give, one_shifted}
 use Rattle.oak_core.proofs.table.Pass.give_number.Goals as goal
 
 pub or_said-requires-clause-rule : goal.or_said-requires-clause-rule

@@ -1,7 +1,7 @@
 use Rattle.std.proofs.Common.{rules}
 use Rattle.oak_core.specs.Passes.{key, opened_at, state}
-use Rattle.oak_core.proofs.Allowed.{joins}
-use Rattle.oak_core.proofs.Splits.{sees_longer}
+use Rattle.oak_core.proofs.seats.Allowed.{joins}
+use Rattle.oak_core.proofs.seats.Splits.{sees_longer}
 use Rattle.oak_core.proofs.table.Pass.join.Goals as goal
 
 pub join_seat-requires : goal.join_seat-requires

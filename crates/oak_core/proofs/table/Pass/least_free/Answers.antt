@@ -2,7 +2,7 @@ use Rattle.std.proofs.Common.{ℕ, sym, subst, w64}
 use Rattle.std.specs.Int.{trailing_ones}
 use Rattle.oak_core.specs.Passes.{state, key, call_of}
 use Rattle.oak_core.specs.Splitting.{FindsLeast}
-use Rattle.oak_core.proofs.Splits.{lower_ones}
+use Rattle.oak_core.proofs.seats.Splits.{lower_ones}
 use Rattle.oak_core.proofs.table.Pass.least_free.Goals as goal
 
 pub returns-clause-least : goal.returns-clause-least

@@ -1,6 +1,6 @@
 use Rattle.oak_core.specs.Passes.{state, key, opened_at, call_of}
-use Rattle.oak_core.proofs.Allowed.{allows_note}
-use Rattle.oak_core.proofs.AloneRuns.{note_runs}
+use Rattle.oak_core.proofs.seats.Allowed.{allows_note}
+use Rattle.oak_core.proofs.seats.AloneRuns.{note_runs}
 use Rattle.oak_core.proofs.table.Pass.note_full.Goals as goal
 
 pub note_said-requires-clause-rule : goal.note_said-requires-clause-rule

@@ -5,9 +5,9 @@ use Rattle.oak_core.specs.declared.states.PassState.{PassState}
 use Rattle.oak_core.specs.Passes.{state, key, call_of}
 use Rattle.oak_core.specs.Splitting.{FindsLeast, GivesWords}
 use Rattle.oak_core.specs.Step.{give_number, Told}
-use Rattle.oak_core.proofs.LoneSplits.{gives_words, leaves_same, least_stays, not_given, number_is}
-use Rattle.oak_core.proofs.MetMore.{told_in}
-use Rattle.oak_core.proofs.Splits.{Tried, none_tried, may_give, tried_load, tried_more, splits_off, all_given, tried_looks, least_further, least_in}
+use Rattle.oak_core.proofs.seats.LoneSplits.{gives_words, leaves_same, least_stays, not_given, number_is}
+use Rattle.oak_core.proofs.calls.MetMore.{told_in}
+use Rattle.oak_core.proofs.seats.Splits.{Tried, none_tried, may_give, tried_load, tried_more, splits_off, all_given, tried_looks, least_further, least_in}
 use Rattle.oak_core.proofs.table.Pass.split.Goals as goal
 
 pub loop-number-init : goal.loop-number-init

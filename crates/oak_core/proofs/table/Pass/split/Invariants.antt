@@ -1,7 +1,7 @@
 use Rattle.std.proofs.Common.{◌-◌}
 use Rattle.oak_core.specs.Passes.{Stays, SearchesStay, TriesStay, state, call_of}
-use Rattle.oak_core.proofs.LoneSplits.{Ungiven}
-use Rattle.oak_core.proofs.Splits.{Tried}
+use Rattle.oak_core.proofs.seats.LoneSplits.{Ungiven}
+use Rattle.oak_core.proofs.seats.Splits.{Tried}
 use Rattle.oak_core.proofs.table.Pass.split.Given as goal
 
 abbrev pub invariant-loop-number : goal.invariant-loop-number

@@ -2,7 +2,7 @@ use Rattle.std.proofs.Common.{rules, refl, sym, ap, ◌∙◌, ◌≡◌, ◌≤
 use Rattle.std.proofs.lemmas.List.{take-take, take-append-le}
 use Rattle.std.specs.List.{refill}
 use Rattle.std.specs.Vec.{with_items_from}
-use Rattle.oak_core.proofs.Refills.{refill_of_front}
+use Rattle.oak_core.proofs.memory.Refills.{refill_of_front}
 use Rattle.oak_core.proofs.writing.Writing.bytes_mut.Goals as goal
 
 pub returns : goal.returns

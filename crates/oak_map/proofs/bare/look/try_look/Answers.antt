@@ -2,7 +2,7 @@ use Rattle.std.proofs.Common.{◌≡◌, ℕ, List, Option, IfSome, sym, refl, a
 use mathlib.Core.Option.{some}
 use Rattle.oak_core.specs.declared.table.OakTable.{OakTable}
 use Rattle.oak_core.specs.Passes.{call_of, key as sizes, state}
-use Rattle.oak_core.proofs.SamePass.{stays_both}
+use Rattle.oak_core.proofs.seats.SamePass.{stays_both}
 use Rattle.value_ops.specs.declared.pinning.HeaderPin.{HeaderPin}
 use Rattle.value_ops.specs.Pinning.{KnowsLife}
 use Rattle.value_ops.specs.PinnedValues.{FindsStamp, LearnsByLoads, ReadsLife}

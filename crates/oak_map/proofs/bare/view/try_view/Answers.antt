@@ -1,9 +1,9 @@
 use Rattle.std.proofs.Common.{ℕ, refl, subst, arith}
 use Rattle.oak_model.specs.declared.cells.CellCall.TheVariants.{Get}
 use Rattle.oak_core.specs.QuietSteps.{IsQuiet}
-use Rattle.oak_core.proofs.AloneRuns.{runs_as}
-use Rattle.oak_core.proofs.QuietCalls.{only_both, only_none}
-use Rattle.oak_core.proofs.SamePass.{stays_both}
+use Rattle.oak_core.proofs.seats.AloneRuns.{runs_as}
+use Rattle.oak_core.proofs.calls.QuietCalls.{only_both, only_none}
+use Rattle.oak_core.proofs.seats.SamePass.{stays_both}
 use Rattle.chunk_ops.specs.Latching.{Never}
 use Rattle.point_ops.specs.Gets.{GotFits}
 use Rattle.point_ops.specs.LoneReplies.{GotAlone}

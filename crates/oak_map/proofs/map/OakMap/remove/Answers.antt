@@ -2,7 +2,7 @@ use Rattle.std.proofs.Common.{ℕ, subst}
 use Rattle.oak_model.specs.declared.cells.CellCall.TheVariants.{Remove}
 use Rattle.oak_core.specs.declared.states.PassState.{PassState}
 use Rattle.oak_core.specs.Passes.{state as table_state}
-use Rattle.oak_core.proofs.SamePass.{stays_both}
+use Rattle.oak_core.proofs.seats.SamePass.{stays_both}
 use Rattle.point_ops.specs.LoneLeft.{LeavesBy}
 use Rattle.point_ops.specs.LoneReplies.{WroteAlone}
 use Rattle.point_ops.specs.Parts.{WroteFits}

@@ -1,7 +1,7 @@
 use Rattle.std.proofs.Common.{ℕ, subst}
 use Rattle.oak_core.specs.QuietSteps.{IsQuiet}
-use Rattle.oak_core.proofs.QuietCalls.{only_both}
-use Rattle.oak_core.proofs.SamePass.{stays_both}
+use Rattle.oak_core.proofs.calls.QuietCalls.{only_both}
+use Rattle.oak_core.proofs.seats.SamePass.{stays_both}
 use Rattle.point_ops.specs.Gets.{GotFits}
 use Rattle.point_ops.specs.LoneReplies.{GotAlone}
 use Rattle.point_ops.specs.Replies.{Refuses}

@@ -14,10 +14,10 @@ use Rattle.oak_core.specs.Splitting.{Loads}
 use Rattle.value_ops.proofs.AloneEnds.{renews_alone}
 use Rattle.oak_core.specs.Passes.{state, key, call_of}
 use Rattle.oak_core.specs.Step.{on_headers, MayOnHeaders}
-use Rattle.oak_core.proofs.Words.{index_below}
+use Rattle.oak_core.proofs.memory.Words.{index_below}
 use Rattle.value_ops.specs.UnderLock.{Renews}
 use Rattle.value_ops.proofs.ComesFurther.{place_loaded, block_loaded}
-use Rattle.oak_core.proofs.MetMore.{told_in}
+use Rattle.oak_core.proofs.calls.MetMore.{told_in}
 use Rattle.value_ops.proofs.RenewFacts.{may_renew, renews, holds_given}
 use Rattle.value_ops.proofs.StampStores.{held_place}
 use Rattle.value_ops.proofs.burying.Buried.take_back.Goals as goal

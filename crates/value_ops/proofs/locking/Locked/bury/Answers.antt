@@ -6,7 +6,7 @@ use Rattle.value_ops.proofs.AloneEnds.{buries_alone}
 use Rattle.oak_core.specs.Passes.{state, key, call_of}
 use Rattle.oak_core.specs.Step.{on_headers}
 use Rattle.value_ops.proofs.ComesFurther.{headers_come}
-use Rattle.oak_core.proofs.MetMore.{told_in}
+use Rattle.oak_core.proofs.calls.MetMore.{told_in}
 use Rattle.value_ops.proofs.StampStores.{is_stamped}
 use Rattle.value_ops.proofs.UnlockFacts.{may_bury, buries, has_buried}
 use Rattle.value_ops.proofs.locking.Locked.bury.Goals as goal

@@ -12,7 +12,7 @@ use Rattle.oak_core.specs.Step.{on_headers, MayOnHeaders}
 use Rattle.value_ops.specs.UnderLock.{Exchanges}
 use Rattle.value_ops.proofs.BlockExchange.{may_change, exchanges, holds_old, locked_still}
 use Rattle.value_ops.proofs.ComesFurther.{block_loaded}
-use Rattle.oak_core.proofs.MetMore.{told_in}
+use Rattle.oak_core.proofs.calls.MetMore.{told_in}
 use Rattle.value_ops.proofs.locking.Locked.change.Goals as goal
 
 pub store_field-requires-clause-names : goal.store_field-requires-clause-names

@@ -7,8 +7,8 @@ use Rattle.oak_model.specs.Limits.{Sizes}
 use Rattle.oak_core.specs.Memory.{in_headers}
 use Rattle.oak_core.specs.Passes.{state, key}
 use Rattle.value_ops.specs.AloneLocks.{FindsWord, FindsClass}
-use Rattle.oak_core.proofs.AloneRuns.{runs_as}
-use Rattle.oak_core.proofs.OwnerLaws.{place_below}
+use Rattle.oak_core.proofs.seats.AloneRuns.{runs_as}
+use Rattle.oak_core.proofs.owners.OwnerLaws.{place_below}
 use Rattle.value_ops.proofs.locking.Locked.class.Goals as goal
 
 pub returns-clause-class : goal.returns-clause-class

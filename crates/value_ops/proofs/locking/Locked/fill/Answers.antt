@@ -11,12 +11,12 @@ use Rattle.oak_core.specs.Finding.{LoadsMore}
 use Rattle.oak_core.specs.HeaderCalls.{of_locked_place, ChangesPlace}
 use Rattle.oak_core.specs.Passes.{state, key, call_of}
 use Rattle.oak_core.specs.Step.{on_headers, MayOnHeaders}
-use Rattle.oak_core.proofs.OwnerLaws.{place_below}
+use Rattle.oak_core.proofs.owners.OwnerLaws.{place_below}
 use Rattle.value_ops.specs.Rewriting.{HasWords}
 use Rattle.value_ops.specs.HeldValue.{words_in}
 use Rattle.value_ops.specs.UnderLock.{ComesTo, words_over, with_words}
 use Rattle.value_ops.proofs.ComesFurther.{comes_in}
-use Rattle.oak_core.proofs.MetMore.{told_in}
+use Rattle.oak_core.proofs.calls.MetMore.{told_in}
 use Rattle.value_ops.proofs.AlonePins.{none_stays}
 use Rattle.value_ops.proofs.AloneRewrites.{refills_alone, keeps_alone}
 use Rattle.value_ops.proofs.RefillFacts.{may_refill, bytes_fit, refills, refills_same, locked_still, locked_same}

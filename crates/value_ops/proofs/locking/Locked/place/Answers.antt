@@ -5,7 +5,7 @@ use Rattle.oak_core.specs.Memory.{in_headers}
 use Rattle.oak_model.specs.Limits.{Sizes}
 use Rattle.oak_core.specs.Splitting.{Loads}
 use Rattle.oak_core.specs.Passes.{state, key, call_of}
-use Rattle.oak_core.proofs.Words.{index_below}
+use Rattle.oak_core.proofs.memory.Words.{index_below}
 use Rattle.value_ops.proofs.ComesFurther.{place_loaded}
 use Rattle.value_ops.proofs.AlonePins.{load_finds}
 use Rattle.value_ops.proofs.StampStores.{held_place, held_block}

@@ -5,7 +5,7 @@ use Rattle.oak_core.specs.HeaderCalls.{of_stamp, StoresStamp}
 use Rattle.oak_core.specs.Passes.{state, key, call_of}
 use Rattle.oak_core.specs.Step.{on_headers}
 use Rattle.value_ops.proofs.ComesFurther.{lock_met}
-use Rattle.oak_core.proofs.MetMore.{told_in}
+use Rattle.oak_core.proofs.calls.MetMore.{told_in}
 use Rattle.value_ops.proofs.StampStores.{may_stamp, stored_since, next_is}
 use Rattle.value_ops.proofs.locking.Locked.store_next_stamp.Goals as goal
 

@@ -3,7 +3,7 @@ use Rattle.oak_model.specs.Limits.{Sizes}
 use Rattle.header_core.specs.HeaderStep.{reworded}
 use Rattle.arena_ops.proofs.PutWords.{puts_none, puts_more, puts_all}
 use Rattle.oak_core.specs.Passes.{state, key, call_of, scratch_of}
-use Rattle.oak_core.proofs.SamePass.{stays_both}
+use Rattle.oak_core.proofs.seats.SamePass.{stays_both}
 use Rattle.arena_core.specs.Words.{word_at}
 use Rattle.value_ops.proofs.ComesFurther.{comes_in}
 use Rattle.value_ops.proofs.RewriteFacts.{as_long_fits, begins, has_words, word_inside, stored_more, all_stored, rewrites}

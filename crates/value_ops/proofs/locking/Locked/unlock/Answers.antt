@@ -4,7 +4,7 @@ use Rattle.header_core.specs.HeaderStep.{unlock_header}
 use Rattle.value_ops.proofs.AloneEnds.{writes_alone}
 use Rattle.oak_core.specs.Passes.{state, key, call_of}
 use Rattle.oak_core.specs.Step.{on_headers}
-use Rattle.oak_core.proofs.MetMore.{told_in}
+use Rattle.oak_core.proofs.calls.MetMore.{told_in}
 use Rattle.value_ops.proofs.StampStores.{is_stamped}
 use Rattle.value_ops.proofs.UnlockFacts.{may_unlock, ends_lock}
 use Rattle.value_ops.proofs.locking.Locked.unlock.Goals as goal

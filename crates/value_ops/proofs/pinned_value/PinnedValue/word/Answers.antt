@@ -1,6 +1,6 @@
 use Rattle.std.proofs.Common.{ℕ, List, get_or, sym, ap, ◌∙◌, arith}
 use Rattle.oak_core.specs.Passes.{state, key, call_of}
-use Rattle.oak_core.proofs.PlainLoads.{met_at}
+use Rattle.oak_core.proofs.told.PlainLoads.{met_at}
 use Rattle.value_ops.proofs.LoadFacts.{word_loaded}
 use Rattle.value_ops.proofs.PinFacts.{pin_stays, loads_at}
 use Rattle.value_ops.proofs.ValueFacts.{words_are, word_at, word_inside, word_placed, word_spot, word_below, word_in_front, word_small}

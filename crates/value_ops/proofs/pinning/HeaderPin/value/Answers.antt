@@ -12,7 +12,7 @@ use Rattle.oak_core.specs.declared.states.PassState.{PassState}
 use Rattle.oak_core.specs.Memory.{in_arena, in_headers, index}
 use Rattle.oak_core.specs.Passes.{state, key, call_of}
 use Rattle.oak_core.specs.Splitting.{Loads}
-use Rattle.oak_core.proofs.Words.{index_below}
+use Rattle.oak_core.proofs.memory.Words.{index_below}
 use Rattle.value_ops.specs.PinnedValues.{stamp_pinned, value_pinned, ReadsLife}
 use Rattle.value_ops.proofs.LearnFacts.{headers_loaded}
 use Rattle.value_ops.proofs.LoadFacts.{loaded_placed, loaded_long, place_loaded, stamp_loaded}

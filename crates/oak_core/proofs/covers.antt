@@ -1,0 +1,21 @@
+-- Rooms, the ranges that move with passes, and entries: what they cover, and their bases.
+pub mod SetValue
+pub mod Unlinks
+pub mod FoundValues
+pub mod SetsValue
+pub mod UnlinksEntry
+pub mod FullClaims
+pub mod RoomBundles
+pub mod PinExchanges
+pub mod StoresBehind
+pub mod PartedKeys
+pub mod PartedSteps
+pub mod Rebalances
+pub mod RebalancesKept
+pub mod HeldAlone
+pub mod RoomBases
+pub mod BasesRise
+pub mod ThawedRooms
+pub mod FoundEntries
+pub mod PublishFacts
+pub mod RoomPins

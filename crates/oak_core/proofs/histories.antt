@@ -1,0 +1,21 @@
+-- Histories of keys: their writes, lives and removals, and how many there are.
+pub mod Histories
+pub mod WritesBelow
+pub mod HistoryEnds
+pub mod WrittenHistories
+pub mod CallerWrites
+pub mod WritesCounted
+pub mod BoundWrites
+pub mod HomeKeys
+pub mod KnownWrites
+pub mod NewLives
+pub mod LockedWrites
+pub mod Removals
+pub mod LivesOnce
+pub mod OverLives
+pub mod BoundSteps
+pub mod WritesLocked
+pub mod CallersKept
+pub mod DroppedBounds
+pub mod MadeMore
+pub mod LastLives

@@ -1,0 +1,22 @@
+-- Blocks have one owner each, and the words of what passes hold stand.
+pub mod KeptWords
+pub mod KeptWhole
+pub mod EntryBlocks
+pub mod KeptInArena
+pub mod OwnerLaws
+pub mod HeadersInArena
+pub mod OneOwner
+pub mod HeaderOwners
+pub mod HeaderWeights
+pub mod HeaderBlocks
+pub mod HeaderSums
+pub mod BlocksWithHeaders
+pub mod KeptInHeaders
+pub mod KeptFields
+pub mod KeptUnderLocks
+pub mod KeptInLocked
+pub mod OwnedAndKept
+pub mod OwnedUnderLocks
+pub mod WholeRecords
+pub mod WholeHeaders
+pub mod BlocksDropped
