@@ -16,9 +16,10 @@ typedef struct {
 
 enum { OAK_C_DONE, OAK_C_BAD_WORDS, OAK_C_NO_MEMORY, OAK_C_FULL, OAK_C_BUSY };
 
-/* Makes a map, puts the value of the key, gets it, and closes the map. OAK_C_BAD_WORDS comes where the key has not 1 to
-   64 bytes or the value more than 1,024; `told` is as before where the answer is not OAK_C_DONE. The bytes are read during
-   the call alone. It takes memory by the program's malloc, waits for nobody, and may be called by any thread. */
+/* Makes a map of the usual shape, puts the value of the key, gets it, and closes the map. OAK_C_BAD_WORDS comes where the
+   key has not 1 to 64 bytes or the value more than 1,024; `told` is as before where the answer is not OAK_C_DONE. The
+   bytes are read during the call alone. It takes memory by the program's malloc, waits for nobody, and may be called by
+   any thread. */
 uint32_t oak_c_put_and_get(const uint8_t *key, size_t key_length, const uint8_t *value, size_t value_length,
                            oak_c_told *told);
 #endif

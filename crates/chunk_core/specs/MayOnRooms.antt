@@ -96,16 +96,13 @@ pub record MayRetire (r : ℕ) (gs : List MovingRange) : Type 0 where
   pub one : total (λ (g : MovingRange). one_at g.room r) gs ≤ 1
   pub joins : (g : MovingRange) → range_of r gs ≡ Some g → total (λ (h : MovingRange). one_if (is_below g h)) (ranges_without r gs) ≡ 1
 
--- What each kind asks. The block of a published entry's key, the header that a value word comes to name or names no more, and the write are asked for above.
+-- What each kind asks of what its pass has of rooms. Of publishing an entry, and of setting and unlinking a value, more is asked than of rooms: `MayOnRooms` of the table has that whole.
 abbrev pub MayRoom : Sizes → RoomStep → RoomHolds → Type 0
 MayRoom z (pin_room r) a = a.pin ≡ None
 MayRoom z (unpin_room r) a = (room_pins r a ≡ 1) × (a.latch ≡ None) × (a.claim ≡ None)
 MayRoom z (latch_room r) a = (p : PinnedRoom) × PinsRoom r a p × (a.latch ≡ None)
 MayRoom z (store_entry f r i x) a = (p : PinnedRoom) × (l : Latch) × HasLatch r a p l × (i ≡ entries_in l.count) × (x < 2 ^ 64)
-MayRoom z (publish_entry r x) a = (p : PinnedRoom) × (l : Latch) × HasLatch r a p l × (x ≡ l.count + 1)
 MayRoom z (unlatch_room r) a = latches_on r a ≡ 1
-MayRoom z (set_value r i old new kind) a = (p : PinnedRoom) × (e : FoundEntry) × FindsEntry r i a p e × (names_header old ≡ 0) × (names_header new ≡ 1)
-MayRoom z (unlink_entry r i x) a = (p : PinnedRoom) × (e : FoundEntry) × FindsEntry r i a p e
 MayRoom z (freeze_room r old) a = state_of old ≡ OPEN
 MayRoom z (thaw_room r) a = in_room_state r FROZEN a ≡ 1
 MayRoom z (hold_room r old) a = HasNoPin FROZEN old × (in_room_state r FROZEN a ≡ 1)
@@ -113,3 +110,4 @@ MayRoom z (claim_room r old) a = HasNoPin FREE old
 MayRoom z (store_room p x) a = (in_room_state (room_at p) HELD a ≡ 1) × IsRoomWord p x × (x < 2 ^ 64)
 MayRoom z (open_room r) a = (in_room_state r HELD a ≡ 1) × MayOpenCopy z (copy_of r a.held) a.moving
 MayRoom z (retire_room r) a = (in_room_state r HELD a ≡ 1) × MayRetire r a.moving
+MayRoom z _ a = Unit {0}

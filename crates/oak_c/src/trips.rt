@@ -6,10 +6,10 @@ ghost use Rattle.oak_core.specs.MayWrite.{IsNewCall};
 ghost use Rattle.oak_core.specs.PassState.{HoldsNothing};
 ghost use Rattle.oak_core.specs.Passes.{IsPassOf, Stays, call_of, state};
 
-use crate::Told;
+use crate::told::Told;
 use oak_core::{OakTable, Pass};
 use oak_map::{NoValue, Wrote, bare};
-use oak_model::{GREATEST_KEY, GREATEST_VALUE, Shape};
+use oak_model::Shape;
 use std::alloc::Global;
 
 /// How often a call tries before it gives up.
@@ -71,19 +71,23 @@ fn put(table: &OakTable, pass: &mut Pass, key: &[u8], value: &[u8]) -> Result<u6
     match bare::try_put(table, pass, key, value, LOOKS) {
         Err(_) => Err(NoTrip::Busy),
         Ok(Wrote::Full(_)) => Err(NoTrip::Full),
-        Ok(Wrote::New { at }) | Ok(Wrote::Over { at }) => Ok(at),
-        Ok(_) => Err(NoTrip::Busy),
+        Ok(
+            Wrote::New { at }
+            | Wrote::Over { at }
+            | Wrote::Kept { at }
+            | Wrote::Done { at }
+            | Wrote::Removed { at }
+            | Wrote::Absent { at },
+        ) => Ok(at),
     }
 }
 
-/// Puts the value of the key into a map of one chunk and gets it.
+/// Puts the value of the key into a map of the usual shape and gets it.
 pub fn put_and_get(alloc: Global, key: &[u8], value: &[u8]) -> Result<Told, NoTrip>
     requires key { IsKey key.now }
     requires value { IsValue value.now }
 {
-    let Ok(shape) = Shape::for_keys(1, GREATEST_KEY, GREATEST_VALUE, 1) else {
-        return Err(NoTrip::Full);
-    };
+    let shape = Shape::standard(1);
     let Ok((table, mut pass)) = OakTable::create(alloc, &shape) else {
         return Err(NoTrip::OutOfMemory);
     };

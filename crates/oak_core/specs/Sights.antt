@@ -1,5 +1,5 @@
 -- Which numbers a call found for which keys, and which lives it found to be over. A pass notes both at the steps that teach it, in lists that only grow.
-use Rattle.std.specs.Prelude.{◌≡◌, ℕ, suc, cond, Bool, List, [], ◌∷◌, ◌++◌, length}
+use Rattle.std.specs.Prelude.{◌≡◌, ℕ, suc, cond, Bool, List, [], ◌∷◌, ◌++◌}
 use Rattle.oak_model.specs.Counts.{Has}
 use Rattle.oak_core.specs.declared.states.Findings.{Findings}
 use Rattle.oak_core.specs.declared.states.Gone.{Gone}
@@ -10,7 +10,7 @@ use Rattle.oak_core.specs.Learning.{reach_of}
 
 -- the sights after a step of the call that taught x, where it taught it; its finding is the next that is met
 abbrev pub sights_with : Bool → ℕ → Taught → Findings → List Sight
-sights_with known call x fs = cond known (fs.sights ++ record { call = call; taught = x; met = length fs.met } ∷ []) fs.sights
+sights_with known call x fs = cond known (fs.sights ++ record { call = call; taught = x } ∷ []) fs.sights
 
 -- the lives over, after a step of the call that found one so
 abbrev pub gones_with : Bool → ℕ → List ℕ → ℕ → Findings → List Gone

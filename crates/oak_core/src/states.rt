@@ -42,11 +42,10 @@ pub struct Swept {
     pub met: usize,
 }
 
-/// What a step of a call taught its pass, and how many findings the pass had met before that step.
+/// What a step of a call taught its pass.
 pub struct Sight {
     pub call: u32,
     pub taught: Taught,
-    pub met: usize,
 }
 
 /// A life of a key that a call found to be over: the value word that names it, and the key.

@@ -1,5 +1,5 @@
 -- The lives of a key: from a write that inserts it to just before the next removal, or to the end.
-use Rattle.std.specs.Prelude.{◌≡◌, ℕ, ◌+◌, ◌-◌, ◌<◌, ◌≤◌, length, None, IsSome}
+use Rattle.std.specs.Prelude.{◌≡◌, ℕ, ◌<◌, ◌≤◌, length, None, IsSome}
 use Rattle.oak_model.specs.History.{History, state_at}
 
 -- The life that has the place r has the place p too, which is not before r: the key is present at each place from r to p.
@@ -14,12 +14,3 @@ pub record EndsAt (h : History) (r g : ℕ) : Type 0 where
   pub last : g ≤ length h
   pub present : (x : ℕ) → r ≤ x → x < g → IsSome (state_at h x)
   pub removed : state_at h g ≡ None
-
--- a life, by the place of its first write and the first place behind it
-pub record Life (h : History) (first past : ℕ) : Type 0 where
-  pub least : 0 < first
-  pub inserted : state_at h (first - 1) ≡ None
-  pub some : first < past
-  pub within : past ≤ length h + 1
-  pub present : (x : ℕ) → first ≤ x → x < past → IsSome (state_at h x)
-  pub ended : past ≤ length h → state_at h past ≡ None

@@ -83,8 +83,7 @@ impl Model for Shape {
       passes = s.passes;
       chunks = s.chunks;
       entries = s.entries;
-      headers =
-          s.headers;
+      headers = s.headers;
       blocks = s.blocks;
     }) };
 
@@ -112,8 +111,7 @@ impl Shape {
           passes = passes;
           chunks = DEFAULT_CHUNKS;
           entries = DEFAULT_ENTRIES;
-          headers =
-              DEFAULT_HEADERS;
+          headers = DEFAULT_HEADERS;
           blocks = DEFAULT_BLOCKS;
         } }
     {

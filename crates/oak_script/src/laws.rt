@@ -39,7 +39,9 @@ pub fn script_limits_in_numbers()
 
 /// A law: the four calls that one thread draws from 0 on have the keys 216, 761, 487 and 268, each in two bytes.
 pub fn first_draws()
-    ensures { drawn_threads 4 0 1 ≡ (Upsert (0 ∷ 216 ∷ []) one_value Add 1 ∷ Upsert
-        (2 ∷ 249 ∷ []) one_value Add 1 ∷ Upsert (1 ∷ 231 ∷ []) one_value Add 1 ∷ Upsert
-        (1 ∷ 12 ∷ []) one_value Add 1 ∷ []) ∷ [] }
+    ensures { drawn_threads 4 0 1 ≡ (Upsert (0 ∷ 216 ∷ []) one_value Add 1
+        ∷ Upsert (2 ∷ 249 ∷ []) one_value Add 1
+        ∷ Upsert (1 ∷ 231 ∷ []) one_value Add 1
+        ∷ Upsert (1 ∷ 12 ∷ []) one_value Add 1
+        ∷ []) ∷ [] }
 {}

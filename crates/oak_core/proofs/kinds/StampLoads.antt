@@ -76,7 +76,7 @@ module _ (z : Sizes) (m : Memory) (is_key_word : ℕ → ℕ) (vs : List PassSta
   counted o call now = true_both (shows_stamp p.header v.headers.pin v.knowledge) (finds_now call v.headers.pin v.knowledge) (shown o) (ap (λ (t : Option PinnedHeader). finds_now call t v.knowledge) is ∙ now)
 
   -- and the stamp counts as found for the key where the life is the key's, or was within the call
-  pub stamp_sights : (state_of p.found ≡ LIVE) ⊎ (state_of p.found ≡ DEAD) → (call : ℕ) → finds_now call (Some p) v.knowledge ≡ true → sights_stamp p.header n call v.headers.pin v.knowledge v.findings ≡ v.findings.sights ++ record { call = call; taught = of_key_to key n; met = length v.findings.met } ∷ []
+  pub stamp_sights : (state_of p.found ≡ LIVE) ⊎ (state_of p.found ≡ DEAD) → (call : ℕ) → finds_now call (Some p) v.knowledge ≡ true → sights_stamp p.header n call v.headers.pin v.knowledge v.findings ≡ v.findings.sights ++ record { call = call; taught = of_key_to key n } ∷ []
   stamp_sights o call now = λ i. sights_with (counted o call now i) call (of_key_to (key_or (key_is i)) n) v.findings
 
   -- under a good pin what it found is there, and the key's entry names the header

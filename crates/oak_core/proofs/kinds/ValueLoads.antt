@@ -55,7 +55,7 @@ module _ (z : Sizes) (m : Memory) (vs : List PassState) (rooms : RoomsStand z m.
     pub floor_knowledge : (call : ℕ) (qs : List Knowledge) → knows_value call p.room i n v.rooms.pin qs v.knowledge ≡ taught_by (of_key_to key n) qs v.knowledge
     floor_knowledge call qs = λ j. record (taught_where (shown j) (of_key_to (key_or (pinned j)) n) qs v.knowledge) { loaded = cond (no_life j) (v.knowledge.loaded ++ life_shown call p.room i n v.rooms.pin ∷ []) v.knowledge.loaded }
 
-    pub floor_sights : (call : ℕ) → sights_value p.room i n call v.rooms.pin v.findings ≡ v.findings.sights ++ record { call = call; taught = of_key_to key n; met = length v.findings.met } ∷ []
+    pub floor_sights : (call : ℕ) → sights_value p.room i n call v.rooms.pin v.findings ≡ v.findings.sights ++ record { call = call; taught = of_key_to key n } ∷ []
     floor_sights call = λ j. sights_with (shown j) call (of_key_to (key_or (pinned j)) n) v.findings
 
     pub floor_step_heard : (u : PassState) → HistoriesStand (map knowledge_of vs) → HeardStands z m vs → u.knowledge ≡ taught_by (of_key_to key n) (map knowledge_of vs) v.knowledge → u.rooms ≡ v.rooms → u.headers.pin ≡ v.headers.pin → HeardStands z m (set vs seat u)

@@ -32,7 +32,7 @@ pub gones_more : (b : Bool) (call : ℕ) (key : List ℕ) (home : ℕ) (fs gs : 
 gones_more b call key home fs gs e = subst (Begins fs.gones) (sym e) (gones_with_grow call fs b key home)
 
 sights_more : (b : Bool) (call : ℕ) (x : Taught) (v w : PassState) → w.findings.sights ≡ sights_with b call x v.findings → SightsMore call v w
-sights_more true call x v w e = record { more = record { call = call; taught = x; met = _ } ∷ []; sights = e; calls = (refl, tt) }
+sights_more true call x v w e = record { more = record { call = call; taught = x } ∷ []; sights = e; calls = (refl, tt) }
 sights_more false call x v w e = sights_same call v w e
 
 module _ (z : Sizes) (call : ℕ) (x : Step) (v : PassState) (n : ℕ) (w : PassState) (t : Told z call x v n w) (b : Bool) (y : Taught) (knowledge : w.knowledge ≡ taught_where b y (map knowledge_of t.table.states) v.knowledge) where

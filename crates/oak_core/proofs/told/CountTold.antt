@@ -57,7 +57,7 @@ module _ (z : Sizes) (call : ℕ) (v : PassState) (n : ℕ) (w : PassState) (p :
   taught_now = ap (λ (y : PassState). y.knowledge) t.after ∙ (ap (λ (o : Option PinnedRoom). knows_count m.rooms bytes p.room o qs v.knowledge) is ∙ ap (λ (b : Bool). taught_where b (OfRoom p') qs v.knowledge) pinned_there)
 
   abbrev sight : Sight
-  sight = record { call = call; taught = OfRoom p'; met = length v.findings.met }
+  sight = record { call = call; taught = OfRoom p' }
 
   sights_are : w.findings.sights ≡ v.findings.sights ++ sight ∷ []
   sights_are = ap (λ (y : PassState). y.findings.sights) t.after ∙ (ap (λ (o : Option PinnedRoom). sights_count m.rooms bytes p.room call o v.findings) is ∙ ap (λ (b : Bool). sights_with b call (OfRoom p') v.findings) pinned_there)

@@ -65,7 +65,7 @@ module _ (z : Sizes) (s : TableState) (r : Rule z s) (seat : ℕ) (v : PassState
 
 -- so a step that taught them, with a sight, has read the key
 module _ (z : Sizes) (call : ℕ) (x : Step) (v : PassState) (n : ℕ) (w : PassState) (t : Told z call x v n w) (key : List ℕ) (at : ℕ) (knowledge : w.knowledge ≡ taught_by (of_key_to key at) (map knowledge_of t.table.states) v.knowledge)
-    (sights : w.findings.sights ≡ v.findings.sights ++ record { call = call; taught = of_key_to key at; met = length v.findings.met } ∷ [])
+    (sights : w.findings.sights ≡ v.findings.sights ++ record { call = call; taught = of_key_to key at } ∷ [])
     (last : stamp_behind (history_now t.table.states (key_number key)) ≤ at) (level : at ≤ level_now z (memory z t.table.words) t.table.states (key_number key)) (state : State) (now : state_behind (history_now t.table.states (key_number key)) ≡ state) where
   pub key_last : ReadsLast (key_number key) at state v w
   key_last = record {

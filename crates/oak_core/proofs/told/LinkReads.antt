@@ -51,9 +51,9 @@ module _ (z : Sizes) (m : Memory) (is_key_word : ℕ → ℕ) (vs : List PassSta
   linked_taught = knowledge ∙ (ap (λ (o : Option PinnedRoom). knows_link m.rooms bytes p.room from o qs v.knowledge) is ∙ ap (λ (b : Bool). taught_where b (OfGap gap) qs v.knowledge) shows)
 
   abbrev sight : Sight
-  sight = record { call = call; taught = OfGap gap; met = length v.findings.met }
+  sight = record { call = call; taught = OfGap gap }
 
-  pub linked_sights : u.findings.sights ≡ v.findings.sights ++ record { call = call; taught = OfGap (gap_at m.rooms (content m.arena.bytes) from p); met = length v.findings.met } ∷ []
+  pub linked_sights : u.findings.sights ≡ v.findings.sights ++ record { call = call; taught = OfGap (gap_at m.rooms (content m.arena.bytes) from p) } ∷ []
   linked_sights = sights ∙ (ap (λ (o : Option PinnedRoom). sights_link m.rooms bytes p.room from call o v.findings) is ∙ ap (λ (b : Bool). sights_with b call (OfGap gap) v.findings) shows)
 
   abbrev seen_now : u.knowledge.seen ≡ (taught_by (OfGap (gap_at m.rooms (content m.arena.bytes) from p)) (map knowledge_of vs) v.knowledge).seen

@@ -73,7 +73,7 @@ module _ (z : Sizes) (call h old : ℕ) (v : PassState) (n : ℕ) (w : PassState
     tested : test ≡ true
     tested = true_both (is_known (key_known h (generation_of old) v.knowledge)) (m.headers.pin h == old) (ap is_known knows) (eq-eqb (m.headers.pin h) old pin_is)
 
-    sighted : w.findings.sights ≡ v.findings.sights ++ record { call = call; taught = of_key_to key (m.headers.stamp h); met = length v.findings.met } ∷ []
+    sighted : w.findings.sights ≡ v.findings.sights ++ record { call = call; taught = of_key_to key (m.headers.stamp h) } ∷ []
     sighted = sights_now ∙ (λ i. sights_with (tested i) call (of_key_to (key_or (knows i)) (m.headers.stamp h)) v.findings)
 
     -- all that the pass has seen of the key then ends with that

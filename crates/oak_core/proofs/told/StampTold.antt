@@ -61,7 +61,7 @@ module _ (z : Sizes) (call : ℕ) (v : PassState) (n : ℕ) (w : PassState) (p :
   learned = ap (λ (y : PassState). y.knowledge) t.after ∙ (ap (λ (c : ℕ). knows_stamp p.header c v.headers.pin qs v.knowledge) stamp_found
       ∙ stamp_knowledge z m is_key_word t.table.states t.rule.covers t.rule.keys t.rule.callers t.rule.histories t.rule.headers t.rule.heard t.seat v t.here p is good.wanted key knows named n (sym stamp_found) (inl good.live) qs)
 
-  sighted : w.findings.sights ≡ v.findings.sights ++ record { call = call; taught = of_key_to key n; met = length v.findings.met } ∷ []
+  sighted : w.findings.sights ≡ v.findings.sights ++ record { call = call; taught = of_key_to key n } ∷ []
   sighted = ap (λ (y : PassState). y.findings.sights) t.after ∙ (ap (λ (c : ℕ). sights_stamp p.header c call v.headers.pin v.knowledge v.findings) stamp_found
       ∙ stamp_sights z m is_key_word t.table.states t.rule.covers t.rule.keys t.rule.callers t.rule.histories t.rule.headers t.rule.heard t.seat v t.here p is good.wanted key knows named n (sym stamp_found) (inl good.live) call (live_now call p v.knowledge good.live))
 
@@ -80,7 +80,7 @@ module _ (z : Sizes) (call : ℕ) (v : PassState) (n : ℕ) (w : PassState) (p :
 module _ (z : Sizes) (call : ℕ) (v : PassState) (n : ℕ) (w : PassState) (p : PinnedHeader) (is : v.headers.pin ≡ Some p) (wanted : generation_of p.found ≡ p.wanted) (state : (state_of p.found ≡ LIVE) ⊎ (state_of p.found ≡ DEAD)) (key : List ℕ) (knows : key_known p.header p.wanted v.knowledge ≡ Some key)
     (now : finds_now call (Some p) v.knowledge ≡ true) (t : Told z call (load (in_headers (at_stamp p.header))) v n w) where
   abbrev sight : Sight
-  sight = record { call = call; taught = of_key_to key n; met = length v.findings.met }
+  sight = record { call = call; taught = of_key_to key n }
 
   number_is : (memory z t.table.words).headers.stamp p.header ≡ n
   number_is = memory_read z t.table.words (in_headers (at_stamp p.header)) t.may ∙ t.finds

@@ -61,7 +61,7 @@ module _ (z : Sizes) (call : ℕ) (v : PassState) (i n : ℕ) (w : PassState) (p
     learned : w.knowledge ≡ taught_by (of_key_to key n) (map knowledge_of t.table.states) v.knowledge
     learned = knows_now ∙ floor_knowledge z m t.table.states t.rule.rooms t.rule.covers t.rule.keys t.seat v t.here p is good i key found n value_found floor call qs
 
-    sighted : w.findings.sights ≡ v.findings.sights ++ record { call = call; taught = of_key_to key n; met = length v.findings.met } ∷ []
+    sighted : w.findings.sights ≡ v.findings.sights ++ record { call = call; taught = of_key_to key n } ∷ []
     sighted = sights_now ∙ floor_sights z m t.table.states t.rule.rooms t.rule.covers t.rule.keys t.seat v t.here p is good i key found n value_found floor call
 
     pub floor_small : n < 2 ^ 63
