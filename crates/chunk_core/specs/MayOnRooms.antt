@@ -15,7 +15,6 @@ use Rattle.chunk_core.specs.declared.holds.MovingRange.{MovingRange}
 use Rattle.chunk_core.specs.declared.holds.RoomHolds.{RoomHolds}
 use Rattle.chunk_core.specs.declared.states.TheConstants.{FREE, OPEN, FROZEN, HELD}
 use Rattle.chunk_core.specs.Rooms.{RoomSpot, at_room_pin, at_latch, room_at}
-use Rattle.chunk_core.specs.ValueWord.{names_header}
 use Rattle.chunk_core.specs.KeyWords.{key_in, least_number, low_number, high_number}
 use Rattle.chunk_core.specs.Spans.{within}
 use Rattle.chunk_core.specs.LinkedEntries.{entries_in, prefix_in}
