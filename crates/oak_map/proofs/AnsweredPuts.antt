@@ -22,7 +22,7 @@ use Rattle.oak_core.proofs.covers.FullClaims.{claims_both, claims_none}
 use Rattle.point_ops.specs.Parts.{WroteFits}
 use Rattle.point_ops.specs.Replies.{FoundForReply, MineAfter, RepliesAt}
 use Rattle.point_ops.proofs.Composed.{sighted_in}
-use Rattle.oak_map.specs.Replying.{GivesUp, MapReplies, PutFits, Tries}
+use Rattle.oak_map.specs.Replying.{AnswersFull, MapReplies, PutFits, Tries}
 use Rattle.oak_map.proofs.RepliesSince.{goes_both}
 use Rattle.oak_map.proofs.Trying.{claims_kept, claims_then, holds_on, holds_on_both, idle_on}
 
@@ -70,7 +70,7 @@ module _ (z : Sizes) (call : ℕ) (u v w : PassState) (r : Tries z call u v) whe
   put_claims (Full lack) key ask f = absurd f
 
 -- nor did the noting of a call that gave up
-pub noted_claims : (z : Sizes) (call : ℕ) (key : List ℕ) (ask : CellCall) (lack : Lack) (v w : PassState) → GivesUp z call key ask lack v w → ClaimsFull z v w
+pub noted_claims : (z : Sizes) (call : ℕ) (key : List ℕ) (ask : CellCall) (lack : Lack) (v w : PassState) → AnswersFull z call key ask lack v w → ClaimsFull z v w
 noted_claims z call key ask lack v w g = let e = g.notes.after in claims_both z v g.last w (g.tries.goes.met.more, g.tries.goes.met.met) (_ ∷ [], ap (λ (x : PassState). x.findings.met) e) g.tries.claims (claims_none z g.last w (ap (λ (x : PassState). x.findings.rebalances.claims) e))
 
 -- behind it the pass holds nothing, as before

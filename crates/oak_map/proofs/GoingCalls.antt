@@ -29,7 +29,7 @@ use Rattle.rebalance.specs.Calls.{FindsNoRoom, Halves, Settles}
 use Rattle.rebalance.proofs.SweptKeys.{sweeps_since, sweeps_until}
 use Rattle.oak_map.specs.MakingRoom.{MakesWay}
 use Rattle.oak_map.specs.Putting.{Going, LastTry}
-use Rattle.oak_map.specs.Replying.{GivesUp, ItsRoom, SpareOf, Tries}
+use Rattle.oak_map.specs.Replying.{AnswersFull, ItsRoom, SpareOf, Tries}
 use Rattle.oak_map.proofs.LackingCalls.{blocks_found, headers_found, lacks_since, met_any}
 use Rattle.oak_map.proofs.Trying.{tries_both, tries_leaves, tries_none, tries_refused}
 
@@ -122,8 +122,8 @@ none_where Q (Some x) false lack f h = tt
 -- The call began at u and was refused from v to w; it did more until x, and there it settled, or was noted, until y.
 module _ (z : Sizes) (call : ℕ) (key : List ℕ) (halt : Halt) (settled after : Bool) (ask : CellCall) (lack : Lack) (u v w x y : PassState) (o : Option Lack) (t : LastTry z call key halt settled ask u v w) (rest : Tries z call w x)
     (full : settled ≡ true → (o ≡ Some lack) × Notes z call lack x y) (again : settled ≡ false → (o ≡ None) × (after ≡ true) × Settles z call x y) where
-  pub refused_full : (spare : Option ℕ) → SpareOf lack spare call key ask v w → NeedsNow call key ask lack v w → (settled ≡ true → Lacks z call lack spare (length u.findings.met) (length x.findings.met) x.findings) → ItsRoom lack z key u x → IfSome o (λ l. GivesUp z call key ask l u y)
-  refused_full spare spared needs lacks room = some_where (λ l. GivesUp z call key ask l u y) o settled lack (λ q. (full q).0) (λ q. (again q).0) (λ q. record {
+  pub refused_full : (spare : Option ℕ) → SpareOf lack spare call key ask v w → NeedsNow call key ask lack v w → (settled ≡ true → Lacks z call lack spare (length u.findings.met) (length x.findings.met) x.findings) → ItsRoom lack z key u x → IfSome o (λ l. AnswersFull z call key ask l u y)
+  refused_full spare spared needs lacks room = some_where (λ l. AnswersFull z call key ask l u y) o settled lack (λ q. (full q).0) (λ q. (again q).0) (λ q. record {
     last = x;
     tries = tries_both z call u w x (going_tried z call key halt settled ask u v w t).tries rest;
     needs = needs_on call key ask u v w x t.going.tries.goes rest.goes lack needs;

@@ -12,7 +12,7 @@ use Rattle.point_ops.specs.declared.halts.Halt.TheVariants.{Crowded, NoBlock, No
 use Rattle.point_ops.specs.Needs.{NeedsNow}
 use Rattle.oak_map.specs.MakingRoom.{IsLacking, IsRefused}
 use Rattle.oak_map.specs.Putting.{Going, LastTry}
-use Rattle.oak_map.specs.Replying.{GivesUp, ItsRoom, SpareOf, Tries}
+use Rattle.oak_map.specs.Replying.{AnswersFull, ItsRoom, SpareOf, Tries}
 use Rattle.oak_map.proofs.GoingCalls.{block_lacks, going_tried, header_lacks, met_longer, refused_full, refused_going, room_lacks}
 use Rattle.oak_map.proofs.Trying.{tries_leaves, tries_none}
 
@@ -67,7 +67,7 @@ module _ (z : Sizes) (call : ℕ) (key : List ℕ) (halt : Halt) (settled : Bool
     now : LacksNow z call key ask settled lack u v w x
     now = lacks_now lack x is
 
-    pub lacks_full : IfSome o (λ l. GivesUp z call key ask l u y)
+    pub lacks_full : IfSome o (λ l. AnswersFull z call key ask l u y)
     lacks_full = refused_full z call key halt settled then ask lack u v w x y o t now.rest r.full r.again now.spare now.spared now.needs now.lacks now.its_room
 
     pub lacks_going : IfNone o (Going z call then u y)

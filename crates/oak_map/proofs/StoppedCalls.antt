@@ -16,7 +16,7 @@ use Rattle.point_ops.specs.LonePuts.{LoneHalts}
 use Rattle.point_ops.specs.Replies.{Refuses}
 use Rattle.rebalance.specs.Busy.{GivesUpSettling}
 use Rattle.rebalance.specs.LoneCalls.{Divided, RewritesRoom}
-use Rattle.oak_map.specs.GivingUp.{Repeats}
+use Rattle.rebalance.specs.Repeating.{Repeats}
 use Rattle.oak_map.specs.LoneRetrying.{LoneGoing, Retries}
 use Rattle.oak_map.specs.MakingRoom.{FindsBusy, IsLacking}
 use Rattle.oak_map.specs.Putting.{Going}

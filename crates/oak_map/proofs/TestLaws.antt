@@ -19,7 +19,7 @@ use Rattle.point_ops.specs.Replies.{MineAfter}
 use Rattle.point_ops.specs.TestStates.{IsReady, IsReadyAgain, WroteBy}
 use Rattle.point_ops.proofs.TestLaws.{wrote_again}
 use Rattle.oak_map.specs.declared.answers.Busy.{Busy}
-use Rattle.oak_map.specs.GivingUp.{GivesUp}
+use Rattle.oak_map.specs.GivingUp.{TriesInVain}
 use Rattle.oak_map.specs.Replying.{MapReplies, PutFits, Tries}
 use Rattle.oak_map.specs.Stopping.{StopsTrying}
 use Rattle.oak_map.proofs.AnsweredPuts.{put_idle, put_numbers}
@@ -58,7 +58,7 @@ put_again y z call key ask v w f r = let k = put_keeps y z call key ask v w f r.
 }
 
 -- a call on one key that may give up
-pub changed_again : (y : Result Wrote Busy) (P : PassState → PassState → Type 0) (call looks : ℕ) (key : List ℕ) (ask : CellCall) (v w : PassState) → IfOk y (λ x. WroteFits x call key ask v w) → IfErr y (λ _. GivesUp P call looks v w) → IsReady call v → IsReadyAgain call v w
+pub changed_again : (y : Result Wrote Busy) (P : PassState → PassState → Type 0) (call looks : ℕ) (key : List ℕ) (ask : CellCall) (v w : PassState) → IfOk y (λ x. WroteFits x call key ask v w) → IfErr y (λ _. TriesInVain P call looks v w) → IsReady call v → IsReadyAgain call v w
 changed_again (Ok x) P call looks key ask v w f g r = wrote_again (Ok x) call key ask v w f tt r
 changed_again (Err b) P call looks key ask v w f g r = wrote_again (Err halts.Busy) call key ask v w tt g.refused r
 

@@ -1,5 +1,5 @@
 -- Calls that give up, since other passes were at work where they looked. u is the state of the pass at the call, w the one at its end; v and w are those of one try.
-use Rattle.std.specs.Prelude.{◌≡◌, ◌⊎◌, ℕ, ◌+◌, List}
+use Rattle.std.specs.Prelude.{◌≡◌, ◌⊎◌, ℕ, List}
 use Rattle.oak_model.specs.declared.cells.CellCall.{CellCall}
 use Rattle.oak_model.specs.declared.cells.CellCall.TheVariants.{Get}
 use Rattle.oak_model.specs.Limits.{Sizes}
@@ -17,14 +17,10 @@ use Rattle.point_ops.specs.declared.halts.Halt.TheVariants.{Busy, Moved}
 use Rattle.point_ops.specs.Gets.{ViewFits}
 use Rattle.point_ops.specs.Halting.{Halts}
 use Rattle.point_ops.specs.Replies.{Refuses}
-
--- so many tries in turn, from u to w, of each of which P holds
-pub data Repeats (P : PassState → PassState → Type 0) (u : PassState) : ℕ → PassState → Type 0 where
-  none : Repeats P u 0 u
-  more : (n : ℕ) (v w : PassState) → Repeats P u n v → P v w → Repeats P u (n + 1) w
+use Rattle.rebalance.specs.Repeating.{Repeats}
 
 -- The call gave up after so many tries, of each of which P holds. It made no write, and its pass holds what it held. To a pass that is alone it never comes.
-pub record GivesUp (P : PassState → PassState → Type 0) (call looks : ℕ) (u w : PassState) : Type 0 where
+pub record TriesInVain (P : PassState → PassState → Type 0) (call looks : ℕ) (u w : PassState) : Type 0 where
   pub tries : Repeats P u looks w
   pub refused : Refuses call u w
   pub alone : Runs Never u w

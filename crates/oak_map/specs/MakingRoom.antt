@@ -8,7 +8,7 @@ use Rattle.oak_core.specs.Noting.{Notes}
 use Rattle.chunk_ops.specs.PinRecords.{OnlyMeets}
 use Rattle.point_ops.specs.declared.halts.Halt.{Halt}
 use Rattle.point_ops.specs.declared.halts.Halt.TheVariants.{Busy, Moved, Crowded, NoBlock, NoHeader}
-use Rattle.rebalance.specs.Busy.{GivesUp}
+use Rattle.rebalance.specs.Busy.{GivesUpRewriting}
 use Rattle.rebalance.specs.Calls.{FindsNoRoom, Halves, Loosens, Settles}
 use Rattle.oak_map.specs.declared.going_on.Way.{Way}
 use Rattle.oak_map.specs.declared.going_on.Way.TheVariants.{Halted, Loosened, Opened, Lacks}
@@ -30,7 +30,7 @@ FindsWay (Lacks lack) halt z call key v w = IsLacking lack halt z call key v w
 
 -- another pass had the chunk that was to be split
 abbrev pub FindsBusy : Halt → Sizes → (call looks : ℕ) → List ℕ → PassState → PassState → Type 0
-FindsBusy halt z call looks key v w = (halt ≡ Crowded) × GivesUp z call looks key v w
+FindsBusy halt z call looks key v w = (halt ≡ Crowded) × GivesUpRewriting z call looks key v w
 
 -- ---- what was done
 
@@ -51,7 +51,7 @@ MakesRoom z call key v w = Loosens z call key v w ⊎ ((room : ℕ) × (x : Pass
 -- it made room, or tries again since another pass had the chunk, or it found no room and lacks that
 abbrev pub SplitsChunk : Sizes → ℕ → List ℕ → (settled then : Bool) → Option Lack → PassState → PassState → Type 0
 SplitsChunk z call key settled then result v w =
-    (TriesAgain settled then result × (((looks : ℕ) × GivesUp z call looks key v w) ⊎ MakesRoom z call key v w))
+    (TriesAgain settled then result × (((looks : ℕ) × GivesUpRewriting z call looks key v w) ⊎ MakesRoom z call key v w))
     ⊎ ((x : PassState) × FindsNoRoom z call key v x × IsRefused z call settled then Room result x w)
 
 -- by why it was refused

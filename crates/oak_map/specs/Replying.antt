@@ -62,7 +62,7 @@ SpareOf Header spare call key ask v w = spare ≡ None
 SpareOf Room spare call key ask v w = spare ≡ None
 
 -- The call lacks something. It made no write; it needs what it lacks, on a state of the key that it read; all that it met since its begin is its own, ranges that it swept cover every key, and behind these it found nothing free of what it lacks. Each room that it claimed, it claimed while it held a full chunk. With that it was noted, in one step more.
-pub record GivesUp (z : Sizes) (call : ℕ) (key : List ℕ) (ask : CellCall) (lack : Lack) (v w : PassState) : Type 0 where
+pub record AnswersFull (z : Sizes) (call : ℕ) (key : List ℕ) (ask : CellCall) (lack : Lack) (v w : PassState) : Type 0 where
   pub last : PassState
   pub tries : Tries z call v last
   pub needs : NeedsNow call key ask lack v last
@@ -80,4 +80,4 @@ PutFits (Kept at) z call key ask v w = MapReplies call key ask replies.Kept at v
 PutFits (Done at) z call key ask v w = MapReplies call key ask replies.Done at v w
 PutFits (Removed at) z call key ask v w = MapReplies call key ask replies.Removed at v w
 PutFits (Absent at) z call key ask v w = MapReplies call key ask replies.Absent at v w
-PutFits (Full lack) z call key ask v w = GivesUp z call key ask lack v w
+PutFits (Full lack) z call key ask v w = AnswersFull z call key ask lack v w

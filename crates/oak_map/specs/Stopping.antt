@@ -9,7 +9,7 @@ use Rattle.point_ops.specs.declared.halts.Halt.{Halt}
 use Rattle.point_ops.specs.Halting.{Halts}
 use Rattle.point_ops.specs.Replies.{Refuses}
 use Rattle.rebalance.specs.Busy.{GivesUpSettling, IsBusyFor}
-use Rattle.oak_map.specs.GivingUp.{Repeats}
+use Rattle.rebalance.specs.Repeating.{Repeats}
 use Rattle.oak_map.specs.Replying.{Tries}
 
 -- a try was refused, and why

@@ -13,7 +13,7 @@ use Rattle.value_ops.specs.declared.views.NoRead.{NoRead}
 use Rattle.value_ops.specs.declared.views.NoRead.TheVariants as no_read
 use Rattle.value_ops.specs.Reading.{IsReading}
 use Rattle.value_ops.specs.Views.{Viewed}
-use Rattle.oak_map.specs.GivingUp.{GivesUp, GivesUpLife, NotLent}
+use Rattle.oak_map.specs.GivingUp.{TriesInVain, GivesUpLife, NotLent}
 use Rattle.oak_map.specs.Lending.{LendsLife, LendsValue}
 use Rattle.oak_map.specs.Rests.{RestsAbsent, RestsOver, with_pass}
 use Rattle.oak_map.specs.contracts.map.MapPass.{the_row}
@@ -32,7 +32,7 @@ pub record RestsBusy (z : Sizes) (key : List ℕ) (looks : ℕ) (p q : Pass) : T
   pub own : Stays p q
   pub idle : HoldsNothing (state q)
   pub quiet : Quiet (state p) (state q)
-  pub busy : GivesUp (NotLent z (call_of p) key) (call_of p) looks (state p) (state q)
+  pub busy : TriesInVain (NotLent z (call_of p) key) (call_of p) looks (state p) (state q)
 
 -- or which found none of it
 abbrev pub RestsWithout : Sizes → List ℕ → ℕ → NoValue → Pass → Pass → Type 0

@@ -13,7 +13,7 @@ ghost use Rattle.point_ops.specs.LoneLeft.{LeavesBy};
 ghost use Rattle.point_ops.specs.LoneReplies.{WroteAlone};
 ghost use Rattle.point_ops.specs.Parts.{WroteFits};
 ghost use Rattle.point_ops.specs.Replies.{HoldsAsBefore};
-ghost use Rattle.oak_map.specs.GivingUp.{GivesUp, IsHalted};
+ghost use Rattle.oak_map.specs.GivingUp.{TriesInVain, IsHalted};
 ghost use Rattle.oak_map.specs.Maps.{IsReady, call_of, pass_of, sizes, state};
 
 use crate::answers::Busy;
@@ -87,7 +87,7 @@ impl<R: Wait + Drop + Send> OakMap<R> {
         ensures alone_reply { IfOk result (λ x. IsAlone (state pass.old) → WroteAlone x (sizes self.now) key.now
             (Compute (told_kind recipe.old) (told_argument recipe.old)) (state pass.old) (state pass.new)) }
         ensures alone_left { IfOk result (λ x. Runs (LeavesBy x (sizes self.now) key.now) (state pass.old) (state pass.new)) }
-        ensures busy { IfErr result (λ _. GivesUp (IsHalted (sizes self.now) (call_of pass.old) key.now
+        ensures busy { IfErr result (λ _. TriesInVain (IsHalted (sizes self.now) (call_of pass.old) key.now
             (Compute (told_kind recipe.old) (told_argument recipe.old))) (call_of pass.old) looks (state pass.old)
             (state pass.new)) }
         ensures counted { IfOk result (λ x. calls recipe.new ≡ calls recipe.old + times_done (Ok x)) }
@@ -138,7 +138,7 @@ impl<R: Wait + Drop + Send> OakMap<R> {
         ensures alone_reply { IfOk result (λ x. IsAlone (state pass.old)
             → WroteAlone x (sizes self.now) key.now Remove (state pass.old) (state pass.new)) }
         ensures alone_left { IfOk result (λ x. Runs (LeavesBy x (sizes self.now) key.now) (state pass.old) (state pass.new)) }
-        ensures busy { IfErr result (λ _. GivesUp (IsHalted (sizes self.now) (call_of pass.old) key.now Remove)
+        ensures busy { IfErr result (λ _. TriesInVain (IsHalted (sizes self.now) (call_of pass.old) key.now Remove)
             (call_of pass.old) looks (state pass.old) (state pass.new)) }
     {
         bare::try_remove(&self.table, &mut pass.pass, key, looks)

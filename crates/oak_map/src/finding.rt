@@ -6,7 +6,7 @@ ghost use Rattle.oak_core.specs.Passes.{IsPassOf, Stays, call_of, key as sizes, 
 ghost use Rattle.oak_core.specs.QuietSteps.{Quiet};
 ghost use Rattle.value_ops.specs.Views.{KnowsView};
 ghost use Rattle.oak_map.specs.Finding.{PinsKey, PinsView, TriesKey};
-ghost use Rattle.oak_map.specs.GivingUp.{GivesUp, GivesUpLife, NotLent};
+ghost use Rattle.oak_map.specs.GivingUp.{TriesInVain, GivesUpLife, NotLent};
 ghost use Rattle.oak_map.specs.Lending.{FindsAbsent, FindsOver};
 
 use crate::answers::Busy;
@@ -64,7 +64,7 @@ pub(crate) fn try_find_value(
         (λ p. PinsKey (sizes table.now) (call_of pass.old) key.now p.header p.generation (state pass.old)
         (state pass.new))) }
     ensures quiet { IfErr result (λ _. Quiet (state pass.old) (state pass.new)) }
-    ensures busy { IfErr result (λ _. GivesUp (NotLent (sizes table.now) (call_of pass.old) key.now)
+    ensures busy { IfErr result (λ _. TriesInVain (NotLent (sizes table.now) (call_of pass.old) key.now)
         (call_of pass.old) looks (state pass.old) (state pass.new)) }
 {
     for _ in 0..looks {

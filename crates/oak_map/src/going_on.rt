@@ -1,4 +1,4 @@
-//! What a call that puts does after a try without an answer.
+//! How a call that puts goes on behind a try without an answer.
 ghost use Rattle.std.specs.Prelude.{◌≡◌, ◌<◌, true, IfErr, IfOk, IfSome, IfNone, ℕ, Option, length};
 ghost use Rattle.oak_model.specs.declared.cells.CellCall.{CellCall};
 ghost use Rattle.oak_model.specs.Key.{IsKey};
@@ -11,7 +11,7 @@ ghost use Rattle.rebalance.specs.Busy.{GivesUpSettling};
 ghost use Rattle.oak_map.specs.MakingRoom.{FindsBusy, FindsWay, IsRefused, MakesWay};
 ghost use Rattle.oak_map.specs.Maps.{table_of};
 ghost use Rattle.oak_map.specs.Putting.{Going, LastTry};
-ghost use Rattle.oak_map.specs.Replying.{GivesUp, Tries};
+ghost use Rattle.oak_map.specs.Replying.{AnswersFull, Tries};
 ghost use Rattle.oak_map.specs.Stopping.{IsHindered};
 
 use crate::answers::Busy;
@@ -111,7 +111,7 @@ pub(crate) fn make_way<R: Wait + Drop + Send>(
     ensures own { StaysButSlots pass.old pass.new }
     ensures full { (ask : CellCall) (u v : PassState) → LastTry (sizes (table_of map.now))
         (call_of pass.old) key.now halt settled.old ask u v (state pass.old)
-        → IfSome result (λ lack. GivesUp (sizes (table_of map.now)) (call_of pass.old) key.now ask lack u
+        → IfSome result (λ lack. AnswersFull (sizes (table_of map.now)) (call_of pass.old) key.now ask lack u
         (state pass.new)) }
     ensures going { (ask : CellCall) (u v : PassState) → LastTry (sizes (table_of map.now))
         (call_of pass.old) key.now halt settled.old ask u v (state pass.old)
@@ -188,7 +188,7 @@ pub(crate) fn try_make_way(
     ensures own { StaysButSlots pass.old pass.new }
     ensures full { (ask : CellCall) (u v : PassState) → LastTry (sizes table.now)
         (call_of pass.old) key.now halt settled.old ask u v (state pass.old)
-        → IfOk result (λ o. IfSome o (λ lack. GivesUp (sizes table.now) (call_of pass.old) key.now ask lack u
+        → IfOk result (λ o. IfSome o (λ lack. AnswersFull (sizes table.now) (call_of pass.old) key.now ask lack u
         (state pass.new))) }
     ensures going { (ask : CellCall) (u v : PassState) → LastTry (sizes table.now)
         (call_of pass.old) key.now halt settled.old ask u v (state pass.old)

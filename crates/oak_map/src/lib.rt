@@ -31,6 +31,8 @@ mod room_tests;
 mod row_tests;
 mod settling;
 #[cfg(test)]
+mod shared_tests;
+#[cfg(test)]
 mod test_calls;
 #[cfg(test)]
 mod tests;

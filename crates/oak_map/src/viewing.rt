@@ -1,4 +1,4 @@
-//! Looks at a key.
+//! Looks for keys, and answers views of their lives.
 ghost use Rattle.std.specs.Prelude.{◌<◌, IfErr, IfOk};
 ghost use Rattle.oak_model.specs.declared.cells.CellCall.TheVariants.{Get};
 ghost use Rattle.oak_model.specs.Key.{IsKey};
@@ -9,7 +9,7 @@ ghost use Rattle.oak_core.specs.QuietSteps.{Quiet};
 ghost use Rattle.point_ops.specs.Gets.{GotFits};
 ghost use Rattle.point_ops.specs.LoneReplies.{GotAlone};
 ghost use Rattle.point_ops.specs.Replies.{HoldsAsBefore};
-ghost use Rattle.oak_map.specs.GivingUp.{GivesUp, IsHalted};
+ghost use Rattle.oak_map.specs.GivingUp.{TriesInVain, IsHalted};
 ghost use Rattle.oak_map.specs.Maps.{IsReady, StayAll, call_of, pass_of, sizes, state};
 
 use crate::answers::Busy;
@@ -58,7 +58,7 @@ impl<R: Wait + Drop + Send> OakMap<R> {
         ensures got { IfOk result (λ x. GotFits x (sizes self.now) (call_of pass.old) key.now (state pass.old) (state pass.new)) }
         ensures alone_reply { IfOk result (λ x. IsAlone (state pass.old) → GotAlone x (sizes self.now) key.now (state pass.old) (state pass.new)) }
         ensures alone { Runs StayAll (state pass.old) (state pass.new) }
-        ensures busy { IfErr result (λ _. GivesUp (IsHalted (sizes self.now) (call_of pass.old) key.now Get)
+        ensures busy { IfErr result (λ _. TriesInVain (IsHalted (sizes self.now) (call_of pass.old) key.now Get)
             (call_of pass.old) looks (state pass.old) (state pass.new)) }
     {
         bare::try_view(&self.table, &mut pass.pass, key, looks)

@@ -17,7 +17,7 @@ use Rattle.oak_core.specs.Closing.{closed_state}
 use Rattle.oak_core.specs.Sights.{SightedSince}
 use Rattle.oak_core.proofs.seats.AloneLast.{last_is}
 use Rattle.point_ops.specs.Replies.{FoundForReply}
-use Rattle.oak_map.specs.Replying.{GivesUp, PutFits}
+use Rattle.oak_map.specs.Replying.{AnswersFull, PutFits}
 use Rattle.oak_run.specs.FullsExactly.{LeftWords}
 
 abbrev pub left_words : (c : Closed) (u : PassState) (words : List ℕ) → Begins u.findings.met (closed_state c).findings.met → LeavesWords words u → LeftWords c words
@@ -52,7 +52,7 @@ own_step n v u words m l = ⊎_elim (λ (e : m.more ≡ []). inl (m.met ∙ (ap 
     (last_behind (λ (f : Finding). f.call ≡ n) v.findings.met m.more l.met l.finding (sym m.met ∙ l.last) m.calls)
 
 -- one that was noted met that
-pub noted_step : (z : Sizes) (n : ℕ) (key : List ℕ) (ask : CellCall) (lack : Lack) (v u : PassState) (words : List ℕ) → GivesUp z n key ask lack v u → (l : LeavesWords words u) → l.finding.call ≡ n
+pub noted_step : (z : Sizes) (n : ℕ) (key : List ℕ) (ask : CellCall) (lack : Lack) (v u : PassState) (words : List ℕ) → AnswersFull z n key ask lack v u → (l : LeavesWords words u) → l.finding.call ≡ n
 noted_step z n key ask lack v u words g l = ap (λ (f : Finding). f.call) (last_is l.met g.last.findings.met l.finding _ (sym l.last ∙ ap (λ (y : PassState). y.findings.met) g.notes.after))
 
 -- ---- a call that answers is not without a step
@@ -74,7 +74,7 @@ found_on true k at v u f e = sighted_on k f.0 v u f.2 e
 longer : {A : Type 0} (a b c more : List A) (x : A) → a ≡ c → b ≡ a ++ more → c ≡ b ++ x ∷ [] → ⊥
 longer a b c more x e f g = let n = ap length e in let m = ap length f ∙ length-append a more in let o = ap length g ∙ length-append b (x ∷ []) in omega arith
 
-noted_on : (z : Sizes) (n : ℕ) (key : List ℕ) (ask : CellCall) (lack : Lack) (v u : PassState) → GivesUp z n key ask lack v u → v ≡ u → ⊥
+noted_on : (z : Sizes) (n : ℕ) (key : List ℕ) (ask : CellCall) (lack : Lack) (v u : PassState) → AnswersFull z n key ask lack v u → v ≡ u → ⊥
 noted_on z n key ask lack v u g e = longer v.findings.met g.last.findings.met u.findings.met g.tries.goes.met.more _ (ap (λ (y : PassState). y.findings.met) e) g.tries.goes.met.met (ap (λ (y : PassState). y.findings.met) g.notes.after)
 
 pub went_on : (y : Wrote) (z : Sizes) (n : ℕ) (key : List ℕ) (ask : CellCall) (v u : PassState) → PutFits y z n key ask v u → v ≡ u → ⊥

@@ -29,7 +29,7 @@ use Rattle.oak_core.specs.Memory.{at_given}
 use Rattle.oak_core.specs.PassState.{of_key, seen_of}
 use Rattle.oak_core.proofs.calls.CallSteps.{begins_same, met_both}
 use Rattle.oak_core.proofs.known.PinsKnown.{has_first, has_later}
-use Rattle.oak_map.specs.Replying.{GivesUp}
+use Rattle.oak_map.specs.Replying.{AnswersFull}
 use Rattle.oak_script.specs.declared.scripts.Call.{Call}
 use Rattle.oak_run.specs.Answers.{CellAnswer, asks_for, mark_of, writes_key}
 use Rattle.oak_run.specs.Behind.{GoesBehind, histories}
@@ -55,7 +55,7 @@ full_turn c lack = record { call = c; reply = replies.Wrote (wrote.Full lack); p
 none_some : {A : Type 0} (x : A) → let none : Option A = None in none ≡ Some x → ⊥
 none_some x e = cc
 
-module _ (z : Sizes) (n : ℕ) (names : Names) (c : Call) (key : List ℕ) (cell : CellCall) (lack : Lack) (v w : PassState) (is : is_key key ≡ true) (asks : ask_of c ≡ Some (record { key = key; cell = cell })) (g : GivesUp z n key cell lack v w) where
+module _ (z : Sizes) (n : ℕ) (names : Names) (c : Call) (key : List ℕ) (cell : CellCall) (lack : Lack) (v w : PassState) (is : is_key key ≡ true) (asks : ask_of c ≡ Some (record { key = key; cell = cell })) (g : AnswersFull z n key cell lack v w) where
   abbrev k : ℕ
   k = key_number key
 

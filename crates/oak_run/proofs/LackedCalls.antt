@@ -19,7 +19,7 @@ use Rattle.oak_core.specs.Noting.{Notes}
 use Rattle.oak_core.specs.RoomLacks.{RoomLackFound}
 use Rattle.oak_core.proofs.calls.CallSteps.{begins_same}
 use Rattle.oak_core.proofs.calls.Lacked.{holds_longer, lacks_longer}
-use Rattle.oak_map.specs.Replying.{GivesUp, ItsRoom, SpareOf, Tries}
+use Rattle.oak_map.specs.Replying.{AnswersFull, ItsRoom, SpareOf, Tries}
 use Rattle.oak_run.specs.Closing.{Closing}
 use Rattle.oak_run.specs.Refusals.{SpareFits}
 use Rattle.oak_run.specs.Shown.{FindsMore, KeysRoom, LackedIn}
@@ -86,7 +86,7 @@ room_of Header z key v w r = tt
 room_of Room z key v w r = r
 
 -- its last try lacked what it says
-pub lacked_by : (z : Sizes) (n : ℕ) (key : List ℕ) (cell : CellCall) (lack : Lack) (v w : PassState) → (g : GivesUp z n key cell lack v w) → LackedIn z n lack (key_number key) g.spare g.last.findings
+pub lacked_by : (z : Sizes) (n : ℕ) (key : List ℕ) (cell : CellCall) (lack : Lack) (v w : PassState) → (g : AnswersFull z n key cell lack v w) → LackedIn z n lack (key_number key) g.spare g.last.findings
 lacked_by z n key cell lack v w g = record { began = length v.findings.met; ended = length g.last.findings.met; lacks = g.lacks; its_room = room_of lack z key v g.last g.its_room }
 
 -- a spare block fits, where what was found without an entry in the call stands in the closing so

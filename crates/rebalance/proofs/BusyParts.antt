@@ -1,39 +1,19 @@
 -- What a part of a call found busy, as found in the call.
-use Rattle.std.proofs.Common.{◌≡◌, ℕ, zero, suc, ◌+◌, ◌⊎◌, inl, inr, ⊎_elim, List, subst, arith}
+use Rattle.std.proofs.Common.{ℕ, ◌⊎◌, inl, inr, ⊎_elim, List}
 use Rattle.oak_model.specs.Limits.{Sizes}
 use Rattle.chunk_core.specs.Rooms.{at_room_pin}
-use Rattle.chunk_core.specs.RoomStep.{freeze_room, hold_room, pin_room}
+use Rattle.chunk_core.specs.RoomStep.{hold_room, pin_room}
 use Rattle.oak_core.specs.declared.states.PassState.{PassState}
 use Rattle.oak_core.specs.CallSteps.{MetMore}
 use Rattle.oak_core.specs.Memory.{in_rooms}
 use Rattle.oak_core.specs.Step.{load, on_rooms}
-use Rattle.oak_core.proofs.calls.CallSteps.{met_both, step_in, step_until}
+use Rattle.oak_core.proofs.calls.CallSteps.{step_in}
 use Rattle.chunk_ops.specs.AskedRanges.{CoversKey}
 use Rattle.chunk_ops.specs.RoomPins.{FoundMoved}
 use Rattle.rebalance.specs.Busy.{HoldsOff, IsBusyFor}
-use Rattle.rebalance.specs.Holding.{FindsChanged, FindsFrozen, FindsPinned, IsBusy, Repeats}
-
--- ---- parts of a call one behind the other
-
--- with more before them
-pub repeats_since : (call n : ℕ) (P : PassState → PassState → Type 0) (u v w : PassState) → MetMore call u v → Repeats call n P v w → Repeats call n P u w
-repeats_since call zero P u v w m r = met_both call u v w m r
-repeats_since call (suc n) P u v w m r = (r.0, repeats_since call n P u v r.0 m r.1, r.2)
-
--- and with one more behind them
-pub repeats_more : (call n : ℕ) (P : PassState → PassState → Type 0) (v x w : PassState) → Repeats call n P v x → P x w → Repeats call (n + 1) P v w
-repeats_more call n P v x w r p = subst (λ (m : ℕ). Repeats call m P v w) (let e : suc n ≡ n + 1 = omega arith in e) (x, r, p)
-
--- or more of the call
-pub repeats_until : (call n : ℕ) (P : PassState → PassState → Type 0) → ((x w t : PassState) → MetMore call w t → P x w → P x t) → (v w t : PassState) → MetMore call w t → Repeats call n P v w → Repeats call n P v t
-repeats_until call zero P more v w t m r = met_both call v w t r m
-repeats_until call (suc n) P more v w t m r = (r.0, r.1, more r.0 w t m r.2)
-
-pub changed_until : (z : Sizes) (call r : ℕ) (v w t : PassState) → MetMore call w t → FindsChanged z call r v w → FindsChanged z call r v t
-changed_until z call r v w t m b = record { word = b.word; step = step_until z call (on_rooms (freeze_room r b.word)) v w t m b.step; changed = b.changed }
-
-pub pinned_until : (z : Sizes) (call r : ℕ) (v w t : PassState) → MetMore call w t → FindsPinned z call r v w → FindsPinned z call r v t
-pinned_until z call r v w t m b = record { word = b.word; step = step_until z call (on_rooms (hold_room r b.word)) v w t m b.step; frozen = b.frozen; pinned = b.pinned }
+use Rattle.rebalance.specs.Holding.{FindsChanged, FindsFrozen, FindsPinned, IsBusy}
+use Rattle.rebalance.specs.Repeating.{RepeatsIn}
+use Rattle.rebalance.proofs.Repeated.{repeats_within}
 
 -- ---- what was busy
 
@@ -44,8 +24,8 @@ module _ (z : Sizes) (call looks : ℕ) (u v t s : PassState) (before : MetMore 
   room_busy r = ⊎_elim
       (λ (b : FindsFrozen z call r v t). inl record { step = step_in z call (load (in_rooms (at_room_pin r))) u v t s before after b.step; frozen = b.frozen })
       (⊎_elim
-      (λ (b : Repeats call looks (FindsChanged z call r) v t). inr (inl (repeats_until call looks (FindsChanged z call r) (changed_until z call r) u t s after (repeats_since call looks (FindsChanged z call r) u v t before b))))
-      (λ (b : Repeats call looks (FindsPinned z call r) v t). inr (inr (repeats_until call looks (FindsPinned z call r) (pinned_until z call r) u t s after (repeats_since call looks (FindsPinned z call r) u v t before b)))))
+      (λ (b : RepeatsIn (FindsChanged z call r) call looks v t). inr (inl (repeats_within (FindsChanged z call r) call looks u v t s before after b)))
+      (λ (b : RepeatsIn (FindsPinned z call r) call looks v t). inr (inr (repeats_within (FindsPinned z call r) call looks u v t s before after b))))
 
   -- one that came to be held without the key
   off_busy : (key : List ℕ) (r : ℕ) → HoldsOff z call key r v t → HoldsOff z call key r u s

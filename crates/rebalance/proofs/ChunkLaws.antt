@@ -34,11 +34,13 @@ use Rattle.chunk_ops.proofs.PinSteps.{pin_found}
 use Rattle.rebalance.specs.Copies.{copy_span}
 use Rattle.rebalance.specs.Chunks.{ComesBack, CompactsFront, HoldsFor, HoldsFront, HoldsPinned, LosesPinned, OpensFront, WorksBeside, held_row}
 use Rattle.rebalance.specs.HeldTables.{AwayFromPins, HoldsOnlyRooms, WorksOnRooms}
-use Rattle.rebalance.specs.Holding.{FindsChanged, FindsFrozen, FindsPinned, Freezes, Holds, LeavesUnfrozen, Repeats, StandsBeside, SweepsBeside, Thaws, TriesBeside, with_moving}
+use Rattle.rebalance.specs.Holding.{FindsChanged, FindsFrozen, FindsPinned, Freezes, Holds, LeavesUnfrozen, StandsBeside, SweepsBeside, Thaws, TriesBeside, with_moving}
 use Rattle.rebalance.specs.LoneWords.{FreezesWords, LeavesBut, MovesWith, TakesRoom, held_by, no_room}
-use Rattle.rebalance.proofs.BusyParts.{repeats_since, room_busy}
+use Rattle.rebalance.proofs.BusyParts.{room_busy}
+use Rattle.rebalance.proofs.Repeated.{repeats_within}
 use Rattle.rebalance.proofs.ListedRows.{rows_total}
 use Rattle.rebalance.proofs.LoneTakes.{front_or, pin_takes, pinned_takes, taken_works}
+use Rattle.rebalance.specs.Repeating.{RepeatsIn}
 use Rattle.rebalance.specs.Resting.{rests_both, rests_of, tries_of}
 use Rattle.oak_core.specs.declared.sorting.SortSlot.{SortSlot}
 use Rattle.chunk_core.specs.PinnedRooms.{span_of}
@@ -170,7 +172,7 @@ holds_pinned z call r v a b u f n h = let w : RoomCopy = h.0 in let g : MovingRa
 -- another pass had frozen it, or pinned it
 pub loses_unfrozen : (z : Sizes) (call looks r : ℕ) (v a u : PassState) → LeavesUnfrozen z call looks r v a → Unpins z call r a u → LosesPinned z call looks r v u
 loses_unfrozen z call looks r v a u f n = record {
-  why = room_busy z call looks v v a u (met_none call v) n.stands.met r (⊎_elim (λ (x : FindsFrozen z call r v a). inl x) (λ (x : Repeats call looks (FindsChanged z call r) v a). inr (inl x)) f.why);
+  why = room_busy z call looks v v a u (met_none call v) n.stands.met r (⊎_elim (λ (x : FindsFrozen z call r v a). inl x) (λ (x : RepeatsIn (FindsChanged z call r) call looks v a). inr (inl x)) f.why);
   unpins = record {
     stands = rests_both call v a u f.only.stands (rests_of call a u n.stands);
     blocks = n.blocks ∙ f.only.blocks;
@@ -186,7 +188,7 @@ loses_unfrozen z call looks r v a u f n = record {
 pub loses_thawed : (z : Sizes) (call looks r : ℕ) (v a b u : PassState) → Freezes z call r v a → Unpins z call r a b → Thaws z call looks r b u → LosesPinned z call looks r v u
 loses_thawed z call looks r v a b u f n p = let met = met_both call v a b f.beside.stands.met n.stands.met in
     let never : Runs Never v u = never_last (Then (FreezesWords z v r) (DropsRoomPin z r)) v b u (runs_then (FreezesWords z v r) (DropsRoomPin z r) v a b f.alone n.still) p.alone in record {
-      why = inr (inr (repeats_since call looks (FindsPinned z call r) v b u met p.pinned));
+      why = inr (inr (repeats_within (FindsPinned z call r) call looks v b u u met (met_none call u) p.pinned));
       unpins = record {
         stands = rests_both call v b u (rests_both call v a b f.beside.stands (rests_of call a b n.stands)) p.beside.stands;
         blocks = p.beside.blocks ∙ (n.blocks ∙ f.beside.blocks);

@@ -21,13 +21,14 @@ use Rattle.oak_core.specs.RoomCalls.{NamesRoomPin, FreezesRoom}
 use Rattle.oak_core.specs.Splitting.{Loads}
 use Rattle.oak_core.specs.Step.{Step, load, on_rooms, Told}
 use Rattle.oak_core.proofs.seats.AloneRuns.{moment_after, runs_as, DoesStep, Then, load_runs, runs_then, step_runs}
-use Rattle.oak_core.proofs.calls.CallSteps.{step_alone, step_since, step_met}
+use Rattle.oak_core.proofs.calls.CallSteps.{met_none, step_alone, step_since, step_met}
 use Rattle.chunk_ops.specs.PinRecords.{HasRoomPin, RoomPinned, pin_or, room_pin}
 use Rattle.chunk_ops.proofs.MeetingCalls.{stays_then}
 use Rattle.chunk_ops.proofs.PinSteps.{pin_found}
 use Rattle.chunk_ops.proofs.WordLoads.{load_at, load_reads, only_loaded, pin_holds}
-use Rattle.rebalance.specs.Holding.{Freezes, with_frozen, FindsChanged, LeavesUnfrozen, Repeats}
+use Rattle.rebalance.specs.Holding.{Freezes, with_frozen, FindsChanged, LeavesUnfrozen}
 use Rattle.rebalance.specs.LoneWords.{FreezesWords, room_in}
+use Rattle.rebalance.specs.Repeating.{Repeats}
 use Rattle.rebalance.proofs.LoneChunks.{lone_divides, none_frozen}
 use Rattle.rebalance.proofs.LoneSteps.{StepAt, moment_at, moves_at, step_at}
 use Rattle.rebalance.proofs.RoomExchanges.{beside_since, exchanged_state, freeze_beside, freeze_takes}
@@ -90,8 +91,8 @@ finds_changed z call r old n k v x w l t ne = record {
 }
 
 -- the pass gives up behind so many that did
-pub leaves_changed : (z : Sizes) (call looks r : ℕ) (v w : PassState) → Repeats call looks (FindsChanged z call r) v w → Runs Never v w → OnlyRests call v w → LeavesUnfrozen z call looks r v w
-leaves_changed z call looks r v w c never only = record { why = inr c; only = only; alone = never_so (NeverUnfrozen v) v w never }
+pub leaves_changed : (z : Sizes) (call looks r : ℕ) (v w : PassState) → Repeats (FindsChanged z call r) v looks w → Runs Never v w → OnlyRests call v w → LeavesUnfrozen z call looks r v w
+leaves_changed z call looks r v w c never only = record { why = inr record { from = v; to = w; begun = met_none call v; parts = c; ended = met_none call w }; only = only; alone = never_so (NeverUnfrozen v) v w never }
 
 -- a room that is found open is frozen once
 frozen_once : (z : Sizes) (call r old n : ℕ) (v w : PassState) → (t : FreezesRoom z call r old v n w) → n ≡ old → in_room_state r FROZEN (with_frozen r v.rooms) ≡ 1

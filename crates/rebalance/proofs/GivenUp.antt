@@ -14,7 +14,7 @@ use Rattle.oak_core.proofs.covers.FullClaims.{claims_both, claims_none}
 use Rattle.chunk_ops.specs.Latching.{Never}
 use Rattle.chunk_ops.specs.LoneRooms.{HasElsewhere, NeverElsewhere}
 use Rattle.chunk_ops.proofs.LoneRoomLaws.{bare_elsewhere}
-use Rattle.rebalance.specs.Busy.{GivesUp, GivesUpMerging, IsBusyAbove, IsBusyAt, IsBusyFor, SweepsOff}
+use Rattle.rebalance.specs.Busy.{GivesUpRewriting, GivesUpMerging, IsBusyAbove, IsBusyAt, IsBusyFor, SweepsOff}
 use Rattle.rebalance.specs.Calls.{ComesToHold, Compacts, FindsNoRoom, Halves, HasMuchAbove, IsLast, Leaves, Loosens, Merges, OpensWith, Rewrites, StaysApart}
 use Rattle.rebalance.specs.Chunks.{ComesBack}
 use Rattle.rebalance.specs.LoneCalls.{AllOpen, Divided, HalvesRoom, JoinsRooms, RewritesBoth, RewritesRoom}
@@ -27,11 +27,11 @@ use Rattle.rebalance.proofs.SweptKeys.{sweeps_since}
 use Rattle.rebalance.proofs.TakenChunks.{leaves_of}
 
 -- a call that could not hold the chunk
-pub gives_up : (z : Sizes) (call looks : ℕ) (key : List ℕ) (v u : PassState) → HoldsNothing v → ComesBack z call v u → IsBusyFor z call looks key v u → SweepsOff z call key v u → Runs (NeverElsewhere (key_number key) v) v u → GivesUp z call looks key v u
+pub gives_up : (z : Sizes) (call looks : ℕ) (key : List ℕ) (v u : PassState) → HoldsNothing v → ComesBack z call v u → IsBusyFor z call looks key v u → SweepsOff z call key v u → Runs (NeverElsewhere (key_number key) v) v u → GivesUpRewriting z call looks key v u
 gives_up z call looks key v u idle c b s a = let l = leaves_of call v u c.beside c.rooms in record { busy = b; swept = s; leaves = l; unclaimed = c.claims; unwritten = none_written call v u l; idle = idle_still call v u idle l; alone = unless_never (HasElsewhere (key_number key) v) v u (bare_elsewhere (key_number key) v (bare_of v idle)) a }
 
 -- or the lower one of two
-pub gives_up_lower : (z : Sizes) (call looks : ℕ) (key : List ℕ) (v u : PassState) → GivesUp z call looks key v u → GivesUpMerging z call looks key v u
+pub gives_up_lower : (z : Sizes) (call looks : ℕ) (key : List ℕ) (v u : PassState) → GivesUpRewriting z call looks key v u → GivesUpMerging z call looks key v u
 gives_up_lower z call looks key v u g = record { busy = inl g.busy; leaves = g.leaves; unclaimed = g.unclaimed; unwritten = g.unwritten; idle = g.idle; alone = g.alone }
 
 -- ---- calls that gave up one behind another

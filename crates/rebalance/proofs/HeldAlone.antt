@@ -25,12 +25,12 @@ use Rattle.oak_core.specs.PassState.{rooms_held}
 use Rattle.oak_core.specs.RoomCalls.{HoldsRoomWord}
 use Rattle.oak_core.specs.Step.{on_rooms, Told}
 use Rattle.oak_core.proofs.seats.AloneRuns.{moment_after, DoesStep, runs_as, step_runs}
-use Rattle.oak_core.proofs.calls.CallSteps.{step_alone, step_since}
+use Rattle.oak_core.proofs.calls.CallSteps.{met_none, step_alone, step_since}
 use Rattle.chunk_ops.specs.RoomPins.{HadMoment}
 use Rattle.chunk_ops.proofs.MeetingCalls.{stays_then}
 use Rattle.chunk_ops.proofs.PinSteps.{pin_found}
-use Rattle.rebalance.specs.Holding.{HasHeld, Holds, with_moving, FindsPinned, Repeats, StandsBeside, Thaws}
-use Rattle.rebalance.proofs.BusyParts.{pinned_until, repeats_until}
+use Rattle.rebalance.specs.Holding.{HasHeld, Holds, with_moving, FindsPinned, StandsBeside, Thaws}
+use Rattle.rebalance.specs.Repeating.{Repeats}
 use Rattle.rebalance.specs.LoneWords.{MovesWith}
 use Rattle.rebalance.specs.Mirrors.{Mirrors}
 use Rattle.rebalance.proofs.LoneSteps.{room_moves_with, StepAt, moment_at, step_at}
@@ -157,9 +157,9 @@ thaw_beside z call r n v w t = subst (StandsBeside call v) (sym t.after) (record
 })
 
 -- behind so many looks that found it pinned
-pub thaws : (z : Sizes) (call looks r n : ℕ) (u v w : PassState) → Repeats call looks (FindsPinned z call r) u v → Runs Never u v → OnlyRests call u v → ThawsRoom z call r v n w → Thaws z call looks r u w
+pub thaws : (z : Sizes) (call looks r n : ℕ) (u v w : PassState) → Repeats (FindsPinned z call r) u looks v → Runs Never u v → OnlyRests call u v → ThawsRoom z call r v n w → Thaws z call looks r u w
 thaws z call looks r n u v w pinned never only t = let b = thaw_beside z call r n v w t.told in record {
-  pinned = repeats_until call looks (FindsPinned z call r) (pinned_until z call r) u v w b.stands.met pinned;
+  pinned = record { from = u; to = v; begun = met_none call u; parts = pinned; ended = b.stands.met };
   step = step_since z call (on_rooms (thaw_room r)) u v w only.stands.met (step_alone z call (on_rooms (thaw_room r)) v n w t.told);
   last = refl;
   beside = beside_since call u v w only b;

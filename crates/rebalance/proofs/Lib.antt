@@ -67,6 +67,7 @@ pub mod TakenRanges
 pub mod FrontRewrites
 pub mod ListedRows
 pub mod BusyParts
+pub mod Repeated
 pub mod ChunkLaws
 pub mod FrontLaws
 pub mod CompactCalls

@@ -32,7 +32,7 @@ abbrev pub SweepsOff : Sizes → ℕ → List ℕ → PassState → PassState �
 SweepsOff z call key v w = (w.findings.swept ≡ v.findings.swept) ⊎ ((r : ℕ) × HoldsOff z call key r v w)
 
 -- The call gave up. The pass only met more, all of it in the call: it wrote and learned nothing, holds what it held, which is nothing, and claimed no room, nor tried to.
-pub record GivesUp (z : Sizes) (call looks : ℕ) (key : List ℕ) (v w : PassState) : Type 0 where
+pub record GivesUpRewriting (z : Sizes) (call looks : ℕ) (key : List ℕ) (v w : PassState) : Type 0 where
   pub busy : IsBusyFor z call looks key v w
   -- no range was swept, but of a room that it held without the key
   pub swept : SweepsOff z call key v w

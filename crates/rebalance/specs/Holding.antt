@@ -1,5 +1,5 @@
 -- What a pass has of the rooms that it freezes, holds, claims, opens and retires, and what it finds of those that it does not come to have.
-use Rattle.std.specs.Prelude.{◌≡◌, ◌≢◌, ℕ, zero, suc, ◌<◌, ◌≤◌, ◌⊎◌, List, ◌∷◌, ◌++◌, length, Some, None}
+use Rattle.std.specs.Prelude.{◌≡◌, ◌≢◌, ℕ, ◌<◌, ◌≤◌, ◌⊎◌, List, ◌∷◌, ◌++◌, length, Some, None}
 use Rattle.pin_word.specs.PinWord.{state_of, count_of, HasNoPin}
 use Rattle.oak_model.specs.Limits.{Sizes}
 use Rattle.oak_model.specs.Counts.{Each}
@@ -30,6 +30,7 @@ use Rattle.chunk_ops.specs.LoneRooms.{NeverUnfrozen}
 use Rattle.chunk_ops.specs.RoomPins.{HadMoment}
 use Rattle.rebalance.specs.LoneWords.{FreezesWords, MovesRoom, MovesWith, NoneFree}
 use Rattle.rebalance.specs.Mirrors.{Mirrors, RangeStands}
+use Rattle.rebalance.specs.Repeating.{RepeatsIn}
 use Rattle.rebalance.specs.Resting.{OnlyRests, OnlyTries, Rests, Tries}
 
 -- The pass only met more, all in the call, but for what it has of rooms. It claimed none.
@@ -89,18 +90,13 @@ pub record FindsPinned (z : Sizes) (call r : ℕ) (v w : PassState) : Type 0 whe
   pub frozen : state_of step.number ≡ FROZEN
   pub pinned : 0 < count_of step.number
 
--- so many parts of the call, one behind the other, each of which did P
-abbrev pub Repeats : ℕ → ℕ → (PassState → PassState → Type 0) → PassState → PassState → Type 0
-Repeats call zero P v w = MetMore call v w
-Repeats call (suc n) P v w = (x : PassState) × Repeats call n P v x × P x w
-
 -- The pass could not have the room alone: another one had frozen it, or at each of so many looks its word had changed before it was frozen, or pins stood on it once it was.
 abbrev pub IsBusy : Sizes → ℕ → ℕ → ℕ → PassState → PassState → Type 0
-IsBusy z call looks r v w = FindsFrozen z call r v w ⊎ (Repeats call looks (FindsChanged z call r) v w ⊎ Repeats call looks (FindsPinned z call r) v w)
+IsBusy z call looks r v w = FindsFrozen z call r v w ⊎ (RepeatsIn (FindsChanged z call r) call looks v w ⊎ RepeatsIn (FindsPinned z call r) call looks v w)
 
 -- The pass did not freeze the room, of which it has a pin, and only met more.
 pub record LeavesUnfrozen (z : Sizes) (call looks r : ℕ) (v w : PassState) : Type 0 where
-  pub why : FindsFrozen z call r v w ⊎ Repeats call looks (FindsChanged z call r) v w
+  pub why : FindsFrozen z call r v w ⊎ RepeatsIn (FindsChanged z call r) call looks v w
   pub only : OnlyRests call v w
   -- to a pass that is alone
   pub alone : Runs (NeverUnfrozen v) v w
@@ -132,7 +128,7 @@ pub record Holds (z : Sizes) (call r : ℕ) (copy : RoomCopy) (range : MovingRan
 
 -- The room, which the pass had frozen, and which was pinned at each of so many looks, is open again, and the pass has it no more. It only met more else.
 pub record Thaws (z : Sizes) (call looks r : ℕ) (v w : PassState) : Type 0 where
-  pub pinned : Repeats call looks (FindsPinned z call r) v w
+  pub pinned : RepeatsIn (FindsPinned z call r) call looks v w
   pub step : StepOfCall z call (on_rooms (thaw_room r)) v w
   pub last : step.to ≡ w
   pub beside : StandsBeside call v w

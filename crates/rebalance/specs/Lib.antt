@@ -20,6 +20,7 @@ pub mod Merging
 pub mod Settling
 pub mod Mirrors
 pub mod Ranges
+pub mod Repeating
 pub mod Read
 pub mod SlotRanges
 pub mod Slots

@@ -4,7 +4,7 @@ ghost use Rattle.oak_model.specs.Key.{IsKey};
 ghost use Rattle.oak_core.specs.Passes.{IsPassOf, state, key as sizes, call_of};
 ghost use Rattle.oak_core.specs.PassState.{HoldsNothing};
 ghost use Rattle.oak_core.specs.Scratch.{StaysButSlots};
-ghost use Rattle.rebalance.specs.Busy.{GivesUp};
+ghost use Rattle.rebalance.specs.Busy.{GivesUpRewriting};
 ghost use Rattle.rebalance.specs.Calls.{Compacts};
 
 use crate::answers::Busy;
@@ -26,7 +26,8 @@ pub fn try_compact(table: &OakTable, pass: &mut Pass, key: &[u8], looks: u32) ->
     requires some { 0 < looks }
     ensures own { StaysButSlots pass.old pass.new }
     ensures compacted { IfOk result (λ n. Compacts (sizes table.now) (call_of pass.old) key.now n (state pass.old) (state pass.new)) }
-    ensures busy { IfErr result (λ _. GivesUp (sizes table.now) (call_of pass.old) looks key.now (state pass.old) (state pass.new)) }
+    ensures busy { IfErr result (λ _. GivesUpRewriting (sizes table.now) (call_of pass.old) looks key.now
+        (state pass.old) (state pass.new)) }
     ensures unclaimed { (state pass.new).findings.rebalances.claims ≡ (state pass.old).findings.rebalances.claims }
 {
     let Some(room) = try_hold(table, pass, key, looks) else {

@@ -4,7 +4,7 @@ ghost use Rattle.oak_model.specs.Key.{IsKey};
 ghost use Rattle.oak_core.specs.Passes.{IsPassOf, state, key as sizes, call_of};
 ghost use Rattle.oak_core.specs.PassState.{HoldsNothing};
 ghost use Rattle.oak_core.specs.Scratch.{StaysButSlots};
-ghost use Rattle.rebalance.specs.Busy.{GivesUp};
+ghost use Rattle.rebalance.specs.Busy.{GivesUpRewriting};
 ghost use Rattle.rebalance.specs.Calls.{Loosens, Halves, FindsNoRoom};
 
 use crate::answers::{Busy, NoRoom, Split};
@@ -39,7 +39,8 @@ pub fn try_split(
         (call_of pass.old) key.now room (state pass.old) (state pass.new) }
     ensures none { IfOk result (λ answer. IfErr answer
         (λ _. FindsNoRoom (sizes table.now) (call_of pass.old) key.now (state pass.old) (state pass.new))) }
-    ensures busy { IfErr result (λ _. GivesUp (sizes table.now) (call_of pass.old) looks key.now (state pass.old) (state pass.new)) }
+    ensures busy { IfErr result (λ _. GivesUpRewriting (sizes table.now) (call_of pass.old) looks key.now
+        (state pass.old) (state pass.new)) }
 {
     let Some(room) = try_hold(table, pass, key, looks) else {
         return Err(Busy);

@@ -1,4 +1,4 @@
-//! A chunk that one pass keeps pinned is busy to another.
+//! A chunk that one pass keeps pinned is busy to another, in the same thread and in one of its own.
 ghost use Rattle.std.specs.Prelude.{◌≡◌};
 ghost use Rattle.oak_model.specs.Key.{IsKey};
 ghost use Rattle.oak_core.specs.Passes.{IsPassOf, state};
@@ -12,6 +12,7 @@ use rebalance::{Busy, Split, try_settle, try_split};
 use std::alloc::Global;
 use std::process::Abort;
 use std::test::Fail;
+use std::thread::{Threads, join_mut};
 
 /// How often each call looks.
 const LOOKS: u32 = 3;
@@ -57,9 +58,51 @@ fn takes_a_pin(rt: &impl Abort, table: &OakTable, pass: &mut Pass, key: &[u8])
     }
 }
 
-/// One pass keeps the room of the key pinned while another one tries, and tries again once the pin is undone.
-fn is_busy_while_pinned(
-    rt: &impl Abort,
+/// The chunk of the key is busy to each call, and its room takes pins again behind them.
+fn is_busy(rt: &impl Abort, table: &OakTable, pass: &mut Pass, key: &[u8])
+    requires own { IsPassOf table.now pass.old }
+    requires key { IsKey key.now }
+    requires idle { HoldsNothing (state pass.old) }
+    ensures own { IsPassOf table.now pass.new }
+    ensures idle { IsIdleAgain (state pass.old) (state pass.new) }
+{
+    splits(rt, table, pass, key, true);
+    settles(rt, table, pass, true);
+    takes_a_pin(rt, table, pass, key);
+}
+
+/// Another thread tries.
+fn is_busy_to_a_thread<R: Threads + Abort + Sync>(
+    rt: &R,
+    table: &OakTable,
+    pass: &mut Pass,
+    key: &[u8],
+)
+    requires own { IsPassOf table.now pass.old }
+    requires key { IsKey key.now }
+    requires idle { HoldsNothing (state pass.old) }
+    ensures own { IsPassOf table.now pass.new }
+    ensures idle { IsIdleAgain (state pass.old) (state pass.new) }
+{
+    join_mut(
+        rt,
+        &mut ||
+            requires own { IsPassOf table.now pass.now }
+            requires key { IsKey key.now }
+            requires idle { HoldsNothing (state pass.now) }
+            ensures own { IsPassOf table.entry.now pass.exit.now }
+            ensures idle { IsIdleAgain (state pass.entry.now) (state pass.exit.now) }
+        {
+            is_busy(rt, table, pass, key);
+        },
+        &mut || (),
+    );
+}
+
+/// One pass keeps the room of the key pinned while another one tries, first in this thread and then in one of its own,
+/// and tries again once the pin is undone.
+fn is_busy_while_pinned<R: Threads + Abort + Sync>(
+    rt: &R,
     table: &OakTable,
     holder: &mut Pass,
     other: &mut Pass,
@@ -75,16 +118,21 @@ fn is_busy_while_pinned(
         assert!(rt; false);
         return;
     };
-    splits(rt, table, other, key, true);
-    settles(rt, table, other, true);
-    takes_a_pin(rt, table, other, key);
+    is_busy(rt, table, other, key);
+    is_busy_to_a_thread(rt, table, other, key);
     unpin(table, holder, pin);
     splits(rt, table, other, key, false);
     settles(rt, table, other, false);
 }
 
 /// A pass is split off for that, and joined again.
-fn split_and_try(rt: &impl Abort, alloc: Global, table: &OakTable, pass: &mut Pass, key: &[u8])
+fn split_and_try<R: Threads + Abort + Sync>(
+    rt: &R,
+    alloc: Global,
+    table: &OakTable,
+    pass: &mut Pass,
+    key: &[u8],
+)
     requires own { IsPassOf table.now pass.old }
     requires key { IsKey key.now }
     requires idle { HoldsNothing (state pass.old) }

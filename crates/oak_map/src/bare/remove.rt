@@ -10,7 +10,7 @@ ghost use Rattle.point_ops.specs.LoneLeft.{LeavesBy};
 ghost use Rattle.point_ops.specs.LoneReplies.{WroteAlone};
 ghost use Rattle.point_ops.specs.Parts.{WroteFits};
 ghost use Rattle.point_ops.specs.Replies.{HoldsAsBefore};
-ghost use Rattle.oak_map.specs.GivingUp.{GivesUp, IsHalted};
+ghost use Rattle.oak_map.specs.GivingUp.{TriesInVain, IsHalted};
 
 use crate::answers::Busy;
 use crate::hinted;
@@ -32,7 +32,7 @@ pub fn try_remove(table: &OakTable, pass: &mut Pass, key: &[u8], looks: u32) -> 
     ensures alone_reply { IfOk result (λ x. IsAlone (state pass.old) → WroteAlone x (sizes table.now) key.now Remove
         (state pass.old) (state pass.new)) }
     ensures alone_left { IfOk result (λ x. Runs (LeavesBy x (sizes table.now) key.now) (state pass.old) (state pass.new)) }
-    ensures busy { IfErr result (λ _. GivesUp (IsHalted (sizes table.now) (call_of pass.old) key.now Remove)
+    ensures busy { IfErr result (λ _. TriesInVain (IsHalted (sizes table.now) (call_of pass.old) key.now Remove)
         (call_of pass.old) looks (state pass.old) (state pass.new)) }
 {
     for _ in 0..looks {

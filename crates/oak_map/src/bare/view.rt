@@ -9,7 +9,7 @@ ghost use Rattle.oak_core.specs.QuietSteps.{Quiet};
 ghost use Rattle.point_ops.specs.Gets.{GotFits};
 ghost use Rattle.point_ops.specs.LoneReplies.{GotAlone};
 ghost use Rattle.point_ops.specs.Replies.{HoldsAsBefore};
-ghost use Rattle.oak_map.specs.GivingUp.{GivesUp, IsHalted};
+ghost use Rattle.oak_map.specs.GivingUp.{TriesInVain, IsHalted};
 ghost use Rattle.oak_map.specs.Maps.{StayAll};
 
 use crate::answers::Busy;
@@ -30,7 +30,7 @@ pub fn try_view(table: &OakTable, pass: &mut Pass, key: &[u8], looks: u32) -> Re
     ensures got { IfOk result (λ x. GotFits x (sizes table.now) (call_of pass.old) key.now (state pass.old) (state pass.new)) }
     ensures alone_reply { IfOk result (λ x. IsAlone (state pass.old) → GotAlone x (sizes table.now) key.now (state pass.old) (state pass.new)) }
     ensures alone { Runs StayAll (state pass.old) (state pass.new) }
-    ensures busy { IfErr result (λ _. GivesUp (IsHalted (sizes table.now) (call_of pass.old) key.now Get)
+    ensures busy { IfErr result (λ _. TriesInVain (IsHalted (sizes table.now) (call_of pass.old) key.now Get)
         (call_of pass.old) looks (state pass.old) (state pass.new)) }
 {
     for _ in 0..looks {

@@ -7,7 +7,7 @@ use Rattle.chunk_ops.proofs.MeetingCalls.{only_none}
 use Rattle.oak_map.specs.declared.going_on.Way.{Way}
 use Rattle.oak_map.specs.MakingRoom.{FindsWay, IsRefused, MakesWay}
 use Rattle.oak_map.specs.Putting.{Going}
-use Rattle.oak_map.specs.Replying.{GivesUp, Tries}
+use Rattle.oak_map.specs.Replying.{AnswersFull, Tries}
 use Rattle.oak_map.specs.Stopping.{IsHindered}
 use Rattle.oak_map.proofs.GoingCalls.{going_more, going_tried}
 use Rattle.oak_map.proofs.LacksNow.{lacks_full, lacks_going, lacks_now}
@@ -24,7 +24,7 @@ try_refuse-requires-clause-lacks c q = let z = sizes c.args.table.now in let cal
 
 pub returns-in-Ok-Lacks-clause-full : goal.returns-in-Ok-Lacks-clause-full
 returns-in-Ok-Lacks-clause-full c ask u v t = let z = sizes c.args.table.now in let call = call_of c.args.pass.now in let key = c.args.key.now in let halt = c.args.halt in let w = state c.args.pass.now in let x = state c.find_way.new.pass in let y = state c.try_refuse.new.pass in let lack = c.in-Ok-Lacks.lack in
-    ok_as (λ (o : Option Lack). IsRefused z (call_of c.find_way.new.pass) c.args.settled.now c.try_refuse.new.settled lack o x y) (λ (o : Option Lack). IfSome o (λ l. GivesUp z call key ask l u y))
+    ok_as (λ (o : Option Lack). IsRefused z (call_of c.find_way.new.pass) c.args.settled.now c.try_refuse.new.settled lack o x y) (λ (o : Option Lack). IfSome o (λ l. AnswersFull z call key ask l u y))
     (λ o r. lacks_full z call key halt c.args.settled.now ask u v w t lack x y (subst (λ (k : Way). FindsWay k c.args.halt (sizes c.args.table.now) (call_of c.args.pass.now) c.args.key.now (state c.args.pass.now) (state c.find_way.new.pass)) c.in-Ok-Lacks.field-0-is c.in-Ok-Lacks.ensures.way) c.try_refuse.new.settled o (subst (λ (k : ℕ). IsRefused z k c.args.settled.now c.try_refuse.new.settled lack o x y) c.find_way.ensures.own.call r)) c.try_refuse.result c.try_refuse.ensures.refused
 
 pub returns-in-Ok-Lacks-clause-going : goal.returns-in-Ok-Lacks-clause-going

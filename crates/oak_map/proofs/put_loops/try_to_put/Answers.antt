@@ -11,7 +11,7 @@ use Rattle.point_ops.specs.Parts.{WroteFits}
 use Rattle.point_ops.proofs.RecipesFed.{feeds_since, says_both, says_same}
 use Rattle.oak_map.specs.MakingRoom.{MakesWay}
 use Rattle.oak_map.specs.Putting.{Going}
-use Rattle.oak_map.specs.Replying.{GivesUp, Tries}
+use Rattle.oak_map.specs.Replying.{AnswersFull, Tries}
 use Rattle.oak_map.proofs.AnsweredPuts.{noted_claims, put_claims, put_fits, put_idle}
 use Rattle.oak_map.proofs.GoingCalls.{going_first, last_try}
 use Rattle.oak_map.proofs.LonePutCalls.{idle_behind, lone_first, put_gives_up, put_goes_on, put_sees}
@@ -20,8 +20,8 @@ use Rattle.oak_map.proofs.RecipesFed.{put_feeds_alone}
 use Rattle.oak_map.proofs.ReplyAnswers.{replied_alone}
 use Rattle.oak_map.proofs.ReplyWords.{replied_words}
 use Rattle.oak_map.proofs.SameScratch.{used_both, used_then}
-use Rattle.oak_map.specs.GivingUp.Repeats.{more, none}
-use Rattle.oak_map.specs.Stopping.{IsHindered}
+use Rattle.rebalance.proofs.Repeated.{repeats_more}
+use Rattle.oak_map.specs.Stopping.{IsHindered, TriesOn}
 use Rattle.oak_map.proofs.LoneTries.{none_tried, tried_more}
 use Rattle.oak_map.proofs.StoppedCalls.{refused_as, stops_hindered, stops_tried}
 use Rattle.oak_map.proofs.Trying.{idle_on}
@@ -36,7 +36,7 @@ loop-init g c = let z = sizes c.args.table.now in let v = state c.args.pass.now 
   asks = refl;
   counted = refl;
   fed = says_same (g.A.Asking.says c.args.asking.now);
-  tried = none;
+  tried = refl;
   few = none_tried z c.args.key.now v;
 }
 
@@ -89,8 +89,8 @@ try_make_way-requires-clause-tried g c = let ask = g.A.Asking.ask c.loop.asking 
 
 pub returns-in-Ok-Some-clause-wrote : goal.returns-in-Ok-Some-clause-wrote
 returns-in-Ok-Some-clause-wrote g c = let z = sizes c.args.table.now in let key = c.args.key.now in let ask = g.A.Asking.ask c.args.asking.now c.args.value.now in let u = state c.args.pass.now in let v = state c.loop.pass in let w = state c.try_once.new.pass in let i = c.loop.invariant in let o = c.try_once.ensures.own in let e = c.in-Err.ensures in
-    subst (λ (k : ℕ). GivesUp z k key ask c.in-Ok-Some.lack u (state c.try_make_way.new.pass)) (o.call ∙ i.stays.call)
-    (subst (λ (o : Option Lack). IfSome o (λ l. GivesUp z (call_of c.try_once.new.pass) key ask l u (state c.try_make_way.new.pass))) c.in-Ok-Some.field-0-is (c.in-Ok-Some.ensures.full ask u v (last_try z (call_of c.args.pass.now) (call_of c.loop.pass) (call_of c.try_once.new.pass) key c.in-Err.halt c.loop.settled ask u v w i.stays.call o.call i.going e.refused
+    subst (λ (k : ℕ). AnswersFull z k key ask c.in-Ok-Some.lack u (state c.try_make_way.new.pass)) (o.call ∙ i.stays.call)
+    (subst (λ (o : Option Lack). IfSome o (λ l. AnswersFull z (call_of c.try_once.new.pass) key ask l u (state c.try_make_way.new.pass))) c.in-Ok-Some.field-0-is (c.in-Ok-Some.ensures.full ask u v (last_try z (call_of c.args.pass.now) (call_of c.loop.pass) (call_of c.try_once.new.pass) key c.in-Err.halt c.loop.settled ask u v w i.stays.call o.call i.going e.refused
     (subst (λ (a : CellCall). Halts c.in-Err.halt z (call_of c.loop.pass) key a v w) i.asks e.halted))))
 
 pub returns-in-Ok-Some-clause-claims : goal.returns-in-Ok-Some-clause-claims
@@ -136,7 +136,7 @@ loop-preserved g c = let z = sizes c.args.table.now in let key = c.args.key.now 
           (subst (λ (o : Option Lack). IfNone o (Going z (call_of c.try_once.new.pass) c.try_make_way.new.settled u (state c.try_make_way.new.pass))) c.in-Ok-None.field-0-is (c.in-Ok-None.ensures.going ask u v (last_try z (call_of c.args.pass.now) (call_of c.loop.pass) (call_of c.try_once.new.pass) key c.in-Err.halt c.loop.settled ask u v w i.stays.call o.call i.going e.refused halted)));
       lone = put_goes_on z (call_of c.loop.pass) key c.args.value.now ask c.in-Err.halt c.loop.settled u v w is makes i.going.tries.holds.numbers e.refused.holds.numbers (idle_behind z (call_of c.loop.pass) (call_of c.args.pass.now) c.loop.settled u v w c.requires.idle i.going e.refused) i.lone e.alone_same halted e.alone (call_of c.try_once.new.pass) c.try_make_way.new.settled (state c.try_make_way.new.pass) (subst (λ (o : Option Lack). MakesWay c.in-Err.halt z (call_of c.try_once.new.pass) key c.loop.settled c.try_make_way.new.settled o w (state c.try_make_way.new.pass)) c.in-Ok-None.field-0-is c.in-Ok-None.ensures.way);
       first = λ alone. inr (refused_rooms z (call_of c.loop.pass) key c.args.value.now ask c.in-Err.halt c.loop.settled u v w is makes alone (i.first alone) e.alone_same halted e.alone (call_of c.try_once.new.pass) c.try_make_way.new.settled None (state c.try_make_way.new.pass) (subst (λ (o : Option Lack). MakesWay c.in-Err.halt z (call_of c.try_once.new.pass) key c.loop.settled c.try_make_way.new.settled o w (state c.try_make_way.new.pass)) c.in-Ok-None.field-0-is c.in-Ok-None.ensures.way));
-      tried = more c.loop.counter v (state c.try_make_way.new.pass) i.tried
+      tried = repeats_more (TriesOn z (call_of c.args.pass.now) key ask) c.loop.counter u v (state c.try_make_way.new.pass) i.tried
           (w, refused_as z (call_of c.loop.pass) (call_of c.args.pass.now) key (g.A.Asking.ask c.loop.asking c.args.value.now) ask c.in-Err.halt v w i.stays.call i.asks e.refused e.halted, subst (λ (k : ℕ). Tries z k w (state c.try_make_way.new.pass)) (o.call ∙ i.stays.call) (subst (λ (n : Option Lack). IfNone n (Tries z (call_of c.try_once.new.pass) w (state c.try_make_way.new.pass))) c.in-Ok-None.field-0-is c.in-Ok-None.ensures.rest));
       few = tried_more z (call_of c.try_once.new.pass) key c.args.value.now c.loop.counter c.loop.settled c.try_make_way.new.settled u v w (state c.try_make_way.new.pass) c.in-Err.halt i.few e.alone (subst (λ (o : Option Lack). MakesWay c.in-Err.halt z (call_of c.try_once.new.pass) key c.loop.settled c.try_make_way.new.settled o w (state c.try_make_way.new.pass)) c.in-Ok-None.field-0-is c.in-Ok-None.ensures.way);
       asks = c.try_once.ensures.asks ∙ i.asks;

@@ -3,7 +3,7 @@ use Rattle.value_ops.specs.Recipes.{SaysTheSame}
 use Rattle.oak_core.specs.AloneWords.{Runs}
 use Rattle.oak_core.specs.PassState.{IsAlone}
 use Rattle.oak_core.specs.Passes.{call_of, key as sizes, state}
-use Rattle.oak_map.specs.GivingUp.{Repeats}
+use Rattle.rebalance.specs.Repeating.{Repeats}
 use Rattle.oak_map.specs.LoneRetrying.{FirstTry, LoneGoing}
 use Rattle.oak_map.specs.Putting.{Going, StaysAsUsed}
 use Rattle.oak_map.specs.Stopping.{TriesOn}

@@ -10,7 +10,7 @@ use Rattle.point_ops.specs.Parts.{WroteFits}
 use Rattle.point_ops.proofs.RecipesFed.{feeds_since, says_both, says_same}
 use Rattle.oak_map.specs.Maps.{table_of}
 use Rattle.oak_map.specs.Putting.{Going}
-use Rattle.oak_map.specs.Replying.{GivesUp}
+use Rattle.oak_map.specs.Replying.{AnswersFull}
 use Rattle.oak_map.proofs.AnsweredPuts.{noted_claims, put_claims, put_fits, put_idle}
 use Rattle.oak_map.proofs.GoingCalls.{going_first, last_try}
 use Rattle.oak_map.proofs.LonePutCalls.{idle_behind, lone_first, put_gives_up, put_goes_on, put_sees}
@@ -82,7 +82,7 @@ make_way-requires-clause-tried g c κs lives = let ask = g.A.Asking.ask c.loop.a
 
 pub returns-in-Some-make_way-clause-wrote : goal.returns-in-Some-make_way-clause-wrote
 returns-in-Some-make_way-clause-wrote g c = let z = sizes (table_of c.args.map.now) in let key = c.args.key.now in let ask = g.A.Asking.ask c.args.asking.now c.args.value.now in let u = state c.args.pass.now in let v = state c.loop.pass in let w = state c.try_once.new.pass in let i = c.loop.invariant in let o = c.try_once.ensures.own in let e = c.in-Err.ensures in
-    subst (λ (k : ℕ). GivesUp z k key ask c.in-Some-make_way.lack u (state c.make_way.new.pass)) (o.call ∙ i.stays.call)
+    subst (λ (k : ℕ). AnswersFull z k key ask c.in-Some-make_way.lack u (state c.make_way.new.pass)) (o.call ∙ i.stays.call)
     (c.in-Some-make_way.ensures.full ask u v (last_try z (call_of c.args.pass.now) (call_of c.loop.pass) (call_of c.try_once.new.pass) key c.in-Err.halt c.loop.settled ask u v w i.stays.call o.call i.going e.refused
     (subst (λ (a : CellCall). Halts c.in-Err.halt z (call_of c.loop.pass) key a v w) i.asks e.halted)))
 

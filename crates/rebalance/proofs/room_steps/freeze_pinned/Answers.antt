@@ -8,12 +8,13 @@ use Rattle.oak_core.specs.Splitting.{Loads}
 use Rattle.oak_core.proofs.covers.PinExchanges.{next_small}
 use Rattle.oak_core.proofs.memory.RoomNames.{room_pin_below}
 use Rattle.oak_core.proofs.seats.SamePass.{stays_both}
-use Rattle.rebalance.proofs.BusyParts.{repeats_more}
+use Rattle.rebalance.proofs.Repeated.{repeats_more}
 use Rattle.rebalance.proofs.FrozenRooms.{pin_load, pin_load_only, pinned_still, finds_changed, finds_frozen, freezes, leaves_changed, never_changed}
 use Rattle.rebalance.proofs.RoomExchanges.{packed_states, freeze_misses}
 use Rattle.chunk_ops.specs.Latching.{Never}
 use Rattle.chunk_ops.proofs.MeetingCalls.{stays_then}
-use Rattle.rebalance.specs.Holding.{FindsChanged, Repeats}
+use Rattle.rebalance.specs.Holding.{FindsChanged}
+use Rattle.rebalance.specs.Repeating.{Repeats}
 use Rattle.rebalance.specs.Resting.{OnlyRests, resting_both}
 use Rattle.rebalance.proofs.room_steps.freeze_pinned.Goals as goal
 
@@ -48,11 +49,11 @@ loop-preserved c = let z : Sizes = key c.args.table.now in let call = call_of c.
     let looked = pin_load z call r c.room_at-word.result c.load-open.result v x names (subst (λ (k : ℕ). Loads z k c.room_at-word.result v c.load-open.result x) i.stays.call c.load-open.ensures.loaded) in record {
       stays = stays_both i.stays (stays_both c.load-open.ensures.own c.freeze.ensures.own);
       only = resting_both call u x w (resting_both call u v x i.only loaded) (freeze_misses z call r c.load-open.result c.freeze.result x w tells c.if-freeze-open.false);
-      changed = repeats_more call c.loop.counter (FindsChanged z call r) u v w i.changed (finds_changed z call r c.load-open.result c.freeze.result c.load-open.result v x w looked tells c.if-freeze-open.false);
+      changed = repeats_more (FindsChanged z call r) c.loop.counter u v w i.changed (finds_changed z call r c.load-open.result c.freeze.result c.load-open.result v x w looked tells c.if-freeze-open.false);
       alone = λ _. stays_then Never u v w i.only.still (never_changed z call r c.load-open.result c.freeze.result c.load-open.result v x w looked refl tells c.if-freeze-open.false);
     }
 
 pub returns-clause-leaves : goal.returns-clause-leaves
 returns-clause-leaves c _ = let z : Sizes = key c.args.table.now in let i = c.loop.invariant in
     let no = c.loop-test.false in let most = c.loop.auto.counter-end in let some = c.requires.some in let call = call_of c.args.pass.now in let r = c.args.pin.now.room in let v = state c.args.pass.now in let w = state c.loop.pass in
-    leaves_changed z call c.args.looks r v w (subst (λ (n : ℕ). Repeats call n (FindsChanged z call r) v w) (let e : c.loop.counter ≡ c.args.looks = omega arith in e) i.changed) (i.alone (omega arith)) i.only
+    leaves_changed z call c.args.looks r v w (subst (λ (n : ℕ). Repeats (FindsChanged z call r) v n w) (let e : c.loop.counter ≡ c.args.looks = omega arith in e) i.changed) (i.alone (omega arith)) i.only

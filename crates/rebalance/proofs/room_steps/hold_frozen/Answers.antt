@@ -10,8 +10,9 @@ use Rattle.oak_core.proofs.seats.SamePass.{stays_both}
 use Rattle.chunk_core.specs.declared.holds.RoomHolds.{RoomHolds}
 use Rattle.chunk_ops.specs.Latching.{Never}
 use Rattle.chunk_ops.proofs.MeetingCalls.{stays_then}
-use Rattle.rebalance.specs.Holding.{FindsPinned, Repeats}
-use Rattle.rebalance.proofs.BusyParts.{repeats_more}
+use Rattle.rebalance.specs.Holding.{FindsPinned}
+use Rattle.rebalance.specs.Repeating.{Repeats}
+use Rattle.rebalance.proofs.Repeated.{repeats_more}
 use Rattle.rebalance.proofs.HeldAlone.{bare_word, finds_pinned, frozen_still, holds, never_pinned, thaws}
 use Rattle.rebalance.proofs.RoomExchanges.{next_state, hold_misses, packed_states}
 use Rattle.rebalance.specs.Resting.{resting_both}
@@ -39,7 +40,7 @@ loop-preserved c = let z : Sizes = key c.args.table.now in let call = call_of c.
     let first = ap generation_of c.pack-frozen.ensures ∙ generation_of-packed 0 FROZEN 0 (omega arith) (omega arith) in record {
       stays = stays_both i.stays c.hold_room.ensures.own;
       only = resting_both call u v w i.only (hold_misses z call r c.pack-frozen.result c.hold_room.result v w tells c.if-hold_room-frozen.false);
-      pinned = repeats_more call c.loop.counter (FindsPinned z call r) u v w i.pinned (finds_pinned z call r c.pack-frozen.result c.hold_room.result v w tells first c.if-hold_room-frozen.false);
+      pinned = repeats_more (FindsPinned z call r) c.loop.counter u v w i.pinned (finds_pinned z call r c.pack-frozen.result c.hold_room.result v w tells first c.if-hold_room-frozen.false);
       alone = λ _. stays_then Never u v w i.only.still (never_pinned z call r c.pack-frozen.result c.hold_room.result v w tells first c.if-hold_room-frozen.false (ap (λ (a : RoomHolds). a.pin) i.only.rooms ∙ c.requires.unpinned));
     }
 
@@ -54,5 +55,5 @@ thaw_room-requires-clause-names c = (
 pub returns-clause-thaws : goal.returns-clause-thaws
 returns-clause-thaws c _ = let z : Sizes = key c.args.table.now in let call = call_of c.args.pass.now in let r = c.args.room in let v = state c.loop.pass in let w = state c.thaw_room.new.pass in let i = c.loop.invariant in
     let no = c.loop-test.false in let most = c.loop.auto.counter-end in let some = c.requires.some in let u = state c.args.pass.now in
-    thaws z call c.args.looks r c.thaw_room.result u v w (subst (λ (n : ℕ). Repeats call n (FindsPinned z call r) u v) (let e : c.loop.counter ≡ c.args.looks = omega arith in e) i.pinned) (i.alone (omega arith)) i.only
+    thaws z call c.args.looks r c.thaw_room.result u v w (subst (λ (n : ℕ). Repeats (FindsPinned z call r) u n v) (let e : c.loop.counter ≡ c.args.looks = omega arith in e) i.pinned) (i.alone (omega arith)) i.only
     (subst (λ (k : ℕ). ThawsRoom z k r v c.thaw_room.result w) i.stays.call (c.thaw_room.ensures.told r record { inside = c.requires.inside; word_is = c.room_at-word.ensures }))

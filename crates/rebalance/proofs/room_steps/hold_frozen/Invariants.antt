@@ -3,13 +3,14 @@ use Rattle.oak_core.specs.AloneWords.{Runs}
 use Rattle.oak_core.specs.Passes.{Stays, state, key, call_of}
 use Rattle.chunk_ops.specs.Latching.{Never}
 use Rattle.rebalance.specs.Resting.{OnlyRests}
-use Rattle.rebalance.specs.Holding.{FindsPinned, Repeats}
+use Rattle.rebalance.specs.Holding.{FindsPinned}
+use Rattle.rebalance.specs.Repeating.{Repeats}
 use Rattle.rebalance.proofs.room_steps.hold_frozen.Given as goal
 
 abbrev pub invariant-loop : goal.invariant-loop
 invariant-loop l = record {
   stays : Stays l.fn.pass l.pass;
   only : OnlyRests (call_of l.fn.pass) (state l.fn.pass) (state l.pass);
-  pinned : Repeats (call_of l.fn.pass) l.counter (FindsPinned (key l.table) (call_of l.fn.pass) l.room) (state l.fn.pass) (state l.pass);
+  pinned : Repeats (FindsPinned (key l.table) (call_of l.fn.pass) l.room) (state l.fn.pass) l.counter (state l.pass);
   alone : 0 < l.counter → Runs Never (state l.fn.pass) (state l.pass);
 }

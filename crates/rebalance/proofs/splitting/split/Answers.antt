@@ -2,7 +2,7 @@ use Rattle.std.proofs.Common.{ℕ, Result, Ok, Err, IfErr, ap, refl, ◌∙◌, 
 use Rattle.oak_model.specs.Limits.{Sizes}
 use Rattle.oak_core.specs.Passes.{state, call_of, key as sizes}
 use Rattle.rebalance.specs.declared.chunks.TheConstants.{LOOKS}
-use Rattle.rebalance.specs.Busy.{GivesUp}
+use Rattle.rebalance.specs.Busy.{GivesUpRewriting}
 use Rattle.rebalance.specs.Calls.{FindsNoRoom, Halves, Loosens}
 use Rattle.rebalance.proofs.GivenUp.{halves_since, loosens_since, none_since, waits_more, waits_none}
 use Rattle.rebalance.proofs.SettledKeys.{idle_still}
@@ -34,7 +34,7 @@ returns-in-Ok-clause-none g c = let z : Sizes = sizes c.args.table.now in let i 
 
 pub loop-preserved : goal.loop-preserved
 loop-preserved g c = let z : Sizes = sizes c.args.table.now in let call = call_of c.args.pass.now in let i = c.loop.invariant in let s = c.try_split.ensures.own in let v = state c.loop.pass in let w = state c.try_split.new.pass in
-    let gave = subst (λ (k : ℕ). GivesUp z k LOOKS c.args.key.now v w) i.stays.call c.in_default.ensures.busy in record {
+    let gave = subst (λ (k : ℕ). GivesUpRewriting z k LOOKS c.args.key.now v w) i.stays.call c.in_default.ensures.busy in record {
       next = tt;
       stays = record { table = s.table ∙ i.stays.table; seat = s.seat ∙ i.stays.seat; call = s.call ∙ i.stays.call; scratch = s.scratch ∙ i.stays.scratch; sorting = refl };
       waits = waits_more call (state c.args.pass.now) v w i.waits gave.leaves gave.unclaimed gave.alone;
