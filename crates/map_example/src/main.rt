@@ -1,62 +1,56 @@
-//! An example of the map as a library: two threads put rows into one map, a sale is added to a row, and a range of rows
-//! is scanned.
+//! The map as a library: two threads put rows, one row is changed and looked at, and a range of rows is added up.
 #![tactic(auto)]
 
-mod rows;
-mod sales;
-
-use oak_caller::{Shape, Store};
-use sales::{put_beside, sell, sum_between};
+use oak_caller::{Caller, Recipe, RecipeKind, Shape, StepRecipe, Store, Way, Wrote};
 use std::sync::Wait;
-use std::thread::Threads;
+use std::thread::join_mut;
 
-/// What the run found: whether each row was new, what was sold at nine before a sale and behind it, and how many rows of
-/// the shop there are, with their sum.
-#[derive(Clone, Copy, Debug)]
-struct Found {
-    new: bool,
-    at_nine: (u64, u64),
-    rows: u64,
-    sum: u64,
+/// Puts what a shop sold in three hours, each under the shop and the hour: whether each row was new.
+fn put_rows<R: Wait + Drop + Send>(rt: &R, caller: &mut Caller<'_, R>, shop: u8) -> bool {
+    let mut new = true;
+    for hour in 8..11u8 {
+        let said = caller.put(rt, &[shop, hour], &[0, 0, 0, 0, 0, 0, 0, hour]);
+        new = new && matches!(said, Ok(Wrote::New { at: _ }));
+    }
+    new
 }
 
-/// Has the map filled by two threads, changes it and reads it.
-fn fill_and_read<R: Threads + Wait + Drop + Send + Sync + AllocGlobal>(
-    rt: &R,
-    store: &mut Store<R>,
-) -> anyhow::Result<Found> {
-    let mut one = store.caller(rt)?;
-    let mut other = one.split(rt)?;
-    let new = put_beside(rt, &mut one, &mut other);
-    let at_nine = sell(rt, &mut one, b"north/09", 4)?;
-    let (rows, sum) = sum_between(rt, &mut one, b"north/00", b"north/24");
-    Ok(Found {
-        new,
-        at_nine,
-        rows,
-        sum,
-    })
-}
-
-/// Makes a map for two callers beside its own pass, works on it, and gives it back.
-fn run<R: Threads + Wait + Clone + Drop + Send + Sync + AllocGlobal>(
-    rt: &R,
-) -> anyhow::Result<Found> {
-    let shape = Shape::make(3, 16, 64, 1024, [2048, 0, 0, 0])?;
-    let mut store = Store::create(rt, &shape)?;
-    let found = fill_and_read(rt, &mut store);
-    found
+/// The number that the eight bytes of a value are.
+fn number_in(value: &[u8]) -> u64 {
+    match value {
+        [a, b, c, d, e, f, g, h] => u64::from_be_bytes([*a, *b, *c, *d, *e, *f, *g, *h]),
+        _ => 0,
+    }
 }
 
 fn main(rt: HostRuntime) -> anyhow::Result<()> {
-    let Found {
-        new,
-        at_nine,
-        rows,
-        sum,
-    } = run(&rt)?;
-    println!(rt; "all rows new: {new}")?;
-    println!(rt; "north sold {} at nine, and then {}", at_nine.0, at_nine.1)?;
-    println!(rt; "north sold {sum} in {rows} hours")?;
+    let mut store = Store::create(&rt, &Shape::make(3, 16, 64, 1024, [2048, 0, 0, 0])?)?;
+    let mut one = store.caller(&rt)?;
+    let mut two = one.split(&rt)?;
+    let (north, south) = join_mut(
+        &rt,
+        &mut || put_rows(&rt, &mut one, b'n'),
+        &mut || put_rows(&rt, &mut two, b's'),
+    );
+    println!(rt; "all rows new: {}", north && south)?;
+
+    let Some(view) = one.view(&rt, &[b'n', 9]) else {
+        return Ok(());
+    };
+    one.add(&rt, &[b'n', 9], 4)?;
+    let sold = one.look(&rt, &view, number_in);
+    println!(rt; "north sold {sold:?} at nine")?;
+
+    let mut sum = 0u64;
+    one.for_each(&rt, Some(b"n"), Some(b"o"), Way::Up, |_row, sold| {
+        sum = sum.wrapping_add(number_in(sold));
+        true
+    });
+    println!(rt; "north sold {sum} in three hours")?;
+
+    let mut recipe: Box<dyn Recipe + Send> = Box::new(rt.alloc(), StepRecipe::make())?;
+    recipe.tell(RecipeKind::Rev, 0);
+    let said = one.compute(&rt, &[b's', 8], &mut recipe)?;
+    println!(rt; "a row of south was turned round: {said}")?;
     Ok(())
 }

@@ -4,6 +4,7 @@ mod NextCalls
 mod PresentPairs
 mod ReadKeys
 mod ReadLives
+mod ClearedKeys
 mod CursorCalls
 mod ScannedCalls
 mod StoppedScans

@@ -26,7 +26,7 @@ use Rattle.value_ops.specs.PinnedValues.{ReadsLife}
 use Rattle.value_ops.specs.Reading.{ReadsOn, header, stamp, value}
 use Rattle.value_ops.specs.Views.{Viewed}
 use Rattle.oak_map.specs.Lending.{FindsOver, LendsLife, under}
-use Rattle.oak_map.proofs.LentEnds.{end_stands, life_quiet, life_refuses}
+use Rattle.oak_map.proofs.LentEnds.{end_stands, life_quiet, life_refuses, life_same, life_stays, life_was}
 use Rattle.oak_caller.specs.declared.reading.Copied.{Copied}
 use Rattle.oak_caller.specs.declared.reading.Copied.TheVariants.{Whole, TooLong}
 use Rattle.oak_caller.specs.Looks.{CopyLooks, ShowsLife}
@@ -59,6 +59,9 @@ module _ (z : Sizes) (n : ℕ) (x : Viewed) (v w : PassState) (r q : Reading) (i
     refuses = life_refuses z n x v w r q idle l sized same on undone;
     quiet = life_quiet z n x v w r q idle l sized same on undone;
     value = short;
+    was = life_was z n x v w r q idle l sized same on undone;
+    same = life_same z n x v w r q idle l sized same on undone;
+    alone = life_stays z n x v w r q idle l sized same on undone;
   }
 
 -- so many bytes of it were copied to a place that has new behind that, or none of them

@@ -1,4 +1,5 @@
 pub mod Callers
+pub mod Clearing
 pub mod Given
 pub mod Looks
 pub mod Puts

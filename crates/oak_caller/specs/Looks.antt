@@ -1,15 +1,17 @@
 -- What the calls of a caller on views promise: v is the state of the pass at the call, w the one at its end.
 use Rattle.std.specs.Prelude.{◌≡◌, ℕ, ◌<◌, ◌++◌, Bool, true, false, List, drop, length, Option, Some, None}
+use Rattle.oak_model.specs.KeyNumber.{key_number}
 use Rattle.oak_model.specs.Limits.{Sizes}
 use Rattle.oak_model.specs.Value.{IsValue}
 use Rattle.oak_core.specs.declared.states.PassState.{PassState}
 use Rattle.oak_core.specs.AloneWords.{Runs}
-use Rattle.oak_core.specs.PassState.{IsAlone}
+use Rattle.oak_core.specs.KeyHistories.{state_behind}
+use Rattle.oak_core.specs.PassState.{IsAlone, seen_of}
 use Rattle.oak_core.specs.QuietSteps.{Quiet}
 use Rattle.point_ops.specs.declared.gets.Got.{Got}
 use Rattle.point_ops.specs.declared.gets.Got.TheVariants as gots
 use Rattle.point_ops.specs.Gets.{GotFits}
-use Rattle.point_ops.specs.LoneReplies.{GotAlone}
+use Rattle.point_ops.specs.LoneReplies.{GotAlone, SameAlone}
 use Rattle.point_ops.specs.Replies.{Refuses}
 use Rattle.value_ops.specs.PinnedValues.{ReadsLife}
 use Rattle.value_ops.specs.Views.{Viewed}
@@ -45,12 +47,15 @@ abbrev pub IsViewOf : Got → Option Viewed → Type 0
 IsViewOf (gots.Absent at) o = o ≡ None
 IsViewOf (gots.View x) o = o ≡ Some x
 
--- The life of the view has these bytes, of the write with this stamp. The call only loaded words, and pinned or undid pins, and to a pass that is alone no history changed.
+-- The life of the view has these bytes, of the write with this stamp. The call only loaded words, and pinned or undid pins. To a pass that is alone they are what the key has in its last state, no history changed, and the words stay.
 pub record ShowsLife (z : Sizes) (call : ℕ) (x : Viewed) (bytes : List ℕ) (at : ℕ) (v w : PassState) : Type 0 where
   pub life : ReadsLife x.header x.generation x.key at bytes v w
   pub refuses : Refuses call v w
   pub quiet : Quiet v w
   pub value : IsValue bytes
+  pub was : IsAlone v → state_behind (seen_of (key_number x.key) v.knowledge) ≡ Some bytes
+  pub same : SameAlone z v w
+  pub alone : Runs StayAll v w
 
 -- or it is over
 abbrev pub ShowsOver : Sizes → ℕ → Viewed → PassState → PassState → Type 0

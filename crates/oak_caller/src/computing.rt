@@ -1,5 +1,5 @@
 //! Computes, with a recipe or by a sum.
-ghost use Rattle.std.specs.Prelude.{◌≡◌, ◌+◌, ◌-◌, ◌^◌, Err, IfOk, Ok, OnErr, OnOk};
+ghost use Rattle.std.specs.Prelude.{◌≡◌, ◌+◌, ◌-◌, ◌^◌, ⊥, Err, IfOk, Ok, OnErr, OnOk};
 ghost use Rattle.std.specs.Int.{w64, to_be_bytes};
 ghost use Rattle.oak_model.specs.declared.cells.CellCall.TheVariants.{Compute, Upsert};
 ghost use Rattle.oak_model.specs.declared.recipes.RecipeKind.TheVariants.{Add};
@@ -11,6 +11,7 @@ ghost use Rattle.point_ops.specs.Counted.{Feeds, FeedsAlone, times_done};
 ghost use Rattle.oak_map.specs.Putting.{StaysButRoom};
 ghost use Rattle.oak_caller.specs.Callers.{CallsNext, KeepsViews, last_of, sizes_of, state_of};
 ghost use Rattle.oak_caller.specs.Puts.{Changes, Puts};
+ghost use Rattle.oak_caller.specs.declared.computing.NotAdded.TheVariants as refusals;
 ghost use Rattle.oak_caller.specs.declared.turns.WornOut.TheVariants as worn;
 
 use crate::caller::Caller;
@@ -31,12 +32,16 @@ pub enum NotAdded {
 }
 
 impl From<WornOut> for NotAdded {
+    ghost from_gives = { λ w e. e ≡ refusals.WornOut w };
+
     fn from(worn: WornOut) -> NotAdded {
         NotAdded::WornOut(worn)
     }
 }
 
 impl<T: Drop> From<AllocFailed<T>> for NotAdded {
+    ghost from_gives = { λ _ e. e ≡ refusals.OutOfMemory };
+
     fn from(_e: AllocFailed<T>) -> NotAdded {
         NotAdded::OutOfMemory
     }
@@ -115,6 +120,8 @@ impl<R: Wait + Drop + Send> Caller<'_, R> {
         ensures views { OnOk result (KeepsViews self.old self.new) }
         ensures puts { IfOk result (λ y. Puts y (sizes_of self.old) (last_of self.old + 1) key.now
             (Upsert (to_be_bytes w64 number) Add number) (state_of self.old) (state_of self.new)) }
+        ensures worn { result ≡ Err (refusals.WornOut worn.Caller) → last_of self.old ≡ 2 ^ 32 - 1 }
+        ensures worn_recipe { result ≡ Err (refusals.WornOut worn.Recipe) → ⊥ }
         ensures nothing { OnErr result (self.new ≡ self.old) }
     {
         let mut recipe: Box<dyn Recipe + Send> = Box::new(rt.alloc(), StepRecipe::make())?;

@@ -1,14 +1,12 @@
 //! The keys of a cursor, gathered into a vector.
 ghost use Rattle.std.specs.Prelude.{◌≡◌, ◌≤◌, IfOk, IsSome, MatchBool, MatchResult, OnErr, length};
-ghost use Rattle.oak_model.specs.declared.limits.TheConstants.{GREATEST_KEY};
 ghost use Rattle.scan_cursor.specs.Cursors.{IsCursor, key_of};
 ghost use Rattle.oak_caller.specs.Gathered.{AddsNext, GathersAll, GathersEnough, GathersUntil};
 ghost use Rattle.oak_caller.specs.Given.{FindsPair};
 ghost use Rattle.oak_caller.specs.Scans.{GoesOn};
 
-use crate::giving::copy_key;
 use oak_map::Cursor;
-use oak_model::{GREATEST_KEY, Key, OutOfMemory};
+use oak_model::{Key, OutOfMemory};
 use std::sync::Wait;
 
 /// Adds the keys of the pairs that are left behind those in `keys`, until there are `most`: whether no pair was left
@@ -53,9 +51,7 @@ fn gather_next<R: Wait>(
     if !cursor.advance(rt) {
         return Ok(false);
     }
-    let mut bytes = [0; GREATEST_KEY];
-    let long = copy_key(cursor, &mut bytes);
-    let key = Key::make(*keys.allocator(), &bytes[..long])?;
+    let key = Key::make(*keys.allocator(), cursor.key())?;
     keys.push(key)?;
     Ok(true)
 }

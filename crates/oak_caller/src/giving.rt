@@ -59,17 +59,15 @@ pub(crate) fn next_pair<R: Wait>(
 }
 
 /// Copies the present key to the begin of `out`, and tells its length.
-pub(crate) fn copy_key(cursor: &Cursor<'_>, out: &mut [u8; GREATEST_KEY]) -> usize
+fn copy_key(cursor: &Cursor<'_>, out: &mut [u8; GREATEST_KEY]) -> usize
     requires cursor { IsCursor cursor.now }
     requires given { IsSome cursor.now.value }
     ensures long { result ≤ length out.new }
     ensures key { take result out.new ≡ key_of cursor.now }
 {
-    let long = cursor.key_len();
-    for i in 0..long {
-        out[i] = cursor.key_byte(i);
-    }
-    long
+    let key = cursor.key();
+    out[..key.len()].copy_from_slice(key);
+    key.len()
 }
 
 /// Copies the present value to the begin of `out`, and tells its length.

@@ -3,6 +3,7 @@
 
 mod caller;
 mod changing;
+mod clearing;
 mod computing;
 mod ends;
 mod gathering;
@@ -13,6 +14,7 @@ mod looking;
 mod putting;
 mod reading;
 mod scanning;
+mod showing;
 mod store;
 #[cfg(test)]
 mod tests;
@@ -20,9 +22,10 @@ mod turns;
 mod viewing;
 
 pub use caller::Caller;
+pub use clearing::NotCleared;
 pub use computing::NotAdded;
 pub use oak_core::SplitFault;
-pub use oak_map::{MapPass, OakMap, ValueView, Way};
+pub use oak_map::{InBytes, MapPass, OakMap, ValueView, Way};
 pub use oak_model::{Key, Lack, OutOfMemory, RecipeKind, Shape, Wrote, is_key, is_value};
 pub use reading::{Copied, Number};
 pub use store::Store;

@@ -1,5 +1,5 @@
 //! The calls of a caller, each on a map of its own.
-use crate::{Copied, Number, Recipe, RecipeKind, Shape, StepRecipe, Store, Way, Wrote};
+use crate::{Copied, InBytes, Number, Recipe, RecipeKind, Shape, StepRecipe, Store, Way, Wrote};
 use std::process::Abort;
 use std::sync::Wait;
 use std::test::Fail;
@@ -147,4 +147,61 @@ fn a_scan(rt: HostRuntime) -> Result<(), Fail> {
     let mut store = Store::create(&rt, &Shape::make(3, 4, 4, 16, [16, 0, 0, 0])?)?;
     let done = goes_over(&rt, &mut store);
     done
+}
+
+/// Puts two hundred keys, removes those of a range, and then the others.
+fn clears<R: Abort + Wait + Drop + Send + AllocGlobal>(
+    rt: &R,
+    store: &mut Store<R>,
+) -> Result<(), Fail> {
+    let mut caller = store.caller(rt)?;
+    for i in 0..200u8 {
+        assert_eq!(rt; caller.put(rt, &[i, 7], b"v")?, Wrote::New { at: 1 });
+    }
+    assert_eq!(rt; caller.clear(rt, Some(&[10]), Some(&[179, 7]))?, 170);
+    assert_eq!(rt; caller.count(rt, None, None), 30);
+    assert!(rt; caller.contains(rt, &[9, 7]));
+    assert!(rt; !caller.contains(rt, &[10, 7]));
+    assert!(rt; !caller.contains(rt, &[179, 7]));
+    assert!(rt; caller.contains(rt, &[180, 7]));
+    assert_eq!(rt; caller.clear(rt, None, None)?, 30);
+    assert!(rt; caller.is_empty(rt));
+    assert_eq!(rt; caller.clear(rt, None, None)?, 0);
+    assert_eq!(rt; caller.last_call(), 400);
+    Ok(())
+}
+
+#[test]
+fn a_clearing(rt: HostRuntime) -> Result<(), Fail> {
+    let mut store = Store::create(&rt, &Shape::make(2, 64, 16, 256, [512, 0, 0, 0])?)?;
+    let done = clears(&rt, &mut store);
+    done
+}
+
+/// Shows a caller behind its first put.
+fn shows<R: Abort + Wait + Drop + Send + AllocGlobal>(
+    rt: &R,
+    store: &mut Store<R>,
+) -> Result<(), Fail> {
+    let mut caller = store.caller(rt)?;
+    assert_eq!(rt; caller.put(rt, b"k", b"v")?, Wrote::New { at: 1 });
+    let shown = format!(in rt.alloc(); "{caller:?}")?;
+    assert_eq!(rt; shown.as_str(), "Caller { last_call: 1, .. }");
+    Ok(())
+}
+
+#[test]
+fn what_is_shown(rt: HostRuntime) -> Result<(), Fail> {
+    let mut store = Store::create(&rt, &Shape::make(2, 4, 4, 16, [16, 0, 0, 0])?)?;
+    let shown = format!(in rt.alloc(); "{store:?}")?;
+    assert_eq!(rt; shown.as_str(), "Store { .. }");
+    let done = shows(&rt, &mut store);
+    done
+}
+
+#[test]
+fn the_bytes_of_a_shape(rt: HostRuntime) -> Result<(), Fail> {
+    let shape = Shape::make(2, 4, 4, 16, [16, 0, 0, 0])?;
+    assert_eq!(rt; shape.bytes(), 8 * (1 + 1 + 32 + 48 + 4 * 35));
+    Ok(())
 }

@@ -1,5 +1,5 @@
 -- A call that lent a reading, from its begin until the reading was done: it is one read of the key.
-use Rattle.std.proofs.Common.{◌≡◌, ℕ, ◌<◌, List, length, None, sym, ap, ◌∙◌, subst, Bor}
+use Rattle.std.proofs.Common.{◌≡◌, ℕ, ◌<◌, List, length, None, Some, sym, ap, ◌∙◌, subst, Bor}
 use Rattle.oak_model.specs.declared.cells.CellCall.TheVariants.{Get}
 use Rattle.oak_model.specs.declared.cells.CellReply.TheVariants as replies
 use Rattle.pin_word.specs.PinWord.{count_of}
@@ -36,7 +36,7 @@ use Rattle.value_ops.specs.PinnedValues.{OnlyLoads}
 use Rattle.value_ops.specs.Reading.{ReadsOn, header, stamp, value}
 use Rattle.value_ops.specs.Views.{Viewed}
 use Rattle.value_ops.proofs.AlonePins.{undone as pin_undone}
-use Rattle.point_ops.specs.LoneReplies.{AnswersAlone}
+use Rattle.point_ops.specs.LoneReplies.{AnswersAlone, SameAlone}
 use Rattle.point_ops.specs.Replies.{GoesOn, HoldsAsBefore, Refuses, RepliesAt}
 use Rattle.point_ops.proofs.LocksKept.{load_stands}
 use Rattle.point_ops.proofs.LoneHistories.{alone_later, sees_whole}
@@ -143,10 +143,37 @@ module _ (z : Sizes) (call : ℕ) (key : List ℕ) (v w : PassState) (r q : Read
       (runs_then (AddsPin z (header r) l.generation) (DropsPin z (header r)) v (under q) w
       (then_stays (AddsPin z (header r) l.generation) v (under r) (under q) l.alone on.only.still) (subst (λ (i : Sizes × ℕ). Runs (DropsPin i.0 i.1) (under q) w) (λ i. (again i, header_on z r q l.has on i)) undone.still))
 
--- a life that was
+-- a life that was read so
 module _ (z : Sizes) (call : ℕ) (x : Viewed) (v w : PassState) (r q : Reading) (idle : HoldsNothing v) (l : LendsLife z call x v r) (sized : sizes r.table.now ≡ z) (same : call_of r.pass.now ≡ call) (on : ReadsOn r q) (undone : EndsPin (sizes q.table.now) (call_of q.pass.now) (header q) (under q) w) where
   pub life_refuses : Refuses call v w
   life_refuses = end_refuses z call (call_of r.pass.now) (call_of q.pass.now) (header q) r.value v (under r) (under q) w idle l.goes l.numbers l.mine l.fulls l.swept l.rebalances l.has (sizes r.table.now) (sizes q.table.now) sized (ap (λ (b : Bor OakTable). sizes b.now) on.table ∙ sized) same (on.stays.call ∙ same) on.only undone
 
   pub life_quiet : Quiet v w
   life_quiet = end_quiet v w r q l.quiet on undone
+
+  life_again : sizes q.table.now ≡ z
+  life_again = ap (λ (b : Bor OakTable). sizes b.now) on.table ∙ sized
+
+  life_stands : Stands call (under r) w
+  life_stands = end_stands z call (call_of r.pass.now) (call_of q.pass.now) (header q) r.value v (under r) (under q) w idle l.goes l.numbers l.mine l.fulls l.swept l.rebalances l.has (sizes r.table.now) (sizes q.table.now) sized life_again same (on.stays.call ∙ same) on.only undone
+
+  -- to a pass that is alone no history changed
+  pub life_same : SameAlone z v w
+  life_same alone = record {
+    begun = (l.same alone).begun;
+    ended = sees_whole z w (alone_later v w life_refuses.holds.numbers alone) (subst (λ (y : Sizes). HadMoment y w) life_again (_, moment_after (sizes q.table.now) (call_of q.pass.now) (on_headers (unpin_header (header q))) (under q) undone.number w undone.told));
+    same = λ k. ap (seen_of k) life_stands.knowledge ∙ (l.same alone).same k;
+  }
+
+  -- the value is that of the key's last state
+  pub life_was : IsAlone v → state_behind (seen_of (key_number x.key) v.knowledge) ≡ Some (value r)
+  life_was alone = ap (λ (k : List KeyedWrite). state_behind k) (sym ((l.same alone).same (key_number x.key))) ∙ l.life.last.ends.state
+
+  added : Runs (AddsPin z (header r) x.generation) v (under r)
+  added = subst (λ (h : ℕ). Runs (AddsPin z h x.generation) v (under r)) (sym l.reads.header_is) l.alone
+
+  -- and the words stay
+  pub life_stays : Runs StayAll v w
+  life_stays = runs_as (Then (AddsPin z (header r) x.generation) (DropsPin z (header r))) StayAll v w (λ a b d. pin_undone z (header r) l.has.value.has.inside a d.0 b (IsLiveAt x.generation) (λ n. 0 < count_of n) d.1 d.2)
+      (runs_then (AddsPin z (header r) x.generation) (DropsPin z (header r)) v (under q) w
+      (then_stays (AddsPin z (header r) x.generation) v (under r) (under q) added on.only.still) (subst (λ (i : Sizes × ℕ). Runs (DropsPin i.0 i.1) (under q) w) (λ i. (life_again i, header_on z r q l.has on i)) undone.still))

@@ -13,6 +13,7 @@ mod finding;
 mod giving_up_tests;
 mod going_on;
 mod hinted;
+mod in_bytes;
 #[cfg(test)]
 mod index_tests;
 mod laws;
@@ -30,6 +31,7 @@ mod room_tests;
 #[cfg(test)]
 mod row_tests;
 mod settling;
+mod showing;
 #[cfg(test)]
 mod shared_tests;
 #[cfg(test)]
@@ -47,6 +49,7 @@ mod waiting;
 mod worn_tests;
 
 pub use answers::{Busy, NoValue};
+pub use in_bytes::InBytes;
 pub use laws::keys_have_room;
 pub use lending::{Lent, Looked, get_of, look_of, scan_of, try_get_of, try_look_of};
 pub use map::{MapPass, OakMap};

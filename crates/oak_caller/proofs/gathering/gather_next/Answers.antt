@@ -1,8 +1,10 @@
 use Rattle.std.proofs.Common.{rules, ◌≡◌, List, ℕ, ◌∷◌, ◌++◌, [], refl, ap, ◌∙◌}
+use Rattle.oak_model.specs.Key.{IsKey}
 use Rattle.scan_cursor.specs.Cursors.{key_of}
 use Rattle.oak_caller.specs.Given.{FindsPair}
 use Rattle.oak_caller.proofs.CursorCalls.{advanced, finds_end, finds_pair}
 use Rattle.oak_caller.proofs.GatheredKeys.{on_err}
+use Rattle.oak_caller.proofs.PresentPairs.{present_key}
 use Rattle.oak_caller.proofs.gathering.gather_next.Goals as goal
 
 pub returns-then-not-advance-clause-on : goal.returns-then-not-advance-clause-on
@@ -11,8 +13,10 @@ returns-then-not-advance-clause-on g c = let e = c.advance.ensures in advanced c
 pub returns-then-not-advance-clause-adds : goal.returns-then-not-advance-clause-adds
 returns-then-not-advance-clause-adds g c = (finds_end c.advance.result c.args.cursor.now c.advance.new.self c.if-not-advance.true c.advance.ensures.advances, refl)
 
-pub copy_key-long-requires-clause-given : goal.copy_key-long-requires-clause-given
-copy_key-long-requires-clause-given g c = (finds_pair c.advance.result c.args.cursor.now c.advance.new.self c.if-not-advance.false c.advance.ensures.advances).value
+pub key-requires : goal.key-requires
+key-requires g c = let n = c.advance.new.self in
+    let found : FindsPair c.args.cursor.now n = finds_pair c.advance.result c.args.cursor.now n c.if-not-advance.false c.advance.ensures.advances in
+    let is : IsKey (key_of n) = present_key n c.advance.ensures.cursor found.value in search (rules, is)
 
 pub returns-in_err-key-clause-found : goal.returns-in_err-key-clause-found
 returns-in_err-key-clause-found g c = on_err c.from_residual.result (FindsPair c.args.cursor.now c.advance.new.self) (finds_pair c.advance.result c.args.cursor.now c.advance.new.self c.if-not-advance.false c.advance.ensures.advances)
