@@ -2,7 +2,7 @@ use Rattle.std.proofs.Common.{◌≡◌, ◌*◌, length, take}
 use Rattle.oak_model.specs.declared.limits.TheConstants.{GREATEST_KEY}
 use Rattle.oak_model.specs.WordBytes.{bytes_of}
 use Rattle.chunk_ops.specs.declared.stored.TheConstants.{KEY_WORDS}
-use Rattle.chunk_ops.proofs.key_bytes.KeyBytes.of.Given as goal
+use Rattle.chunk_ops.proofs.key_bytes.KeyBytes.from_words.Given as goal
 
 abbrev pub invariant-loop-i : goal.invariant-loop-i
 invariant-loop-i l = record {
