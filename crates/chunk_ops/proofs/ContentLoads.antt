@@ -1,9 +1,11 @@
 -- Loads of the value words of found entries: what the words say, and what they tell of the entries' keys.
-use Rattle.std.proofs.Common.{◌≡◌, ℕ, ◌-◌, ◌/◌, ◌%◌, ◌^◌, ◌<◌, ◌≤◌, ◌++◌, List, [], ◌∷◌, get_or, sym, refl, ap, ◌∙◌, subst, arith, Some, None}
+use Rattle.std.proofs.Common.{◌≡◌, ℕ, ◌/◌, ◌^◌, ◌<◌, ◌≤◌, ◌++◌, List, [], ◌∷◌, get_or, sym, refl, ap, ◌∙◌, subst, arith, Some, None}
 use Rattle.oak_model.specs.KeyNumber.{key_number}
 use Rattle.oak_model.specs.Limits.{Sizes}
 use mathlib.Core.Option.{some}
 use lib.ListN.{get_elem?}
+use mathlib.Core.Logic.{dite}
+use native.Mathlib.Decide.{dec_lt}
 use Rattle.oak_model.proofs.Lists.{set_there}
 use Rattle.oak_model.proofs.NumberLaws.{key_number_is}
 use Rattle.arena_core.specs.Place.{content}
@@ -50,9 +52,13 @@ pub says_floor : (n : ℕ) → n < 2 ^ 63 → Says (Floor n) n
 unfolding names_header
 says_floor n lt = (one_at-other (n / 2 ^ 63) 1 (λ e. absurd (omega arith)), refl, lt)
 
-pub says_value : (n : ℕ) → n < 2 ^ 64 → 2 ^ 63 ≤ n → Says (Value ((n - 2 ^ 63) / 2 ^ 32) (n % 2 ^ 32)) n
-unfolding names_header header_in generation_in
-says_value n lt le = (one_at-same (n / 2 ^ 63) 1 (omega arith), omega arith, refl)
+pub says_value : (n : ℕ) → n < 2 ^ 64 → 2 ^ 63 ≤ n → Says (Value (header_in n) (generation_in n)) n
+unfolding names_header
+says_value n lt le = (one_at-same (n / 2 ^ 63) 1 (omega arith), refl, refl)
+
+-- it says something
+pub some_content : (n : ℕ) → n < 2 ^ 64 → (c : Content) × Says c n
+some_content n lt = dite (dec_lt n (2 ^ 63)) (λ l. (Floor n, says_floor n l)) (λ no. (Value (header_in n) (generation_in n), says_value n lt (omega arith)))
 
 -- a word that names a header names its life
 says_home : (h g n : ℕ) → Says (Value h g) n → n ≡ home_of h g

@@ -30,9 +30,11 @@ module _ (b : List ℕ) (few : length b ≤ GREATEST_KEY) where
       sym (word_part (key_words b) (length b) i lt room_for)
       ∙ (ap (λ (w : ℕ). take (length b - 8 * i) (word_bytes w)) (rows_at 0 KEY_WORDS i (word_at b) 0 (omega arith) ∙ ap (word_at b) (let e : 0 + i ≡ i = omega arith in e)) ∙ word_at-part b s i lt))
 
--- all words that the key has were copied
-pub copied_key : (k : StoredKey) (b xs : List ℕ) (i : ℕ) → IsStored k b → k.length ≤ 8 * i → take (8 * i) xs ≡ take (8 * i) (take GREATEST_KEY (bytes_of k.words)) → take k.length xs ≡ b
-copied_key k b xs i s all copied = let long = s.long in let few = s.few in
-    sym (take-take k.length (8 * i) xs all) ∙ (ap (take k.length) copied ∙ (take-take k.length (8 * i) (take GREATEST_KEY (bytes_of k.words)) all
-    ∙ (take-take k.length GREATEST_KEY (bytes_of k.words) (omega arith)
-    ∙ ((λ j. take (s.long j) (bytes_of (s.words j))) ∙ words_back b few s.bytes))))
+-- all words were copied that the first n bytes reach
+pub copied_words : (ws xs : List ℕ) (i n : ℕ) → n ≤ GREATEST_KEY → n ≤ 8 * i → take (8 * i) xs ≡ take (8 * i) (take GREATEST_KEY (bytes_of ws)) → take n xs ≡ take n (bytes_of ws)
+copied_words ws xs i n few all copied =
+    sym (take-take n (8 * i) xs all) ∙ (ap (take n) copied ∙ (take-take n (8 * i) (take GREATEST_KEY (bytes_of ws)) all ∙ take-take n GREATEST_KEY (bytes_of ws) few))
+
+-- the bytes of a stored key stand in its words
+pub stored_bytes : (k : StoredKey) (b : List ℕ) → IsStored k b → take k.length (bytes_of k.words) ≡ b
+stored_bytes k b s = (λ j. take (s.long j) (bytes_of (s.words j))) ∙ words_back b s.few s.bytes

@@ -1,10 +1,11 @@
 //! The bytes of a key.
-ghost use Rattle.std.specs.Prelude.{◌≡◌, ℕ, ◌≤◌, List, [], ◌∷◌, replicate};
+ghost use Rattle.std.specs.Prelude.{◌≡◌, ℕ, ◌≤◌, List, [], ◌∷◌, replicate, take};
 ghost use Rattle.oak_model.specs.declared.limits.TheConstants.{GREATEST_KEY};
 ghost use Rattle.oak_model.specs.Key.{IsKey};
+ghost use Rattle.oak_model.specs.WordBytes.{bytes_of};
 ghost use Rattle.chunk_ops.specs.Stored.{IsStored};
 
-use crate::stored::StoredKey;
+use crate::stored::{KEY_WORDS, StoredKey};
 use arena_core::words::{WORD, put_word};
 use oak_model::GREATEST_KEY;
 use std::marker::Model;
@@ -34,6 +35,14 @@ impl KeyBytes {
         ensures { (b : List ℕ) → IsStored key.now b → result ≡ b }
     {
         let (len, words) = key.parts();
+        KeyBytes::from_words(words, len)
+    }
+
+    /// The first `len` bytes that stand in these words.
+    pub fn from_words(words: [u64; KEY_WORDS], len: usize) -> KeyBytes
+        requires { len ≤ GREATEST_KEY }
+        ensures { result ≡ take len (bytes_of words) }
+    {
         let mut bytes = [0; GREATEST_KEY];
         for i in 0..len.div_ceil(WORD) {
             put_word(&mut bytes, i, words[i]);

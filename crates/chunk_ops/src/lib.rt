@@ -35,4 +35,4 @@ pub use room_pins::{RoomPin, unpin};
 pub use searching::{above, below, find};
 pub use setting::{clear_value, set_value};
 pub use stored::{KEY_WORDS, StoredKey};
-pub use values::content;
+pub use values::{content, content_of, value_word};

@@ -32,7 +32,7 @@ use Rattle.scan_cursor.specs.Cursors.{Advances, GivesUp, HasGiven, HasPair, IsCu
 use Rattle.scan_cursor.specs.Holding.{HasValue}
 use Rattle.scan_cursor.specs.Leaving.{LeavesValue}
 use Rattle.scan_cursor.specs.Views.{Later, View}
-use Rattle.scan_cursor.specs.Walks.{HasWalked, IsWalk, WalkSteps, WalksOrEnds, course_of, view_at}
+use Rattle.scan_cursor.specs.Walks.{HasWalked, IsWalk, MayGoOn, WalkSteps, WalksOrEnds, course_of, view_at}
 use Rattle.scan_cursor.proofs.EndLaws.{scan_leaves}
 use Rattle.scan_cursor.proofs.LeavingLaws.{left_leaves}
 use Rattle.scan_cursor.proofs.ReadingViews.{later_both}
@@ -147,6 +147,10 @@ module _ (c n : Cursor) (i : IsCursor c) (table : n.table ≡ c.table) (low : n.
   -- it had ended
   pub left_ended : n.walk.mark.ended ≡ true → Advances false c n
   left_ended e = record { value = none; ended = e; goes = left_given }
+
+  -- it has not
+  pub left_goes_on : n.walk.mark.ended ≡ false → MayGoOn n.way n.low n.high n.table.now n.walk n.pass.now
+  left_goes_on going = record { own = left_cursor.own; idle = idle; low = left_cursor.low_key; high = left_cursor.high_key; walk = left_cursor.walk; going = going }
 
   -- it went on
   module _ (q : MutBor Pass) (w : Walk) where

@@ -1,5 +1,5 @@
 -- The slots that a scan has filled so far, one entry of the room after the other.
-use Rattle.std.proofs.Common.{◌≡◌, ◌≢◌, ℕ, suc, ◌+◌, ◌<◌, ◌≤◌, ◌||◌, ◌++◌, Bool, true, false, List, [], ◌∷◌, map, length, get_or, take, Some, None, sym, refl, ap, ◌∙◌, subst, arith}
+use Rattle.std.proofs.Common.{◌≡◌, ◌≢◌, ℕ, suc, ◌+◌, ◌<◌, ◌≤◌, ◌||◌, ◌++◌, Bool, true, false, List, [], ◌∷◌, map, length, get_or, Some, None, sym, refl, ap, ◌∙◌, subst, arith}
 use Rattle.std.specs.List.{All}
 use Rattle.std.proofs.lemmas.List.Elements.{All-push}
 use mathlib.Core.Logic.{dite}
@@ -10,17 +10,17 @@ use Rattle.oak_model.specs.Counts.{one_if, total}
 use Rattle.oak_model.specs.Key.{AreBytes, is_key, same_key}
 use Rattle.oak_model.specs.KeyNumber.{key_number}
 use Rattle.oak_model.specs.Limits.{Sizes}
-use Rattle.oak_model.specs.WordBytes.{bytes_of}
 use Rattle.oak_model.proofs.Counting.{one_if_le, total_append, total_some}
 use Rattle.oak_model.proofs.KeyLaws.{is_key-is, is_key-of, same_is, same_itself}
 use Rattle.oak_model.proofs.NumberLaws.{key_number_is}
+use Rattle.chunk_core.specs.ValueWord.{header_in, generation_in}
 use Rattle.oak_core.specs.declared.sorting.SortSlot.{SortSlot}
 use Rattle.oak_core.specs.declared.states.PassState.{PassState}
 use Rattle.oak_core.proofs.memory.MetLists.{at_inside}
 use Rattle.chunk_ops.specs.PinRecords.{HasEntry}
 use Rattle.chunk_ops.specs.Stored.{IsStored}
 use Rattle.chunk_ops.proofs.BelowCounts.{get_at}
-use Rattle.chunk_ops.proofs.KeyCopies.{words_back}
+use Rattle.chunk_ops.proofs.KeyCopies.{stored_bytes}
 use Rattle.scan_cursor.specs.declared.ways.Way.{Way}
 use Rattle.scan_cursor.specs.Gathered.{has_slot, in_slot}
 use Rattle.scan_cursor.specs.Loading.{AreDistinct, IsBehind, IsLoaded, IsSlotOf, LoadsSlot, has_key, stored_in}
@@ -39,7 +39,7 @@ pub record Fills (z : Sizes) (call r : ℕ) (v u : PassState) (from past i : ℕ
 
 -- the bytes in a slot are those of its key
 pub slot_key : (q : List ℕ) (s : SortSlot) → IsStored (stored_in s) q → (in_slot s).key ≡ q
-slot_key q s h = (λ j. take (h.long j) (bytes_of (h.words j))) ∙ words_back q h.few h.bytes
+slot_key q s h = stored_bytes (stored_in s) q h
 
 pub neither : (a b : Bool) → (a || b) ≡ false → (a ≡ false) × (b ≡ false)
 neither true b e = absurd cc
@@ -124,7 +124,7 @@ module _ (z : Sizes) (call r : ℕ) (v u : PassState) (way : Way) (k : List ℕ)
         key = ap is_key same ∙ is_key-of q slot.key slot.stored.bytes;
         from_on = let c = b.0 in omega arith;
         below = let c = b.1 in omega arith;
-        knew = (view_of z call x, later_both (view_of z call v) (view_of z call w) (view_of z call x) before l, later_self (view_of z call x), subst (λ (p : List ℕ). KnowsLast p s.key s.value (view_of z call x)) (sym same) slot.knows);
+        knew = (view_of z call x, later_both (view_of z call v) (view_of z call w) (view_of z call x) before l, later_self (view_of z call x), subst (λ (p : List ℕ). KnowsLast p (header_in s.value) (generation_in s.value) (view_of z call x)) (sym same) slot.knows);
       }
 
       fresh : All (λ (y : SortSlot). (in_slot y).key ≢ (in_slot s).key) xs

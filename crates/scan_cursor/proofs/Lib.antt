@@ -23,7 +23,6 @@ mod FillLaws
 mod RemainingLaws
 mod LoneReads
 mod VainLooks
-mod LifeLaws
 mod LeavingLaws
 pub mod EndLaws
 pub mod FitLaws

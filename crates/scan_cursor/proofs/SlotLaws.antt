@@ -2,7 +2,7 @@
 use Rattle.std.proofs.Common.{◌≡◌, ℕ, zero, suc, ◌+◌, ◌-◌, ◌*◌, ◌<◌, ◌≤◌, List, [], ◌∷◌, ◌++◌, drop, get_or, length, map, min, reverse, take, refl, sym, ap, ◌∙◌, arith}
 use Rattle.std.proofs.Math.Nat.{min-eq_left, min-eq_right}
 use Rattle.std.proofs.Math.Seq.{drop-cons}
-use Rattle.std.proofs.lemmas.List.{get_or-drop, length-drop, reverse-append, take-take, take_all}
+use Rattle.std.proofs.lemmas.List.{get_or-drop, length-drop, reverse-append, take_all}
 use mathlib.Core.Logic.{dite}
 use native.Mathlib.Decide.{dec_lt}
 use Rattle.oak_model.specs.declared.limits.TheConstants.{GREATEST_KEY}
@@ -45,14 +45,10 @@ taken_down from to slots d lt le =
 -- ---- the key of a slot
 
 -- as many of the bytes as a key may have
-pub slot_key : (words bytes : List ℕ) (i n m : ℕ) → length words ≡ KEY_WORDS → GREATEST_KEY ≤ 8 * i → take (8 * i) bytes ≡ take (8 * i) (take GREATEST_KEY (bytes_of words)) → m ≡ min n GREATEST_KEY → take m bytes ≡ take n (bytes_of words)
-slot_key words bytes i n m wide all copied e =
+pub slot_key : (words : List ℕ) (n m : ℕ) → length words ≡ KEY_WORDS → m ≡ min n GREATEST_KEY → take m (bytes_of words) ≡ take n (bytes_of words)
+slot_key words n m wide e =
     let long : length (bytes_of words) ≡ GREATEST_KEY = let l = length-bytes_of words in omega arith in
     dite (dec_lt GREATEST_KEY n)
     (λ lt. let is : m ≡ GREATEST_KEY = e ∙ min-eq_right (let le : GREATEST_KEY ≤ n = omega arith in le) in
-    ap (λ (k : ℕ). take k bytes) is ∙ (front GREATEST_KEY (let f : GREATEST_KEY ≤ GREATEST_KEY = omega arith in f) all ∙ (take_all GREATEST_KEY (bytes_of words) (omega arith) ∙ sym (take_all n (bytes_of words) (omega arith)))))
-    (λ le. let is : m ≡ n = e ∙ min-eq_left (let k : n ≤ GREATEST_KEY = omega arith in k) in
-    ap (λ (k : ℕ). take k bytes) is ∙ front n (omega arith) (omega arith))
-  where
-    front : (k : ℕ) → k ≤ GREATEST_KEY → k ≤ 8 * i → take k bytes ≡ take k (bytes_of words)
-    front k few lt = sym (take-take k (8 * i) bytes lt) ∙ (ap (take k) copied ∙ (take-take k (8 * i) (take GREATEST_KEY (bytes_of words)) lt ∙ take-take k GREATEST_KEY (bytes_of words) few))
+    ap (λ (k : ℕ). take k (bytes_of words)) is ∙ (take_all GREATEST_KEY (bytes_of words) (omega arith) ∙ sym (take_all n (bytes_of words) (omega arith))))
+    (λ le. let is : m ≡ n = e ∙ min-eq_left (let k : n ≤ GREATEST_KEY = omega arith in k) in ap (λ (k : ℕ). take k (bytes_of words)) is)

@@ -3,6 +3,7 @@ use Rattle.std.proofs.Common.{◌≡◌, ℕ, ◌≤◌, Bool, true, false, List
 use Rattle.oak_model.specs.declared.limits.TheConstants.{GREATEST_ENTRIES}
 use Rattle.oak_model.specs.Key.{is_key}
 use Rattle.oak_model.specs.Limits.{Sizes}
+use Rattle.chunk_core.specs.ValueWord.{header_in, generation_in}
 use Rattle.oak_core.specs.declared.sorting.SortSlot.{SortSlot}
 use Rattle.oak_core.specs.declared.table.Pass.{Pass}
 use Rattle.oak_core.specs.PassState.{HoldsNothing}
@@ -65,6 +66,10 @@ walk_waits way lo hi z w p q own going idle l i = (idle, subst (WalkPasses way l
 
 -- ---- the first of the entries that are left was taken, and stands in the slot
 
+-- a life was read by these numbers, which are those of the slot
+pub here_as : (h : Here) (a b x y : ℕ) (v w : View) → a ≡ x → b ≡ y → ((k : List ℕ) (m : View) → KnowsLast k a b m → Later m v → ReadsHere h k m w) → (k : List ℕ) (m : View) → KnowsLast k x y m → Later m v → ReadsHere h k m w
+here_as h a b x y v w e f g k m last since = g k m (subst (λ (p : ℕ × ℕ). KnowsLast k p.0 p.1 m) (λ j. (sym e j, sym f j)) last) since
+
 module _ (way : Way) (lo hi : ℕ) (z : Sizes) (w x : Walk) (p : Pass) (slot : SortSlot) (mark_is : x.mark ≡ w.mark) (gathered_is : x.gathered ≡ w.gathered) (bound_is : x.bound ≡ w.bound) (few : x.to ≤ GREATEST_ENTRIES) (taken : IsTaken way w x (slots_of p) (in_slot slot))
     (i : IsWalk way lo hi (course_of way z w p)) (going : w.mark.ended ≡ false) (past : w.mark.past ≡ true) (has : w.gathered ≡ true) where
   abbrev pub left : List Loaded
@@ -73,7 +78,7 @@ module _ (way : Way) (lo hi : ℕ) (z : Sizes) (w x : Walk) (p : Pass) (slot : S
   pub slot_is_key : is_key (in_slot slot).key ≡ true
   slot_is_key = (taken_first way lo hi (course_of way z w p) (in_slot slot) left (view_at z p) i going past has taken).key
 
-  pub slot_is_known : IsKnown slot.key slot.value (view_at z p)
+  pub slot_is_known : IsKnown (header_in slot.value) (generation_in slot.value) (view_at z p)
   slot_is_known = taken_known way lo hi (course_of way z w p) (in_slot slot) left (view_at z p) i going past has taken
 
   -- its key is beyond the bound of the scan
@@ -106,17 +111,17 @@ module _ (way : Way) (lo hi : ℕ) (z : Sizes) (w x : Walk) (p : Pass) (slot : S
     still_going : x.mark.ended ≡ false
     still_going = ap (λ (m : Mark). m.ended) mark_is ∙ going
 
-    told : (h : Here) → ((k : List ℕ) (m : View) → KnowsLast k slot.key slot.value m → Later m (view_at z p) → ReadsHere h k m (view_of z (call_of p) (state q))) → (k : List ℕ) (m : View) → KnowsLast k slot.key slot.value m → Later m (view_at z p) → ReadsHere h k m (view_at z q)
+    told : (h : Here) → ((k : List ℕ) (m : View) → KnowsLast k (header_in slot.value) (generation_in slot.value) m → Later m (view_at z p) → ReadsHere h k m (view_of z (call_of p) (state q))) → (k : List ℕ) (m : View) → KnowsLast k (header_in slot.value) (generation_in slot.value) m → Later m (view_at z p) → ReadsHere h k m (view_at z q)
     told h f k m last since = subst (ReadsHere h k m) (told_at z p q own.call) (f k m last since)
 
-    pub slot_given : (y : PinnedValue) → ((k : List ℕ) (m : View) → KnowsLast k slot.key slot.value m → Later m (view_at z p) → ReadsHere (Present y) k m (view_of z (call_of p) (state q))) → WalkSteps (Given y) way lo hi (course_of way z w p) (course_of way z (at_slot x.mark.past) q)
+    pub slot_given : (y : PinnedValue) → ((k : List ℕ) (m : View) → KnowsLast k (header_in slot.value) (generation_in slot.value) m → Later m (view_at z p) → ReadsHere (Present y) k m (view_of z (call_of p) (state q))) → WalkSteps (Given y) way lo hi (course_of way z w p) (course_of way z (at_slot x.mark.past) q)
     slot_given y f = let k = slot_is_known in (
       (told (Present y) f k.key k.moment k.knows k.since).0,
       subst (WalkGives way lo hi (course_of way z w p)) (same_at w.mark.past x.mark.past still_past)
           (take_present way lo hi (course_of way z w p) (in_slot slot) left (view_at z q) i going past has taken x.from x.to few n then (λ k m last since. (told (Present y) f k m last since).1)),
     )
 
-    pub slot_passed : ((k : List ℕ) (m : View) → KnowsLast k slot.key slot.value m → Later m (view_at z p) → ReadsHere Absent k m (view_of z (call_of p) (state q))) → WalkSteps Passed way lo hi (course_of way z w p) (course_of way z (at_slot x.mark.past) q)
+    pub slot_passed : ((k : List ℕ) (m : View) → KnowsLast k (header_in slot.value) (generation_in slot.value) m → Later m (view_at z p) → ReadsHere Absent k m (view_of z (call_of p) (state q))) → WalkSteps Passed way lo hi (course_of way z w p) (course_of way z (at_slot x.mark.past) q)
     slot_passed f = let k = slot_is_known in (
       (told Absent f k.key k.moment k.knows k.since).0,
       subst (WalkPasses way lo hi (course_of way z w p)) (same_at w.mark.past x.mark.past still_past)
@@ -124,7 +129,7 @@ module _ (way : Way) (lo hi : ℕ) (z : Sizes) (w x : Walk) (p : Pass) (slot : S
       still_going,
     )
 
-    pub slot_waits : ((k : List ℕ) (m : View) → KnowsLast k slot.key slot.value m → Later m (view_at z p) → ReadsHere Again k m (view_of z (call_of p) (state q))) → WalkSteps Passed way lo hi (course_of way z w p) (course_of way z (at_slot false) q)
+    pub slot_waits : ((k : List ℕ) (m : View) → KnowsLast k (header_in slot.value) (generation_in slot.value) m → Later m (view_at z p) → ReadsHere Again k m (view_of z (call_of p) (state q))) → WalkSteps Passed way lo hi (course_of way z w p) (course_of way z (at_slot false) q)
     slot_waits f = let k = slot_is_known in (
       told Again f k.key k.moment k.knows k.since,
       subst (WalkPasses way lo hi (course_of way z w p)) (same_at false false refl)

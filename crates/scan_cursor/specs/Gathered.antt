@@ -3,6 +3,7 @@ use Rattle.std.specs.Prelude.{◌≡◌, ℕ, suc, ◌-◌, ◌<◌, ◌≤◌, 
 use Rattle.oak_model.specs.Key.{is_key, same_key}
 use Rattle.oak_model.specs.KeyNumber.{key_number}
 use Rattle.oak_model.specs.WordBytes.{bytes_of}
+use Rattle.chunk_core.specs.ValueWord.{header_in, generation_in}
 use Rattle.oak_core.specs.declared.sorting.SortSlot.{SortSlot}
 use Rattle.scan_cursor.specs.declared.ways.Way.{Way}
 use Rattle.scan_cursor.specs.declared.ways.Way.TheVariants.{Up, Down}
@@ -14,9 +15,9 @@ pub record Loaded : Type 0 where
   pub header : ℕ
   pub generation : ℕ
 
--- what stands in a slot: the bytes of the key in its words, and the header and the generation as its two further numbers
+-- what stands in a slot: the bytes of the key in its words, and the header and the generation that its value word names
 abbrev pub in_slot : SortSlot → Loaded
-in_slot s = record { key = take s.length (bytes_of s.words); header = s.key; generation = s.value }
+in_slot s = record { key = take s.length (bytes_of s.words); header = header_in s.value; generation = generation_in s.value }
 
 -- the slots from one number on and below another, in the order of the scan
 abbrev pub slots_ahead : Way → ℕ → ℕ → List SortSlot → List Loaded

@@ -7,6 +7,7 @@ use Rattle.std.specs.declared.cmp.Ordering.TheVariants.{Less}
 use Rattle.oak_model.specs.Counts.{one_if, total}
 use Rattle.oak_model.specs.Key.{IsKey, is_key, key_cmp, same_key}
 use Rattle.oak_model.specs.KeyNumber.{key_number}
+use Rattle.chunk_core.specs.ValueWord.{header_in, generation_in}
 use Rattle.chunk_ops.specs.declared.stored.StoredKey.{StoredKey}
 use Rattle.chunk_ops.specs.Stored.{IsStored}
 use Rattle.oak_core.specs.declared.sorting.SortSlot.{SortSlot}
@@ -28,7 +29,7 @@ stored_in s = record { words = s.words; length = s.length }
 pub record IsSlotOf (q : List ℕ) (w : View) (s : SortSlot) : Type 0 where
   pub stored : IsStored (stored_in s) q
   pub key : IsKey q
-  pub knows : KnowsLast q s.key s.value w
+  pub knows : KnowsLast q (header_in s.value) (generation_in s.value) w
 
 -- The entry of the key q was loaded: if it is behind k, then either there is a slot of it, or it was read absent.
 abbrev pub LoadsSlot : Option SortSlot → Way → List ℕ → List ℕ → View → View → Type 0

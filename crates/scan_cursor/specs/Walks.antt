@@ -2,13 +2,15 @@
 use Rattle.std.specs.Prelude.{◌≡◌, ℕ, ◌<◌, ◌≤◌, true, false, List, [], ◌∷◌, ◌++◌, Option, Some, None}
 use Rattle.oak_model.specs.declared.limits.TheConstants.{GREATEST_ENTRIES}
 use Rattle.oak_model.specs.declared.replies.Pair.{Pair}
+use Rattle.oak_model.specs.Key.{is_key}
 use Rattle.oak_model.specs.KeyNumber.{key_number}
 use Rattle.oak_model.specs.Limits.{Sizes}
 use Rattle.oak_core.specs.declared.sorting.SortSlot.{SortSlot}
 use Rattle.oak_core.specs.declared.states.PassState.{PassState}
+use Rattle.oak_core.specs.declared.table.OakTable.{OakTable}
 use Rattle.oak_core.specs.declared.table.Pass.{Pass}
 use Rattle.oak_core.specs.PassState.{HoldsNothing}
-use Rattle.oak_core.specs.Passes.{call_of, slots_of, state}
+use Rattle.oak_core.specs.Passes.{IsPassOf, call_of, key as sizes, slots_of, state}
 use Rattle.value_ops.specs.declared.pinned_value.PinnedValue.{PinnedValue}
 use Rattle.value_ops.specs.PinnedValues.{stamp_under, value_under}
 use Rattle.scan_cursor.specs.declared.walking.Stepped.{Stepped}
@@ -56,6 +58,15 @@ pub record IsWalk (way : Way) (low high : ℕ) (c : Course) : Type 0 where
   pub bound : IsBound c.walk.bound
   pub few : c.walk.to ≤ GREATEST_ENTRIES
   pub ahead : c.walk.gathered ≡ true → AreAhead way c.view c.walk.mark.key c.walk.bound c.left
+
+-- The pass is one of the table and holds nothing, and its scan between the two keys has not ended.
+pub record MayGoOn (way : Way) (low high : List ℕ) (t : OakTable) (w : Walk) (p : Pass) : Type 0 where
+  pub own : IsPassOf t p
+  pub idle : HoldsNothing (state p)
+  pub low : is_key low ≡ true
+  pub high : is_key high ≡ true
+  pub walk : IsWalk way (key_number low) (key_number high) (course_of way (sizes t) w p)
+  pub going : w.mark.ended ≡ false
 
 -- the pairs so far are those of the keys that are read, and of the keys ahead in the room each is one of those left, or was read absent
 pub record HasWalked (way : Way) (low high : ℕ) (c : Course) (before : View) (pairs : List Pair) : Type 0 where

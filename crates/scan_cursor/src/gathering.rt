@@ -14,7 +14,9 @@ ghost use Rattle.scan_cursor.specs.Loading.{AreSorted, HasLoaded, IsBehind, Load
 ghost use Rattle.scan_cursor.specs.Views.{Later, view_of};
 
 use crate::ways::Way;
-use chunk_ops::{Content, EntryNo, RoomPin, StoredKey, content, count_entries, entry_key};
+use chunk_ops::{
+    Content, EntryNo, RoomPin, StoredKey, content_of, count_entries, entry_key, value_word,
+};
 use oak_core::{OakTable, Pass, SortSlot};
 
 /// Whether `key` lies behind `from` in the direction of the scan.
@@ -28,7 +30,8 @@ fn is_behind(key: &StoredKey, from: &StoredKey, way: Way) -> bool
     }
 }
 
-/// Loads the key of an entry, and its value word where that key lies behind `from`: the slot of one that has a value.
+/// Loads the key of an entry, and its value word where that key lies behind `from`: the slot of one that has a value. A
+/// scan needs no key words, so none is kept in its slots.
 fn load_slot(
     table: &OakTable,
     pass: &mut Pass,
@@ -50,15 +53,19 @@ fn load_slot(
     if !is_behind(&key, from, way) {
         return None;
     }
-    match content(table, pass, pin, entry) {
+    let value = value_word(table, pass, pin, entry);
+    match content_of(value) {
         Content::Floor { stamp: _ } => None,
-        Content::Value { header, generation } => {
+        Content::Value {
+            header: _,
+            generation: _,
+        } => {
             let (length, words) = key.parts();
             Some(SortSlot {
                 words,
                 length,
-                key: u64::from(header),
-                value: u64::from(generation),
+                key: 0,
+                value,
             })
         }
     }

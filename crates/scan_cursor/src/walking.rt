@@ -14,7 +14,7 @@ ghost use Rattle.scan_cursor.specs.Holding.{IsBound};
 ghost use Rattle.scan_cursor.specs.Leaving.{LeavesValue, given_by};
 ghost use Rattle.scan_cursor.specs.Marks.{InBounds, IsBeyond, Leaves};
 ghost use Rattle.scan_cursor.specs.Remaining.{steps_left};
-ghost use Rattle.scan_cursor.specs.Walks.{IsTaken, IsWalk, WalkSteps, WalksOrEnds, course_of, view_at};
+ghost use Rattle.scan_cursor.specs.Walks.{IsTaken, IsWalk, MayGoOn, WalkSteps, WalksOrEnds, course_of, view_at};
 
 use crate::busy::Busy;
 use crate::gathering::gather;
@@ -22,8 +22,8 @@ use crate::marks::Mark;
 use crate::reading::{Here, read_key, read_life};
 use crate::spots::{bound_ahead, pin_ahead};
 use crate::ways::Way;
-use arena_core::words::put_word;
-use chunk_ops::{KEY_WORDS, KeyBytes, unpin};
+use chunk_core::value_word::{generation_in, header_in};
+use chunk_ops::{KeyBytes, unpin};
 use oak_core::{OakTable, Pass, SortSlot};
 use oak_model::{GREATEST_KEY, cmp_keys};
 use value_ops::PinnedValue;
@@ -206,11 +206,7 @@ fn key_of(slot: &SortSlot) -> KeyBytes
     requires { is_key (in_slot slot.now).key ≡ true }
     ensures { result ≡ (in_slot slot.now).key }
 {
-    let mut bytes = [0; GREATEST_KEY];
-    for i in 0..KEY_WORDS {
-        put_word(&mut bytes, i, slot.words[i]);
-    }
-    KeyBytes::from_key(&bytes[..slot.length.min(GREATEST_KEY)])
+    KeyBytes::from_words(slot.words, slot.length.min(GREATEST_KEY))
 }
 
 /// Takes the next of the slots that are left, of which there is one.
@@ -248,12 +244,7 @@ fn take_slot(
     high: &[u8],
     way: Way,
 ) -> Stepped
-    requires own { IsPassOf table.now pass.old }
-    requires idle { HoldsNothing (state pass.old) }
-    requires low { is_key low.now ≡ true }
-    requires high { is_key high.now ≡ true }
-    requires walk { IsWalk way (key_number low.now) (key_number high.now) (course_of way (sizes table.now) walk.old pass.old) }
-    requires going { walk.old.mark.ended ≡ false }
+    requires on { MayGoOn way low.now high.now table.now walk.old pass.old }
     requires past { walk.old.mark.past ≡ true }
     requires gathered { walk.old.gathered ≡ true }
     requires some { walk.old.from < walk.old.to }
@@ -272,7 +263,12 @@ fn take_slot(
         return Stepped::Ended;
     }
     walk.mark.key = key;
-    match read_life(table, pass, slot.key as u32, slot.value as u32) {
+    match read_life(
+        table,
+        pass,
+        header_in(slot.value),
+        generation_in(slot.value),
+    ) {
         Here::Present(value) => Stepped::Given(value),
         Here::Absent => Stepped::Passed,
         Here::Again => {
@@ -291,12 +287,7 @@ fn go_ahead(
     high: &[u8],
     way: Way,
 ) -> Stepped
-    requires own { IsPassOf table.now pass.old }
-    requires idle { HoldsNothing (state pass.old) }
-    requires low { is_key low.now ≡ true }
-    requires high { is_key high.now ≡ true }
-    requires walk { IsWalk way (key_number low.now) (key_number high.now) (course_of way (sizes table.now) walk.old pass.old) }
-    requires going { walk.old.mark.ended ≡ false }
+    requires on { MayGoOn way low.now high.now table.now walk.old pass.old }
     requires past { walk.old.mark.past ≡ true }
     requires gathered { walk.old.gathered ≡ true }
     ensures own { StaysButSlots pass.old pass.new }
@@ -326,12 +317,7 @@ fn step(
     high: &[u8],
     way: Way,
 ) -> Stepped
-    requires own { IsPassOf table.now pass.old }
-    requires idle { HoldsNothing (state pass.old) }
-    requires low { is_key low.now ≡ true }
-    requires high { is_key high.now ≡ true }
-    requires walk { IsWalk way (key_number low.now) (key_number high.now) (course_of way (sizes table.now) walk.old pass.old) }
-    requires going { walk.old.mark.ended ≡ false }
+    requires { MayGoOn way low.now high.now table.now walk.old pass.old }
     ensures own { StaysButSlots pass.old pass.new }
     ensures steps { let z = sizes table.now in WalkSteps result way (key_number low.now) (key_number high.now)
         (course_of way z walk.old pass.old) (course_of way z walk.new pass.new) }
@@ -358,12 +344,7 @@ fn walk_to(
     high: &[u8],
     way: Way,
 ) -> Result<Option<PinnedValue>, Busy>
-    requires own { IsPassOf table.now pass.old }
-    requires idle { HoldsNothing (state pass.old) }
-    requires low { is_key low.now ≡ true }
-    requires high { is_key high.now ≡ true }
-    requires walk { IsWalk way (key_number low.now) (key_number high.now) (course_of way (sizes table.now) walk.old pass.old) }
-    requires going { walk.old.mark.ended ≡ false }
+    requires { MayGoOn way low.now high.now table.now walk.old pass.old }
     ensures own { StaysButSlots pass.old pass.new }
     ensures goes { let z = sizes table.now in IfOk result
         (λ o. WalksOrEnds o way (key_number low.now) (key_number high.now) (course_of way z walk.old pass.old)
@@ -396,12 +377,7 @@ pub(crate) fn try_walk(
     way: Way,
     looks: u32,
 ) -> Result<Option<PinnedValue>, Busy>
-    requires own { IsPassOf table.now pass.old }
-    requires idle { HoldsNothing (state pass.old) }
-    requires low { is_key low.now ≡ true }
-    requires high { is_key high.now ≡ true }
-    requires walk { IsWalk way (key_number low.now) (key_number high.now) (course_of way (sizes table.now) walk.old pass.old) }
-    requires going { walk.old.mark.ended ≡ false }
+    requires on { MayGoOn way low.now high.now table.now walk.old pass.old }
     requires some { 0 < looks }
     ensures own { StaysButSlots pass.old pass.new }
     ensures goes { let z = sizes table.now in IfOk result

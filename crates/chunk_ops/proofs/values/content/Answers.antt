@@ -1,40 +1,10 @@
-use Rattle.std.proofs.Common.{arith}
-use Rattle.oak_model.specs.Limits.{Sizes}
-use Rattle.chunk_core.specs.Rooms.{at_value}
-use Rattle.oak_core.specs.Memory.{in_rooms}
-use Rattle.oak_core.specs.Passes.{state, key, call_of}
-use Rattle.oak_core.proofs.memory.Words.{index_below}
-use Rattle.chunk_ops.proofs.ContentLoads.{content_found, content_tells, content_only, content_alone}
-use Rattle.chunk_ops.proofs.WordLoads.{found_inside, load_at}
 use Rattle.chunk_ops.proofs.values.content.Goals as goal
 
-pub value_at-word-requires-clause-entry : goal.value_at-word-requires-clause-entry
-value_at-word-requires-clause-entry c = found_inside (key c.args.table.now) c.args.pin.now.room c.args.entry.0 c.requires.entry.0 (state c.args.pass.now) c.requires.pinned c.requires.entry.1
-
-pub load-requires-clause-inside : goal.load-requires-clause-inside
-load-requires-clause-inside c = let z : Sizes = key c.args.table.now in let r = c.args.pin.now.room in let e = c.value_at-word.ensures in
-    let l = index_below z (in_rooms (at_value r c.args.entry.0)) (c.requires.pinned.inside, found_inside z r c.args.entry.0 c.requires.entry.0 (state c.args.pass.now) c.requires.pinned c.requires.entry.1) in omega arith
-
 pub returns-clause-content : goal.returns-clause-content
-returns-clause-content c = let z : Sizes = key c.args.table.now in let call = call_of c.args.pass.now in let r = c.args.pin.now.room in let v = state c.args.pass.now in let w = state c.load.new.pass in let i = c.args.entry.0 in let e = c.requires.entry in
-    content_found z call r i c.load.result v w c.requires.pinned e.0 e.1
-    (load_at z call c.value_at-word.result c.load.result v w (in_rooms (at_value r i)) (c.requires.pinned.inside, found_inside z r i e.0 v c.requires.pinned e.1) c.value_at-word.ensures c.load.ensures.loaded)
-    c.content_of.result c.content_of.ensures
+returns-clause-content c = c.value_word.ensures.content c.content_of.result c.content_of.ensures
 
 pub returns-clause-tells : goal.returns-clause-tells
-returns-clause-tells c = λ k h. let z : Sizes = key c.args.table.now in let call = call_of c.args.pass.now in let r = c.args.pin.now.room in let v = state c.args.pass.now in let w = state c.load.new.pass in let i = c.args.entry.0 in
-    content_tells z call r i c.load.result v w c.requires.pinned k h
-    (load_at z call c.value_at-word.result c.load.result v w (in_rooms (at_value r i)) (c.requires.pinned.inside, found_inside z r i k v c.requires.pinned h) c.value_at-word.ensures c.load.ensures.loaded)
-    c.content_of.result c.content_of.ensures
-
-pub returns-clause-only : goal.returns-clause-only
-returns-clause-only c = let z : Sizes = key c.args.table.now in let call = call_of c.args.pass.now in let r = c.args.pin.now.room in let v = state c.args.pass.now in let w = state c.load.new.pass in let i = c.args.entry.0 in let e = c.requires.entry in
-    content_only z call r i c.load.result v w c.requires.pinned e.0 e.1
-    (load_at z call c.value_at-word.result c.load.result v w (in_rooms (at_value r i)) (c.requires.pinned.inside, found_inside z r i e.0 v c.requires.pinned e.1) c.value_at-word.ensures c.load.ensures.loaded)
-    c.content_of.result c.content_of.ensures
+returns-clause-tells c = λ k h. c.value_word.ensures.tells c.content_of.result k c.content_of.ensures h
 
 pub returns-clause-alone : goal.returns-clause-alone
-returns-clause-alone c = let z : Sizes = key c.args.table.now in let call = call_of c.args.pass.now in let r = c.args.pin.now.room in let v = state c.args.pass.now in let w = state c.load.new.pass in let i = c.args.entry.0 in let e = c.requires.entry in
-    content_alone z call r i c.load.result v w c.requires.pinned e.0 e.1
-    (load_at z call c.value_at-word.result c.load.result v w (in_rooms (at_value r i)) (c.requires.pinned.inside, found_inside z r i e.0 v c.requires.pinned e.1) c.value_at-word.ensures c.load.ensures.loaded)
-    c.content_of.result c.content_of.ensures
+returns-clause-alone c = c.value_word.ensures.alone c.content_of.result c.content_of.ensures

@@ -11,17 +11,17 @@ use Rattle.scan_cursor.proofs.walking.go_ahead.Goals as goal
 
 pub returns-then-walk-2-clause-steps : goal.returns-then-walk-2-clause-steps
 returns-then-walk-2-clause-steps c = let q = c.requires in let e = c.leave_room.ensures in let w = c.args.walk.now in let n = c.leave_room.new.walk in (
-  q.idle,
-  walk_leaves c.args.way _ _ (course_of c.args.way (sizes c.args.table.now) w c.args.pass.now) n (slots_ahead c.args.way n.from n.to (slots_of c.args.pass.now)) q.walk q.going q.past q.gathered
-      (none_left c.args.way w.from w.to (slots_of c.args.pass.now) c.if-walk.false) e.leaves e.gathered e.bound (subst (λ (k : ℕ). k ≤ GREATEST_ENTRIES) (sym e.to) q.walk.few),
+  q.on.idle,
+  walk_leaves c.args.way _ _ (course_of c.args.way (sizes c.args.table.now) w c.args.pass.now) n (slots_ahead c.args.way n.from n.to (slots_of c.args.pass.now)) q.on.walk q.on.going q.past q.gathered
+      (none_left c.args.way w.from w.to (slots_of c.args.pass.now) c.if-walk.false) e.leaves e.gathered e.bound (subst (λ (k : ℕ). k ≤ GREATEST_ENTRIES) (sym e.to) q.on.walk.few),
   c.if-walk-2.true,
 )
 
 pub returns-else-walk-2-clause-steps : goal.returns-else-walk-2-clause-steps
 returns-else-walk-2-clause-steps c = let q = c.requires in let e = c.leave_room.ensures in let w = c.args.walk.now in let n = c.leave_room.new.walk in (
-  q.idle,
-  walk_leaves c.args.way _ _ (course_of c.args.way (sizes c.args.table.now) w c.args.pass.now) n (slots_ahead c.args.way n.from n.to (slots_of c.args.pass.now)) q.walk q.going q.past q.gathered
-      (none_left c.args.way w.from w.to (slots_of c.args.pass.now) c.if-walk.false) e.leaves e.gathered e.bound (subst (λ (k : ℕ). k ≤ GREATEST_ENTRIES) (sym e.to) q.walk.few),
+  q.on.idle,
+  walk_leaves c.args.way _ _ (course_of c.args.way (sizes c.args.table.now) w c.args.pass.now) n (slots_ahead c.args.way n.from n.to (slots_of c.args.pass.now)) q.on.walk q.on.going q.past q.gathered
+      (none_left c.args.way w.from w.to (slots_of c.args.pass.now) c.if-walk.false) e.leaves e.gathered e.bound (subst (λ (k : ℕ). k ≤ GREATEST_ENTRIES) (sym e.to) q.on.walk.few),
   c.if-walk-2.false,
 )
 

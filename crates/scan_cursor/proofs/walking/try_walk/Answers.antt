@@ -1,4 +1,4 @@
-use Rattle.std.proofs.Common.{◌≡◌, ℕ, suc, ◌+◌, Option, Some, None, subst, arith}
+use Rattle.std.proofs.Common.{◌≡◌, ℕ, suc, ◌+◌, Option, Some, None, ◌∙◌, subst, arith}
 use Rattle.oak_model.specs.KeyNumber.{key_number}
 use Rattle.oak_core.specs.AloneWords.{Runs}
 use Rattle.oak_core.specs.Passes.{key as sizes, state}
@@ -17,6 +17,9 @@ use Rattle.scan_cursor.proofs.walking.try_walk.Goals as goal
 walks_since : (o : Option PinnedValue) (way : Way) (lo hi : ℕ) (c d e : Course) → WalkPasses way lo hi c d → WalksOrEnds o way lo hi d e → WalksOrEnds o way lo hi c e
 walks_since (Some x) way lo hi c d e p g = (g.0, walk_gives way lo hi c d e p g.1)
 walks_since None way lo hi c d e p g = (g.0, walk_then way lo hi c d e p g.1, g.2)
+
+pub walk_to-requires : goal.walk_to-requires
+walk_to-requires c = let q = c.requires.on in let i = c.loop.invariant in record { own = i.stays.table ∙ q.own; idle = i.idle; low = q.low; high = q.high; walk = i.passes.walk; going = i.going }
 
 pub returns-in-Ok-clause-goes : goal.returns-in-Ok-clause-goes
 returns-in-Ok-clause-goes c = let way = c.args.way in let z = sizes c.args.table.now in

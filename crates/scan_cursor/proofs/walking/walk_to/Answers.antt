@@ -1,4 +1,4 @@
-use Rattle.std.proofs.Common.{refl}
+use Rattle.std.proofs.Common.{refl, ◌∙◌}
 use Rattle.oak_model.specs.KeyNumber.{key_number}
 use Rattle.oak_core.specs.Passes.{key as sizes, state}
 use Rattle.chunk_ops.proofs.MeetingCalls.{both_stay, stays_then}
@@ -8,6 +8,9 @@ use Rattle.scan_cursor.proofs.StepLaws.{but_both}
 use Rattle.scan_cursor.proofs.VainLooks.{vain_since}
 use Rattle.scan_cursor.proofs.WalkLaws.{walk_gives, walk_then}
 use Rattle.scan_cursor.proofs.walking.walk_to.Goals as goal
+
+pub step-requires : goal.step-requires
+step-requires c = let q = c.requires in let i = c.loop-value.invariant in record { own = i.stays.table ∙ q.own; idle = i.idle; low = q.low; high = q.high; walk = i.passes.walk; going = i.going }
 
 pub returns-in-Given-clause-goes : goal.returns-in-Given-clause-goes
 returns-in-Given-clause-goes c = let way = c.args.way in let z = sizes c.args.table.now in let s = c.in-Given.ensures.steps in

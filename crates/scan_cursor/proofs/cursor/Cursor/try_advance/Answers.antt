@@ -7,8 +7,8 @@ use Rattle.scan_cursor.specs.declared.walking.Stepped.TheVariants.{Again}
 use Rattle.scan_cursor.specs.Busy.{AreInVain}
 use Rattle.scan_cursor.specs.Cursors.{Advances, course, under, view_under}
 use Rattle.scan_cursor.specs.Leaving.{LeavesValue}
-use Rattle.scan_cursor.specs.Walks.{IsWalk, WalkSteps, WalksOrEnds, course_of, view_at}
-use Rattle.scan_cursor.proofs.CursorLaws.{left_cursor, left_ended, on_advances, on_later, on_leaves, up_gives, up_later, up_never}
+use Rattle.scan_cursor.specs.Walks.{MayGoOn, WalkSteps, WalksOrEnds, course_of, view_at}
+use Rattle.scan_cursor.proofs.CursorLaws.{left_cursor, left_ended, left_goes_on, on_advances, on_later, on_leaves, up_gives, up_later, up_never}
 use Rattle.scan_cursor.proofs.cursor.Cursor.try_advance.Goals as goal
 
 pub returns-then-self-clause-cursor : goal.returns-then-self-clause-cursor
@@ -19,10 +19,10 @@ pub returns-then-self-clause-advances : goal.returns-then-self-clause-advances
 returns-then-self-clause-advances c = let e = c.leave_pair.ensures in
     left_ended c.args.self.now c.leave_pair.new.self c.requires.cursor e.table e.low e.high e.way e.walk e.value e.own e.idle e.later e.still c.if-self.true
 
-pub try_walk-found-requires-clause-walk : goal.try_walk-found-requires-clause-walk
-try_walk-found-requires-clause-walk c = let e = c.leave_pair.ensures in let n = c.leave_pair.new.self in
-    subst (λ (p : List ℕ × List ℕ). IsWalk n.way (key_number p.0) (key_number p.1) (course n)) (λ j. (sym c.as_slice.ensures j, sym c.as_slice-2.ensures j))
-    (left_cursor c.args.self.now n c.requires.cursor e.table e.low e.high e.way e.walk e.value e.own e.idle e.later e.still).walk
+pub try_walk-found-requires-clause-on : goal.try_walk-found-requires-clause-on
+try_walk-found-requires-clause-on c = let e = c.leave_pair.ensures in let n = c.leave_pair.new.self in
+    subst (λ (p : List ℕ × List ℕ). MayGoOn n.way p.0 p.1 n.table.now n.walk n.pass.now) (λ j. (sym c.as_slice.ensures j, sym c.as_slice-2.ensures j))
+    (left_goes_on c.args.self.now n c.requires.cursor e.table e.low e.high e.way e.walk e.value e.own e.idle e.later e.still c.if-self.false)
 
 pub returns-in-Ok-clause-later : goal.returns-in-Ok-clause-later
 returns-in-Ok-clause-later c = let e = c.leave_pair.ensures in let n = c.leave_pair.new.self in let t = c.try_walk-found in

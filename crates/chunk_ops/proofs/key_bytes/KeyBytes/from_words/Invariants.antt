@@ -2,11 +2,11 @@ use Rattle.std.proofs.Common.{◌≡◌, ◌*◌, length, take}
 use Rattle.oak_model.specs.declared.limits.TheConstants.{GREATEST_KEY}
 use Rattle.oak_model.specs.WordBytes.{bytes_of}
 use Rattle.chunk_ops.specs.declared.stored.TheConstants.{KEY_WORDS}
-use Rattle.scan_cursor.proofs.walking.key_of.Given as goal
+use Rattle.chunk_ops.proofs.key_bytes.KeyBytes.from_words.Given as goal
 
 abbrev pub invariant-loop-i : goal.invariant-loop-i
 invariant-loop-i l = record {
-  words : length l.slot.words ≡ KEY_WORDS;
+  words : length l.words ≡ KEY_WORDS;
   long : length l.bytes ≡ GREATEST_KEY;
-  copied : take (8 * l.i) l.bytes ≡ take (8 * l.i) (take GREATEST_KEY (bytes_of l.slot.words));
+  copied : take (8 * l.i) l.bytes ≡ take (8 * l.i) (take GREATEST_KEY (bytes_of l.words));
 }
