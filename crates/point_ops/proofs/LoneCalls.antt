@@ -46,7 +46,7 @@ module _ (z : Sizes) (r h g : ℕ) (i : EntryNo) (key : List ℕ) (v u w : PassS
 -- so a look at the life is never refused
 pub life_got : {A : Type 0} (z : Sizes) (r h g : ℕ) (i : EntryNo) (key : List ℕ) (v u w : PassState) → Runs (EntrySays i (Value h g) z r key) v u → HasEntry r i.0 key u → u.headers ≡ no_headers
     → Runs WordsStay u w → (x : Result A Halt) → IfErr x (λ _. Runs (RefusesLook z h g u) u w) → Runs (GetsIn x) v w
-life_got z r h g i key v u w named has none stay (Ok y) e = both_stay v u w (spot_stays z r key (Present i h g) v u named) stay
+life_got z r h g i key v u w named has none stay (Ok y) e = both_stay v u w (spot_stays z r key (Present i record { header = h; generation = g }) v u named) stay
 life_got z r h g i key v u w named has none stay (Err why) e = look_never z r h g i key v u w named has none e
 
 -- what is known of each error is known of an error

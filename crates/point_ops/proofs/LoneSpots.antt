@@ -37,7 +37,7 @@ spot_stays z r key s v u a = runs_as (SpotIn s z r key) WordsStay v u (stays s) 
     stays : (t : Spot) (x y : List ℕ) → SpotIn t z r key x y → y ≡ x
     stays (Absent None floor) x y d = d.0
     stays (Absent (Some i) floor) x y d = d.0.0
-    stays (Present i h g) x y d = d.0.0
+    stays (Present i o) x y d = d.0.0
 
 -- the base that was loaded is that of the pin that the pass has behind the load
 pub base_behind : (z : Sizes) (call r base : ℕ) (u w : PassState) → FindsBase z call r base u w → OnlyMeets call u w → base ≡ (room_pin w).base

@@ -76,7 +76,7 @@ stay_keeps z v w s = runs_as WordsStay (KeepsRooms z) v w (stay_rooms z) s
 module _ (z : Sizes) (r h g : ℕ) (i : EntryNo) (key : List ℕ) (v u w : PassState) (named : Runs (EntrySays i (Value h g) z r key) v u) where
   -- the value was changed
   pub life_keeps : Runs (KeepsButLife z h) u w → Runs (KeepsRooms z) v w
-  life_keeps s = stays_then (KeepsRooms z) v u w (spot_stays z r key (Present i h g) v u named) (runs_as (KeepsButLife z h) (KeepsRooms z) u w (life_rooms z h) s)
+  life_keeps s = stays_then (KeepsRooms z) v u w (spot_stays z r key (Present i record { header = h; generation = g }) v u named) (runs_as (KeepsButLife z h) (KeepsRooms z) u w (life_rooms z h) s)
 
   -- or it was not
   pub over_refused : (value : List ℕ) → HasEntry r i.0 key u → u.headers ≡ no_headers → (why : Halt) → Runs (OverHaltsIn why z h g value u) u w → Runs (InsertHaltsIn why z r key value) v w
@@ -85,7 +85,7 @@ module _ (z : Sizes) (r h g : ℕ) (i : EntryNo) (key : List ℕ) (v u w : PassS
   over_refused value has none Crowded s = then_never (EntrySays i (Value h g) z r key) (InsertHaltsIn Crowded z r key value) v u w named s
   over_refused value has none NoHeader s = then_never (EntrySays i (Value h g) z r key) (InsertHaltsIn NoHeader z r key value) v u w named s
   over_refused value has none (NoBlock c) s = let O : List ℕ → List ℕ → Type 0 = OverHaltsIn (NoBlock c) z h g value u in let H : List ℕ → List ℕ → Type 0 = InsertHaltsIn (NoBlock c) z r key value in
-      stays_then H v u w (spot_stays z r key (Present i h g) v u named) (runs_as O H u w (λ a d t. (subst (SpareOnly z a) (sym t.0.0) (but_none z (IsSpare z a) a), inl (t.1, λ b lt. t.0.1 b lt tt))) s)
+      stays_then H v u w (spot_stays z r key (Present i record { header = h; generation = g }) v u named) (runs_as O H u w (λ a d t. (subst (SpareOnly z a) (sym t.0.0) (but_none z (IsSpare z a) a), inl (t.1, λ b lt. t.0.1 b lt tt))) s)
 
 -- a dead header is not live
 pub dead_refused : (z : Sizes) (h g : ℕ) (v w : PassState) → Runs (LooksAlone z h (IsDeadAt g) v) v w → Runs (RefusesLook z h g v) v w
@@ -95,7 +95,7 @@ dead_refused z h g v w s = runs_as (LooksAlone z h (IsDeadAt g) v) (RefusesLook 
 -- the value was only looked at, which is never refused
 pub look_keeps : {A : Type 0} (z : Sizes) (r h g : ℕ) (i : EntryNo) (key value : List ℕ) (v u w : PassState) → Runs (EntrySays i (Value h g) z r key) v u → HasEntry r i.0 key u → u.headers ≡ no_headers
     → (x : Result A Halt) → IfOk x (λ _. Runs WordsStay u w) → IfErr x (λ _. Runs (RefusesLook z h g u) u w) → Runs (PutsUnder x z r key value) v w
-look_keeps z r h g i key value v u w named has none (Ok y) stay refused = stay_keeps z v w (both_stay v u w (spot_stays z r key (Present i h g) v u named) stay)
+look_keeps z r h g i key value v u w named has none (Ok y) stay refused = stay_keeps z v w (both_stay v u w (spot_stays z r key (Present i record { header = h; generation = g }) v u named) stay)
 look_keeps z r h g i key value v u w named has none (Err why) stay refused = runs_as Never (InsertHaltsIn why z r key value) v w (λ a d e. absurd e) (look_never z r h g i key v u w named has none refused)
 
 -- a lock is never refused

@@ -39,7 +39,7 @@ AwayIn (Some i) floor z r key before after = EntrySays i (Floor floor) z r key b
 -- or its value word names the header at the generation
 abbrev pub SpotIn : Spot → Sizes → (r : ℕ) → (key before after : List ℕ) → Type 0
 SpotIn (Absent entry floor) z r key before after = AwayIn entry floor z r key before after
-SpotIn (Present i h g) z r key before after = EntrySays i (Value h g) z r key before after
+SpotIn (Present i o) z r key before after = EntrySays i (Value o.header o.generation) z r key before after
 
 -- a key without an entry is absent at the base that the pass's pin of the room has
 abbrev pub FloorIsBase : Option EntryNo → ℕ → PassState → Type 0
@@ -48,7 +48,7 @@ FloorIsBase (Some i) floor w = Unit {0}
 
 abbrev pub SpotBase : Spot → PassState → Type 0
 SpotBase (Absent entry floor) w = FloorIsBase entry floor w
-SpotBase (Present i h g) w = Unit {0}
+SpotBase (Present i o) w = Unit {0}
 
 -- the pass was alone in the state v, at a moment at which the rule held, and the words, which stay, are those of that moment; the pin word of the header has P in them
 pub record LooksAlone (z : Sizes) (h : ℕ) (P : ℕ → Type 0) (v : PassState) (before after : List ℕ) : Type 0 where

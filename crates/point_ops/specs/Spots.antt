@@ -35,4 +35,4 @@ pub record FoundNamed (z : Sizes) (call r i h g : ℕ) (key : List ℕ) (v w : P
 
 abbrev pub SpotIs : Spot → Sizes → (call r : ℕ) → List ℕ → PassState → PassState → Type 0
 SpotIs (Absent entry floor) z call r key v w = FoundAway call r entry floor key v w
-SpotIs (Present i h g) z call r key v w = FoundNamed z call r i.0 h g key v w
+SpotIs (Present i o) z call r key v w = FoundNamed z call r i.0 o.header o.generation key v w

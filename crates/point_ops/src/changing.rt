@@ -32,45 +32,48 @@ use arena_ops::give;
 use chunk_ops::{EntryNo, RoomPin, clear_value};
 use oak_core::{Block, OakTable, Pass};
 use oak_model::{Class, Kind};
-use value_ops::{Locked, NoLock, Recipe, lock};
+use value_ops::{Home, Locked, NoLock, Recipe, lock};
 
 /// Computes the value of a life anew, by one call of the recipe under the lock, on the bytes that the key
 /// held. The answer is the stamp of the write.
 pub(crate) fn compute_life(
     table: &OakTable,
     pass: &mut Pass,
-    header: u32,
-    generation: u32,
+    home: Home,
     recipe: &mut Box<dyn Recipe + Send>,
     kind: Kind,
 ) -> Result<u64, NoLock>
     requires own { IsPassOf table.now pass.old }
-    requires inside { header < (sizes table.now).headers }
-    requires known { 0 < knows_life header generation (state pass.old).knowledge }
-    requires life { (k : List ℕ) × KnowsLife header generation k (state pass.old).knowledge }
+    requires inside { home.header < (sizes table.now).headers }
+    requires known { 0 < knows_life home.header home.generation (state pass.old).knowledge }
+    requires life { (k : List ℕ) × KnowsLife home.header home.generation k (state pass.old).knowledge }
     requires none { (state pass.old).headers ≡ no_headers }
     requires turn { IsNewCall (call_of pass.old) (state pass.old) }
     requires few { calls recipe.old < 2 ^ 64 - 1 }
     requires kind { (b : List ℕ) → MakesWrite kind (Some b) (Some (recipe_result (told_kind recipe.old) (told_argument recipe.old) b)) }
     ensures own { StaysButScratch pass.old pass.new }
     ensures held { KeepsHeld (state pass.old) (state pass.new) }
-    ensures wrote { IfOk result (λ at. (k : List ℕ) → KnowsLife header generation k (state pass.old).knowledge
-        → (b : List ℕ) × WritesAt (call_of pass.old) k kind (Some b)
+    ensures wrote { IfOk result (λ at. (k : List ℕ) → KnowsLife home.header home.generation k
+        (state pass.old).knowledge → (b : List ℕ) × WritesAt (call_of pass.old) k kind (Some b)
         (Some (recipe_result (told_kind recipe.old) (told_argument recipe.old) b)) at (state pass.old)
         (state pass.new)) }
     ensures counted { IfOk result (λ _. calls recipe.new ≡ calls recipe.old + 1) }
     ensures uncounted { IfErr result (λ _. calls recipe.new ≡ calls recipe.old) }
-    ensures fed { IfOk result (λ _. (k : List ℕ) → KnowsLife header generation k (state pass.old).knowledge
+    ensures fed { IfOk result (λ _. (k : List ℕ) → KnowsLife home.header home.generation k (state pass.old).knowledge
         → FedReplaced k (fed recipe.new) (state pass.new)) }
     ensures unfed { IfErr result (λ _. SaysTheSame (fed recipe.old) (fed recipe.new)) }
     ensures told { (told_kind recipe.new ≡ told_kind recipe.old) × (told_argument recipe.new ≡ told_argument recipe.old) }
     ensures only { IfErr result (λ _. OnlyMeets (call_of pass.old) (state pass.old) (state pass.new)) }
-    ensures refused { IfErr result (λ why. NoLockBy why (sizes table.now) (call_of pass.old) header generation (state pass.old) (state pass.new)) }
-    ensures alone { IfErr result (λ _. Runs (RefusesLock (sizes table.now) header generation (state pass.old)) (state pass.old) (state pass.new)) }
-    ensures alone_kept { IfOk result (λ _. Runs (KeepsButLife (sizes table.now) header) (state pass.old) (state pass.new)) }
-    ensures alone_rewrites { IfOk result (λ at. Runs (RewritesIn (sizes table.now) header at) (state pass.old) (state pass.new)) }
+    ensures refused { IfErr result (λ why. NoLockBy why (sizes table.now)
+        (call_of pass.old) home.header home.generation (state pass.old) (state pass.new)) }
+    ensures alone { IfErr result (λ _. Runs (RefusesLock (sizes table.now) home.header home.generation
+        (state pass.old)) (state pass.old) (state pass.new)) }
+    ensures alone_kept { IfOk result (λ _. Runs (KeepsButLife (sizes table.now) home.header) (state pass.old)
+        (state pass.new)) }
+    ensures alone_rewrites { IfOk result (λ at. Runs (RewritesIn (sizes table.now) home.header at) (state pass.old)
+        (state pass.new)) }
 {
-    let mut locked = lock(table, pass, header, generation)?;
+    let mut locked = lock(table, pass, home.header, home.generation)?;
     locked.apply(table, pass, recipe);
     Ok(locked.unlock(table, pass, kind))
 }
@@ -80,15 +83,14 @@ pub(crate) fn compute_life(
 fn exchange(
     table: &OakTable,
     pass: &mut Pass,
-    header: u32,
-    generation: u32,
+    home: Home,
     block: Block,
     value: &[u8],
 ) -> Result<u64, Halt>
     requires own { IsPassOf table.now pass.old }
-    requires inside { header < (sizes table.now).headers }
-    requires known { 0 < knows_life header generation (state pass.old).knowledge }
-    requires life { (k : List ℕ) × KnowsLife header generation k (state pass.old).knowledge }
+    requires inside { home.header < (sizes table.now).headers }
+    requires known { 0 < knows_life home.header home.generation (state pass.old).knowledge }
+    requires life { (k : List ℕ) × KnowsLife home.header home.generation k (state pass.old).knowledge }
     requires block { HasBytes (sizes table.now) block.class block.number value.now (state pass.old) }
     requires one { IsOneBlock block.class block.number (state pass.old).blocks }
     requires none { (state pass.old).headers ≡ no_headers }
@@ -97,20 +99,22 @@ fn exchange(
     ensures blocks { (state pass.new).blocks ≡ no_blocks }
     ensures headers { (state pass.new).headers ≡ no_headers }
     ensures rooms { (state pass.new).rooms ≡ (state pass.old).rooms }
-    ensures wrote { IfOk result (λ at. (k : List ℕ) → KnowsLife header generation k (state pass.old).knowledge
-        → (b : List ℕ) × WritesAt (call_of pass.old) k kinds.Put (Some b) (Some value.now) at (state pass.old)
-        (state pass.new)) }
+    ensures wrote { IfOk result (λ at. (k : List ℕ) → KnowsLife home.header home.generation k
+        (state pass.old).knowledge → (b : List ℕ) × WritesAt (call_of pass.old) k kinds.Put (Some b)
+        (Some value.now) at (state pass.old) (state pass.new)) }
     ensures stands { IfErr result (λ _. Stands (call_of pass.old) (state pass.old) (state pass.new)) }
     ensures refused { IfErr result (λ why. (why ≡ halts.Busy)
-        × (NoLockBy no_lock.Busy (sizes table.now) (call_of pass.old) header generation (state pass.old)
-        (state pass.new) ⊎ NoLockBy no_lock.Dead (sizes table.now) (call_of pass.old) header generation
+        × (NoLockBy no_lock.Busy (sizes table.now) (call_of pass.old) home.header home.generation (state pass.old)
+        (state pass.new) ⊎ NoLockBy no_lock.Dead (sizes table.now) (call_of pass.old) home.header home.generation
         (state pass.old) (state pass.new))) }
-    ensures alone { IfErr result (λ _. Runs (UnfreeIn (sizes table.now) header generation) (state pass.old) (state pass.new)) }
-    ensures alone_kept { IfOk result (λ _. Runs (KeepsButLife (sizes table.now) header) (state pass.old) (state pass.new)) }
-    ensures alone_swaps { IfOk result (λ at. Runs (SwapsIn (sizes table.now) header block.class block.number
+    ensures alone { IfErr result (λ _. Runs (UnfreeIn (sizes table.now) home.header home.generation) (state pass.old)
+        (state pass.new)) }
+    ensures alone_kept { IfOk result (λ _. Runs (KeepsButLife (sizes table.now) home.header) (state pass.old)
+        (state pass.new)) }
+    ensures alone_swaps { IfOk result (λ at. Runs (SwapsIn (sizes table.now) home.header block.class block.number
         (length value.now) at) (state pass.old) (state pass.new)) }
 {
-    let Ok(mut locked) = lock(table, pass, header, generation) else {
+    let Ok(mut locked) = lock(table, pass, home.header, home.generation) else {
         give(table, pass, block);
         return Err(Halt::Busy);
     };
@@ -125,36 +129,35 @@ fn exchange(
 pub(crate) fn overwrite(
     table: &OakTable,
     pass: &mut Pass,
-    header: u32,
-    generation: u32,
+    home: Home,
     value: &[u8],
 ) -> Result<u64, Halt>
     requires own { IsPassOf table.now pass.old }
     requires value { IsValue value.now }
-    requires inside { header < (sizes table.now).headers }
-    requires known { 0 < knows_life header generation (state pass.old).knowledge }
-    requires life { (k : List ℕ) × KnowsLife header generation k (state pass.old).knowledge }
+    requires inside { home.header < (sizes table.now).headers }
+    requires known { 0 < knows_life home.header home.generation (state pass.old).knowledge }
+    requires life { (k : List ℕ) × KnowsLife home.header home.generation k (state pass.old).knowledge }
     requires blocks { (state pass.old).blocks ≡ no_blocks }
     requires headers { (state pass.old).headers ≡ no_headers }
     requires turn { IsNewCall (call_of pass.old) (state pass.old) }
     ensures own { Stays pass.old pass.new }
     ensures held { KeepsHeld (state pass.old) (state pass.new) }
-    ensures wrote { IfOk result (λ at. (k : List ℕ) → KnowsLife header generation k (state pass.old).knowledge
-        → (b : List ℕ) × WritesAt (call_of pass.old) k kinds.Put (Some b) (Some value.now) at (state pass.old)
-        (state pass.new)) }
+    ensures wrote { IfOk result (λ at. (k : List ℕ) → KnowsLife home.header home.generation k
+        (state pass.old).knowledge → (b : List ℕ) × WritesAt (call_of pass.old) k kinds.Put (Some b)
+        (Some value.now) at (state pass.old) (state pass.new)) }
     ensures learns { IfErr result (λ _. Learns (call_of pass.old) (state pass.old) (state pass.new)) }
-    ensures halted { IfErr result (λ why. OverHalts why (sizes table.now) (call_of pass.old) header generation
-        value.now (state pass.old) (state pass.new)) }
+    ensures halted { IfErr result (λ why. OverHalts why (sizes table.now)
+        (call_of pass.old) home.header home.generation value.now (state pass.old) (state pass.new)) }
     ensures alone { IfErr result (λ why. (r : ℕ) → HasRoomPin (sizes table.now) r (state pass.old)
-        → Runs (OverHaltsIn why (sizes table.now) header generation value.now (state pass.old)) (state pass.old)
-        (state pass.new)) }
+        → Runs (OverHaltsIn why (sizes table.now) home.header home.generation value.now (state pass.old))
+        (state pass.old) (state pass.new)) }
     ensures alone_kept { IfOk result (λ _. (r : ℕ) → HasRoomPin (sizes table.now) r (state pass.old)
-        → Runs (KeepsButLife (sizes table.now) header) (state pass.old) (state pass.new)) }
+        → Runs (KeepsButLife (sizes table.now) home.header) (state pass.old) (state pass.new)) }
     ensures alone_over { IfOk result (λ at. (r : ℕ) → HasRoomPin (sizes table.now) r (state pass.old)
-        → Runs (OverIn (sizes table.now) header at value.now) (state pass.old) (state pass.new)) }
+        → Runs (OverIn (sizes table.now) home.header at value.now) (state pass.old) (state pass.new)) }
 {
     let class = class_for(value.len());
-    let Ok(mut locked) = lock(table, pass, header, generation) else {
+    let Ok(mut locked) = lock(table, pass, home.header, home.generation) else {
         return Err(Halt::Busy);
     };
     if locked.class(table, pass) == class {
@@ -163,7 +166,7 @@ pub(crate) fn overwrite(
     }
     locked.give_up(table, pass);
     let block = make_block(table, pass, class, value)?;
-    exchange(table, pass, header, generation, block, value)
+    exchange(table, pass, home, block, value)
 }
 
 /// Removes a life that the entry names. The answer is the stamp of the removal.
@@ -172,29 +175,32 @@ pub(crate) fn remove_life(
     pass: &mut Pass,
     pin: &RoomPin,
     entry: EntryNo,
-    header: u32,
-    generation: u32,
+    home: Home,
 ) -> Result<u64, NoLock>
     requires own { IsPassOf table.now pass.old }
     requires pinned { HasRoomPin (sizes table.now) pin.now.room (state pass.old) }
-    requires inside { header < (sizes table.now).headers }
-    requires known { 0 < knows_life header generation (state pass.old).knowledge }
-    requires life { (k : List ℕ) × KnowsLife header generation k (state pass.old).knowledge × HasEntry pin.now.room entry.0 k (state pass.old) }
+    requires inside { home.header < (sizes table.now).headers }
+    requires known { 0 < knows_life home.header home.generation (state pass.old).knowledge }
+    requires life { (k : List ℕ) × KnowsLife home.header home.generation k (state pass.old).knowledge
+        × HasEntry pin.now.room entry.0 k (state pass.old) }
     requires blocks { (state pass.old).blocks ≡ no_blocks }
     requires headers { (state pass.old).headers ≡ no_headers }
     requires turn { IsNewCall (call_of pass.old) (state pass.old) }
     ensures own { Stays pass.old pass.new }
     ensures held { KeepsHeld (state pass.old) (state pass.new) }
-    ensures wrote { IfOk result (λ at. (k : List ℕ) → KnowsLife header generation k (state pass.old).knowledge
-        → HasEntry pin.now.room entry.0 k (state pass.old) → (b : List ℕ) × WritesAt (call_of pass.old) k kinds.Remove
-        (Some b) None at (state pass.old) (state pass.new)) }
+    ensures wrote { IfOk result (λ at. (k : List ℕ) → KnowsLife home.header home.generation k
+        (state pass.old).knowledge → HasEntry pin.now.room entry.0 k (state pass.old) → (b : List ℕ)
+        × WritesAt (call_of pass.old) k kinds.Remove (Some b) None at (state pass.old) (state pass.new)) }
     ensures only { IfErr result (λ _. OnlyMeets (call_of pass.old) (state pass.old) (state pass.new)) }
-    ensures refused { IfErr result (λ why. NoLockBy why (sizes table.now) (call_of pass.old) header generation (state pass.old) (state pass.new)) }
-    ensures alone { IfErr result (λ _. Runs (RefusesLock (sizes table.now) header generation (state pass.old)) (state pass.old) (state pass.new)) }
+    ensures refused { IfErr result (λ why. NoLockBy why (sizes table.now)
+        (call_of pass.old) home.header home.generation (state pass.old) (state pass.new)) }
+    ensures alone { IfErr result (λ _. Runs (RefusesLock (sizes table.now) home.header home.generation
+        (state pass.old)) (state pass.old) (state pass.new)) }
     ensures alone_removes { IfOk result (λ at. Runs
-        (RemovesIn (sizes table.now) pin.now.room entry.0 header generation at) (state pass.old) (state pass.new)) }
+        (RemovesIn (sizes table.now) pin.now.room entry.0 home.header home.generation at) (state pass.old)
+        (state pass.new)) }
 {
-    let locked = lock(table, pass, header, generation)?;
+    let locked = lock(table, pass, home.header, home.generation)?;
     let buried = locked.bury(table, pass);
     let at = buried.stamp();
     clear_value(table, pass, pin, entry, at);

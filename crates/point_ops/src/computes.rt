@@ -90,16 +90,12 @@ fn compute_pinned(
 {
     match look_up(table, pass, pin, key) {
         Spot::Absent { entry: _, floor } => Ok(Wrote::Absent { at: floor }),
-        Spot::Present {
-            entry: _,
-            header,
-            generation,
-        } => {
+        Spot::Present { entry: _, home } => {
             let kind = compute_kind(recipe);
-            match compute_life(table, pass, header, generation, recipe, kind) {
+            match compute_life(table, pass, home, recipe, kind) {
                 Ok(at) => Ok(Wrote::Done { at }),
                 Err(NoLock::Busy) => Err(Halt::Busy),
-                Err(NoLock::Dead) => absent_at(table, pass, header, generation),
+                Err(NoLock::Dead) => absent_at(table, pass, home),
             }
         }
     }
@@ -188,11 +184,7 @@ fn upsert_pinned(
                 Err(halt) => Err(halt),
             }
         }
-        Spot::Present {
-            entry: _,
-            header,
-            generation,
-        } => match compute_life(table, pass, header, generation, recipe, kind) {
+        Spot::Present { entry: _, home } => match compute_life(table, pass, home, recipe, kind) {
             Ok(at) => Ok(Wrote::Done { at }),
             Err(_) => Err(Halt::Busy),
         },

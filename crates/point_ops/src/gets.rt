@@ -32,7 +32,7 @@ use crate::spots::{Spot, look_up};
 use chunk_ops::{RoomPin, pin_for, unpin};
 use oak_core::{OakTable, Pass};
 use oak_model::Hint;
-use value_ops::ValueView;
+use value_ops::{Home, ValueView};
 
 /// What a key holds: nothing at the number `at`, or a value of which there is a view.
 #[derive(Drop)]
@@ -42,31 +42,27 @@ pub enum Got {
 }
 
 /// Looks at the life that the key's entry named.
-fn get_life(
-    table: &OakTable,
-    pass: &mut Pass,
-    key: &[u8],
-    header: u32,
-    generation: u32,
-) -> Result<Got, Halt>
+fn get_life(table: &OakTable, pass: &mut Pass, key: &[u8], home: Home) -> Result<Got, Halt>
     requires own { IsPassOf table.now pass.old }
     requires key { IsKey key.now }
-    requires inside { header < (sizes table.now).headers }
-    requires known { 0 < knows_life header generation (state pass.old).knowledge }
-    requires life { KnowsLife header generation key.now (state pass.old).knowledge }
-    requires loaded { key_in_loaded header generation (state pass.old).knowledge.loaded ≡ Some key.now }
-    requires last { NotPast (key_number key.now) (home_of header generation) (state pass.old).knowledge }
-    requires named { loaded_in (call_of pass.old) header generation (state pass.old).knowledge.loaded ≡ true }
+    requires inside { home.header < (sizes table.now).headers }
+    requires known { 0 < knows_life home.header home.generation (state pass.old).knowledge }
+    requires life { KnowsLife home.header home.generation key.now (state pass.old).knowledge }
+    requires loaded { key_in_loaded home.header home.generation (state pass.old).knowledge.loaded ≡ Some key.now }
+    requires last { NotPast (key_number key.now) (home_of home.header home.generation) (state pass.old).knowledge }
+    requires named { loaded_in (call_of pass.old) home.header home.generation
+        (state pass.old).knowledge.loaded ≡ true }
     requires none { (state pass.old).headers ≡ no_headers }
     ensures own { Stays pass.old pass.new }
     ensures only { OnlyLearns (call_of pass.old) (state pass.old) (state pass.new) }
     ensures got { IfOk result (λ x. Gets x (sizes table.now) key.now (state pass.old) (state pass.new)) }
     ensures refused { IfErr result (λ why. (why ≡ halts.Busy) × FoundWord (sizes table.now) (call_of pass.old)
-        (in_headers (at_pin header)) (IsLockedOut generation) (state pass.old) (state pass.new)) }
-    ensures alone { IfErr result (λ _. Runs (RefusesLook (sizes table.now) header generation (state pass.old)) (state pass.old) (state pass.new)) }
+        (in_headers (at_pin home.header)) (IsLockedOut home.generation) (state pass.old) (state pass.new)) }
+    ensures alone { IfErr result (λ _. Runs (RefusesLook (sizes table.now) home.header home.generation
+        (state pass.old)) (state pass.old) (state pass.new)) }
 {
-    match look_at(table, pass, header, generation) {
-        Ok(Life::Live { at }) => Ok(Got::View(ValueView::make(key, header, generation, at))),
+    match look_at(table, pass, home) {
+        Ok(Life::Live { at }) => Ok(Got::View(ValueView::make(key, home, at))),
         Ok(Life::Dead { at }) => Ok(Got::Absent { at }),
         Err(halt) => Err(halt),
     }
@@ -89,11 +85,7 @@ fn get_pinned(table: &OakTable, pass: &mut Pass, pin: &RoomPin, key: &[u8]) -> R
 {
     match look_up(table, pass, pin, key) {
         Spot::Absent { entry: _, floor } => Ok(Got::Absent { at: floor }),
-        Spot::Present {
-            entry: _,
-            header,
-            generation,
-        } => get_life(table, pass, key, header, generation),
+        Spot::Present { entry: _, home } => get_life(table, pass, key, home),
     }
 }
 

@@ -17,7 +17,7 @@ ghost use Rattle.point_ops.specs.declared.halts.Halt.TheVariants as halts;
 
 use crate::halts::Halt;
 use oak_core::{OakTable, Pass};
-use value_ops::{BadPin, HeaderPin, pin_at};
+use value_ops::{BadPin, HeaderPin, Home, pin_at};
 
 /// What a look at a life found: it goes on, and has the stamp of its last write, or it was removed, with
 /// that stamp.
@@ -42,27 +42,25 @@ fn stamp_under(table: &OakTable, pass: &mut Pass, pin: HeaderPin) -> u64
 
 /// Looks at a life that the pass knows, and knows still then. It is refused only where the header was found
 /// locked, or of another generation.
-pub(crate) fn look_at(
-    table: &OakTable,
-    pass: &mut Pass,
-    header: u32,
-    generation: u32,
-) -> Result<Life, Halt>
+pub(crate) fn look_at(table: &OakTable, pass: &mut Pass, home: Home) -> Result<Life, Halt>
     requires own { IsPassOf table.now pass.old }
-    requires inside { header < (sizes table.now).headers }
-    requires known { 0 < knows_life header generation (state pass.old).knowledge }
+    requires inside { home.header < (sizes table.now).headers }
+    requires known { 0 < knows_life home.header home.generation (state pass.old).knowledge }
     requires none { (state pass.old).headers ≡ no_headers }
     ensures own { Stays pass.old pass.new }
     ensures only { OnlyLearns (call_of pass.old) (state pass.old) (state pass.new) }
     ensures knows { KnowsMore (state pass.old).knowledge (state pass.new).knowledge }
-    ensures looked { IfOk result (λ x. LooksAt x (sizes table.now) (call_of pass.old) header generation (state pass.old) (state pass.new)) }
-    ensures refused { IfErr result (λ why. (why ≡ halts.Busy) × FoundWord (sizes table.now) (call_of pass.old)
-        (in_headers (at_pin header)) (IsLockedOut generation) (state pass.old) (state pass.new)) }
-    ensures alone { IfOk result (λ x. Runs (LifeIn x (sizes table.now) header generation (state pass.old)) (state pass.old) (state pass.new)) }
-    ensures alone_refused { IfErr result (λ _. Runs (RefusesLook (sizes table.now) header generation (state pass.old))
+    ensures looked { IfOk result (λ x. LooksAt x (sizes table.now) (call_of pass.old) home.header home.generation
         (state pass.old) (state pass.new)) }
+    ensures refused { IfErr result (λ why. (why ≡ halts.Busy) × FoundWord (sizes table.now) (call_of pass.old)
+        (in_headers (at_pin home.header)) (IsLockedOut home.generation) (state pass.old) (state pass.new)) }
+    ensures alone { IfOk result (λ x. Runs (LifeIn x (sizes table.now) home.header home.generation (state pass.old))
+        (state pass.old) (state pass.new)) }
+    ensures alone_refused { IfErr result (λ _. Runs
+        (RefusesLook (sizes table.now) home.header home.generation (state pass.old)) (state pass.old)
+        (state pass.new)) }
 {
-    match pin_at(table, pass, header, generation) {
+    match pin_at(table, pass, home.header, home.generation) {
         Ok(pin) => Ok(Life::Live {
             at: stamp_under(table, pass, pin),
         }),

@@ -36,6 +36,7 @@ use crate::spots::{Spot, look_up};
 use chunk_ops::{RoomPin, pin_for, unpin};
 use oak_core::{OakTable, Pass};
 use oak_model::{Hint, Kind, Wrote};
+use value_ops::Home;
 
 /// Puts the value of the key in the pinned room, which covers it.
 fn put_pinned(
@@ -70,11 +71,7 @@ fn put_pinned(
                 Err(halt) => Err(halt),
             }
         }
-        Spot::Present {
-            entry: _,
-            header,
-            generation,
-        } => match overwrite(table, pass, header, generation, value) {
+        Spot::Present { entry: _, home } => match overwrite(table, pass, home, value) {
             Ok(at) => Ok(Wrote::Over { at }),
             Err(halt) => Err(halt),
         },
@@ -122,26 +119,28 @@ pub fn try_put(
 }
 
 /// The answer to a put of a key only if it is absent, where its entry names a life.
-fn keep_life(table: &OakTable, pass: &mut Pass, header: u32, generation: u32) -> Result<Wrote, Halt>
+fn keep_life(table: &OakTable, pass: &mut Pass, home: Home) -> Result<Wrote, Halt>
     requires own { IsPassOf table.now pass.old }
-    requires inside { header < (sizes table.now).headers }
-    requires known { 0 < knows_life header generation (state pass.old).knowledge }
+    requires inside { home.header < (sizes table.now).headers }
+    requires known { 0 < knows_life home.header home.generation (state pass.old).knowledge }
     requires none { (state pass.old).headers ≡ no_headers }
     ensures own { Stays pass.old pass.new }
     ensures only { OnlyLearns (call_of pass.old) (state pass.old) (state pass.new) }
-    ensures kept { IfOk result (λ x. (v k : List ℕ) → KnowsLife header generation k (state pass.old).knowledge
-        → Answers x (call_of pass.old) k (PutNew v) (state pass.old) (state pass.new)) }
+    ensures kept { IfOk result (λ x. (v k : List ℕ) → KnowsLife home.header home.generation k
+        (state pass.old).knowledge → Answers x (call_of pass.old) k (PutNew v) (state pass.old) (state pass.new)) }
     ensures refused { IfErr result (λ why. (why ≡ halts.Busy)
-        × (FoundWord (sizes table.now) (call_of pass.old) (in_headers (at_pin header)) (IsLockedOut generation)
-        (state pass.old) (state pass.new) ⊎ FoundWord (sizes table.now) (call_of pass.old)
-        (in_headers (at_pin header)) (IsDeadAt generation) (state pass.old) (state pass.new))) }
+        × (FoundWord (sizes table.now) (call_of pass.old) (in_headers (at_pin home.header))
+        (IsLockedOut home.generation) (state pass.old) (state pass.new) ⊎ FoundWord (sizes table.now)
+        (call_of pass.old) (in_headers (at_pin home.header)) (IsDeadAt home.generation) (state pass.old)
+        (state pass.new))) }
     ensures alone { IfOk result (λ _. Runs WordsStay (state pass.old) (state pass.new)) }
     ensures alone_left { IfOk result (λ x. (r : ℕ) (key value : List ℕ)
         → Runs (PutLeavesUnder x (sizes table.now) r key value) (state pass.old) (state pass.new)) }
-    ensures alone_refused { IfErr result (λ _. Runs (RefusesLook (sizes table.now) header generation (state pass.old))
-        (state pass.old) (state pass.new)) }
+    ensures alone_refused { IfErr result (λ _. Runs
+        (RefusesLook (sizes table.now) home.header home.generation (state pass.old)) (state pass.old)
+        (state pass.new)) }
 {
-    match look_at(table, pass, header, generation) {
+    match look_at(table, pass, home) {
         Ok(Life::Live { at }) => Ok(Wrote::Kept { at }),
         Ok(Life::Dead { at: _ }) => Err(Halt::Busy),
         Err(halt) => Err(halt),
@@ -182,11 +181,7 @@ fn put_new_pinned(
                 Err(halt) => Err(halt),
             }
         }
-        Spot::Present {
-            entry: _,
-            header,
-            generation,
-        } => keep_life(table, pass, header, generation),
+        Spot::Present { entry: _, home } => keep_life(table, pass, home),
     }
 }
 

@@ -42,34 +42,30 @@ use crate::spots::{Spot, look_up};
 use chunk_ops::{RoomPin, pin_for, unpin};
 use oak_core::{OakTable, Pass};
 use oak_model::{Hint, Wrote};
-use value_ops::NoLock;
+use value_ops::{Home, NoLock};
 
 /// The answer of a call that needs a present key, where the lock of its header found the life dead: the
 /// stamp of the removal is loaded under a pin. A header that is live by then has risen.
-pub(crate) fn absent_at(
-    table: &OakTable,
-    pass: &mut Pass,
-    header: u32,
-    generation: u32,
-) -> Result<Wrote, Halt>
+pub(crate) fn absent_at(table: &OakTable, pass: &mut Pass, home: Home) -> Result<Wrote, Halt>
     requires own { IsPassOf table.now pass.old }
-    requires inside { header < (sizes table.now).headers }
-    requires known { 0 < knows_life header generation (state pass.old).knowledge }
+    requires inside { home.header < (sizes table.now).headers }
+    requires known { 0 < knows_life home.header home.generation (state pass.old).knowledge }
     requires none { (state pass.old).headers ≡ no_headers }
     ensures own { Stays pass.old pass.new }
     ensures only { OnlyLearns (call_of pass.old) (state pass.old) (state pass.new) }
     ensures absent { IfOk result (λ x. (ask : CellCall) (k : List ℕ) → reply_of None ask ≡ replies.Absent
-        → KnowsLife header generation k (state pass.old).knowledge → NotPast (key_number k)
-        (home_of header generation) (state pass.old).knowledge → loaded_in (call_of pass.old) header generation
-        (state pass.old).knowledge.loaded ≡ true → Answers x (call_of pass.old) k ask (state pass.old)
-        (state pass.new)) }
+        → KnowsLife home.header home.generation k (state pass.old).knowledge → NotPast (key_number k)
+        (home_of home.header home.generation) (state pass.old).knowledge
+        → loaded_in (call_of pass.old) home.header home.generation (state pass.old).knowledge.loaded ≡ true
+        → Answers x (call_of pass.old) k ask (state pass.old) (state pass.new)) }
     ensures undone { times_done result ≡ 0 }
     ensures refused { IfErr result (λ why. (why ≡ halts.Busy)
-        × (FoundWord (sizes table.now) (call_of pass.old) (in_headers (at_pin header)) (IsLockedOut generation)
-        (state pass.old) (state pass.new) ⊎ FoundWord (sizes table.now) (call_of pass.old)
-        (in_headers (at_pin header)) (λ n. state_of n ≡ LIVE) (state pass.old) (state pass.new))) }
+        × (FoundWord (sizes table.now) (call_of pass.old) (in_headers (at_pin home.header))
+        (IsLockedOut home.generation) (state pass.old) (state pass.new) ⊎ FoundWord (sizes table.now)
+        (call_of pass.old) (in_headers (at_pin home.header)) (λ n. state_of n ≡ LIVE) (state pass.old)
+        (state pass.new))) }
 {
-    match look_at(table, pass, header, generation) {
+    match look_at(table, pass, home) {
         Ok(Life::Dead { at }) => Ok(Wrote::Absent { at }),
         Ok(Life::Live { at: _ }) => Err(Halt::Busy),
         Err(halt) => Err(halt),
@@ -102,14 +98,10 @@ fn remove_pinned(
 {
     match look_up(table, pass, pin, key) {
         Spot::Absent { entry: _, floor } => Ok(Wrote::Absent { at: floor }),
-        Spot::Present {
-            entry,
-            header,
-            generation,
-        } => match remove_life(table, pass, pin, entry, header, generation) {
+        Spot::Present { entry, home } => match remove_life(table, pass, pin, entry, home) {
             Ok(at) => Ok(Wrote::Removed { at }),
             Err(NoLock::Busy) => Err(Halt::Busy),
-            Err(NoLock::Dead) => absent_at(table, pass, header, generation),
+            Err(NoLock::Dead) => absent_at(table, pass, home),
         },
     }
 }

@@ -11,20 +11,14 @@ ghost use Rattle.point_ops.specs.Spots.{SpotIs};
 
 use chunk_ops::{Content, EntryNo, Found, RoomPin, base_of, content, find};
 use oak_core::{OakTable, Pass};
+use value_ops::Home;
 
 /// Where a key was found: absent at a floor, with its entry where it has one, or as a life that its entry
 /// names.
 #[derive(Clone, Copy, Debug, PartialEq, Eq)]
 pub(crate) enum Spot {
-    Absent {
-        entry: Option<EntryNo>,
-        floor: u64,
-    },
-    Present {
-        entry: EntryNo,
-        header: u32,
-        generation: u32,
-    },
+    Absent { entry: Option<EntryNo>, floor: u64 },
+    Present { entry: EntryNo, home: Home },
 }
 
 /// Looks for a key that the pinned room covers.
@@ -52,8 +46,7 @@ pub(crate) fn look_up(table: &OakTable, pass: &mut Pass, pin: &RoomPin, key: &[u
             },
             Content::Value { header, generation } => Spot::Present {
                 entry,
-                header,
-                generation,
+                home: Home { header, generation },
             },
         },
     }

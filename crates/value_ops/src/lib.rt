@@ -4,6 +4,7 @@
 mod burying;
 mod claiming;
 mod filling;
+mod home;
 mod locked;
 mod locking;
 mod pinned_value;
@@ -17,6 +18,7 @@ mod views;
 pub use burying::Buried;
 pub use claiming::{NoHeader, Owned, claim};
 pub use filling::{fill, release, withdraw};
+pub use home::Home;
 pub use locking::{Locked, NoLock, lock};
 pub use pinned_value::PinnedValue;
 pub use pinning::{BadPin, HeaderPin, pin_at};

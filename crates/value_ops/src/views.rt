@@ -7,6 +7,7 @@ ghost use Rattle.oak_core.specs.contracts.table.Pass as table_pass;
 ghost use Rattle.value_ops.specs.Pinning.{PinsLive};
 ghost use Rattle.value_ops.specs.Views.{Viewed, KnowsView, NotRead, RestsUnread, ReadsView, why_of};
 
+use crate::home::Home;
 use crate::pinning::{BadPin, HeaderPin, pin_at};
 use crate::reading::Reading;
 use oak_core::{OakTable, Pass};
@@ -31,8 +32,7 @@ pub enum NoRead {
 pub struct ValueView {
     bytes: [u8; GREATEST_KEY],
     len: usize,
-    header: u32,
-    generation: u32,
+    home: Home,
     at: u64,
 }
 
@@ -43,7 +43,12 @@ impl Model for ValueView {
 
     ghost Value = { Viewed };
 
-    ghost view = { λ w. record { key = take w.len w.bytes; header = w.header; generation = w.generation; at = w.at } };
+    ghost view = { λ w. record {
+      key = take w.len w.bytes;
+      header = w.home.header;
+      generation = w.home.generation;
+      at = w.at;
+    } };
 
     ghost invariant = { λ w. (length w.bytes ≡ GREATEST_KEY) × (0 < w.len) × (w.len ≤ GREATEST_KEY) };
 }
@@ -59,18 +64,17 @@ fn why_not(bad: BadPin) -> NoRead
 }
 
 impl ValueView {
-    /// A view of the key's life that has the header at the generation, made when the key's stamp was `at`.
-    pub fn make(key: &[u8], header: u32, generation: u32, at: u64) -> ValueView
+    /// A view of the key's life that has this home, made when the key's stamp was `at`.
+    pub fn make(key: &[u8], home: Home, at: u64) -> ValueView
         requires { IsKey key.now }
-        ensures { result ≡ record { key = key.now; header = header; generation = generation; at = at } }
+        ensures { result ≡ record { key = key.now; header = home.header; generation = home.generation; at = at } }
     {
         let mut bytes = [0; GREATEST_KEY];
         bytes[..key.len()].copy_from_slice(key);
         ValueView {
             bytes,
             len: key.len(),
-            header,
-            generation,
+            home,
             at,
         }
     }
@@ -101,7 +105,7 @@ impl ValueView {
             (state pass.new)) }
         ensures bad { IfErr result (λ why. NotRead (key table.now) (call_of pass.old) self.now why (state pass.old) (state pass.new)) }
     {
-        match pin_at(table, pass, self.header, self.generation) {
+        match pin_at(table, pass, self.home.header, self.home.generation) {
             Ok(pin) => Ok(pin),
             Err(bad) => Err(why_not(bad)),
         }

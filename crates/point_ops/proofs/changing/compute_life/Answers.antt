@@ -17,11 +17,11 @@ use Rattle.point_ops.proofs.changing.compute_life.Goals as goal
 
 pub returns-in_err-locked-clause-only : goal.returns-in_err-locked-clause-only
 returns-in_err-locked-clause-only g c = let p = err_from_is_err_and c.from_residual.result c.from_residual.ensures.1 in
-    rw p.1 (refused_only (sizes c.args.table.now) (call_of c.args.pass.now) c.args.header c.args.generation c.in_err-locked.field-0.0 (state c.args.pass.now) (state c.lock.new.pass) c.requires.inside c.in_err-locked.ensures.refused c.in_err-locked.ensures.refused_alone)
+    rw p.1 (refused_only (sizes c.args.table.now) (call_of c.args.pass.now) c.args.home.header c.args.home.generation c.in_err-locked.field-0.0 (state c.args.pass.now) (state c.lock.new.pass) c.requires.inside c.in_err-locked.ensures.refused c.in_err-locked.ensures.refused_alone)
 
 pub returns-in_err-locked-clause-refused : goal.returns-in_err-locked-clause-refused
 returns-in_err-locked-clause-refused g c = let p = err_from_is_err_and c.from_residual.result c.from_residual.ensures.1 in
-    rw (p.1, p.2) (refused_by (sizes c.args.table.now) (call_of c.args.pass.now) c.args.header c.args.generation c.in_err-locked.field-0.0 (state c.args.pass.now) (state c.lock.new.pass) c.requires.inside c.requires.none c.in_err-locked.ensures.refused)
+    rw (p.1, p.2) (refused_by (sizes c.args.table.now) (call_of c.args.pass.now) c.args.home.header c.args.home.generation c.in_err-locked.field-0.0 (state c.args.pass.now) (state c.lock.new.pass) c.requires.inside c.requires.none c.in_err-locked.ensures.refused)
 
 pub returns-clause-wrote : goal.returns-clause-wrote
 returns-clause-wrote g c = λ k known. let z : Sizes = sizes c.args.table.now in let call = call_of c.args.pass.now in let v : PassState = state c.args.pass.now in let u : PassState = state c.lock.new.pass in let w : PassState = state c.apply.new.pass in
@@ -37,13 +37,13 @@ returns-clause-wrote g c = λ k known. let z : Sizes = sizes c.args.table.now in
 
 pub returns-in_err-locked-clause-alone : goal.returns-in_err-locked-clause-alone
 returns-in_err-locked-clause-alone g c = let p = err_from_is_err_and c.from_residual.result c.from_residual.ensures.1 in
-    rw p.1 (refused_lock (sizes c.args.table.now) (call_of c.args.pass.now) c.args.header c.args.generation c.in_err-locked.field-0.0 (state c.args.pass.now) (state c.lock.new.pass) c.requires.inside c.requires.none c.in_err-locked.ensures.refused)
+    rw p.1 (refused_lock (sizes c.args.table.now) (call_of c.args.pass.now) c.args.home.header c.args.home.generation c.in_err-locked.field-0.0 (state c.args.pass.now) (state c.lock.new.pass) c.requires.inside c.requires.none c.in_err-locked.ensures.refused)
 
 pub returns-clause-alone_kept : goal.returns-clause-alone_kept
-returns-clause-alone_kept g c = let z : Sizes = sizes c.args.table.now in let h = c.args.header in let l = c.in_ok-locked.locked in let v : PassState = state c.args.pass.now in let u : PassState = state c.lock.new.pass in
+returns-clause-alone_kept g c = let z : Sizes = sizes c.args.table.now in let h = c.args.home.header in let l = c.in_ok-locked.locked in let v : PassState = state c.args.pass.now in let u : PassState = state c.lock.new.pass in
     let same = c.apply.ensures.same in let header = c.in_ok-locked.ensures.locked.0 in let generation = c.in_ok-locked.ensures.locked.1 in
-    round_alone z h c.args.generation c.requires.inside _ (applies_kept z h l.header header _ _) v u (state c.apply.new.pass) (state c.unlock.new.pass)
-    (lock_whole z (call_of c.args.pass.now) h c.args.generation l.header l.generation v u header c.in_ok-locked.ensures.locked.2 c.in_ok-locked.ensures.has.0 c.in_ok-locked.ensures.alone) c.apply.ensures.alone
+    round_alone z h c.args.home.generation c.requires.inside _ (applies_kept z h l.header header _ _) v u (state c.apply.new.pass) (state c.unlock.new.pass)
+    (lock_whole z (call_of c.args.pass.now) h c.args.home.generation l.header l.generation v u header c.in_ok-locked.ensures.locked.2 c.in_ok-locked.ensures.has.0 c.in_ok-locked.ensures.alone) c.apply.ensures.alone
     c.apply.new.self.header c.apply.new.self.generation c.unlock.result (ap (λ o. o.header) same ∙ header) (ap (λ o. o.generation) same ∙ generation) c.unlock.ensures.alone
 
 -- what the recipe was fed
@@ -56,8 +56,8 @@ returns-clause-fed g c = λ k known. let r = c.apply.new.recipe in let locks = c
 }
 
 pub returns-clause-alone_rewrites : goal.returns-clause-alone_rewrites
-returns-clause-alone_rewrites g c = let z : Sizes = sizes c.args.table.now in let h = c.args.header in let l = c.in_ok-locked.locked in let v : PassState = state c.args.pass.now in let u : PassState = state c.lock.new.pass in
+returns-clause-alone_rewrites g c = let z : Sizes = sizes c.args.table.now in let h = c.args.home.header in let l = c.in_ok-locked.locked in let v : PassState = state c.args.pass.now in let u : PassState = state c.lock.new.pass in
     let same = c.apply.ensures.same in let header = c.in_ok-locked.ensures.locked.0 in let generation = c.in_ok-locked.ensures.locked.1 in
-    computes_alone z h c.args.generation c.requires.inside _ _ l.header header v u (state c.apply.new.pass) (state c.unlock.new.pass)
-    (lock_whole z (call_of c.args.pass.now) h c.args.generation l.header l.generation v u header c.in_ok-locked.ensures.locked.2 c.in_ok-locked.ensures.has.0 c.in_ok-locked.ensures.alone) c.apply.ensures.alone
+    computes_alone z h c.args.home.generation c.requires.inside _ _ l.header header v u (state c.apply.new.pass) (state c.unlock.new.pass)
+    (lock_whole z (call_of c.args.pass.now) h c.args.home.generation l.header l.generation v u header c.in_ok-locked.ensures.locked.2 c.in_ok-locked.ensures.has.0 c.in_ok-locked.ensures.alone) c.apply.ensures.alone
     c.apply.new.self.header c.apply.new.self.generation c.unlock.result (ap (λ o. o.header) same ∙ header) (ap (λ o. o.generation) same ∙ generation) c.unlock.ensures.alone

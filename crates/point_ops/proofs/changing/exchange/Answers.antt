@@ -23,15 +23,15 @@ use Rattle.point_ops.proofs.changing.exchange.Goals as goal
 
 pub returns-in_default-clause-stands : goal.returns-in_default-clause-stands
 returns-in_default-clause-stands c = let z : Sizes = sizes c.args.table.now in let call = call_of c.args.pass.now in let v : PassState = state c.args.pass.now in let u : PassState = state c.lock.new.pass in let w : PassState = state c.give.new.pass in
-    stands_both call v u w (refused_only z call c.args.header c.args.generation c.in_default.field-0 v u c.requires.inside c.in_default.ensures.refused c.in_default.ensures.refused_alone).stands
+    stands_both call v u w (refused_only z call c.args.home.header c.args.home.generation c.in_default.field-0 v u c.requires.inside c.in_default.ensures.refused c.in_default.ensures.refused_alone).stands
     (stands_in call (call_of c.lock.new.pass) u w c.lock.ensures.own.call (gave_stands z (call_of c.lock.new.pass) c.args.block.class c.args.block.number u w c.give.ensures.given))
 
 pub returns-in_default-clause-refused : goal.returns-in_default-clause-refused
 returns-in_default-clause-refused c = let z : Sizes = sizes c.args.table.now in let call = call_of c.args.pass.now in let v : PassState = state c.args.pass.now in let u : PassState = state c.lock.new.pass in let w : PassState = state c.give.new.pass in
     let gave : Stands call u w = stands_in call (call_of c.lock.new.pass) u w c.lock.ensures.own.call (gave_stands z (call_of c.lock.new.pass) c.args.block.class c.args.block.number u w c.give.ensures.given) in (
       refl,
-      refused_some z call c.args.header c.args.generation c.in_default.field-0 v w (refused_until z call c.args.header c.args.generation c.in_default.field-0 v u w gave.met
-          (refused_by z call c.args.header c.args.generation c.in_default.field-0 v u c.requires.inside c.requires.none c.in_default.ensures.refused)),
+      refused_some z call c.args.home.header c.args.home.generation c.in_default.field-0 v w (refused_until z call c.args.home.header c.args.home.generation c.in_default.field-0 v u w gave.met
+          (refused_by z call c.args.home.header c.args.home.generation c.in_default.field-0 v u c.requires.inside c.requires.none c.in_default.ensures.refused)),
     )
 
 pub unlock-at-requires-clause-makes : goal.unlock-at-requires-clause-makes
@@ -45,7 +45,7 @@ returns-clause-blocks c = let z : Sizes = sizes c.args.table.now in let u : Pass
 
 pub returns-clause-headers : goal.returns-clause-headers
 returns-clause-headers c = let z : Sizes = sizes c.args.table.now in let v : PassState = state c.args.pass.now in let u : PassState = state c.lock.new.pass in let w : PassState = state c.change-old.new.pass in let x : PassState = state c.unlock-at.new.pass in let o = c.change-old.result in let l = c.in-Ok.locked in let s = c.change-old.new.self in
-    let before : IsOneHeader s.header u.headers = locked_one z (call_of c.args.pass.now) c.args.header c.args.generation s.header v u (ap (λ y. y.header) c.change-old.ensures.same ∙ c.in-Ok.ensures.locked.0) c.requires.none c.in-Ok.ensures.locked.2 in
+    let before : IsOneHeader s.header u.headers = locked_one z (call_of c.args.pass.now) c.args.home.header c.args.home.generation s.header v u (ap (λ y. y.header) c.change-old.ensures.same ∙ c.in-Ok.ensures.locked.0) c.requires.none c.in-Ok.ensures.locked.2 in
     let now : IsOneHeader s.header w.headers = subst (IsOneHeader s.header) (sym (ap (λ (y : PassState). y.headers) c.change-old.ensures.changed.comes.after)) (one_mapped s.header u.headers _ (λ r. refl) before) in
     given_headers z (call_of c.unlock-at.new.pass) x (state c.give-2.new.pass) o.class o.number c.give-2.ensures.given ∙ wrote_none z (call_of c.change-old.new.pass) s.header s.generation Put c.unlock-at.result w x now c.unlock-at.ensures.unlocked
 
@@ -64,10 +64,10 @@ returns-clause-wrote c = λ k known. let z : Sizes = sizes c.args.table.now in l
     )
 
 pub returns-in_default-clause-alone : goal.returns-in_default-clause-alone
-returns-in_default-clause-alone c = let b = c.args.block in unfree_given (sizes c.args.table.now) c.args.header c.args.generation c.in_default.field-0 b.class b.number (state c.args.pass.now) (state c.lock.new.pass) (state c.give.new.pass) c.in_default.ensures.refused_alone c.give.ensures.given.still
+returns-in_default-clause-alone c = let b = c.args.block in unfree_given (sizes c.args.table.now) c.args.home.header c.args.home.generation c.in_default.field-0 b.class b.number (state c.args.pass.now) (state c.lock.new.pass) (state c.give.new.pass) c.in_default.ensures.refused_alone c.give.ensures.given.still
 
 pub returns-clause-alone_kept : goal.returns-clause-alone_kept
-returns-clause-alone_kept c = let z : Sizes = sizes c.args.table.now in let h = c.args.header in let g = c.args.generation in let l = c.in-Ok.locked in let b = c.args.block in let o = c.change-old.result in
+returns-clause-alone_kept c = let z : Sizes = sizes c.args.table.now in let h = c.args.home.header in let g = c.args.home.generation in let l = c.in-Ok.locked in let b = c.args.block in let o = c.change-old.result in
     let v : PassState = state c.args.pass.now in let u : PassState = state c.lock.new.pass in let x : PassState = state c.unlock-at.new.pass in
     let same = c.change-old.ensures.same in let header = c.in-Ok.ensures.locked.0 in let generation = c.in-Ok.ensures.locked.1 in
     given_kept z h o.class o.number c.change-old.ensures.held.inside v x (state c.give-2.new.pass)
@@ -77,7 +77,7 @@ returns-clause-alone_kept c = let z : Sizes = sizes c.args.table.now in let h = 
     c.give-2.ensures.given.still
 
 pub returns-clause-alone_swaps : goal.returns-clause-alone_swaps
-returns-clause-alone_swaps c = let z : Sizes = sizes c.args.table.now in let h = c.args.header in let g = c.args.generation in let l = c.in-Ok.locked in let b = c.args.block in let o = c.change-old.result in
+returns-clause-alone_swaps c = let z : Sizes = sizes c.args.table.now in let h = c.args.home.header in let g = c.args.home.generation in let l = c.in-Ok.locked in let b = c.args.block in let o = c.change-old.result in
     let v : PassState = state c.args.pass.now in let u : PassState = state c.lock.new.pass in let x : PassState = state c.unlock-at.new.pass in
     let same = c.change-old.ensures.same in let header = c.in-Ok.ensures.locked.0 in let generation = c.in-Ok.ensures.locked.1 in
     swaps_alone z h g c.requires.inside b.class b.number (length c.args.value.now) o.class o.number c.change-old.ensures.held.inside v u (state c.change-old.new.pass) x (state c.give-2.new.pass)

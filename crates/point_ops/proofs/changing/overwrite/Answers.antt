@@ -35,7 +35,7 @@ use Rattle.point_ops.proofs.changing.overwrite.Goals as goal
 
 pub returns-in_default-clause-halted : goal.returns-in_default-clause-halted
 returns-in_default-clause-halted c = let z : Sizes = sizes c.args.table.now in let call = call_of c.args.pass.now in let v : PassState = state c.args.pass.now in let u : PassState = state c.lock.new.pass in
-    refused_some z call c.args.header c.args.generation c.in_default.field-0 v u (refused_by z call c.args.header c.args.generation c.in_default.field-0 v u c.requires.inside c.requires.headers c.in_default.ensures.refused)
+    refused_some z call c.args.home.header c.args.home.generation c.in_default.field-0 v u (refused_by z call c.args.home.header c.args.home.generation c.in_default.field-0 v u c.requires.inside c.requires.headers c.in_default.ensures.refused)
 
 pub fill-requires-clause-locked : goal.fill-requires-clause-locked
 fill-requires-clause-locked c = let l = c.in-Ok.locked in lock_met (sizes c.args.table.now) (call_of c.lock.new.pass) (state c.lock.new.pass) (state c.class.new.pass) c.class.ensures.met l.header l.generation c.in-Ok.ensures.has.0
@@ -73,31 +73,31 @@ returns-in_err-block-clause-halted c = let z : Sizes = sizes c.args.table.now in
     let rest : Stands call u w = stands_both call u x w looked (stands_in call (call_of c.give_up.new.pass) x w third c.in_err-block.ensures.back.stands) in
     let learned : Learns call v w = learns_both call v u w c.in-Ok.ensures.locked.2.learns (stands_learns call u w rest) in
     let p = err_from_is_err_and c.from_residual.result c.from_residual.ensures.1 in
-    rw (p.1, p.2) (no_block_halts z call (call_of c.give_up.new.pass) third c.args.header c.args.generation c.args.value.now v x w c.in_err-block.field-0.0 c.class_for-class.result
+    rw (p.1, p.2) (no_block_halts z call (call_of c.give_up.new.pass) third c.args.home.header c.args.home.generation c.args.value.now v x w c.in_err-block.field-0.0 c.class_for-class.result
     (learns_both call v u x c.in-Ok.ensures.locked.2.learns (stands_learns call u x looked)).met c.in_err-block.ensures.refused c.class_for-class.ensures
     (λ k known. other_class z call (call_of c.lock.new.pass) (call_of c.class.new.pass) _ l.header l.generation k c.class_for-class.result c.class.result v u y x w (c.in-Ok.ensures.keys k known) met
     (lock_met z (call_of c.lock.new.pass) u y met l.header l.generation c.in-Ok.ensures.has.0) c.class.ensures.class (same_false the_type c.class.result c.class_for-class.result (sym c.eq.ensures ∙ c.if-eq.false)) c.give_up.ensures.unlocked learned.all.seen rest)
-    (looked_took z call (call_of c.lock.new.pass) (call_of c.class.new.pass) c.args.header c.args.generation l.header l.generation _ v u y x w c.in-Ok.ensures.locked.2 met c.give_up.ensures.unlocked c.in_err-block.ensures.quiet))
+    (looked_took z call (call_of c.lock.new.pass) (call_of c.class.new.pass) c.args.home.header c.args.home.generation l.header l.generation _ v u y x w c.in-Ok.ensures.locked.2 met c.give_up.ensures.unlocked c.in_err-block.ensures.quiet))
 
 pub exchange-requires-clause-known : goal.exchange-requires-clause-known
 exchange-requires-clause-known c = let z : Sizes = sizes c.args.table.now in let call = call_of c.args.pass.now in let v : PassState = state c.args.pass.now in let u : PassState = state c.lock.new.pass in let y : PassState = state c.class.new.pass in let x : PassState = state c.give_up.new.pass in let w : PassState = state c.make_block.new.pass in
     let k = c.requires.life.0 in let l = c.in-Ok.locked in
     let looked : Stands call u x = looked_stands z call (call_of c.lock.new.pass) (call_of c.class.new.pass) l.header l.generation _ u y x c.lock.ensures.own.call (c.class.ensures.own.call ∙ c.lock.ensures.own.call) c.class.ensures.met c.give_up.ensures.unlocked in
-    known_life c.args.header c.args.generation k w.knowledge (life_locked z call c.args.header c.args.generation v u w c.in-Ok.ensures.locked.2 (c.in_ok-block.ensures.made.1.stands.knowledge ∙ looked.knowledge) c.args.header c.args.generation k c.requires.life.1)
+    known_life c.args.home.header c.args.home.generation k w.knowledge (life_locked z call c.args.home.header c.args.home.generation v u w c.in-Ok.ensures.locked.2 (c.in_ok-block.ensures.made.1.stands.knowledge ∙ looked.knowledge) c.args.home.header c.args.home.generation k c.requires.life.1)
 
 pub exchange-requires-clause-life : goal.exchange-requires-clause-life
 exchange-requires-clause-life c = let z : Sizes = sizes c.args.table.now in let call = call_of c.args.pass.now in let v : PassState = state c.args.pass.now in let u : PassState = state c.lock.new.pass in let y : PassState = state c.class.new.pass in let x : PassState = state c.give_up.new.pass in let w : PassState = state c.make_block.new.pass in
     let k = c.requires.life.0 in let l = c.in-Ok.locked in
     let looked : Stands call u x = looked_stands z call (call_of c.lock.new.pass) (call_of c.class.new.pass) l.header l.generation _ u y x c.lock.ensures.own.call (c.class.ensures.own.call ∙ c.lock.ensures.own.call) c.class.ensures.met c.give_up.ensures.unlocked in
-    (k, life_locked z call c.args.header c.args.generation v u w c.in-Ok.ensures.locked.2 (c.in_ok-block.ensures.made.1.stands.knowledge ∙ looked.knowledge) c.args.header c.args.generation k c.requires.life.1)
+    (k, life_locked z call c.args.home.header c.args.home.generation v u w c.in-Ok.ensures.locked.2 (c.in_ok-block.ensures.made.1.stands.knowledge ∙ looked.knowledge) c.args.home.header c.args.home.generation k c.requires.life.1)
 
 pub returns-clause-wrote : goal.returns-clause-wrote
 returns-clause-wrote c = let z : Sizes = sizes c.args.table.now in let call = call_of c.args.pass.now in let v : PassState = state c.args.pass.now in let u : PassState = state c.lock.new.pass in let y : PassState = state c.class.new.pass in let x : PassState = state c.give_up.new.pass in let w : PassState = state c.make_block.new.pass in
     let first = c.lock.ensures.own.call in let second = c.class.ensures.own.call ∙ first in let third = c.give_up.ensures.own.call ∙ second in let l = c.in-Ok.locked in
     let looked : Stands call u x = looked_stands z call (call_of c.lock.new.pass) (call_of c.class.new.pass) l.header l.generation _ u y x first second c.class.ensures.met c.give_up.ensures.unlocked in
     let rest : Stands call u w = stands_both call u x w looked (stands_in call (call_of c.give_up.new.pass) x w third c.in_ok-block.ensures.made.1.stands) in
-    over_written call (call_of c.make_block.new.pass) (c.make_block.ensures.own.call ∙ third) c.args.header c.args.generation c.args.value.now v w (state c.exchange.new.pass) c.exchange.result (learns_both call v u w c.in-Ok.ensures.locked.2.learns (stands_learns call u w rest))
-    (life_locked z call c.args.header c.args.generation v u w c.in-Ok.ensures.locked.2 rest.knowledge c.args.header c.args.generation) c.exchange.ensures.wrote
+    over_written call (call_of c.make_block.new.pass) (c.make_block.ensures.own.call ∙ third) c.args.home.header c.args.home.generation c.args.value.now v w (state c.exchange.new.pass) c.exchange.result (learns_both call v u w c.in-Ok.ensures.locked.2.learns (stands_learns call u w rest))
+    (life_locked z call c.args.home.header c.args.home.generation v u w c.in-Ok.ensures.locked.2 rest.knowledge c.args.home.header c.args.home.generation) c.exchange.ensures.wrote
 
 pub returns-clause-learns : goal.returns-clause-learns
 returns-clause-learns c = let z : Sizes = sizes c.args.table.now in let call = call_of c.args.pass.now in let v : PassState = state c.args.pass.now in let u : PassState = state c.lock.new.pass in let y : PassState = state c.class.new.pass in let x : PassState = state c.give_up.new.pass in let w : PassState = state c.make_block.new.pass in
@@ -111,20 +111,20 @@ returns-clause-halted c = let z : Sizes = sizes c.args.table.now in let call = c
     let first = c.lock.ensures.own.call in let second = c.class.ensures.own.call ∙ first in let third = c.give_up.ensures.own.call ∙ second in let l = c.in-Ok.locked in
     let looked : Stands call u x = looked_stands z call (call_of c.lock.new.pass) (call_of c.class.new.pass) l.header l.generation _ u y x first second c.class.ensures.met c.give_up.ensures.unlocked in
     let rest : Stands call u w = stands_both call u x w looked (stands_in call (call_of c.give_up.new.pass) x w third c.in_ok-block.ensures.made.1.stands) in
-    unlocked_halts z call (call_of c.make_block.new.pass) (c.make_block.ensures.own.call ∙ third) c.args.header c.args.generation c.args.value.now v w (state c.exchange.new.pass) c.exchange.result (learns_both call v u w c.in-Ok.ensures.locked.2.learns (stands_learns call u w rest)).met c.exchange.ensures.refused
+    unlocked_halts z call (call_of c.make_block.new.pass) (c.make_block.ensures.own.call ∙ third) c.args.home.header c.args.home.generation c.args.value.now v w (state c.exchange.new.pass) c.exchange.result (learns_both call v u w c.in-Ok.ensures.locked.2.learns (stands_learns call u w rest)).met c.exchange.ensures.refused
 
 pub returns-in_default-clause-alone : goal.returns-in_default-clause-alone
-returns-in_default-clause-alone c = λ r pin. refused_lock (sizes c.args.table.now) (call_of c.args.pass.now) c.args.header c.args.generation c.in_default.field-0 (state c.args.pass.now) (state c.lock.new.pass) c.requires.inside c.requires.headers c.in_default.ensures.refused
+returns-in_default-clause-alone c = λ r pin. refused_lock (sizes c.args.table.now) (call_of c.args.pass.now) c.args.home.header c.args.home.generation c.in_default.field-0 (state c.args.pass.now) (state c.lock.new.pass) c.requires.inside c.requires.headers c.in_default.ensures.refused
 
 pub returns-in_err-block-clause-alone : goal.returns-in_err-block-clause-alone
-returns-in_err-block-clause-alone c = let z : Sizes = sizes c.args.table.now in let h = c.args.header in let g = c.args.generation in let l = c.in-Ok.locked in
+returns-in_err-block-clause-alone c = let z : Sizes = sizes c.args.table.now in let h = c.args.home.header in let g = c.args.home.generation in let l = c.in-Ok.locked in
     let v : PassState = state c.args.pass.now in let u : PassState = state c.lock.new.pass in let y : PassState = state c.class.new.pass in let x : PassState = state c.give_up.new.pass in let w : PassState = state c.make_block.new.pass in
     let free : Runs (FreeIn z h g) v x = gives_up_free z h g l.header l.generation c.requires.inside c.in-Ok.ensures.locked.0 c.in-Ok.ensures.locked.1 c.class.result v u y x c.in-Ok.ensures.alone c.class.ensures.alone c.give_up.ensures.alone in
     let p = err_from_is_err_and c.from_residual.result c.from_residual.ensures.1 in
     rw (p.1, p.2) (λ r pin. no_block_alone z h g c.args.value.now v x w free c.in_err-block.field-0.0 c.class_for-class.result c.in_err-block.ensures.refused.0 c.class_for-class.ensures c.in_err-block.ensures.alone_refused)
 
 pub returns-clause-alone : goal.returns-clause-alone
-returns-clause-alone c = let z : Sizes = sizes c.args.table.now in let h = c.args.header in let g = c.args.generation in let l = c.in-Ok.locked in
+returns-clause-alone c = let z : Sizes = sizes c.args.table.now in let h = c.args.home.header in let g = c.args.home.generation in let l = c.in-Ok.locked in
     let v : PassState = state c.args.pass.now in let u : PassState = state c.lock.new.pass in let y : PassState = state c.class.new.pass in let x : PassState = state c.give_up.new.pass in let w : PassState = state c.make_block.new.pass in
     let free : Runs (FreeIn z h g) v x = gives_up_free z h g l.header l.generation c.requires.inside c.in-Ok.ensures.locked.0 c.in-Ok.ensures.locked.1 c.class.result v u y x c.in-Ok.ensures.alone c.class.ensures.alone c.give_up.ensures.alone in
     let b = c.in_ok-block.block in let t : PassState = state c.exchange.new.pass in
@@ -132,7 +132,7 @@ returns-clause-alone c = let z : Sizes = sizes c.args.table.now in let h = c.arg
     (c.in_ok-block.ensures.alone r (gave_up_pinned z (call_of c.args.pass.now) (call_of c.lock.new.pass) (call_of c.class.new.pass) h g l.header l.generation _ r v u y x c.in-Ok.ensures.locked.2 c.class.ensures.met c.give_up.ensures.unlocked pin)) unfree) c.exchange.ensures.alone
 
 pub returns-then-eq-clause-alone_kept : goal.returns-then-eq-clause-alone_kept
-returns-then-eq-clause-alone_kept c = λ r pin. let z : Sizes = sizes c.args.table.now in let h = c.args.header in let g = c.args.generation in let l = c.in-Ok.locked in
+returns-then-eq-clause-alone_kept c = λ r pin. let z : Sizes = sizes c.args.table.now in let h = c.args.home.header in let g = c.args.home.generation in let l = c.in-Ok.locked in
     let v : PassState = state c.args.pass.now in let u : PassState = state c.lock.new.pass in let y : PassState = state c.class.new.pass in let w : PassState = state c.fill.new.pass in let bytes : List ℕ = c.args.value.now in let k = c.class.result in
     let same = c.fill.ensures.same in let header = c.in-Ok.ensures.locked.0 in let generation = c.in-Ok.ensures.locked.1 in
     let fits : class_of (length bytes) ≡ Some k = c.class_for-class.ensures ∙ ap Some (sym (same_true the_type (search rules) k c.class_for-class.result (sym c.eq.ensures ∙ c.if-eq.true))) in
@@ -142,7 +142,7 @@ returns-then-eq-clause-alone_kept c = λ r pin. let z : Sizes = sizes c.args.tab
     c.fill.new.self.header c.fill.new.self.generation c.unlock.result (ap (λ o. o.header) same ∙ header) (ap (λ o. o.generation) same ∙ generation) c.unlock.ensures.alone
 
 pub returns-clause-alone_kept : goal.returns-clause-alone_kept
-returns-clause-alone_kept c = let z : Sizes = sizes c.args.table.now in let h = c.args.header in let g = c.args.generation in let l = c.in-Ok.locked in
+returns-clause-alone_kept c = let z : Sizes = sizes c.args.table.now in let h = c.args.home.header in let g = c.args.home.generation in let l = c.in-Ok.locked in
     let v : PassState = state c.args.pass.now in let u : PassState = state c.lock.new.pass in let y : PassState = state c.class.new.pass in
     let x : PassState = state c.give_up.new.pass in let w : PassState = state c.make_block.new.pass in
     let free : Runs (FreeIn z h g) v x = gives_up_free z h g l.header l.generation c.requires.inside c.in-Ok.ensures.locked.0 c.in-Ok.ensures.locked.1 c.class.result v u y x c.in-Ok.ensures.alone c.class.ensures.alone c.give_up.ensures.alone in
@@ -151,7 +151,7 @@ returns-clause-alone_kept c = let z : Sizes = sizes c.args.table.now in let h = 
     (c.in_ok-block.ensures.alone r (gave_up_pinned z (call_of c.args.pass.now) (call_of c.lock.new.pass) (call_of c.class.new.pass) h g l.header l.generation _ r v u y x c.in-Ok.ensures.locked.2 c.class.ensures.met c.give_up.ensures.unlocked pin)) kept) c.exchange.ensures.alone_kept
 
 pub returns-then-eq-clause-alone_over : goal.returns-then-eq-clause-alone_over
-returns-then-eq-clause-alone_over c = λ r pin. let z : Sizes = sizes c.args.table.now in let h = c.args.header in let g = c.args.generation in let l = c.in-Ok.locked in
+returns-then-eq-clause-alone_over c = λ r pin. let z : Sizes = sizes c.args.table.now in let h = c.args.home.header in let g = c.args.home.generation in let l = c.in-Ok.locked in
     let v : PassState = state c.args.pass.now in let u : PassState = state c.lock.new.pass in let y : PassState = state c.class.new.pass in let w : PassState = state c.fill.new.pass in let bytes : List ℕ = c.args.value.now in let k = c.class.result in
     let same = c.fill.ensures.same in let header = c.in-Ok.ensures.locked.0 in let generation = c.in-Ok.ensures.locked.1 in
     let fits : class_of (length bytes) ≡ Some k = c.class_for-class.ensures ∙ ap Some (sym (same_true the_type (search rules) k c.class_for-class.result (sym c.eq.ensures ∙ c.if-eq.true))) in
@@ -161,7 +161,7 @@ returns-then-eq-clause-alone_over c = λ r pin. let z : Sizes = sizes c.args.tab
     c.fill.new.self.header c.fill.new.self.generation c.unlock.result (ap (λ o. o.header) same ∙ header) (ap (λ o. o.generation) same ∙ generation) c.unlock.ensures.alone
 
 pub returns-clause-alone_over : goal.returns-clause-alone_over
-returns-clause-alone_over c = let z : Sizes = sizes c.args.table.now in let h = c.args.header in let g = c.args.generation in let l = c.in-Ok.locked in let k = c.class.result in let d = c.class_for-class.result in
+returns-clause-alone_over c = let z : Sizes = sizes c.args.table.now in let h = c.args.home.header in let g = c.args.home.generation in let l = c.in-Ok.locked in let k = c.class.result in let d = c.class_for-class.result in
     let v : PassState = state c.args.pass.now in let u : PassState = state c.lock.new.pass in let y : PassState = state c.class.new.pass in
     let x : PassState = state c.give_up.new.pass in let w : PassState = state c.make_block.new.pass in let b = c.in_ok-block.block in let is = c.in_ok-block.ensures.made.0 in
     let free = gives_up_class z h g l.header l.generation c.requires.inside c.in-Ok.ensures.locked.0 c.in-Ok.ensures.locked.1 k v u y x c.in-Ok.ensures.alone c.class.ensures.alone c.give_up.ensures.alone in

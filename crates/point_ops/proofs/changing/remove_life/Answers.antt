@@ -19,11 +19,11 @@ use Rattle.point_ops.proofs.changing.remove_life.Goals as goal
 
 pub returns-in_err-locked-clause-only : goal.returns-in_err-locked-clause-only
 returns-in_err-locked-clause-only c = let p = err_from_is_err_and c.from_residual.result c.from_residual.ensures.1 in
-    rw p.1 (refused_only (sizes c.args.table.now) (call_of c.args.pass.now) c.args.header c.args.generation c.in_err-locked.field-0.0 (state c.args.pass.now) (state c.lock.new.pass) c.requires.inside c.in_err-locked.ensures.refused c.in_err-locked.ensures.refused_alone)
+    rw p.1 (refused_only (sizes c.args.table.now) (call_of c.args.pass.now) c.args.home.header c.args.home.generation c.in_err-locked.field-0.0 (state c.args.pass.now) (state c.lock.new.pass) c.requires.inside c.in_err-locked.ensures.refused c.in_err-locked.ensures.refused_alone)
 
 pub returns-in_err-locked-clause-refused : goal.returns-in_err-locked-clause-refused
 returns-in_err-locked-clause-refused c = let p = err_from_is_err_and c.from_residual.result c.from_residual.ensures.1 in
-    rw (p.1, p.2) (refused_by (sizes c.args.table.now) (call_of c.args.pass.now) c.args.header c.args.generation c.in_err-locked.field-0.0 (state c.args.pass.now) (state c.lock.new.pass) c.requires.inside c.requires.headers c.in_err-locked.ensures.refused)
+    rw (p.1, p.2) (refused_by (sizes c.args.table.now) (call_of c.args.pass.now) c.args.home.header c.args.home.generation c.in_err-locked.field-0.0 (state c.args.pass.now) (state c.lock.new.pass) c.requires.inside c.requires.headers c.in_err-locked.ensures.refused)
 
 pub clear_value-requires-clause-buries : goal.clear_value-requires-clause-buries
 clear_value-requires-clause-buries c = let z : Sizes = sizes c.args.table.now in let call = call_of c.args.pass.now in let l = c.in_ok-locked.locked in let b = c.bury-buried.result in let v : PassState = state c.args.pass.now in let u : PassState = state c.lock.new.pass in let w : PassState = state c.bury-buried.new.pass in
@@ -44,7 +44,7 @@ pub returns-clause-held : goal.returns-clause-held
 returns-clause-held c = let z : Sizes = sizes c.args.table.now in let call = call_of c.args.pass.now in let l = c.in_ok-locked.locked in let b = c.bury-buried.result in let v : PassState = state c.args.pass.now in let u : PassState = state c.lock.new.pass in let w : PassState = state c.bury-buried.new.pass in
     let k = c.requires.life.0 in let locked = c.in_ok-locked.ensures.locked in let r = c.take_back-block.result in let own = entry_buried z call (call_of c.lock.new.pass) c.args.pin.now.room c.args.entry.0 l.header l.generation b.header b.generation b.stamp c.stamp-at.result k v u w (c.in_ok-locked.ensures.keys k c.requires.life.1) c.in_ok-locked.ensures.locked.2.rooms c.bury-buried.ensures.buried c.bury-buried.ensures.buries c.stamp-at.ensures c.requires.life.2 in
     removed_held z (call_of c.lock.new.pass) (call_of c.bury-buried.new.pass) (call_of c.clear_value.new.pass) (call_of c.take_back-block.new.pass) l.header l.generation b.stamp k b.header b.generation c.stamp-at.result r.class r.number u w (state c.clear_value.new.pass) (state c.take_back-block.new.pass) (state c.give.new.pass)
-    c.bury-buried.ensures.buried (c.clear_value.ensures.cleared k b.header b.generation own.0 own.1) c.bury-buried.ensures.header.0 c.take_back-block.ensures.renewed c.give.ensures.given call c.args.header c.args.generation v locked.0 locked.2 c.requires.blocks c.requires.headers
+    c.bury-buried.ensures.buried (c.clear_value.ensures.cleared k b.header b.generation own.0 own.1) c.bury-buried.ensures.header.0 c.take_back-block.ensures.renewed c.give.ensures.given call c.args.home.header c.args.home.generation v locked.0 locked.2 c.requires.blocks c.requires.headers
 
 pub returns-clause-wrote : goal.returns-clause-wrote
 returns-clause-wrote c = λ k known has. let z : Sizes = sizes c.args.table.now in let call = call_of c.args.pass.now in let l = c.in_ok-locked.locked in let b = c.bury-buried.result in let v : PassState = state c.args.pass.now in let u : PassState = state c.lock.new.pass in let w : PassState = state c.bury-buried.new.pass in let t : PassState = state c.give.new.pass in
@@ -60,10 +60,10 @@ returns-clause-wrote c = λ k known has. let z : Sizes = sizes c.args.table.now 
 
 pub returns-in_err-locked-clause-alone : goal.returns-in_err-locked-clause-alone
 returns-in_err-locked-clause-alone c = let p = err_from_is_err_and c.from_residual.result c.from_residual.ensures.1 in
-    rw p.1 (refused_lock (sizes c.args.table.now) (call_of c.args.pass.now) c.args.header c.args.generation c.in_err-locked.field-0.0 (state c.args.pass.now) (state c.lock.new.pass) c.requires.inside c.requires.headers c.in_err-locked.ensures.refused)
+    rw p.1 (refused_lock (sizes c.args.table.now) (call_of c.args.pass.now) c.args.home.header c.args.home.generation c.in_err-locked.field-0.0 (state c.args.pass.now) (state c.lock.new.pass) c.requires.inside c.requires.headers c.in_err-locked.ensures.refused)
 
 pub returns-clause-alone_removes : goal.returns-clause-alone_removes
-returns-clause-alone_removes c = let z : Sizes = sizes c.args.table.now in let h = c.args.header in let g = c.args.generation in let l = c.in_ok-locked.locked in let b = c.bury-buried.result in let r = c.take_back-block.result in
+returns-clause-alone_removes c = let z : Sizes = sizes c.args.table.now in let h = c.args.home.header in let g = c.args.home.generation in let l = c.in_ok-locked.locked in let b = c.bury-buried.result in let r = c.take_back-block.result in
     let v : PassState = state c.args.pass.now in let u : PassState = state c.lock.new.pass in let locked = c.in_ok-locked.ensures.locked in let is = c.bury-buried.ensures.header in
     removes_alone z c.args.pin.now.room c.args.entry.0 h g c.stamp-at.result c.requires.inside (entry_there z c.args.pin.now.room c.args.entry.0 c.requires.life.0 v c.requires.pinned c.requires.life.2) r.class r.number c.take_back-block.ensures.held.inside
     l.header l.generation b.stamp locked.0 locked.1 (sym c.stamp-at.ensures) v u (state c.bury-buried.new.pass) (state c.clear_value.new.pass) (state c.take_back-block.new.pass) (state c.give.new.pass)

@@ -29,7 +29,7 @@ pub compute_life-requires-clause-kind : goal.compute_life-requires-clause-kind
 compute_life-requires-clause-kind g c = let o = c.args.recipe.now in let k = (goal.Recipe-dyn g (o.vtable, o.value)).told_kind o.value in let n = (goal.Recipe-dyn g (o.vtable, o.value)).told_argument o.value in λ b. subst (λ (x : Kind). MakesWrite x (Some b) (Some (recipe_result k n b))) (sym c.compute_kind-kind.ensures) record { ask = Compute k n; kind_is = refl; writes = refl; leaves = refl }
 
 pub returns-in-Ok-clause-got : goal.returns-in-Ok-clause-got
-returns-in-Ok-clause-got g c = let o = c.args.recipe.now in let k = (goal.Recipe-dyn g (o.vtable, o.value)).told_kind o.value in let n = (goal.Recipe-dyn g (o.vtable, o.value)).told_argument o.value in let x = c.in-Ok.ensures.wrote c.args.key.now c.in-Present.ensures.spot.life in rewrote (sizes c.args.table.now) (call_of c.args.pass.now) c.args.key.now (state c.args.pass.now) (state c.look_up.new.pass) (state c.compute_life.new.pass) _ c.look_up.ensures.own.call c.look_up.ensures.under.learns c.args.pin.now.room c.in-Present.entry.0 c.in-Present.header c.in-Present.generation c.in-Present.ensures.spot c.compute_kind-kind.result (Compute k n) replies.Done c.in-Ok.at x.0 (Some (recipe_result k n x.0)) (ap Some (sym c.compute_kind-kind.ensures)) refl refl x.1
+returns-in-Ok-clause-got g c = let o = c.args.recipe.now in let k = (goal.Recipe-dyn g (o.vtable, o.value)).told_kind o.value in let n = (goal.Recipe-dyn g (o.vtable, o.value)).told_argument o.value in let x = c.in-Ok.ensures.wrote c.args.key.now c.in-Present.ensures.spot.life in rewrote (sizes c.args.table.now) (call_of c.args.pass.now) c.args.key.now (state c.args.pass.now) (state c.look_up.new.pass) (state c.compute_life.new.pass) _ c.look_up.ensures.own.call c.look_up.ensures.under.learns c.args.pin.now.room c.in-Present.entry.0 c.in-Present.home.header c.in-Present.home.generation c.in-Present.ensures.spot c.compute_kind-kind.result (Compute k n) replies.Done c.in-Ok.at x.0 (Some (recipe_result k n x.0)) (ap Some (sym c.compute_kind-kind.ensures)) refl refl x.1
 
 pub returns-in-Err-Busy-clause-held : goal.returns-in-Err-Busy-clause-held
 returns-in-Err-Busy-clause-held g c = held_under (sizes c.args.table.now) (call_of c.args.pass.now) c.args.pin.now.room (state c.args.pass.now) (state c.look_up.new.pass) (state c.compute_life.new.pass) c.look_up.ensures.under c.compute_life.ensures.held
@@ -38,30 +38,30 @@ pub returns-in-Err-Busy-clause-learns : goal.returns-in-Err-Busy-clause-learns
 returns-in-Err-Busy-clause-learns g c = looked_learns (sizes c.args.table.now) (call_of c.args.pass.now) c.args.key.now (state c.args.pass.now) (state c.look_up.new.pass) (state c.compute_life.new.pass) _ c.look_up.ensures.own.call c.look_up.ensures.under.learns (stands_learns _ (state c.look_up.new.pass) (state c.compute_life.new.pass) c.in-Err-Busy.ensures.only.stands)
 
 pub returns-in-Err-Busy-clause-halted : goal.returns-in-Err-Busy-clause-halted
-returns-in-Err-Busy-clause-halted g c = let o = c.args.recipe.now in let k = (goal.Recipe-dyn g (o.vtable, o.value)).told_kind o.value in let n = (goal.Recipe-dyn g (o.vtable, o.value)).told_argument o.value in unlocked_busy (sizes c.args.table.now) (call_of c.args.pass.now) c.args.key.now (state c.args.pass.now) (state c.look_up.new.pass) (state c.compute_life.new.pass) _ c.look_up.ensures.own.call c.look_up.ensures.under.learns c.args.pin.now.room c.in-Present.entry.0 c.in-Present.header c.in-Present.generation c.in-Present.ensures.spot (Compute k n) tt c.in-Err-Busy.ensures.only.stands.met (subst (λ (y : NoLock). NoLockBy y (sizes c.args.table.now) (call_of c.look_up.new.pass) c.in-Present.header c.in-Present.generation (state c.look_up.new.pass) (state c.compute_life.new.pass)) c.in-Err-Busy.field-0-is c.in-Err-Busy.ensures.refused)
+returns-in-Err-Busy-clause-halted g c = let o = c.args.recipe.now in let k = (goal.Recipe-dyn g (o.vtable, o.value)).told_kind o.value in let n = (goal.Recipe-dyn g (o.vtable, o.value)).told_argument o.value in unlocked_busy (sizes c.args.table.now) (call_of c.args.pass.now) c.args.key.now (state c.args.pass.now) (state c.look_up.new.pass) (state c.compute_life.new.pass) _ c.look_up.ensures.own.call c.look_up.ensures.under.learns c.args.pin.now.room c.in-Present.entry.0 c.in-Present.home.header c.in-Present.home.generation c.in-Present.ensures.spot (Compute k n) tt c.in-Err-Busy.ensures.only.stands.met (subst (λ (y : NoLock). NoLockBy y (sizes c.args.table.now) (call_of c.look_up.new.pass) c.in-Present.home.header c.in-Present.home.generation (state c.look_up.new.pass) (state c.compute_life.new.pass)) c.in-Err-Busy.field-0-is c.in-Err-Busy.ensures.refused)
 
 pub returns-in-Err-Dead-clause-held : goal.returns-in-Err-Dead-clause-held
 returns-in-Err-Dead-clause-held g c = held_under (sizes c.args.table.now) (call_of c.args.pass.now) c.args.pin.now.room (state c.args.pass.now) (state c.look_up.new.pass) (state c.absent_at.new.pass) c.look_up.ensures.under (held_both (state c.look_up.new.pass) (state c.compute_life.new.pass) (state c.absent_at.new.pass) c.compute_life.ensures.held (learned_held _ (state c.compute_life.new.pass) (state c.absent_at.new.pass) c.absent_at.ensures.only))
 
 pub returns-in-Err-Dead-clause-got : goal.returns-in-Err-Dead-clause-got
-returns-in-Err-Dead-clause-got g c = let o = c.args.recipe.now in let k = (goal.Recipe-dyn g (o.vtable, o.value)).told_kind o.value in let n = (goal.Recipe-dyn g (o.vtable, o.value)).told_argument o.value in ok_map _ _ c.absent_at.result (λ y x. dead_answer y (sizes c.args.table.now) (call_of c.args.pass.now) c.args.key.now (Compute k n) (state c.args.pass.now) (state c.look_up.new.pass) (state c.compute_life.new.pass) (state c.absent_at.new.pass) _ c.look_up.ensures.own.call _ (c.compute_life.ensures.own.call ∙ c.look_up.ensures.own.call) c.look_up.ensures.under.learns c.in-Err-Dead.ensures.only.stands c.in-Present.header c.in-Present.generation c.in-Present.ensures.spot.life c.in-Present.ensures.spot.last c.in-Present.ensures.spot.loads (x (Compute k n) c.args.key.now refl)) c.absent_at.ensures.absent
+returns-in-Err-Dead-clause-got g c = let o = c.args.recipe.now in let k = (goal.Recipe-dyn g (o.vtable, o.value)).told_kind o.value in let n = (goal.Recipe-dyn g (o.vtable, o.value)).told_argument o.value in ok_map _ _ c.absent_at.result (λ y x. dead_answer y (sizes c.args.table.now) (call_of c.args.pass.now) c.args.key.now (Compute k n) (state c.args.pass.now) (state c.look_up.new.pass) (state c.compute_life.new.pass) (state c.absent_at.new.pass) _ c.look_up.ensures.own.call _ (c.compute_life.ensures.own.call ∙ c.look_up.ensures.own.call) c.look_up.ensures.under.learns c.in-Err-Dead.ensures.only.stands c.in-Present.home.header c.in-Present.home.generation c.in-Present.ensures.spot.life c.in-Present.ensures.spot.last c.in-Present.ensures.spot.loads (x (Compute k n) c.args.key.now refl)) c.absent_at.ensures.absent
 
 pub returns-in-Err-Dead-clause-learns : goal.returns-in-Err-Dead-clause-learns
 returns-in-Err-Dead-clause-learns g c = err_map _ _ c.absent_at.result (λ why x. dead_learns (call_of c.args.pass.now) (state c.args.pass.now) (state c.look_up.new.pass) (state c.compute_life.new.pass) (state c.absent_at.new.pass) _ c.look_up.ensures.own.call _ (c.compute_life.ensures.own.call ∙ c.look_up.ensures.own.call) c.look_up.ensures.under.learns c.in-Err-Dead.ensures.only.stands c.absent_at.ensures.only.learns) c.absent_at.ensures.refused
 
 pub returns-in-Err-Dead-clause-halted : goal.returns-in-Err-Dead-clause-halted
-returns-in-Err-Dead-clause-halted g c = let o = c.args.recipe.now in let k = (goal.Recipe-dyn g (o.vtable, o.value)).told_kind o.value in let n = (goal.Recipe-dyn g (o.vtable, o.value)).told_argument o.value in err_map _ _ c.absent_at.result (λ why x. subst (λ (y : Halt). Halts y (sizes c.args.table.now) (call_of c.args.pass.now) c.args.key.now (Compute k n) (state c.args.pass.now) (state c.absent_at.new.pass)) (sym x.0) (out_or_rose (sizes c.args.table.now) (call_of c.args.pass.now) c.args.key.now (state c.args.pass.now) (state c.look_up.new.pass) (state c.compute_life.new.pass) _ c.look_up.ensures.own.call c.look_up.ensures.under.learns c.args.pin.now.room c.in-Present.entry.0 c.in-Present.header c.in-Present.generation c.in-Present.ensures.spot (Compute k n) tt (state c.absent_at.new.pass) _ (c.compute_life.ensures.own.call ∙ c.look_up.ensures.own.call) c.in-Err-Dead.ensures.only.stands.met c.absent_at.ensures.only.learns.met (subst (λ (y : NoLock). NoLockBy y (sizes c.args.table.now) (call_of c.look_up.new.pass) c.in-Present.header c.in-Present.generation (state c.look_up.new.pass) (state c.compute_life.new.pass)) c.in-Err-Dead.field-0-is c.in-Err-Dead.ensures.refused) x.1)) c.absent_at.ensures.refused
+returns-in-Err-Dead-clause-halted g c = let o = c.args.recipe.now in let k = (goal.Recipe-dyn g (o.vtable, o.value)).told_kind o.value in let n = (goal.Recipe-dyn g (o.vtable, o.value)).told_argument o.value in err_map _ _ c.absent_at.result (λ why x. subst (λ (y : Halt). Halts y (sizes c.args.table.now) (call_of c.args.pass.now) c.args.key.now (Compute k n) (state c.args.pass.now) (state c.absent_at.new.pass)) (sym x.0) (out_or_rose (sizes c.args.table.now) (call_of c.args.pass.now) c.args.key.now (state c.args.pass.now) (state c.look_up.new.pass) (state c.compute_life.new.pass) _ c.look_up.ensures.own.call c.look_up.ensures.under.learns c.args.pin.now.room c.in-Present.entry.0 c.in-Present.home.header c.in-Present.home.generation c.in-Present.ensures.spot (Compute k n) tt (state c.absent_at.new.pass) _ (c.compute_life.ensures.own.call ∙ c.look_up.ensures.own.call) c.in-Err-Dead.ensures.only.stands.met c.absent_at.ensures.only.learns.met (subst (λ (y : NoLock). NoLockBy y (sizes c.args.table.now) (call_of c.look_up.new.pass) c.in-Present.home.header c.in-Present.home.generation (state c.look_up.new.pass) (state c.compute_life.new.pass)) c.in-Err-Dead.field-0-is c.in-Err-Dead.ensures.refused) x.1)) c.absent_at.ensures.refused
 
 pub returns-in-Err-Dead-clause-counted : goal.returns-in-Err-Dead-clause-counted
 returns-in-Err-Dead-clause-counted g c = let e = c.in-Err-Dead.ensures.uncounted in let f = c.absent_at.ensures.undone in omega arith
 
 pub returns-in-Err-Busy-clause-alone : goal.returns-in-Err-Busy-clause-alone
-returns-in-Err-Busy-clause-alone g c = lock_never (sizes c.args.table.now) c.args.pin.now.room c.in-Present.header c.in-Present.generation c.in-Present.entry c.args.key.now (state c.args.pass.now) (state c.look_up.new.pass) (state c.compute_life.new.pass)
+returns-in-Err-Busy-clause-alone g c = lock_never (sizes c.args.table.now) c.args.pin.now.room c.in-Present.home.header c.in-Present.home.generation c.in-Present.entry c.args.key.now (state c.args.pass.now) (state c.look_up.new.pass) (state c.compute_life.new.pass)
     c.in-Present.ensures.alone c.in-Present.ensures.spot.has (c.look_up.ensures.under.headers ∙ c.requires.headers) c.in-Err-Busy.ensures.alone
 
 pub returns-in-Err-Dead-clause-alone : goal.returns-in-Err-Dead-clause-alone
 returns-in-Err-Dead-clause-alone g c = of_each (Runs Never (state c.args.pass.now) (state c.absent_at.new.pass)) c.absent_at.result (never_then WordsStay Never (state c.args.pass.now) (state c.compute_life.new.pass) (state c.absent_at.new.pass)
-    (lock_never (sizes c.args.table.now) c.args.pin.now.room c.in-Present.header c.in-Present.generation c.in-Present.entry c.args.key.now (state c.args.pass.now) (state c.look_up.new.pass) (state c.compute_life.new.pass)
+    (lock_never (sizes c.args.table.now) c.args.pin.now.room c.in-Present.home.header c.in-Present.home.generation c.in-Present.entry c.args.key.now (state c.args.pass.now) (state c.look_up.new.pass) (state c.compute_life.new.pass)
     c.in-Present.ensures.alone c.in-Present.ensures.spot.has (c.look_up.ensures.under.headers ∙ c.requires.headers) c.in-Err-Dead.ensures.alone) c.absent_at.ensures.only.still)
 
 -- what the recipe was fed
@@ -76,10 +76,10 @@ pub returns-in-Absent-clause-alone_left : goal.returns-in-Absent-clause-alone_le
 returns-in-Absent-clause-alone_left g c = spot_stays (sizes c.args.table.now) c.args.pin.now.room c.args.key.now (Absent c.in-Absent.entry c.in-Absent.floor) (state c.args.pass.now) (state c.look_up.new.pass) c.in-Absent.ensures.alone
 
 pub returns-in-Ok-clause-alone_left : goal.returns-in-Ok-clause-alone_left
-returns-in-Ok-clause-alone_left g c = rewrites_key (sizes c.args.table.now) c.args.pin.now.room c.in-Present.header c.in-Present.generation c.in-Present.entry c.args.key.now (state c.args.pass.now) (state c.look_up.new.pass) (state c.compute_life.new.pass)
+returns-in-Ok-clause-alone_left g c = rewrites_key (sizes c.args.table.now) c.args.pin.now.room c.in-Present.home.header c.in-Present.home.generation c.in-Present.entry c.args.key.now (state c.args.pass.now) (state c.look_up.new.pass) (state c.compute_life.new.pass)
     c.in-Present.ensures.alone c.in-Ok.at c.in-Ok.ensures.alone_rewrites
 
 pub returns-in-Err-Dead-clause-alone_left : goal.returns-in-Err-Dead-clause-alone_left
 returns-in-Err-Dead-clause-alone_left g c = ok_map _ _ c.absent_at.result (λ y x. never_then WordsStay (LeavesUnder y (sizes c.args.table.now) c.args.pin.now.room c.args.key.now) (state c.args.pass.now) (state c.compute_life.new.pass) (state c.absent_at.new.pass)
-    (lock_never (sizes c.args.table.now) c.args.pin.now.room c.in-Present.header c.in-Present.generation c.in-Present.entry c.args.key.now (state c.args.pass.now) (state c.look_up.new.pass) (state c.compute_life.new.pass)
+    (lock_never (sizes c.args.table.now) c.args.pin.now.room c.in-Present.home.header c.in-Present.home.generation c.in-Present.entry c.args.key.now (state c.args.pass.now) (state c.look_up.new.pass) (state c.compute_life.new.pass)
     c.in-Present.ensures.alone c.in-Present.ensures.spot.has (c.look_up.ensures.under.headers ∙ c.requires.headers) c.in-Err-Dead.ensures.alone) c.absent_at.ensures.only.still) c.absent_at.ensures.absent

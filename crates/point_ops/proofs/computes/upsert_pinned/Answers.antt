@@ -36,7 +36,7 @@ pub returns-in-Err-clause-halted : goal.returns-in-Err-clause-halted
 returns-in-Err-clause-halted g c = let o = c.args.recipe.now in let k = (goal.Recipe-dyn g (o.vtable, o.value)).told_kind o.value in let n = (goal.Recipe-dyn g (o.vtable, o.value)).told_argument o.value in uninserted (sizes c.args.table.now) (call_of c.args.pass.now) c.args.key.now (state c.args.pass.now) (state c.look_up.new.pass) (state c.insert.new.pass) _ c.look_up.ensures.own.call c.look_up.ensures.under.learns c.args.pin.now.room c.in-Absent.entry c.in-Absent.floor c.in-Absent.ensures.spot c.args.value.now (Upsert c.args.value.now k n) refl tt c.look_up.ensures.quiet c.in-Err.ensures.learns c.in-Err.halt c.in-Err.ensures.halted
 
 pub returns-in-Ok-compute_life-clause-got : goal.returns-in-Ok-compute_life-clause-got
-returns-in-Ok-compute_life-clause-got g c = let o = c.args.recipe.now in let k = (goal.Recipe-dyn g (o.vtable, o.value)).told_kind o.value in let n = (goal.Recipe-dyn g (o.vtable, o.value)).told_argument o.value in let x = c.in-Ok-compute_life.ensures.wrote c.args.key.now c.in-Present.ensures.spot.life in rewrote (sizes c.args.table.now) (call_of c.args.pass.now) c.args.key.now (state c.args.pass.now) (state c.look_up.new.pass) (state c.compute_life.new.pass) _ c.look_up.ensures.own.call c.look_up.ensures.under.learns c.args.pin.now.room c.in-Present.entry.0 c.in-Present.header c.in-Present.generation c.in-Present.ensures.spot c.upsert_kind-kind.result (Upsert c.args.value.now k n) replies.Done c.in-Ok-compute_life.at x.0 (Some (recipe_result k n x.0)) (ap Some (sym c.upsert_kind-kind.ensures)) refl refl x.1
+returns-in-Ok-compute_life-clause-got g c = let o = c.args.recipe.now in let k = (goal.Recipe-dyn g (o.vtable, o.value)).told_kind o.value in let n = (goal.Recipe-dyn g (o.vtable, o.value)).told_argument o.value in let x = c.in-Ok-compute_life.ensures.wrote c.args.key.now c.in-Present.ensures.spot.life in rewrote (sizes c.args.table.now) (call_of c.args.pass.now) c.args.key.now (state c.args.pass.now) (state c.look_up.new.pass) (state c.compute_life.new.pass) _ c.look_up.ensures.own.call c.look_up.ensures.under.learns c.args.pin.now.room c.in-Present.entry.0 c.in-Present.home.header c.in-Present.home.generation c.in-Present.ensures.spot c.upsert_kind-kind.result (Upsert c.args.value.now k n) replies.Done c.in-Ok-compute_life.at x.0 (Some (recipe_result k n x.0)) (ap Some (sym c.upsert_kind-kind.ensures)) refl refl x.1
 
 pub returns-in-Err-compute_life-clause-held : goal.returns-in-Err-compute_life-clause-held
 returns-in-Err-compute_life-clause-held g c = held_under (sizes c.args.table.now) (call_of c.args.pass.now) c.args.pin.now.room (state c.args.pass.now) (state c.look_up.new.pass) (state c.compute_life.new.pass) c.look_up.ensures.under c.compute_life.ensures.held
@@ -45,7 +45,7 @@ pub returns-in-Err-compute_life-clause-learns : goal.returns-in-Err-compute_life
 returns-in-Err-compute_life-clause-learns g c = looked_learns (sizes c.args.table.now) (call_of c.args.pass.now) c.args.key.now (state c.args.pass.now) (state c.look_up.new.pass) (state c.compute_life.new.pass) _ c.look_up.ensures.own.call c.look_up.ensures.under.learns (stands_learns _ (state c.look_up.new.pass) (state c.compute_life.new.pass) c.in-Err-compute_life.ensures.only.stands)
 
 pub returns-in-Err-compute_life-clause-halted : goal.returns-in-Err-compute_life-clause-halted
-returns-in-Err-compute_life-clause-halted g c = let o = c.args.recipe.now in let k = (goal.Recipe-dyn g (o.vtable, o.value)).told_kind o.value in let n = (goal.Recipe-dyn g (o.vtable, o.value)).told_argument o.value in unlocked (sizes c.args.table.now) (call_of c.args.pass.now) c.args.key.now (state c.args.pass.now) (state c.look_up.new.pass) (state c.compute_life.new.pass) _ c.look_up.ensures.own.call c.look_up.ensures.under.learns c.args.pin.now.room c.in-Present.entry.0 c.in-Present.header c.in-Present.generation c.in-Present.ensures.spot (Upsert c.args.value.now k n) tt tt c.in-Err-compute_life.ensures.only.stands.met c.in-Err-compute_life.field-0 c.in-Err-compute_life.ensures.refused
+returns-in-Err-compute_life-clause-halted g c = let o = c.args.recipe.now in let k = (goal.Recipe-dyn g (o.vtable, o.value)).told_kind o.value in let n = (goal.Recipe-dyn g (o.vtable, o.value)).told_argument o.value in unlocked (sizes c.args.table.now) (call_of c.args.pass.now) c.args.key.now (state c.args.pass.now) (state c.look_up.new.pass) (state c.compute_life.new.pass) _ c.look_up.ensures.own.call c.look_up.ensures.under.learns c.args.pin.now.room c.in-Present.entry.0 c.in-Present.home.header c.in-Present.home.generation c.in-Present.ensures.spot (Upsert c.args.value.now k n) tt tt c.in-Err-compute_life.ensures.only.stands.met c.in-Err-compute_life.field-0 c.in-Err-compute_life.ensures.refused
 
 pub returns-in-Ok-clause-alone : goal.returns-in-Ok-clause-alone
 returns-in-Ok-clause-alone g c = let z = sizes c.args.table.now in let r = c.args.pin.now.room in let v = state c.args.pass.now in let u = state c.look_up.new.pass in let w = state c.insert.new.pass in
@@ -57,10 +57,10 @@ returns-in-Err-clause-alone g c = let z = sizes c.args.table.now in let r = c.ar
 
 pub returns-in-Ok-compute_life-clause-alone : goal.returns-in-Ok-compute_life-clause-alone
 returns-in-Ok-compute_life-clause-alone g c = let z = sizes c.args.table.now in let r = c.args.pin.now.room in let v = state c.args.pass.now in let u = state c.look_up.new.pass in let w = state c.compute_life.new.pass in
-    life_keeps z r c.in-Present.header c.in-Present.generation c.in-Present.entry c.args.key.now v u w c.in-Present.ensures.alone c.in-Ok-compute_life.ensures.alone_kept
+    life_keeps z r c.in-Present.home.header c.in-Present.home.generation c.in-Present.entry c.args.key.now v u w c.in-Present.ensures.alone c.in-Ok-compute_life.ensures.alone_kept
 
 pub returns-in-Err-compute_life-clause-alone : goal.returns-in-Err-compute_life-clause-alone
-returns-in-Err-compute_life-clause-alone g c = lock_refused (sizes c.args.table.now) c.args.pin.now.room c.in-Present.header c.in-Present.generation c.in-Present.entry c.args.key.now c.args.value.now Busy (state c.args.pass.now) (state c.look_up.new.pass) (state c.compute_life.new.pass)
+returns-in-Err-compute_life-clause-alone g c = lock_refused (sizes c.args.table.now) c.args.pin.now.room c.in-Present.home.header c.in-Present.home.generation c.in-Present.entry c.args.key.now c.args.value.now Busy (state c.args.pass.now) (state c.look_up.new.pass) (state c.compute_life.new.pass)
     c.in-Present.ensures.alone c.in-Present.ensures.spot.has (c.look_up.ensures.under.headers ∙ c.requires.headers) c.in-Err-compute_life.ensures.alone
 
 -- what the recipe was fed
@@ -73,4 +73,4 @@ returns-in-Ok-clause-alone_left g c = let z = sizes c.args.table.now in let r = 
 
 pub returns-in-Ok-compute_life-clause-alone_left : goal.returns-in-Ok-compute_life-clause-alone_left
 returns-in-Ok-compute_life-clause-alone_left g c = let z = sizes c.args.table.now in let r = c.args.pin.now.room in let v = state c.args.pass.now in let u = state c.look_up.new.pass in let w = state c.compute_life.new.pass in
-    rewrites_key z r c.in-Present.header c.in-Present.generation c.in-Present.entry c.args.key.now v u w c.in-Present.ensures.alone c.in-Ok-compute_life.at c.in-Ok-compute_life.ensures.alone_rewrites
+    rewrites_key z r c.in-Present.home.header c.in-Present.home.generation c.in-Present.entry c.args.key.now v u w c.in-Present.ensures.alone c.in-Ok-compute_life.at c.in-Ok-compute_life.ensures.alone_rewrites

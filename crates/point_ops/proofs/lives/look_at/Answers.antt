@@ -11,55 +11,55 @@ use Rattle.point_ops.proofs.LookedLives.{dud_only, live_found, live_knows, live_
 use Rattle.point_ops.proofs.lives.look_at.Goals as goal
 
 pub returns-in-Ok-clause-only : goal.returns-in-Ok-clause-only
-returns-in-Ok-clause-only c = live_only (sizes c.args.table.now) (call_of c.args.pass.now) c.args.header c.args.generation c.stamp_under.result (state c.args.pass.now) (state c.pin_at.new.pass) (state c.stamp_under.new.pass) c.requires.none c.in-Ok.ensures.good.2
+returns-in-Ok-clause-only c = live_only (sizes c.args.table.now) (call_of c.args.pass.now) c.args.home.header c.args.home.generation c.stamp_under.result (state c.args.pass.now) (state c.pin_at.new.pass) (state c.stamp_under.new.pass) c.requires.none c.in-Ok.ensures.good.2
     (call_of c.pin_at.new.pass) c.in-Ok.pin.header c.in-Ok.pin.generation c.pin_at.ensures.own.call c.in-Ok.ensures.good.0 c.in-Ok.ensures.good.1 c.stamp_under.ensures.reads
 
 pub returns-in-Ok-clause-knows : goal.returns-in-Ok-clause-knows
-returns-in-Ok-clause-knows c = live_knows (sizes c.args.table.now) (call_of c.args.pass.now) c.args.header c.args.generation c.stamp_under.result (state c.args.pass.now) (state c.pin_at.new.pass) (state c.stamp_under.new.pass) c.requires.none c.in-Ok.ensures.good.2
+returns-in-Ok-clause-knows c = live_knows (sizes c.args.table.now) (call_of c.args.pass.now) c.args.home.header c.args.home.generation c.stamp_under.result (state c.args.pass.now) (state c.pin_at.new.pass) (state c.stamp_under.new.pass) c.requires.none c.in-Ok.ensures.good.2
     (call_of c.pin_at.new.pass) c.in-Ok.pin.header c.in-Ok.pin.generation c.pin_at.ensures.own.call c.in-Ok.ensures.good.0 c.in-Ok.ensures.good.1 c.stamp_under.ensures.reads
 
 pub returns-in-Ok-clause-looked : goal.returns-in-Ok-clause-looked
 returns-in-Ok-clause-looked c = (
-  live_found (sizes c.args.table.now) (call_of c.args.pass.now) c.args.header c.args.generation c.stamp_under.result (state c.args.pass.now) (state c.pin_at.new.pass) (state c.stamp_under.new.pass) c.requires.none c.in-Ok.ensures.good.2
+  live_found (sizes c.args.table.now) (call_of c.args.pass.now) c.args.home.header c.args.home.generation c.stamp_under.result (state c.args.pass.now) (state c.pin_at.new.pass) (state c.stamp_under.new.pass) c.requires.none c.in-Ok.ensures.good.2
       (call_of c.pin_at.new.pass) c.in-Ok.pin.header c.in-Ok.pin.generation c.pin_at.ensures.own.call c.in-Ok.ensures.good.0 c.in-Ok.ensures.good.1 c.stamp_under.ensures.reads,
-  live_reads (sizes c.args.table.now) (call_of c.args.pass.now) c.args.header c.args.generation c.stamp_under.result (state c.args.pass.now) (state c.pin_at.new.pass) (state c.stamp_under.new.pass) c.requires.none c.in-Ok.ensures.good.2
+  live_reads (sizes c.args.table.now) (call_of c.args.pass.now) c.args.home.header c.args.home.generation c.stamp_under.result (state c.args.pass.now) (state c.pin_at.new.pass) (state c.stamp_under.new.pass) c.requires.none c.in-Ok.ensures.good.2
       (call_of c.pin_at.new.pass) c.in-Ok.pin.header c.in-Ok.pin.generation c.pin_at.ensures.own.call c.in-Ok.ensures.good.0 c.in-Ok.ensures.good.1 c.stamp_under.ensures.reads,
 )
 
 pub returns-in-Err-Dead-clause-only : goal.returns-in-Err-Dead-clause-only
-returns-in-Err-Dead-clause-only c = dud_only (sizes c.args.table.now) (call_of c.args.pass.now) c.args.header c.args.generation c.in-Err-Dead.field-0 (state c.args.pass.now) (state c.pin_at.new.pass) c.in-Err-Dead.ensures.bad
+returns-in-Err-Dead-clause-only c = dud_only (sizes c.args.table.now) (call_of c.args.pass.now) c.args.home.header c.args.home.generation c.in-Err-Dead.field-0 (state c.args.pass.now) (state c.pin_at.new.pass) c.in-Err-Dead.ensures.bad
 
 pub returns-in-Err-Dead-clause-looked : goal.returns-in-Err-Dead-clause-looked
-returns-in-Err-Dead-clause-looked c = let z = sizes c.args.table.now in let call = call_of c.args.pass.now in let h = c.args.header in let g = c.args.generation in let v = state c.args.pass.now in let w = state c.pin_at.new.pass in
+returns-in-Err-Dead-clause-looked c = let z = sizes c.args.table.now in let call = call_of c.args.pass.now in let h = c.args.home.header in let g = c.args.home.generation in let v = state c.args.pass.now in let w = state c.pin_at.new.pass in
     let d = subst (λ (why : BadPin). PinsDud z call h g why v w) c.in-Err-Dead.field-0-is c.in-Err-Dead.ensures.bad in
     (dud_found z call h g (Dead c.in-Err-Dead.stamp) v w (IsDeadAt g) c.requires.none d (λ n x. x), λ key knows past named. dead_read z call h g c.in-Err-Dead.stamp v w d key knows past named)
 
 pub returns-in-Err-Locked-clause-only : goal.returns-in-Err-Locked-clause-only
-returns-in-Err-Locked-clause-only c = dud_only (sizes c.args.table.now) (call_of c.args.pass.now) c.args.header c.args.generation c.in-Err-Locked.field-0 (state c.args.pass.now) (state c.pin_at.new.pass) c.in-Err-Locked.ensures.bad
+returns-in-Err-Locked-clause-only c = dud_only (sizes c.args.table.now) (call_of c.args.pass.now) c.args.home.header c.args.home.generation c.in-Err-Locked.field-0 (state c.args.pass.now) (state c.pin_at.new.pass) c.in-Err-Locked.ensures.bad
 
 pub returns-in-Err-Locked-clause-refused : goal.returns-in-Err-Locked-clause-refused
-returns-in-Err-Locked-clause-refused c = let z = sizes c.args.table.now in let call = call_of c.args.pass.now in let h = c.args.header in let g = c.args.generation in let v = state c.args.pass.now in let w = state c.pin_at.new.pass in
+returns-in-Err-Locked-clause-refused c = let z = sizes c.args.table.now in let call = call_of c.args.pass.now in let h = c.args.home.header in let g = c.args.home.generation in let v = state c.args.pass.now in let w = state c.pin_at.new.pass in
     (refl, dud_found z call h g Locked v w (IsLockedOut g) c.requires.none (subst (λ (why : BadPin). PinsDud z call h g why v w) c.in-Err-Locked.field-0-is c.in-Err-Locked.ensures.bad) (λ n x. inl x.1))
 
 pub returns-in-Err-Other-clause-only : goal.returns-in-Err-Other-clause-only
-returns-in-Err-Other-clause-only c = dud_only (sizes c.args.table.now) (call_of c.args.pass.now) c.args.header c.args.generation c.in-Err-Other.field-0 (state c.args.pass.now) (state c.pin_at.new.pass) c.in-Err-Other.ensures.bad
+returns-in-Err-Other-clause-only c = dud_only (sizes c.args.table.now) (call_of c.args.pass.now) c.args.home.header c.args.home.generation c.in-Err-Other.field-0 (state c.args.pass.now) (state c.pin_at.new.pass) c.in-Err-Other.ensures.bad
 
 pub returns-in-Err-Other-clause-refused : goal.returns-in-Err-Other-clause-refused
-returns-in-Err-Other-clause-refused c = let z = sizes c.args.table.now in let call = call_of c.args.pass.now in let h = c.args.header in let g = c.args.generation in let v = state c.args.pass.now in let w = state c.pin_at.new.pass in
+returns-in-Err-Other-clause-refused c = let z = sizes c.args.table.now in let call = call_of c.args.pass.now in let h = c.args.home.header in let g = c.args.home.generation in let v = state c.args.pass.now in let w = state c.pin_at.new.pass in
     (refl, dud_found z call h g Other v w (IsLockedOut g) c.requires.none (subst (λ (why : BadPin). PinsDud z call h g why v w) c.in-Err-Other.field-0-is c.in-Err-Other.ensures.bad) (λ n x. inr x))
 
 pub returns-in-Ok-clause-alone : goal.returns-in-Ok-clause-alone
-returns-in-Ok-clause-alone c = (live_only (sizes c.args.table.now) (call_of c.args.pass.now) c.args.header c.args.generation c.stamp_under.result (state c.args.pass.now) (state c.pin_at.new.pass) (state c.stamp_under.new.pass) c.requires.none c.in-Ok.ensures.good.2
+returns-in-Ok-clause-alone c = (live_only (sizes c.args.table.now) (call_of c.args.pass.now) c.args.home.header c.args.home.generation c.stamp_under.result (state c.args.pass.now) (state c.pin_at.new.pass) (state c.stamp_under.new.pass) c.requires.none c.in-Ok.ensures.good.2
     (call_of c.pin_at.new.pass) c.in-Ok.pin.header c.in-Ok.pin.generation c.pin_at.ensures.own.call c.in-Ok.ensures.good.0 c.in-Ok.ensures.good.1 c.stamp_under.ensures.reads).still
 
 pub returns-in-Err-Dead-clause-alone : goal.returns-in-Err-Dead-clause-alone
-returns-in-Err-Dead-clause-alone c = let z = sizes c.args.table.now in let call = call_of c.args.pass.now in let h = c.args.header in let g = c.args.generation in let v = state c.args.pass.now in let w = state c.pin_at.new.pass in
+returns-in-Err-Dead-clause-alone c = let z = sizes c.args.table.now in let call = call_of c.args.pass.now in let h = c.args.home.header in let g = c.args.home.generation in let v = state c.args.pass.now in let w = state c.pin_at.new.pass in
     dud_alone z call h g (Dead c.in-Err-Dead.stamp) v w (subst (λ (why : BadPin). PinsDud z call h g why v w) c.in-Err-Dead.field-0-is c.in-Err-Dead.ensures.bad)
 
 pub returns-in-Err-Locked-clause-alone_refused : goal.returns-in-Err-Locked-clause-alone_refused
-returns-in-Err-Locked-clause-alone_refused c = let z = sizes c.args.table.now in let call = call_of c.args.pass.now in let h = c.args.header in let g = c.args.generation in let v = state c.args.pass.now in let w = state c.pin_at.new.pass in
+returns-in-Err-Locked-clause-alone_refused c = let z = sizes c.args.table.now in let call = call_of c.args.pass.now in let h = c.args.home.header in let g = c.args.home.generation in let v = state c.args.pass.now in let w = state c.pin_at.new.pass in
     refused_look z call h g v w Locked (locked_not g) (subst (λ (why : BadPin). PinsDud z call h g why v w) c.in-Err-Locked.field-0-is c.in-Err-Locked.ensures.bad)
 
 pub returns-in-Err-Other-clause-alone_refused : goal.returns-in-Err-Other-clause-alone_refused
-returns-in-Err-Other-clause-alone_refused c = let z = sizes c.args.table.now in let call = call_of c.args.pass.now in let h = c.args.header in let g = c.args.generation in let v = state c.args.pass.now in let w = state c.pin_at.new.pass in
+returns-in-Err-Other-clause-alone_refused c = let z = sizes c.args.table.now in let call = call_of c.args.pass.now in let h = c.args.home.header in let g = c.args.home.generation in let v = state c.args.pass.now in let w = state c.pin_at.new.pass in
     refused_look z call h g v w Other (other_not g) (subst (λ (why : BadPin). PinsDud z call h g why v w) c.in-Err-Other.field-0-is c.in-Err-Other.ensures.bad)

@@ -8,4 +8,4 @@ use Rattle.point_ops.proofs.puts.keep_life.Goals as goal
 
 pub returns-in-Ok-Dead-clause-alone_refused : goal.returns-in-Ok-Dead-clause-alone_refused
 returns-in-Ok-Dead-clause-alone_refused c = let z = sizes c.args.table.now in let v = state c.args.pass.now in let w = state c.look_at.new.pass in
-    dead_refused z c.args.header c.args.generation v w (subst (λ (x : Life). Runs (LifeIn x z c.args.header c.args.generation v) v w) c.in-Ok-Dead.field-0-is c.in-Ok-Dead.ensures.alone)
+    dead_refused z c.args.home.header c.args.home.generation v w (subst (λ (x : Life). Runs (LifeIn x z c.args.home.header c.args.home.generation v) v w) c.in-Ok-Dead.field-0-is c.in-Ok-Dead.ensures.alone)

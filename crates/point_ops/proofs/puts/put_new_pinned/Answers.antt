@@ -45,7 +45,7 @@ pub returns-in-Present-clause-learns : goal.returns-in-Present-clause-learns
 returns-in-Present-clause-learns c = err_map _ _ c.keep_life.result (λ why x. looked_learns (sizes c.args.table.now) (call_of c.args.pass.now) c.args.key.now (state c.args.pass.now) (state c.look_up.new.pass) (state c.keep_life.new.pass) _ c.look_up.ensures.own.call c.look_up.ensures.under.learns c.keep_life.ensures.only.learns) c.keep_life.ensures.refused
 
 pub returns-in-Present-clause-halted : goal.returns-in-Present-clause-halted
-returns-in-Present-clause-halted c = err_map _ _ c.keep_life.result (λ why x. subst (λ (y : Halt). Halts y (sizes c.args.table.now) (call_of c.args.pass.now) c.args.key.now (PutNew c.args.value.now) (state c.args.pass.now) (state c.keep_life.new.pass)) (sym x.0) (out_or_dead (sizes c.args.table.now) (call_of c.args.pass.now) c.args.key.now (state c.args.pass.now) (state c.look_up.new.pass) (state c.keep_life.new.pass) _ c.look_up.ensures.own.call c.look_up.ensures.under.learns c.args.pin.now.room c.in-Present.entry.0 c.in-Present.header c.in-Present.generation c.in-Present.ensures.spot (PutNew c.args.value.now) tt c.keep_life.ensures.only.learns.met x.1)) c.keep_life.ensures.refused
+returns-in-Present-clause-halted c = err_map _ _ c.keep_life.result (λ why x. subst (λ (y : Halt). Halts y (sizes c.args.table.now) (call_of c.args.pass.now) c.args.key.now (PutNew c.args.value.now) (state c.args.pass.now) (state c.keep_life.new.pass)) (sym x.0) (out_or_dead (sizes c.args.table.now) (call_of c.args.pass.now) c.args.key.now (state c.args.pass.now) (state c.look_up.new.pass) (state c.keep_life.new.pass) _ c.look_up.ensures.own.call c.look_up.ensures.under.learns c.args.pin.now.room c.in-Present.entry.0 c.in-Present.home.header c.in-Present.home.generation c.in-Present.ensures.spot (PutNew c.args.value.now) tt c.keep_life.ensures.only.learns.met x.1)) c.keep_life.ensures.refused
 
 pub returns-in-Ok-clause-alone : goal.returns-in-Ok-clause-alone
 returns-in-Ok-clause-alone c = let z = sizes c.args.table.now in let r = c.args.pin.now.room in let v = state c.args.pass.now in let u = state c.look_up.new.pass in let w = state c.insert.new.pass in
@@ -56,7 +56,7 @@ returns-in-Err-clause-alone c = let z = sizes c.args.table.now in let r = c.args
     away_inserts z r c.args.key.now c.args.value.now c.in-Absent.entry c.in-Absent.floor v u w (Err c.in-Err.halt) c.in-Absent.ensures.alone (c.in-Err.ensures.alone c.in-Absent.ensures.base)
 
 pub returns-in-Present-clause-alone : goal.returns-in-Present-clause-alone
-returns-in-Present-clause-alone c = look_keeps (sizes c.args.table.now) c.args.pin.now.room c.in-Present.header c.in-Present.generation c.in-Present.entry c.args.key.now c.args.value.now (state c.args.pass.now) (state c.look_up.new.pass) (state c.keep_life.new.pass)
+returns-in-Present-clause-alone c = look_keeps (sizes c.args.table.now) c.args.pin.now.room c.in-Present.home.header c.in-Present.home.generation c.in-Present.entry c.args.key.now c.args.value.now (state c.args.pass.now) (state c.look_up.new.pass) (state c.keep_life.new.pass)
     c.in-Present.ensures.alone c.in-Present.ensures.spot.has (c.look_up.ensures.under.headers ∙ c.requires.headers) c.keep_life.result c.keep_life.ensures.alone c.keep_life.ensures.alone_refused
 
 pub returns-in-Ok-clause-alone_left : goal.returns-in-Ok-clause-alone_left
@@ -65,4 +65,4 @@ returns-in-Ok-clause-alone_left c = let z = sizes c.args.table.now in let r = c.
 
 pub returns-in-Present-clause-alone_left : goal.returns-in-Present-clause-alone_left
 returns-in-Present-clause-alone_left c = let z = sizes c.args.table.now in let r = c.args.pin.now.room in let v = state c.args.pass.now in let u = state c.look_up.new.pass in let w = state c.keep_life.new.pass in let key = c.args.key.now in let value = c.args.value.now in
-    ok_map _ _ c.keep_life.result (λ y left. stays_then (PutLeavesUnder y z r key value) v u w (spot_stays z r key (Present c.in-Present.entry c.in-Present.header c.in-Present.generation) v u c.in-Present.ensures.alone) (left r key value)) c.keep_life.ensures.alone_left
+    ok_map _ _ c.keep_life.result (λ y left. stays_then (PutLeavesUnder y z r key value) v u w (spot_stays z r key (Present c.in-Present.entry c.in-Present.home) v u c.in-Present.ensures.alone) (left r key value)) c.keep_life.ensures.alone_left

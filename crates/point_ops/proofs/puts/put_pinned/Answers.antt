@@ -29,13 +29,13 @@ pub returns-in-Err-clause-halted : goal.returns-in-Err-clause-halted
 returns-in-Err-clause-halted c = uninserted (sizes c.args.table.now) (call_of c.args.pass.now) c.args.key.now (state c.args.pass.now) (state c.look_up.new.pass) (state c.insert.new.pass) _ c.look_up.ensures.own.call c.look_up.ensures.under.learns c.args.pin.now.room c.in-Absent.entry c.in-Absent.floor c.in-Absent.ensures.spot c.args.value.now (Put c.args.value.now) refl tt c.look_up.ensures.quiet c.in-Err.ensures.learns c.in-Err.halt c.in-Err.ensures.halted
 
 pub returns-in-Ok-overwrite-clause-got : goal.returns-in-Ok-overwrite-clause-got
-returns-in-Ok-overwrite-clause-got c = let x = c.in-Ok-overwrite.ensures.wrote c.args.key.now c.in-Present.ensures.spot.life in rewrote (sizes c.args.table.now) (call_of c.args.pass.now) c.args.key.now (state c.args.pass.now) (state c.look_up.new.pass) (state c.overwrite.new.pass) _ c.look_up.ensures.own.call c.look_up.ensures.under.learns c.args.pin.now.room c.in-Present.entry.0 c.in-Present.header c.in-Present.generation c.in-Present.ensures.spot kinds.Put (Put c.args.value.now) replies.Over c.in-Ok-overwrite.at x.0 (Some c.args.value.now) refl refl refl x.1
+returns-in-Ok-overwrite-clause-got c = let x = c.in-Ok-overwrite.ensures.wrote c.args.key.now c.in-Present.ensures.spot.life in rewrote (sizes c.args.table.now) (call_of c.args.pass.now) c.args.key.now (state c.args.pass.now) (state c.look_up.new.pass) (state c.overwrite.new.pass) _ c.look_up.ensures.own.call c.look_up.ensures.under.learns c.args.pin.now.room c.in-Present.entry.0 c.in-Present.home.header c.in-Present.home.generation c.in-Present.ensures.spot kinds.Put (Put c.args.value.now) replies.Over c.in-Ok-overwrite.at x.0 (Some c.args.value.now) refl refl refl x.1
 
 pub returns-in-Err-overwrite-clause-learns : goal.returns-in-Err-overwrite-clause-learns
 returns-in-Err-overwrite-clause-learns c = looked_learns (sizes c.args.table.now) (call_of c.args.pass.now) c.args.key.now (state c.args.pass.now) (state c.look_up.new.pass) (state c.overwrite.new.pass) _ c.look_up.ensures.own.call c.look_up.ensures.under.learns c.in-Err-overwrite.ensures.learns
 
 pub returns-in-Err-overwrite-clause-halted : goal.returns-in-Err-overwrite-clause-halted
-returns-in-Err-overwrite-clause-halted c = unput (sizes c.args.table.now) (call_of c.args.pass.now) c.args.key.now (state c.args.pass.now) (state c.look_up.new.pass) (state c.overwrite.new.pass) _ c.look_up.ensures.own.call c.look_up.ensures.under.learns c.args.pin.now.room c.in-Present.entry.0 c.in-Present.header c.in-Present.generation c.in-Present.ensures.spot c.args.value.now (Put c.args.value.now) tt tt puts c.look_up.ensures.quiet c.in-Err-overwrite.ensures.learns c.in-Err-overwrite.halt c.in-Err-overwrite.ensures.halted
+returns-in-Err-overwrite-clause-halted c = unput (sizes c.args.table.now) (call_of c.args.pass.now) c.args.key.now (state c.args.pass.now) (state c.look_up.new.pass) (state c.overwrite.new.pass) _ c.look_up.ensures.own.call c.look_up.ensures.under.learns c.args.pin.now.room c.in-Present.entry.0 c.in-Present.home.header c.in-Present.home.generation c.in-Present.ensures.spot c.args.value.now (Put c.args.value.now) tt tt puts c.look_up.ensures.quiet c.in-Err-overwrite.ensures.learns c.in-Err-overwrite.halt c.in-Err-overwrite.ensures.halted
   where
     puts : (s : State) → state_after s (Put c.args.value.now) ≡ Some c.args.value.now
     puts None = refl
@@ -51,11 +51,11 @@ returns-in-Err-clause-alone c = let z = sizes c.args.table.now in let r = c.args
 
 pub returns-in-Ok-overwrite-clause-alone : goal.returns-in-Ok-overwrite-clause-alone
 returns-in-Ok-overwrite-clause-alone c = let z = sizes c.args.table.now in let r = c.args.pin.now.room in let v = state c.args.pass.now in let u = state c.look_up.new.pass in let w = state c.overwrite.new.pass in
-    life_keeps z r c.in-Present.header c.in-Present.generation c.in-Present.entry c.args.key.now v u w c.in-Present.ensures.alone (c.in-Ok-overwrite.ensures.alone_kept r c.look_up.ensures.under.pin.has)
+    life_keeps z r c.in-Present.home.header c.in-Present.home.generation c.in-Present.entry c.args.key.now v u w c.in-Present.ensures.alone (c.in-Ok-overwrite.ensures.alone_kept r c.look_up.ensures.under.pin.has)
 
 pub returns-in-Err-overwrite-clause-alone : goal.returns-in-Err-overwrite-clause-alone
 returns-in-Err-overwrite-clause-alone c = let z = sizes c.args.table.now in let r = c.args.pin.now.room in let v = state c.args.pass.now in let u = state c.look_up.new.pass in let w = state c.overwrite.new.pass in
-    over_refused z r c.in-Present.header c.in-Present.generation c.in-Present.entry c.args.key.now v u w c.in-Present.ensures.alone c.args.value.now c.in-Present.ensures.spot.has (c.look_up.ensures.under.headers ∙ c.requires.headers)
+    over_refused z r c.in-Present.home.header c.in-Present.home.generation c.in-Present.entry c.args.key.now v u w c.in-Present.ensures.alone c.args.value.now c.in-Present.ensures.spot.has (c.look_up.ensures.under.headers ∙ c.requires.headers)
     c.in-Err-overwrite.halt (c.in-Err-overwrite.ensures.alone r c.look_up.ensures.under.pin.has)
 
 pub returns-in-Ok-clause-alone_left : goal.returns-in-Ok-clause-alone_left
@@ -64,4 +64,4 @@ returns-in-Ok-clause-alone_left c = let z = sizes c.args.table.now in let r = c.
 
 pub returns-in-Ok-overwrite-clause-alone_left : goal.returns-in-Ok-overwrite-clause-alone_left
 returns-in-Ok-overwrite-clause-alone_left c = let z = sizes c.args.table.now in let r = c.args.pin.now.room in let v = state c.args.pass.now in let u = state c.look_up.new.pass in let w = state c.overwrite.new.pass in
-    over_key z r c.in-Present.header c.in-Present.generation c.in-Present.entry c.args.key.now c.args.value.now c.in-Ok-overwrite.at v u w c.in-Present.ensures.alone (c.in-Ok-overwrite.ensures.alone_over r c.look_up.ensures.under.pin.has)
+    over_key z r c.in-Present.home.header c.in-Present.home.generation c.in-Present.entry c.args.key.now c.args.value.now c.in-Ok-overwrite.at v u w c.in-Present.ensures.alone (c.in-Ok-overwrite.ensures.alone_over r c.look_up.ensures.under.pin.has)
