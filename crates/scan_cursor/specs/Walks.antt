@@ -60,12 +60,12 @@ pub record IsWalk (way : Way) (low high : ℕ) (c : Course) : Type 0 where
   pub ahead : c.walk.gathered ≡ true → AreAhead way c.view c.walk.mark.key c.walk.bound c.left
 
 -- The pass is one of the table and holds nothing, and its scan between the two keys has not ended.
-pub record MayGoOn (way : Way) (low high : List ℕ) (t : OakTable) (w : Walk) (p : Pass) : Type 0 where
+pub record MayGoOn (way : Way) (from to : List ℕ) (t : OakTable) (w : Walk) (p : Pass) : Type 0 where
   pub own : IsPassOf t p
   pub idle : HoldsNothing (state p)
-  pub low : is_key low ≡ true
-  pub high : is_key high ≡ true
-  pub walk : IsWalk way (key_number low) (key_number high) (course_of way (sizes t) w p)
+  pub low : is_key from ≡ true
+  pub high : is_key to ≡ true
+  pub walk : IsWalk way (key_number from) (key_number to) (course_of way (sizes t) w p)
   pub going : w.mark.ended ≡ false
 
 -- the pairs so far are those of the keys that are read, and of the keys ahead in the room each is one of those left, or was read absent

@@ -1,4 +1,4 @@
-use Rattle.std.proofs.Common.{◌≡◌, ◌∙◌, length}
+use Rattle.std.proofs.Common.{◌≡◌, ◌∙◌, length, rules}
 use Rattle.chunk_ops.specs.declared.stored.TheConstants.{KEY_WORDS}
 use Rattle.scan_cursor.proofs.SlotLaws.{slot_key}
 use Rattle.scan_cursor.proofs.walking.key_of.Goals as goal
