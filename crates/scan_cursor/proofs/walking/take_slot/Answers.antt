@@ -32,7 +32,7 @@ returns-in-Absent-clause-steps c = let q = c.requires in let n = c.next_slot-slo
 pub returns-in-Again-clause-steps : goal.returns-in-Again-clause-steps
 returns-in-Again-clause-steps c = let q = c.requires in let n = c.next_slot-slot.ensures in let e = c.in-Again.ensures in let key = c.as_slice.ensures ∙ c.key_of-key.ensures in
     slot_waits c.args.way _ _ (sizes c.args.table.now) c.args.walk.now c.next_slot-slot.new.walk c.args.pass.now c.next_slot-slot.result n.mark n.gathered n.bound n.few n.taken q.on.walk q.on.going q.past q.gathered c.read_life.new.pass c.key_of-key.result c.key_of-key.ensures
-    e.own e.later (subst (λ (k : List ℕ). IsBeyond c.args.way (key_number c.args.low.now) (key_number c.args.high.now) k → ⊥) key c.if-is_beyond.ensures) (here_as Again _ _ _ _ _ _ c.header_in.ensures c.generation_in.ensures e.here)
+    e.own e.later (subst (λ (k : List ℕ). IsBeyond c.args.way (key_number c.args.low.now) (key_number c.args.high.now) k → ⊥) key c.if-is_beyond.ensures) (here_as Again _ _ _ _ (view_at (sizes c.args.table.now) c.args.pass.now) (view_at (sizes c.args.table.now) c.read_life.new.pass) c.header_in.ensures c.generation_in.ensures e.here)
 
 pub returns-in-Absent-clause-nearer : goal.returns-in-Absent-clause-nearer
 returns-in-Absent-clause-nearer c is = let q = c.requires in let n = c.next_slot-slot.ensures in let x = c.next_slot-slot.new.walk in
