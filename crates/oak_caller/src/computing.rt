@@ -1,5 +1,5 @@
 //! Computes, with a recipe or by a sum.
-ghost use Rattle.std.specs.Prelude.{◌≡◌, ◌+◌, ◌-◌, ◌^◌, ⊥, Err, IfOk, Ok, OnErr, OnOk};
+ghost use Rattle.std.specs.Prelude.{◌≡◌, ◌+◌, ◌-◌, ◌^◌, Err, IfOk, Ok, OnErr, OnOk};
 ghost use Rattle.std.specs.Int.{w64, to_be_bytes};
 ghost use Rattle.oak_model.specs.declared.cells.CellCall.TheVariants.{Compute, Upsert};
 ghost use Rattle.oak_model.specs.declared.recipes.RecipeKind.TheVariants.{Add};
