@@ -121,7 +121,6 @@ impl<R: Wait + Drop + Send> Caller<'_, R> {
         ensures puts { IfOk result (λ y. Puts y (sizes_of self.old) (last_of self.old + 1) key.now
             (Upsert (to_be_bytes w64 number) Add number) (state_of self.old) (state_of self.new)) }
         ensures worn { result ≡ Err (refusals.WornOut worn.Caller) → last_of self.old ≡ 2 ^ 32 - 1 }
-        ensures worn_recipe { result ≡ Err (refusals.WornOut worn.Recipe) → ⊥ }
         ensures nothing { OnErr result (self.new ≡ self.old) }
     {
         let mut recipe: Box<dyn Recipe + Send> = Box::new(rt.alloc(), StepRecipe::make())?;
