@@ -33,8 +33,6 @@ mod row_tests;
 mod settling;
 mod showing;
 #[cfg(test)]
-mod shared_tests;
-#[cfg(test)]
 mod test_calls;
 #[cfg(test)]
 mod tests;
