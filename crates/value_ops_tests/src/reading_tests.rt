@@ -89,6 +89,25 @@ fn copy_is(rt: &impl Abort, reading: &mut Reading<'_>, bytes: &[u8])
     }
 }
 
+/// A copy of its front, of at most five bytes, is that of these bytes, and the place behind it stays as it was.
+fn prefix_is(rt: &impl Abort, reading: &mut Reading<'_>, bytes: &[u8])
+    requires { IsReading reading.old }
+    ensures same_reference { reading.new.pass.ghost_name ≡ reading.old.pass.ghost_name }
+    ensures reads { ReadsOn reading.old reading.new }
+{
+    let mut copy = [7; 5];
+    let many = reading.copy_prefix(&mut copy);
+    assert_eq!(rt; many, bytes.len().min(5));
+    for i in 0..5 {
+        let wanted = if i < many && i < bytes.len() {
+            bytes[i]
+        } else {
+            7
+        };
+        assert_eq!(rt; copy[i], wanted);
+    }
+}
+
 /// It is exactly these bytes, as a whole and in its parts.
 fn whole_is(rt: &impl Abort, reading: &mut Reading<'_>, bytes: &[u8], front: u64)
     requires { IsReading reading.old }
@@ -98,6 +117,7 @@ fn whole_is(rt: &impl Abort, reading: &mut Reading<'_>, bytes: &[u8], front: u64
     same_is(rt, reading, bytes);
     front_is(rt, reading, front);
     copy_is(rt, reading, bytes);
+    prefix_is(rt, reading, bytes);
 }
 
 /// Its third byte is that of these bytes, where they are three or more.
