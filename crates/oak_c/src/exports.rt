@@ -1,5 +1,5 @@
 //! The call that C makes.
-ghost use Rattle.std.specs.Prelude.{◌≡◌, ◌≢◌, ◌↔◌, ◌×◌, ⊥};
+ghost use Rattle.std.specs.Prelude.{◌≡◌, ◌≢◌, ◌↔◌};
 ghost use Rattle.oak_model.specs.Key.{IsKey};
 ghost use Rattle.oak_model.specs.Value.{IsValue};
 

@@ -108,8 +108,21 @@ fn prefix_is(rt: &impl Abort, reading: &mut Reading<'_>, bytes: &[u8])
     }
 }
 
+/// A copy of it in a vector is these bytes.
+fn vector_is(rt: &impl Abort, alloc: Global, reading: &mut Reading<'_>, bytes: &[u8])
+    requires { IsReading reading.old }
+    ensures same_reference { reading.new.pass.ghost_name ≡ reading.old.pass.ghost_name }
+    ensures reads { ReadsOn reading.old reading.new }
+{
+    let Ok(copy) = reading.to_vec(alloc) else {
+        assert!(rt; false);
+        return;
+    };
+    assert!(rt; *copy.as_slice() == *bytes);
+}
+
 /// It is exactly these bytes, as a whole and in its parts.
-fn whole_is(rt: &impl Abort, reading: &mut Reading<'_>, bytes: &[u8], front: u64)
+fn whole_is<R: Abort + AllocGlobal>(rt: &R, reading: &mut Reading<'_>, bytes: &[u8], front: u64)
     requires { IsReading reading.old }
     ensures same_reference { reading.new.pass.ghost_name ≡ reading.old.pass.ghost_name }
     ensures reads { ReadsOn reading.old reading.new }
@@ -118,6 +131,7 @@ fn whole_is(rt: &impl Abort, reading: &mut Reading<'_>, bytes: &[u8], front: u64
     front_is(rt, reading, front);
     copy_is(rt, reading, bytes);
     prefix_is(rt, reading, bytes);
+    vector_is(rt, rt.alloc(), reading, bytes);
 }
 
 /// Its third byte is that of these bytes, where they are three or more.
@@ -134,8 +148,8 @@ fn third_is(rt: &impl Abort, reading: &mut Reading<'_>, bytes: &[u8])
 
 /// Reads the value of a fresh header: exactly these bytes, at this stamp, which is also the number that
 /// the first eight of eight make.
-fn value_is(
-    rt: &impl Abort,
+fn value_is<R: Abort + AllocGlobal>(
+    rt: &R,
     table: &OakTable,
     pass: &mut Pass,
     at: (u32, u32),
@@ -256,8 +270,8 @@ fn hand_back(table: &OakTable, pass: &mut Pass, fresh: Fresh)
 }
 
 /// Reads the one fresh header's value, and hands back all.
-fn read_back(
-    rt: &impl Abort,
+fn read_back<R: Abort + AllocGlobal>(
+    rt: &R,
     table: &OakTable,
     pass: &mut Pass,
     fresh: Fresh,
@@ -280,7 +294,7 @@ fn read_back(
 }
 
 /// Claims, fills, reads and withdraws, as far as a header and a block are free.
-fn round(rt: &impl Abort, table: &OakTable, pass: &mut Pass, front: u64)
+fn round<R: Abort + AllocGlobal>(rt: &R, table: &OakTable, pass: &mut Pass, front: u64)
     requires own { IsPassOf table.now pass.old }
     requires blocks { (state pass.old).blocks ≡ no_blocks }
     requires headers { (state pass.old).headers ≡ no_headers }
@@ -302,7 +316,7 @@ fn round(rt: &impl Abort, table: &OakTable, pass: &mut Pass, front: u64)
 }
 
 /// As many rounds as are said, each with a value of its own.
-fn rounds(rt: &impl Abort, table: &OakTable, pass: &mut Pass, first: u64, count: u64)
+fn rounds<R: Abort + AllocGlobal>(rt: &R, table: &OakTable, pass: &mut Pass, first: u64, count: u64)
     requires own { IsPassOf table.now pass.old }
     requires blocks { (state pass.old).blocks ≡ no_blocks }
     requires headers { (state pass.old).headers ≡ no_headers }
@@ -317,7 +331,12 @@ fn rounds(rt: &impl Abort, table: &OakTable, pass: &mut Pass, first: u64, count:
 }
 
 /// Two passes work in two threads, over one header and one block.
-fn rounds_together<R: Threads + Abort + Sync>(rt: &R, table: &OakTable, a: &mut Pass, b: &mut Pass)
+fn rounds_together<R: Threads + Abort + Sync + AllocGlobal>(
+    rt: &R,
+    table: &OakTable,
+    a: &mut Pass,
+    b: &mut Pass,
+)
     requires own { IsPassOf table.now a.old × IsPassOf table.now b.old }
     requires blocks { ((state a.old).blocks ≡ no_blocks) × ((state b.old).blocks ≡ no_blocks) }
     requires headers { ((state a.old).headers ≡ no_headers) × ((state b.old).headers ≡ no_headers) }
@@ -334,7 +353,7 @@ fn rounds_together<R: Threads + Abort + Sync>(rt: &R, table: &OakTable, a: &mut 
 }
 
 /// The one header is claimed, filled with three bytes, read and withdrawn, and may be claimed again.
-fn three_bytes(rt: &impl Abort, table: &OakTable, pass: &mut Pass)
+fn three_bytes<R: Abort + AllocGlobal>(rt: &R, table: &OakTable, pass: &mut Pass)
     requires own { IsPassOf table.now pass.old }
     requires blocks { (state pass.old).blocks ≡ no_blocks }
     requires headers { (state pass.old).headers ≡ no_headers }
@@ -365,7 +384,7 @@ fn one_value(rt: HostRuntime) -> Result<(), Fail> {
 }
 
 /// The pass is split, both work, and the other is taken in again.
-fn rounds_in_two_threads<R: Threads + Abort + Sync>(
+fn rounds_in_two_threads<R: Threads + Abort + Sync + AllocGlobal>(
     rt: &R,
     alloc: Global,
     table: &OakTable,

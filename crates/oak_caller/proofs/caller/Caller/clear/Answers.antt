@@ -20,10 +20,10 @@ returns-in_err-last-2-clause-failed g c = let low = bytes_in_option c.args.low i
 pub loop-init : goal.loop-init
 loop-init g c = let low = bytes_in_option c.args.low in let high = bytes_in_option c.args.high in let a = at_count 0 c.args.self.now in let d = at_count c.clear_piece.new.removed c.clear_piece.new.self in
     let piece : ClearsPiece c.in_ok-last.last low high a d = search (rules, c.in_ok-last.ensures.cleared) in record {
-  on = c.clear_piece.ensures.on;
-  views = c.clear_piece.ensures.views;
-  done = first_piece c.in_ok-last.last low high a d piece;
-}
+      on = c.clear_piece.ensures.on;
+      views = c.clear_piece.ensures.views;
+      done = first_piece c.in_ok-last.last low high a d piece;
+    }
 
 pub loop-preserved : goal.loop-preserved
 loop-preserved g c = let low = bytes_in_option c.args.low in let high = bytes_in_option c.args.high in let k : List ℕ = c.in-Some-last.key in let a = at_count 0 c.args.self.now in let b = at_count c.loop.removed c.loop.self in let d = at_count c.clear_piece-in-loop.new.removed c.clear_piece-in-loop.new.self in

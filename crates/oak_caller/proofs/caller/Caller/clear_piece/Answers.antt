@@ -18,10 +18,10 @@ pub returns-in_default-remove_all-clause-failed : goal.returns-in_default-remove
 returns-in_default-remove_all-clause-failed g c = let low = bytes_in_option c.args.low in let high = bytes_in_option c.args.high in let listed = c.add_keys.new.self in let keys : List (List ℕ) = c.add_keys.new.keys.items in let v = view_of c.args.self.now in let w = view_of listed in
     let b = at_count c.remove_all.new.removed c.remove_all.new.self in
     let adds : MatchBool c.in-Ok.all (AddsAll low high v w [] keys) (AddsEnough 64 low high v w [] keys) = subst (λ (had : List (List ℕ)). MatchBool c.in-Ok.all (AddsAll low high v w had keys) (AddsEnough 64 low high v w had keys)) c.new-keys.ensures.items c.in-Ok.ensures.all in record {
-  keys = keys;
-  listed = listed;
-  reads = record { on = c.add_keys.ensures.on; views = c.add_keys.ensures.views };
-  all = c.in-Ok.all;
-  lists = listed_so c.in-Ok.all 64 low high v w keys (omega arith) adds;
-  wears = subst (λ (ks : List (List ℕ)). WearsOut (at_count c.args.removed.now listed) ks b) c.deref.ensures.value c.in_default-remove_all.ensures.worn;
-}
+      keys = keys;
+      listed = listed;
+      reads = record { on = c.add_keys.ensures.on; views = c.add_keys.ensures.views };
+      all = c.in-Ok.all;
+      lists = listed_so c.in-Ok.all 64 low high v w keys (omega arith) adds;
+      wears = subst (λ (ks : List (List ℕ)). WearsOut (at_count c.args.removed.now listed) ks b) c.deref.ensures.value c.in_default-remove_all.ensures.worn;
+    }
