@@ -7,12 +7,19 @@ use crate::readers::IndexReader;
 use crate::writers::IndexWriter;
 use oak_model::OutOfMemory;
 use std::alloc::AllocGlobal;
+use std::fmt::{self, Debug, Formatter};
 use std::sync::{Mutex, Wait};
 
 /// A writer behind a lock. No clause speaks of what is under the lock. Readers never take it.
 #[derive(Drop)]
 pub struct ChunkIndex<R: Wait + Drop + Send> {
     writer: Mutex<IndexWriter<R>>,
+}
+
+impl<R: Wait + Drop + Send> Debug for ChunkIndex<R> {
+    fn fmt<W: fmt::Write>(&self, f: &mut Formatter<W>) -> fmt::Result {
+        f.debug_struct("ChunkIndex").finish_non_exhaustive()
+    }
 }
 
 impl<R: Wait + Drop + Send> ChunkIndex<R> {

@@ -2,6 +2,7 @@
 use crate::lows::Lows;
 use left_right::{ReadGuard, ReadHandle};
 use oak_model::{Hint, NO_HINT};
+use std::fmt::{self, Debug, Formatter};
 use std::marker::Model;
 
 /// Gives hints, of which nothing is promised: the copy that it finds may be an old one. It never waits and takes no
@@ -11,6 +12,12 @@ use std::marker::Model;
 pub struct IndexReader {
     handle: Option<ReadHandle<Lows>>,
     near: usize,
+}
+
+impl Debug for IndexReader {
+    fn fmt<W: fmt::Write>(&self, f: &mut Formatter<W>) -> fmt::Result {
+        f.debug_struct("IndexReader").finish_non_exhaustive()
+    }
 }
 
 impl Model for IndexReader {

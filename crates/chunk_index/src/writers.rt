@@ -11,6 +11,7 @@ use crate::readers::IndexReader;
 use left_right::WriteHandle;
 use oak_model::OutOfMemory;
 use std::alloc::AllocGlobal;
+use std::fmt::{self, Debug, Formatter};
 use std::sync::Wait;
 
 /// What sets the minima. It keeps a clone of the handle that it was made by, since it waits for readers: to publish,
@@ -20,6 +21,12 @@ pub struct IndexWriter<R: Wait + Drop + Send> {
     writer: WriteHandle<Lows, Low, R>,
     ghost rising: { IsRising (published writer) },
     ghost rooms: { IsOnePerRoom (published writer) },
+}
+
+impl<R: Wait + Drop + Send> Debug for IndexWriter<R> {
+    fn fmt<W: fmt::Write>(&self, f: &mut Formatter<W>) -> fmt::Result {
+        f.debug_struct("IndexWriter").finish_non_exhaustive()
+    }
 }
 
 impl<R: Wait + Drop + Send> IndexWriter<R> {

@@ -28,6 +28,7 @@ pub enum AddHalt {
 }
 
 /// No entry was added, and the block is handed back.
+#[derive(Debug)]
 pub struct NotAdded {
     pub why: AddHalt,
     pub block: Block,

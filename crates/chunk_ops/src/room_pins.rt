@@ -9,6 +9,7 @@ use chunk_core::OPEN;
 use oak_core::{OakTable, Pass, steps};
 
 /// A good pin of the pass. It must be spent by [`unpin`], and can't be dropped.
+#[derive(Debug)]
 pub struct RoomPin {
     pub room: u32,
 }

@@ -1,5 +1,7 @@
 //! The calls of a caller, each on a map of its own.
-use crate::{Copied, InBytes, Number, Recipe, RecipeKind, Shape, StepRecipe, Store, Way, Wrote};
+use crate::{
+    Copied, InBytes, Number, OakMap, Recipe, RecipeKind, Shape, StepRecipe, Store, Way, Wrote,
+};
 use std::process::Abort;
 use std::sync::Wait;
 use std::test::Fail;
@@ -195,6 +197,10 @@ fn what_is_shown(rt: HostRuntime) -> Result<(), Fail> {
     let mut store = Store::create(&rt, &Shape::make(2, 4, 4, 16, [16, 0, 0, 0])?)?;
     let shown = format!(in rt.alloc(); "{store:?}")?;
     assert_eq!(rt; shown.as_str(), "Store { .. }");
+    let (map, pass) = OakMap::create(&rt, &Shape::make(2, 4, 4, 16, [16, 0, 0, 0])?)?;
+    let shown = format!(in rt.alloc(); "{map:?} {pass:?}");
+    pass.leave();
+    assert_eq!(rt; shown?.as_str(), "OakMap { .. } MapPass { .. }");
     let done = shows(&rt, &mut store);
     done
 }

@@ -10,6 +10,7 @@ use arena_core::layout::{bit_words, block_words};
 use oak_model::Class;
 
 /// A block that a pass holds. It is given back or handed on, and can't be dropped.
+#[derive(Debug)]
 pub struct Block {
     pub class: Class,
     pub number: u32,

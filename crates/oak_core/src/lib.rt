@@ -19,6 +19,7 @@ mod room_steps;
 pub mod rooms;
 pub mod schedules;
 pub mod scratch;
+mod showing;
 pub mod sorting;
 pub mod states;
 pub mod steps;

@@ -37,6 +37,7 @@ pub enum SplitFault {
 }
 
 /// How the state of a pass is cut in two by a split.
+#[derive(Debug)]
 pub struct Cut;
 
 impl Split<PassState> for Cut {
@@ -46,6 +47,7 @@ impl Split<PassState> for Cut {
 }
 
 /// How the states of two passes become one by a join.
+#[derive(Debug)]
 pub struct Glue;
 
 impl Join<PassState> for Glue {

@@ -13,13 +13,14 @@ use oak_model::{CLASSES, Shape};
 use std::alloc::Global;
 
 /// How a table was opened: its sizes, and the generation at which its headers began.
-#[derive(Clone, Copy)]
+#[derive(Clone, Copy, Debug)]
 pub struct Opened {
     pub(crate) shape: Shape,
     pub(crate) generation: u32,
 }
 
 /// The rule under which the words stand: that of the definitions, for every state of the running table.
+#[derive(Debug)]
 pub struct OakRule;
 
 impl TableRule<(), PassState, Opened> for OakRule {

@@ -25,12 +25,14 @@ use std::sync::Wait;
 use value_ops::{NoRead, Reading, ValueView};
 
 /// What a key holds: nothing at the number `at`, or a value, which is read under a pin.
+#[derive(Debug)]
 pub enum Lent<'p> {
     Absent { at: u64 },
     Present(Reading<'p>),
 }
 
 /// What a view shows: its life is over, or the value that it has, which is read under a pin.
+#[derive(Debug)]
 pub enum Looked<'p> {
     Gone,
     Present(Reading<'p>),

@@ -54,3 +54,4 @@ pub mod LoneRemoved
 pub mod LoneLeftPins
 pub mod LonePutPins
 pub mod TestLaws
+mod PutsAsked

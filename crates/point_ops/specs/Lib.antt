@@ -16,3 +16,4 @@ pub mod LoneLives
 pub mod LonePuts
 pub mod LoneLeft
 pub mod LonePutLeft
+pub mod PutKinds

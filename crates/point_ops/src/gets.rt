@@ -35,7 +35,7 @@ use oak_model::Hint;
 use value_ops::{Home, ValueView};
 
 /// What a key holds: nothing at the number `at`, or a value of which there is a view.
-#[derive(Drop)]
+#[derive(Debug, Drop)]
 pub enum Got {
     Absent { at: u64 },
     View(ValueView),

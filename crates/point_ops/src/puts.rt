@@ -24,6 +24,7 @@ ghost use Rattle.point_ops.specs.LoneLives.{RefusesLook};
 ghost use Rattle.point_ops.specs.LonePuts.{PutsIn, PutsUnder};
 ghost use Rattle.point_ops.specs.LonePutLeft.{PutLeavesBy, PutLeavesUnder};
 ghost use Rattle.point_ops.specs.Parts.{Answers, KeepsUnder, WroteFits};
+ghost use Rattle.point_ops.specs.PutKinds.{kind_by, put_by};
 ghost use Rattle.point_ops.specs.Replies.{Refuses};
 ghost use Rattle.point_ops.specs.LoneReplies.{SameAlone, WroteAlone};
 ghost use Rattle.point_ops.specs.declared.halts.Halt.TheVariants as halts;
@@ -38,6 +39,54 @@ use oak_core::{OakTable, Pass};
 use oak_model::{Hint, Kind, Wrote};
 use value_ops::Home;
 
+/// Whether a put writes where the key is present.
+#[derive(Clone, Copy, Debug)]
+enum Puts {
+    Always,
+    IfAbsent,
+}
+
+impl Puts {
+    /// The kind of its writes.
+    fn kind(self) -> Kind
+        ensures { result ≡ kind_by self }
+    {
+        match self {
+            Puts::Always => Kind::Put,
+            Puts::IfAbsent => Kind::PutNew,
+        }
+    }
+}
+
+/// The answer to a put of a key only if it is absent, where its entry names a life.
+fn keep_life(table: &OakTable, pass: &mut Pass, home: Home) -> Result<Wrote, Halt>
+    requires own { IsPassOf table.now pass.old }
+    requires inside { home.header < (sizes table.now).headers }
+    requires known { 0 < knows_life home.header home.generation (state pass.old).knowledge }
+    requires none { (state pass.old).headers ≡ no_headers }
+    ensures own { Stays pass.old pass.new }
+    ensures only { OnlyLearns (call_of pass.old) (state pass.old) (state pass.new) }
+    ensures kept { IfOk result (λ x. (v k : List ℕ) → KnowsLife home.header home.generation k
+        (state pass.old).knowledge → Answers x (call_of pass.old) k (PutNew v) (state pass.old) (state pass.new)) }
+    ensures refused { IfErr result (λ why. (why ≡ halts.Busy)
+        × (FoundWord (sizes table.now) (call_of pass.old) (in_headers (at_pin home.header))
+        (IsLockedOut home.generation) (state pass.old) (state pass.new) ⊎ FoundWord (sizes table.now)
+        (call_of pass.old) (in_headers (at_pin home.header)) (IsDeadAt home.generation) (state pass.old)
+        (state pass.new))) }
+    ensures alone { IfOk result (λ _. Runs WordsStay (state pass.old) (state pass.new)) }
+    ensures alone_left { IfOk result (λ x. (r : ℕ) (key value : List ℕ)
+        → Runs (PutLeavesUnder x (sizes table.now) r key value) (state pass.old) (state pass.new)) }
+    ensures alone_refused { IfErr result (λ _. Runs
+        (RefusesLook (sizes table.now) home.header home.generation (state pass.old)) (state pass.old)
+        (state pass.new)) }
+{
+    match look_at(table, pass, home) {
+        Ok(Life::Live { at }) => Ok(Wrote::Kept { at }),
+        Ok(Life::Dead { at: _ }) => Err(Halt::Busy),
+        Err(halt) => Err(halt),
+    }
+}
+
 /// Puts the value of the key in the pinned room, which covers it.
 fn put_pinned(
     table: &OakTable,
@@ -45,6 +94,7 @@ fn put_pinned(
     pin: &RoomPin,
     key: &[u8],
     value: &[u8],
+    puts: Puts,
 ) -> Result<Wrote, Halt>
     requires own { IsPassOf table.now pass.old }
     requires key { IsKey key.now }
@@ -57,23 +107,26 @@ fn put_pinned(
     requires value { IsValue value.now }
     ensures own { Stays pass.old pass.new }
     ensures held { KeepsUnder (sizes table.now) pin.now.room (state pass.old) (state pass.new) }
-    ensures got { IfOk result (λ x. Answers x (call_of pass.old) key.now (Put value.now) (state pass.old) (state pass.new)) }
+    ensures got { IfOk result (λ x. Answers x (call_of pass.old) key.now (put_by puts value.now) (state pass.old) (state pass.new)) }
     ensures learns { IfErr result (λ _. Learns (call_of pass.old) (state pass.old) (state pass.new)) }
-    ensures halted { IfErr result (λ why. Halts why (sizes table.now) (call_of pass.old) key.now (Put value.now) (state pass.old) (state pass.new)) }
+    ensures halted { IfErr result (λ why. Halts why (sizes table.now) (call_of pass.old) key.now (put_by puts value.now) (state pass.old) (state pass.new)) }
     ensures alone { Runs (PutsUnder result (sizes table.now) pin.now.room key.now value.now) (state pass.old) (state pass.new) }
     ensures alone_left { IfOk result (λ x. Runs (PutLeavesUnder x (sizes table.now) pin.now.room key.now value.now)
         (state pass.old) (state pass.new)) }
 {
     match look_up(table, pass, pin, key) {
         Spot::Absent { entry, floor } => {
-            match insert(table, pass, pin, entry, floor, key, value, Kind::Put) {
+            match insert(table, pass, pin, entry, floor, key, value, puts.kind()) {
                 Ok(at) => Ok(Wrote::New { at }),
                 Err(halt) => Err(halt),
             }
         }
-        Spot::Present { entry: _, home } => match overwrite(table, pass, home, value) {
-            Ok(at) => Ok(Wrote::Over { at }),
-            Err(halt) => Err(halt),
+        Spot::Present { entry: _, home } => match puts {
+            Puts::Always => match overwrite(table, pass, home, value) {
+                Ok(at) => Ok(Wrote::Over { at }),
+                Err(halt) => Err(halt),
+            },
+            Puts::IfAbsent => keep_life(table, pass, home),
         },
     }
 }
@@ -113,76 +166,9 @@ pub fn try_put(
     let Ok(pin) = pin_for(table, pass, key, hint) else {
         return Err(Halt::Moved);
     };
-    let wrote = put_pinned(table, pass, &pin, key, value);
+    let wrote = put_pinned(table, pass, &pin, key, value, Puts::Always);
     unpin(table, pass, pin);
     wrote
-}
-
-/// The answer to a put of a key only if it is absent, where its entry names a life.
-fn keep_life(table: &OakTable, pass: &mut Pass, home: Home) -> Result<Wrote, Halt>
-    requires own { IsPassOf table.now pass.old }
-    requires inside { home.header < (sizes table.now).headers }
-    requires known { 0 < knows_life home.header home.generation (state pass.old).knowledge }
-    requires none { (state pass.old).headers ≡ no_headers }
-    ensures own { Stays pass.old pass.new }
-    ensures only { OnlyLearns (call_of pass.old) (state pass.old) (state pass.new) }
-    ensures kept { IfOk result (λ x. (v k : List ℕ) → KnowsLife home.header home.generation k
-        (state pass.old).knowledge → Answers x (call_of pass.old) k (PutNew v) (state pass.old) (state pass.new)) }
-    ensures refused { IfErr result (λ why. (why ≡ halts.Busy)
-        × (FoundWord (sizes table.now) (call_of pass.old) (in_headers (at_pin home.header))
-        (IsLockedOut home.generation) (state pass.old) (state pass.new) ⊎ FoundWord (sizes table.now)
-        (call_of pass.old) (in_headers (at_pin home.header)) (IsDeadAt home.generation) (state pass.old)
-        (state pass.new))) }
-    ensures alone { IfOk result (λ _. Runs WordsStay (state pass.old) (state pass.new)) }
-    ensures alone_left { IfOk result (λ x. (r : ℕ) (key value : List ℕ)
-        → Runs (PutLeavesUnder x (sizes table.now) r key value) (state pass.old) (state pass.new)) }
-    ensures alone_refused { IfErr result (λ _. Runs
-        (RefusesLook (sizes table.now) home.header home.generation (state pass.old)) (state pass.old)
-        (state pass.new)) }
-{
-    match look_at(table, pass, home) {
-        Ok(Life::Live { at }) => Ok(Wrote::Kept { at }),
-        Ok(Life::Dead { at: _ }) => Err(Halt::Busy),
-        Err(halt) => Err(halt),
-    }
-}
-
-/// Puts the value of the key in the pinned room, which covers it, if the key is absent.
-fn put_new_pinned(
-    table: &OakTable,
-    pass: &mut Pass,
-    pin: &RoomPin,
-    key: &[u8],
-    value: &[u8],
-) -> Result<Wrote, Halt>
-    requires own { IsPassOf table.now pass.old }
-    requires key { IsKey key.now }
-    requires covers { CoversKey key.now (span_of (room_pin (state pass.old))) }
-    requires pinned { HasRoomPin (sizes table.now) pin.now.room (state pass.old) }
-    requires latch { (state pass.old).rooms.latch ≡ None }
-    requires blocks { (state pass.old).blocks ≡ no_blocks }
-    requires headers { (state pass.old).headers ≡ no_headers }
-    requires turn { IsNewCall (call_of pass.old) (state pass.old) }
-    requires value { IsValue value.now }
-    ensures own { Stays pass.old pass.new }
-    ensures held { KeepsUnder (sizes table.now) pin.now.room (state pass.old) (state pass.new) }
-    ensures got { IfOk result (λ x. Answers x (call_of pass.old) key.now (PutNew value.now) (state pass.old) (state pass.new)) }
-    ensures learns { IfErr result (λ _. Learns (call_of pass.old) (state pass.old) (state pass.new)) }
-    ensures halted { IfErr result (λ why. Halts why (sizes table.now) (call_of pass.old) key.now (PutNew value.now)
-        (state pass.old) (state pass.new)) }
-    ensures alone { Runs (PutsUnder result (sizes table.now) pin.now.room key.now value.now) (state pass.old) (state pass.new) }
-    ensures alone_left { IfOk result (λ x. Runs (PutLeavesUnder x (sizes table.now) pin.now.room key.now value.now)
-        (state pass.old) (state pass.new)) }
-{
-    match look_up(table, pass, pin, key) {
-        Spot::Absent { entry, floor } => {
-            match insert(table, pass, pin, entry, floor, key, value, Kind::PutNew) {
-                Ok(at) => Ok(Wrote::New { at }),
-                Err(halt) => Err(halt),
-            }
-        }
-        Spot::Present { entry: _, home } => keep_life(table, pass, home),
-    }
 }
 
 /// Puts the value of a key if it is absent: `New` then, and `Kept` where it was present, with a number at
@@ -215,7 +201,7 @@ pub fn try_put_if_absent(
     let Ok(pin) = pin_for(table, pass, key, hint) else {
         return Err(Halt::Moved);
     };
-    let wrote = put_new_pinned(table, pass, &pin, key, value);
+    let wrote = put_pinned(table, pass, &pin, key, value, Puts::IfAbsent);
     unpin(table, pass, pin);
     wrote
 }

@@ -20,6 +20,7 @@ use crate::walking::{Walk, try_walk};
 use crate::ways::Way;
 use chunk_ops::KeyBytes;
 use oak_core::{OakTable, Pass};
+use std::fmt::{self, Debug, Formatter};
 use std::sync::Wait;
 use std::thread;
 use value_ops::PinnedValue;
@@ -57,6 +58,15 @@ pub struct Cursor<'p> {
     way: Way,
     walk: Walk,
     value: Option<PinnedValue>,
+}
+
+impl Debug for Cursor<'_> {
+    fn fmt<W: fmt::Write>(&self, f: &mut Formatter<W>) -> fmt::Result {
+        f.debug_struct("Cursor")
+            .field("way", &self.way)
+            .field("value", &self.value)
+            .finish_non_exhaustive()
+    }
 }
 
 impl<'p> Cursor<'p> {

@@ -11,6 +11,7 @@ use crate::test_calls::{put, remove, turn};
 use oak_core::{OakTable, Pass};
 use oak_model::Shape;
 use scan_cursor::{Cursor, Way};
+use std::alloc::Global;
 use std::process::Abort;
 use std::sync::Wait;
 use std::test::Fail;
@@ -294,8 +295,17 @@ fn goes_over_lengths<R: Abort + Wait>(rt: &R, cursor: &mut Cursor<'_>)
     }
 }
 
+/// A cursor that has given no pair is shown by its way.
+fn is_shown(rt: &impl Abort, alloc: Global, cursor: &Cursor<'_>) {
+    let Ok(shown) = format!(in alloc; "{cursor:?}") else {
+        assert!(rt; false);
+        return;
+    };
+    assert_eq!(rt; shown.as_str(), "Cursor { way: Up, value: None, .. }");
+}
+
 /// A scan of all keys gives them.
-fn scans_lengths<R: Abort + Wait>(rt: &R, table: &OakTable, pass: &mut Pass)
+fn scans_lengths<R: Abort + Wait + AllocGlobal>(rt: &R, table: &OakTable, pass: &mut Pass)
     requires own { IsPassOf table.now pass.old }
     requires idle { HoldsNothing (state pass.old) }
     ensures own { IsPassOf table.now pass.new }
@@ -303,6 +313,7 @@ fn scans_lengths<R: Abort + Wait>(rt: &R, table: &OakTable, pass: &mut Pass)
     ensures numbers { (state pass.new).numbers ≡ (state pass.old).numbers }
 {
     let mut cursor = Cursor::begin(table, pass, None, None, Way::Up);
+    is_shown(rt, rt.alloc(), &cursor);
     goes_over_lengths(rt, &mut cursor);
     cursor.finish();
 }

@@ -16,6 +16,7 @@ use oak_core::{Block, OakTable, Pass, load, steps};
 
 /// A header that the pass marked dead, with the stamp of the removal. It must be spent: it is taken
 /// back, and can't be dropped.
+#[derive(Debug)]
 pub struct Buried {
     pub header: u32,
     pub generation: u32,

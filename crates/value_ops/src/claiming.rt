@@ -18,6 +18,7 @@ pub(crate) const STATE: u64 = 1 << 28;
 const PIN_STEP: u32 = HEADER_WORDS as u32;
 
 /// A header that the pass owns. It must be spent: it is released or filled, and can't be dropped.
+#[derive(Debug)]
 pub struct Owned {
     pub header: u32,
 }

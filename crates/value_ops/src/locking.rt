@@ -25,6 +25,7 @@ pub enum NoLock {
 
 /// A header that the pass has locked: no pass reads or changes its value but this one. It must be
 /// spent: it is unlocked or buried, and can't be dropped.
+#[derive(Debug)]
 pub struct Locked {
     pub header: u32,
     pub generation: u32,

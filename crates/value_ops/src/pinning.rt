@@ -21,6 +21,7 @@ pub enum BadPin {
 }
 
 /// A good pin of the pass. It is spent by [`HeaderPin::reading`], and can't be dropped.
+#[derive(Debug)]
 pub struct HeaderPin {
     pub header: u32,
     pub generation: u32,

@@ -12,6 +12,7 @@ use crate::pinning::HeaderPin;
 use oak_core::{OakTable, Pass};
 use oak_model::OutOfMemory;
 use std::alloc::Global;
+use std::fmt::{self, Debug, Formatter};
 
 /// A value that is read under a good pin. It borrows the pass until [`Reading::done`] undoes the pin,
 /// and can't be dropped. Its calls load words of the value's block, and change nothing.
@@ -19,6 +20,14 @@ pub struct Reading<'p> {
     table: &'p OakTable,
     pass: &'p mut Pass,
     value: PinnedValue,
+}
+
+impl Debug for Reading<'_> {
+    fn fmt<W: fmt::Write>(&self, f: &mut Formatter<W>) -> fmt::Result {
+        f.debug_struct("Reading")
+            .field("value", &self.value)
+            .finish_non_exhaustive()
+    }
 }
 
 impl HeaderPin {

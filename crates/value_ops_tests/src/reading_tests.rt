@@ -121,6 +121,15 @@ fn vector_is(rt: &impl Abort, alloc: Global, reading: &mut Reading<'_>, bytes: &
     assert!(rt; *copy.as_slice() == *bytes);
 }
 
+/// It is shown by where its value lies.
+fn is_shown(rt: &impl Abort, alloc: Global, reading: &Reading<'_>) {
+    let Ok(shown) = format!(in alloc; "{reading:?}") else {
+        assert!(rt; false);
+        return;
+    };
+    assert!(rt; shown.starts_with("Reading { value: PinnedValue { header: 0, "));
+}
+
 /// It is exactly these bytes, as a whole and in its parts.
 fn whole_is<R: Abort + AllocGlobal>(rt: &R, reading: &mut Reading<'_>, bytes: &[u8], front: u64)
     requires { IsReading reading.old }
@@ -132,6 +141,7 @@ fn whole_is<R: Abort + AllocGlobal>(rt: &R, reading: &mut Reading<'_>, bytes: &[
     copy_is(rt, reading, bytes);
     prefix_is(rt, reading, bytes);
     vector_is(rt, rt.alloc(), reading, bytes);
+    is_shown(rt, rt.alloc(), reading);
 }
 
 /// Its third byte is that of these bytes, where they are three or more.
