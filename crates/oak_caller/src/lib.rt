@@ -14,12 +14,8 @@ mod looking;
 mod putting;
 mod reading;
 mod scanning;
-#[cfg(test)]
-mod sharing_tests;
 mod showing;
 mod store;
-#[cfg(test)]
-mod tests;
 mod turns;
 mod viewing;
 

@@ -109,7 +109,8 @@ fn put_pinned(
     ensures held { KeepsUnder (sizes table.now) pin.now.room (state pass.old) (state pass.new) }
     ensures got { IfOk result (λ x. Answers x (call_of pass.old) key.now (put_by puts value.now) (state pass.old) (state pass.new)) }
     ensures learns { IfErr result (λ _. Learns (call_of pass.old) (state pass.old) (state pass.new)) }
-    ensures halted { IfErr result (λ why. Halts why (sizes table.now) (call_of pass.old) key.now (put_by puts value.now) (state pass.old) (state pass.new)) }
+    ensures halted { IfErr result (λ why. Halts why (sizes table.now) (call_of pass.old) key.now
+        (put_by puts value.now) (state pass.old) (state pass.new)) }
     ensures alone { Runs (PutsUnder result (sizes table.now) pin.now.room key.now value.now) (state pass.old) (state pass.new) }
     ensures alone_left { IfOk result (λ x. Runs (PutLeavesUnder x (sizes table.now) pin.now.room key.now value.now)
         (state pass.old) (state pass.new)) }

@@ -1,5 +1,5 @@
 //! The calls of a caller, each on a map of its own.
-use crate::{
+use oak_caller::{
     Copied, InBytes, Number, OakMap, Recipe, RecipeKind, Shape, StepRecipe, Store, Way, Wrote,
 };
 use std::process::Abort;

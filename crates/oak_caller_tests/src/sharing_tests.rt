@@ -4,7 +4,7 @@ ghost use Rattle.std.specs.Arc.{arc_value};
 ghost use Rattle.oak_map.specs.Maps.{IsReady, call_of, state};
 ghost use Rattle.point_ops.specs.TestStates.{WroteBy};
 
-use crate::{Caller, MapPass, OakMap, Shape, Wrote};
+use oak_caller::{Caller, MapPass, OakMap, Shape, Wrote};
 use std::alloc::Global;
 use std::process::Abort;
 use std::sync::{Arc, Wait};
