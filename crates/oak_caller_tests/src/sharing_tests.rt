@@ -6,6 +6,7 @@ ghost use Rattle.point_ops.specs.TestStates.{WroteBy};
 
 use oak_caller::{Caller, MapPass, OakMap, Shape, Wrote};
 use std::alloc::Global;
+use std::marker::Model;
 use std::process::Abort;
 use std::sync::{Arc, Wait};
 use std::test::Fail;
@@ -15,9 +16,18 @@ use std::thread::{self, Threads};
 struct Sharer<R: Wait + Drop + Send> {
     map: Arc<OakMap<R>, Global>,
     pass: MapPass,
-    ghost own: { IsReady (arc_value map) pass },
-    ghost first: { call_of pass ≡ 0 },
-    ghost wrote: { WroteBy 0 (state pass) },
+}
+
+impl<R: Wait + Drop + Send> Model for Sharer<R> {
+    ghost use Rattle.std.specs.Arc.{arc_value};
+    ghost use Rattle.oak_map.specs.Maps.{table_of};
+    ghost use Rattle.oak_caller.specs.Callers.{Called, IsIdle};
+
+    ghost Value = { Called };
+
+    ghost view = { λ s. record { table = table_of (arc_value s.map); pass = s.pass } };
+
+    ghost invariant = { λ s. IsIdle (table_of (arc_value s.map)) s.pass 0 };
 }
 
 impl<R: Wait + Drop + Send> Drop for Sharer<R> {
