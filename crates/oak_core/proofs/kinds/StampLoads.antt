@@ -90,7 +90,7 @@ module _ (z : Sizes) (m : Memory) (is_key_word : ℕ → ℕ) (vs : List PassSta
 
   module _ (u : PassState) (knowledge : u.knowledge ≡ taught_by (of_key_to key n) (map knowledge_of vs) v.knowledge) (rooms : u.rooms ≡ v.rooms) (pin : u.headers.pin ≡ v.headers.pin) where
     pins : PinsKnow u
-    pins = pins_stay v u (ap (λ (a : RoomHolds). a.pin) rooms) pin (lesson_by (of_key_to key n) (map knowledge_of vs) ∷ []) (ap (λ (q : Knowledge). q.heard) knowledge) (heard.pins seat v here)
+    pins = pins_stay v u pin (lesson_by (of_key_to key n) (map knowledge_of vs) ∷ []) (ap (λ (q : Knowledge). q.heard) knowledge) (heard.pins seat v here)
 
     -- a good pin
     pub good_stamp_heard : state_of p.found ≡ LIVE → HeardStands z m (set vs seat u)

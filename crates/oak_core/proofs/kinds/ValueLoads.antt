@@ -60,7 +60,7 @@ module _ (z : Sizes) (m : Memory) (vs : List PassState) (rooms : RoomsStand z m.
 
     pub floor_step_heard : (u : PassState) → HistoriesStand (map knowledge_of vs) → HeardStands z m vs → u.knowledge ≡ taught_by (of_key_to key n) (map knowledge_of vs) v.knowledge → u.rooms ≡ v.rooms → u.headers.pin ≡ v.headers.pin → HeardStands z m (set vs seat u)
     floor_step_heard u histories heard knowledge same pin = floor_heard z m m refl refl vs keys histories heard seat v u here key n same
-        (pins_stay v u (ap (λ (a : RoomHolds). a.pin) same) pin (lesson_by (of_key_to key n) (map knowledge_of vs) ∷ []) (ap (λ (q : Knowledge). q.heard) knowledge) (heard.pins seat v here))
+        (pins_stay v u pin (lesson_by (of_key_to key n) (map knowledge_of vs) ∷ []) (ap (λ (q : Knowledge). q.heard) knowledge) (heard.pins seat v here))
         (ap (λ (q : Knowledge). q.seen) knowledge) (ap (λ (q : Knowledge). q.heard) knowledge) word floor
 
   -- a header
