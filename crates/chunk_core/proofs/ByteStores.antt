@@ -1,5 +1,5 @@
 -- The words of a block change that no entry has: no key changes, and what passes keep of keys stays true.
-use Rattle.std.proofs.Common.{◌≡◌, ℕ, suc, ◌+◌, ◌-◌, ◌*◌, ◌<◌, List, [], ◌∷◌, map, sym, refl, ap, ◌∙◌, subst, arith}
+use Rattle.std.proofs.Common.{Some, ◌≡◌, ℕ, suc, ◌+◌, ◌-◌, ◌*◌, ◌<◌, List, [], ◌∷◌, map, sym, refl, ap, ◌∙◌, subst, arith}
 use Rattle.std.specs.Prelude.{nat_lt}
 use Rattle.std.proofs.lemmas.Bool.{lt-ltb}
 use mathlib.Core.Logic.{dite}
@@ -7,6 +7,7 @@ use mathlib.Core.Option.{some}
 use native.Mathlib.Decide.{ℕ_discrete}
 use lib.ListN.{get_elem?}
 use Rattle.chunk_core.specs.declared.holds.Carried.{Carried}
+use Rattle.chunk_core.specs.declared.holds.Claim.{Claim}
 use Rattle.chunk_core.specs.declared.holds.FoundEntry.{FoundEntry}
 use Rattle.chunk_core.specs.declared.holds.MovingRange.{MovingRange}
 use Rattle.chunk_core.specs.declared.holds.PinnedRoom.{PinnedRoom}
@@ -23,13 +24,15 @@ use Rattle.chunk_core.specs.Covers.{Entry, Cover, cover_at, used_at, span_in, en
 use Rattle.chunk_core.specs.KeyWords.{key_in}
 use Rattle.chunk_core.specs.LinkedEntries.{linked, in_use, entries_in, first_numbers}
 use Rattle.chunk_core.specs.PinnedRooms.{EntryStands, RoomPinHolds}
-use Rattle.chunk_core.specs.RoomRule.{AreTrueRanges, RoomsStand}
+use Rattle.chunk_core.specs.RoomRule.{AreTrueRanges, ClaimStands, RoomsStand}
 use Rattle.chunk_core.specs.Rooms.{RoomMemory}
 use Rattle.chunk_core.proofs.CoverLaws.{covers_same, weight-le, room_le, range_le}
 use Rattle.chunk_core.proofs.CoverFrames.{partition_same}
 use Rattle.chunk_core.proofs.EntryNumbers.{each_of, map_each, numbers_once}
-use Rattle.chunk_core.proofs.RoomFrames.{good_still}
-use Rattle.chunk_core.proofs.RoomLinks.{IsLinked, linked_below, prefix_linked}
+use Rattle.chunk_core.proofs.RoomFrames.{claim_still, good_still}
+use Rattle.chunk_core.proofs.RoomLinks.{IsLinked, linked_below}
+use Rattle.chunk_core.proofs.Chains.{rises_same}
+use Rattle.chunk_core.proofs.Claims.{claim_cover}
 
 -- a word that is not 0 does not name the block, where its entry has it not
 apart_of : (n word : ℕ) → 0 < word → one_if (nat_lt 0 word) * n ≡ 0 → n ≡ 0
@@ -76,6 +79,14 @@ module _ (z : Sizes) (m : RoomMemory) (content content' : ℕ → List ℕ) (hs 
     entry_same : (r : ℕ) → r < z.chunks → weight (m.pin r) ≡ 1 → (e : FoundEntry) → EntryStands (linked m r) (m.key r) content e → EntryStands (linked m r) (m.key r) content' e
     entry_same r l w e t = record { linked = t.linked; word = t.word; words = subst (λ (y : ℕ). content' y ≡ content y) t.word (room_word r l w e.number (let q = t.linked in omega arith)) ∙ t.words }
 
+    -- what is claimed with a key is in use
+    claim_same : (j : ℕ) (u : RoomHolds) (c : Claim) → get_elem? hs j ≡ some u → u.claim ≡ Some c → m.key c.room c.number ≡ c.entry.word → ClaimStands m content c → ClaimStands m content' c
+    claim_same j u c at is word h = record {
+      inside = h.inside;
+      words = λ l. let w = claim_cover z m content hs s j u c at is in
+          subst (λ (y : ℕ). content' y ≡ content y) word (used_word c.room (inside_of c.room w) w c.number h.inside (subst (λ (y : ℕ). 0 < y) (sym word) l)) ∙ h.words l;
+    }
+
     entry_on : (p : PinnedRoom) → RoomPinHolds z m content p → RoomPinHolds z m content' p
     entry_on p h = record {
       inside = h.inside;
@@ -84,23 +95,32 @@ module _ (z : Sizes) (m : RoomMemory) (content content' : ℕ → List ℕ) (hs 
       low = h.low;
       high = h.high;
       counted = h.counted;
+      prefix = h.prefix;
       entries = each_map (EntryStands (linked m p.room) (m.key p.room) content) (EntryStands (linked m p.room) (m.key p.room) content') p.entries (λ e t. entry_same p.room h.inside h.cover e t) h.entries;
+      walked = each_map (EntryStands (linked m p.room) (m.key p.room) content) (EntryStands (linked m p.room) (m.key p.room) content') p.walked (λ e t. entry_same p.room h.inside h.cover e t) h.walked;
     }
 
-    pub bytes_rooms : RoomsStand z m content' hs
-    bytes_rooms = record {
+    -- the points on rooms, where the key words that passes keep of claimed entries are true
+    pub bytes_rooms : ((j : ℕ) (u : RoomHolds) (c : Claim) → get_elem? hs j ≡ some u → u.claim ≡ Some c → m.key c.room c.number ≡ c.entry.word) → RoomsStand z m content' hs
+    bytes_rooms kept = record {
       counted = s.counted;
       held = s.held;
       states = s.states;
       generations = s.generations;
-      latched = s.latched;
       latches = s.latches;
       ordered = λ r w. let o = s.ordered r w in let inside = inside_of r w in record {
         few = o.few;
         prefix = o.prefix;
-        sorted = λ i j lt k. subst (λ (t : ℕ × ℕ). t.0 < t.1) (λ q. (sym (same r inside w i (let f = prefix_linked z m content r o i (omega arith) in omega arith)) q, sym (same r inside w j (let f = prefix_linked z m content r o j k in omega arith)) q)) (o.sorted i j lt k);
+        sorted = λ i j lt k. subst (λ (t : ℕ × ℕ). t.0 < t.1) (λ q. (sym (same r inside w i (let f = o.front i (omega arith) in omega arith)) q, sym (same r inside w j (let f = o.front j k in omega arith)) q)) (o.sorted i j lt k);
+        used = o.used;
+        rises = rises_same (λ i. key_at content (m.key r i)) (λ i. key_at content' (m.key r i)) (linked m r) (each_of (λ i. key_at content' (m.key r i) ≡ key_at content (m.key r i)) (linked m r) (λ i there. same r inside w i there)) o.rises;
+        front = o.front;
+        zeros = o.zeros;
         bounds = o.bounds;
       };
+      either = s.either;
+      keyed = s.keyed;
+      claimed = λ j a at. claim_still m m content content' a.claim (λ c is h. claim_same j a c at is (kept j a c at is) h) (s.claimed j a at);
       good = λ j a at. good_still z m m content content' a.pin (λ p _ h. entry_on p h) (s.good j a at);
       carried = λ j a at. ranges j a at a.moving 0 (λ i g e. subst (λ (t : ℕ). get_elem? a.moving t ≡ some g) (let q : i ≡ 0 + i = omega arith in q) e) (s.carried j a at);
       passes = s.passes;

@@ -11,12 +11,8 @@ use Rattle.chunk_core.specs.LinkedEntries.{entries_in, reached}
 use Rattle.chunk_core.specs.RoomCopies.{word_held, value_held, next_held}
 use Rattle.chunk_core.specs.RoomReads.{copy_at, words_at}
 use Rattle.chunk_core.specs.Rooms.{RoomMemory}
+use Rattle.chunk_core.proofs.EntryNumbers.{few_entries}
 use Rattle.chunk_core.proofs.WholeChains.{whole_chain}
-
--- a count tells fewer entries than links are followed
-pub few_entries : (count : ℕ) → entries_in count < 65536
-unfolding entries_in
-few_entries count = omega arith
 
 module _ (z : Sizes) (m : RoomMemory) (r : ℕ) where
   -- the words of an entry in the room's copy are the room's

@@ -56,6 +56,14 @@ rises_once f (x ∷ xs) h i = dite (ℕ_discrete x i) (λ e. let o = one_at-same
     none [] h = refl
     none (y ∷ ys) h = let t = none ys h.1 in let o = one_at-other y i (λ e. let s = ap f e in let l = h.0 in absurd (omega arith)) in omega arith
 
+pub rises_same : (f g : ℕ → ℕ) (xs : List ℕ) → Each (λ i. g i ≡ f i) xs → Rises f xs → Rises g xs
+rises_same f g [] h r = tt
+rises_same f g (x ∷ xs) h r = (below xs h.1 r.0, rises_same f g xs h.1 r.1)
+  where
+    below : (ys : List ℕ) → Each (λ i. g i ≡ f i) ys → Each (λ j. f x < f j) ys → Each (λ j. g x < g j) ys
+    below [] t l = tt
+    below (y ∷ ys) t l = (let a = h.0 in let b = t.0 in let c = l.0 in omega arith, below ys t.1 l.1)
+
 -- A chain by its first link.
 
 pub chain-none : (n : ℕ) (next : ℕ → ℕ) → chain n next 0 ≡ []

@@ -12,6 +12,11 @@ pub count_more : (n : ℕ) → entries_in n + 1 < 2 ^ 16 → (entries_in (n + 1)
 unfolding entries_in prefix_in
 count_more n l = ((omega arith), (omega arith))
 
+-- a count tells fewer entries than links are followed
+pub few_entries : (count : ℕ) → entries_in count < 65536
+unfolding entries_in
+few_entries count = omega arith
+
 pub numbers_away : (n i : ℕ) → n ≤ i → total (λ j. one_at j i) (first_numbers n) ≡ 0
 unfolding total first_numbers
 numbers_away zero i h = refl

@@ -11,7 +11,7 @@ use Rattle.oak_model.proofs.RowLaws.{each_first, each_rest}
 use Rattle.chunk_core.specs.declared.holds.HeldRoom.{HeldRoom}
 use Rattle.chunk_core.specs.declared.holds.MovingRange.{MovingRange}
 use Rattle.chunk_core.specs.declared.holds.RoomHolds.{RoomHolds}
-use Rattle.chunk_core.specs.KeptRooms.{kept_of_claim, kept_of_held, kept_of_latch, kept_of_rooms, kept_of_rooms_held}
+use Rattle.chunk_core.specs.KeptRooms.{kept_of_claim, kept_of_held, kept_of_rooms, kept_of_rooms_held}
 use Rattle.chunk_core.specs.RoomCopies.{without_room}
 use Rattle.chunk_core.specs.RoomStep.{put_room}
 use Rattle.chunk_core.specs.Rooms.{RoomMemory, RoomSpot, at_room_pin, read_room, same_room_spot}
@@ -45,14 +45,11 @@ module _ (m : RoomMemory) (hs : List RoomHolds) (kept : KeptNumbersStand same_ro
 
   still_true : AreTrueTo (read_room m) (kept_of_rooms b)
   still_true = let P : KeptWord RoomSpot → Type 0 = (λ (w : KeptWord RoomSpot). read_room m w.spot ≡ w.number) in let e = kept.true_to seat (kept_of_rooms a) mine in
-      let rest = each_rest P (kept_of_latch a.latch) (kept_of_claim a.claim ++ kept_of_rooms_held a.held) e in
-      each_append P (kept_of_latch a.latch) (kept_of_claim a.claim ++ kept_of_rooms_held (without_room r a.held)) (each_first P (kept_of_latch a.latch) (kept_of_claim a.claim ++ kept_of_rooms_held a.held) e)
-      (each_append P (kept_of_claim a.claim) (kept_of_rooms_held (without_room r a.held)) (each_first P (kept_of_claim a.claim) (kept_of_rooms_held a.held) rest) (true_fewer (read_room m) r a.held (each_rest P (kept_of_claim a.claim) (kept_of_rooms_held a.held) rest)))
+      each_append P (kept_of_claim a.claim) (kept_of_rooms_held (without_room r a.held)) (each_first P (kept_of_claim a.claim) (kept_of_rooms_held a.held) e) (true_fewer (read_room m) r a.held (each_rest P (kept_of_claim a.claim) (kept_of_rooms_held a.held) e))
 
   no_more : (q : RoomSpot) → keeps same_room_spot q (kept_of_rooms b) ≤ keeps same_room_spot q (kept_of_rooms a)
   no_more q = let f = (λ (w : KeptWord RoomSpot). one_if (same_room_spot w.spot q)) in let t = keeps_fewer q r a.held in
-      let x = total_append f (kept_of_latch a.latch) (kept_of_claim a.claim ++ kept_of_rooms_held a.held) in let y = total_append f (kept_of_claim a.claim) (kept_of_rooms_held a.held) in
-      let u = total_append f (kept_of_latch a.latch) (kept_of_claim a.claim ++ kept_of_rooms_held (without_room r a.held)) in let w = total_append f (kept_of_claim a.claim) (kept_of_rooms_held (without_room r a.held)) in omega arith
+      let y = total_append f (kept_of_claim a.claim) (kept_of_rooms_held a.held) in let w = total_append f (kept_of_claim a.claim) (kept_of_rooms_held (without_room r a.held)) in omega arith
 
   -- the pass holds the room no more, and the pin word of any room becomes x
   pub fewer_kept : (k x : ℕ) → KeptNumbersStand same_room_spot (read_room (put_room m (at_room_pin k) x)) (map kept_of_rooms (set hs seat (record a { held = without_room r a.held; moving = gs })))

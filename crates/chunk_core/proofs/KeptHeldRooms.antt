@@ -1,5 +1,5 @@
 -- The numbers that passes keep of rooms, behind a step by which one freezes a room, opens it again, or comes to hold it.
-use Rattle.std.proofs.Common.{◌≡◌, ℕ, ◌+◌, ◌*◌, ◌≤◌, List, [], ◌∷◌, ◌++◌, map, set, cond, refl, sym, ap, ◌∙◌, subst, inr, arith, Option, Some, None}
+use Rattle.std.proofs.Common.{◌≡◌, ℕ, ◌+◌, ◌*◌, ◌≤◌, List, [], ◌∷◌, ◌++◌, map, set, cond, refl, sym, ap, ◌∙◌, subst, inr, arith}
 use mathlib.Core.Logic.{dite}
 use mathlib.Core.Option.{some}
 use native.Mathlib.Decide.{ℕ_discrete}
@@ -15,28 +15,21 @@ use Rattle.oak_model.proofs.RowLaws.{each_first, each_rest}
 use Rattle.oak_model.proofs.SumLaws.{times-one}
 use Rattle.chunk_core.specs.declared.states.TheConstants.{FREE, FROZEN, HELD}
 use Rattle.chunk_core.specs.declared.holds.HeldRoom.{HeldRoom}
-use Rattle.chunk_core.specs.declared.holds.Latch.{Latch}
 use Rattle.chunk_core.specs.declared.holds.MovingRange.{MovingRange}
-use Rattle.chunk_core.specs.declared.holds.PinnedRoom.{PinnedRoom}
 use Rattle.chunk_core.specs.declared.holds.RoomHeldAs.{RoomHeldAs}
 use Rattle.chunk_core.specs.declared.holds.RoomHeldAs.TheVariants.{Frozen, Held}
 use Rattle.chunk_core.specs.declared.holds.RoomHolds.{RoomHolds}
-use Rattle.chunk_core.specs.KeptRooms.{kept_of_claim, kept_of_copy, kept_of_held, kept_of_latch, kept_of_rooms, kept_of_rooms_held}
+use Rattle.chunk_core.specs.KeptRooms.{kept_of_claim, kept_of_copy, kept_of_held, kept_of_rooms, kept_of_rooms_held}
 use Rattle.chunk_core.specs.RoomCopies.{without_room}
-use Rattle.chunk_core.specs.RoomHolds.{latches_of, pins_of}
+use Rattle.chunk_core.specs.RoomHolds.{claims_on}
 use Rattle.chunk_core.specs.RoomReads.{copy_at}
-use Rattle.chunk_core.specs.RoomRule.{in_room_state, latches_on, LatchIsPinned, room_pins, room_state, RoomsStand}
+use Rattle.chunk_core.specs.RoomRule.{in_room_state, room_state, RoomsStand}
 use Rattle.chunk_core.specs.RoomStep.{put_room}
-use Rattle.chunk_core.specs.Rooms.{RoomMemory, RoomSpot, at_room_pin, read_room, room_at, same_room_spot}
+use Rattle.chunk_core.specs.Rooms.{RoomMemory, RoomSpot, at_room_pin, read_room, room_at, part_at, same_room_spot}
+use Rattle.chunk_core.proofs.Claims.{unclaimed_free}
 use Rattle.chunk_core.proofs.KeptCopies.{copy_once, copy_read}
 use Rattle.chunk_core.proofs.RoomWords.{read_room-of}
 use Rattle.chunk_core.proofs.UnkeptRooms.{copy_of_room, none_kept, of_other, pin_unkept}
-
--- a pass without a pin on a room has not its latch
-unlatched : (r : ℕ) (o : Option PinnedRoom) (l : Option Latch) → LatchIsPinned o l → pins_of r o ≡ 0 → latches_of r l ≡ 0
-unlatched r o None h e = refl
-unlatched r None (Some l) h e = absurd h
-unlatched r (Some p) (Some l) h e = ap (λ (t : ℕ). one_at t r) (sym h.0) ∙ e
 
 -- of a frozen room a pass keeps nothing, so it keeps the same without it
 pub without_kept : (r : ℕ) (hs : List HeldRoom) → total (λ (h : HeldRoom). one_at h.room r * one_at (room_state h.held_as) HELD) hs ≡ 0 → kept_of_rooms_held (without_room r hs) ≡ kept_of_rooms_held hs
@@ -68,7 +61,7 @@ module _ (z : Sizes) (m : RoomMemory) (content : ℕ → List ℕ) (hs : List Ro
   -- a pass that opens a room again that it froze kept nothing of it
   pub thaw_kept : state_of (m.pin r) ≡ FROZEN → KeptNumbersStand same_room_spot (read_room (put_room m (at_room_pin r) x)) (map kept_of_rooms (set hs seat (record a { held = without_room r a.held })))
   thaw_kept frozen = subst (KeptNumbersStand same_room_spot (read_room m')) (sym (map_set_same kept_of_rooms hs seat a (record a { held = without_room r a.held }) here
-      (ap (λ (ws : List (KeptWord RoomSpot)). kept_of_latch a.latch ++ (kept_of_claim a.claim ++ ws)) (without_kept r a.held unheld)))) pin_put
+      (ap (λ (ws : List (KeptWord RoomSpot)). kept_of_claim a.claim ++ ws) (without_kept r a.held unheld)))) pin_put
     where
       unheld : in_room_state r HELD a ≡ 0
       unheld = let t = total_at (in_room_state r HELD) hs seat a here in let h = rule.held r HELD (inr refl) in let o = one_at-other (state_of (m.pin r)) HELD (λ e. absurd (omega arith)) in omega arith
@@ -78,13 +71,13 @@ module _ (z : Sizes) (m : RoomMemory) (content : ℕ → List ℕ) (hs : List Ro
     none_held : (j : ℕ) (u : RoomHolds) → get_elem? hs j ≡ some u → in_room_state r HELD u ≡ 0
     none_held j u at = let t = total_at (in_room_state r HELD) hs j u at in let h = rule.held r HELD (inr refl) in omega arith
 
-    none_latched : (j : ℕ) (u : RoomHolds) → get_elem? hs j ≡ some u → latches_on r u ≡ 0
-    none_latched j u at = unlatched r u.pin u.latch (rule.passes j u at).latch (let t = total_at (room_pins r) hs j u at in let c = rule.counted r in omega arith)
+    none_claimed : (i j : ℕ) (u : RoomHolds) → get_elem? hs j ≡ some u → claims_on r i u ≡ 0
+    none_claimed i j u at = let n = unclaimed_free z m content hs rule r i unpinned in let t = total_at (claims_on r i) hs j u at in omega arith
 
     -- so no pass keeps a word of it
     none_keeps : (q : RoomSpot) → room_at q ≡ r → total (keeps same_room_spot q) (map kept_of_rooms hs) ≡ 0
     none_keeps q is = total_map kept_of_rooms (keeps same_room_spot q) hs ∙ total_zero (λ (u : RoomHolds). keeps same_room_spot q (kept_of_rooms u)) hs
-        (λ j u at. none_kept q u (subst (λ (t : ℕ). latches_on t u ≡ 0) (sym is) (none_latched j u at)) (rule.passes j u at).claim (subst (λ (t : ℕ). in_room_state t HELD u ≡ 0) (sym is) (none_held j u at)))
+        (λ j u at. none_kept q u (subst (λ (t : ℕ). claims_on t (part_at q) u ≡ 0) (sym is) (none_claimed (part_at q) j u at)) (subst (λ (t : ℕ). in_room_state t HELD u ≡ 0) (sym is) (none_held j u at)))
 
     -- the pass comes to hold it, beside rooms of which it keeps what it kept
     module _ (rest : List HeldRoom) (moving : List MovingRange) (same : kept_of_rooms_held rest ≡ kept_of_rooms_held a.held) where
@@ -94,17 +87,16 @@ module _ (z : Sizes) (m : RoomMemory) (content : ℕ → List ℕ) (hs : List Ro
       abbrev held_now : List (KeptWord RoomSpot)
       held_now = copied ++ kept_of_rooms_held rest
 
-      true_now : AreTrueTo (read_room (put_room m (at_room_pin r) x)) (kept_of_latch a.latch ++ (kept_of_claim a.claim ++ (kept_of_copy r (copy_at z m r) ++ kept_of_rooms_held rest)))
+      true_now : AreTrueTo (read_room (put_room m (at_room_pin r) x)) (kept_of_claim a.claim ++ (kept_of_copy r (copy_at z m r) ++ kept_of_rooms_held rest))
       true_now = let P : KeptWord RoomSpot → Type 0 = (λ (t : KeptWord RoomSpot). read_room m' t.spot ≡ t.number) in let mine = pin_put.true_to seat (kept_of_rooms a) (at_map kept_of_rooms hs seat a here) in
-          let ls : List (KeptWord RoomSpot) = kept_of_latch a.latch in let cs : List (KeptWord RoomSpot) = kept_of_claim a.claim in let ws : List (KeptWord RoomSpot) = kept_of_rooms_held a.held in let behind = each_rest P ls (cs ++ ws) mine in
-          each_append P ls (cs ++ held_now) (each_first P ls (cs ++ ws) mine)
-          (each_append P cs held_now (each_first P cs ws behind) (each_append P copied (kept_of_rooms_held rest) (copy_read z m' r) (subst (AreTrueTo (read_room m')) (sym same) (each_rest P cs ws behind))))
+          let cs : List (KeptWord RoomSpot) = kept_of_claim a.claim in let ws : List (KeptWord RoomSpot) = kept_of_rooms_held a.held in
+          each_append P cs held_now (each_first P cs ws mine) (each_append P copied (kept_of_rooms_held rest) (copy_read z m' r) (subst (AreTrueTo (read_room m')) (sym same) (each_rest P cs ws mine)))
 
-      more : (q : RoomSpot) → keeps same_room_spot q (kept_of_latch a.latch ++ (kept_of_claim a.claim ++ (kept_of_copy r (copy_at z m r) ++ kept_of_rooms_held rest))) ≡ keeps same_room_spot q (kept_of_copy r (copy_at z m r)) + keeps same_room_spot q (kept_of_rooms a)
-      more q = let f = (λ (w : KeptWord RoomSpot). one_if (same_room_spot w.spot q)) in let ls : List (KeptWord RoomSpot) = kept_of_latch a.latch in let cs : List (KeptWord RoomSpot) = kept_of_claim a.claim in let ws : List (KeptWord RoomSpot) = kept_of_rooms_held a.held in
-          let e1 = total_append f ls (cs ++ held_now) in let e2 = total_append f cs held_now in let e3 = total_append f copied (kept_of_rooms_held rest) in let e4 = total_append f ls (cs ++ ws) in let e5 = total_append f cs ws in let e6 = ap (total f) same in omega arith
+      more : (q : RoomSpot) → keeps same_room_spot q (kept_of_claim a.claim ++ (kept_of_copy r (copy_at z m r) ++ kept_of_rooms_held rest)) ≡ keeps same_room_spot q (kept_of_copy r (copy_at z m r)) + keeps same_room_spot q (kept_of_rooms a)
+      more q = let f = (λ (w : KeptWord RoomSpot). one_if (same_room_spot w.spot q)) in let cs : List (KeptWord RoomSpot) = kept_of_claim a.claim in let ws : List (KeptWord RoomSpot) = kept_of_rooms_held a.held in
+          let e2 = total_append f cs held_now in let e3 = total_append f copied (kept_of_rooms_held rest) in let e5 = total_append f cs ws in let e6 = ap (total f) same in omega arith
 
-      few : (q : RoomSpot) → total (keeps same_room_spot q) (map kept_of_rooms hs) + keeps same_room_spot q (kept_of_latch a.latch ++ (kept_of_claim a.claim ++ (kept_of_copy r (copy_at z m r) ++ kept_of_rooms_held rest))) ≤ 1 + keeps same_room_spot q (kept_of_rooms a)
+      few : (q : RoomSpot) → total (keeps same_room_spot q) (map kept_of_rooms hs) + keeps same_room_spot q (kept_of_claim a.claim ++ (kept_of_copy r (copy_at z m r) ++ kept_of_rooms_held rest)) ≤ 1 + keeps same_room_spot q (kept_of_rooms a)
       few q = let e = more q in dite (ℕ_discrete (room_at q) r)
           (λ is. let n = none_keeps q is in let o = copy_once q r (copy_at z m r) in omega arith)
           (λ ne. let n = of_other q r (λ s. ne (sym s)) copied (copy_of_room r (copy_at z m r)) in let o = kept.once q in omega arith)
@@ -113,7 +105,7 @@ module _ (z : Sizes) (m : RoomMemory) (content : ℕ → List ℕ) (hs : List Ro
       pub held_kept : KeptNumbersStand same_room_spot (read_room (put_room m (at_room_pin r) x)) (map kept_of_rooms (set hs seat (record a { held = record { room = r; held_as = Held (copy_at z m r) } ∷ rest; moving = moving })))
       unfolding kept_of_rooms_held
       held_kept = subst (KeptNumbersStand same_room_spot (read_room m')) (sym (map_set kept_of_rooms hs seat (record a { held = record { room = r; held_as = Held (copy_at z m r) } ∷ rest; moving = moving })))
-          (kept_put same_room_spot (read_room m') (map kept_of_rooms hs) seat (kept_of_rooms a) (kept_of_latch a.latch ++ (kept_of_claim a.claim ++ held_now)) (at_map kept_of_rooms hs seat a here) true_now few pin_put)
+          (kept_put same_room_spot (read_room m') (map kept_of_rooms hs) seat (kept_of_rooms a) (kept_of_claim a.claim ++ held_now) (at_map kept_of_rooms hs seat a here) true_now few pin_put)
 
   -- a pass that claims a free room keeps all of its words
   pub claim_kept : count_of (m.pin r) ≡ 0 → state_of (m.pin r) ≡ FREE → KeptNumbersStand same_room_spot (read_room (put_room m (at_room_pin r) x)) (map kept_of_rooms (set hs seat (record a { held = record { room = r; held_as = Held (copy_at z m r) } ∷ a.held })))

@@ -1,15 +1,14 @@
--- The numbers that a pass keeps for the words of a latched and of a held room, after its own store to one of them.
+-- The numbers that a pass keeps for the words of a claimed entry and of a held room, after its own store to one of them.
 use Rattle.std.proofs.Common.{◌≡◌, ℕ, ◌+◌, ◌==◌, ◌&&◌, cond, Bool, true, List, [], ◌∷◌, sym, refl, ap, ◌∙◌, arith, Some, eq-eqb}
 use Rattle.oak_model.specs.Counts.{one_if, total}
 use Rattle.oak_model.specs.Kept.{KeptWord, keeps, restored}
 use Rattle.oak_model.proofs.Counting.{test-cases}
 use Rattle.chunk_core.specs.declared.holds.EntryWords.{EntryWords}
-use Rattle.chunk_core.specs.declared.holds.Latch.{Latch}
-use Rattle.chunk_core.specs.KeptRooms.{kept_of_entry, kept_of_latch}
-use Rattle.chunk_core.specs.LinkedEntries.{entries_in}
-use Rattle.chunk_core.specs.RoomCopies.{entry_with, latch_with}
+use Rattle.chunk_core.specs.declared.holds.Claim.{Claim}
+use Rattle.chunk_core.specs.KeptRooms.{kept_of_entry, kept_of_claim}
+use Rattle.chunk_core.specs.RoomCopies.{entry_with, claim_with}
 use Rattle.chunk_core.specs.RoomStep.{EntryField, of_key, of_value, of_next, entry_spot}
-use Rattle.chunk_core.specs.Rooms.{same_room_spot, at_count, at_key, at_value, at_next}
+use Rattle.chunk_core.specs.Rooms.{same_room_spot, at_key, at_value, at_next}
 
 -- an entry's own word
 itself : (r i : ℕ) → ((i == i) && (r == r)) ≡ true
@@ -20,11 +19,11 @@ entry_restored of_key r i x e = λ j. record { spot = at_key r i; number = cond 
 entry_restored of_value r i x e = λ j. record { spot = at_key r i; number = e.word } ∷ record { spot = at_value r i; number = cond (sym (itself r i) j) x e.value } ∷ record { spot = at_next r i; number = e.next } ∷ []
 entry_restored of_next r i x e = λ j. record { spot = at_key r i; number = e.word } ∷ record { spot = at_value r i; number = e.value } ∷ record { spot = at_next r i; number = cond (sym (itself r i) j) x e.next } ∷ []
 
--- the latch of the room whose entry past the count is stored to
-pub latch_restored : (f : EntryField) (x : ℕ) (l : Latch) → kept_of_latch (latch_with f x (Some l)) ≡ restored same_room_spot (entry_spot f l.room (entries_in l.count)) x (kept_of_latch (Some l))
-latch_restored of_key x l = λ j. record { spot = at_count l.room; number = l.count } ∷ entry_restored of_key l.room (entries_in l.count) x l.entry j
-latch_restored of_value x l = λ j. record { spot = at_count l.room; number = l.count } ∷ entry_restored of_value l.room (entries_in l.count) x l.entry j
-latch_restored of_next x l = λ j. record { spot = at_count l.room; number = l.count } ∷ entry_restored of_next l.room (entries_in l.count) x l.entry j
+-- the claim whose entry is stored to
+pub claim_restored : (content : ℕ → List ℕ) (f : EntryField) (x : ℕ) (c : Claim) → kept_of_claim (Some (claim_with content f x c)) ≡ restored same_room_spot (entry_spot f c.room c.number) x (kept_of_claim (Some c))
+claim_restored content of_key x c = entry_restored of_key c.room c.number x c.entry
+claim_restored content of_value x c = entry_restored of_value c.room c.number x c.entry
+claim_restored content of_next x c = entry_restored of_next c.room c.number x c.entry
 
 -- a word that is not kept is not restored
 pub restored_unkept : {P : Type 0} (same : P → P → Bool) (p : P) (x : ℕ) (ws : List (KeptWord P)) → keeps same p ws ≡ 0 → restored same p x ws ≡ ws

@@ -7,11 +7,12 @@ pub mod CoverFacts
 pub mod RangeLaws
 pub mod CoverFrames
 pub mod RoomFrames
-pub mod RoomLinks
 pub mod Chains
 pub mod ChainLinks
 pub mod WholeChains
+pub mod RoomLinks
 pub mod ChainedRooms
+pub mod Claims
 pub mod UnlinkedWords
 pub mod RoomStores
 pub mod RoomPins
@@ -19,6 +20,7 @@ pub mod Copies
 pub mod ValueLaws
 pub mod Ranges
 pub mod RangeMoves
+pub mod UsedEntries
 pub mod RoomOwners
 pub mod ByteStores
 pub mod HeldRooms
@@ -30,12 +32,15 @@ pub mod RetireRoom
 pub mod DroppedEntries
 pub mod DroppedSums
 pub mod CountLoads
-pub mod PastCounts
+pub mod LinkLoads
+pub mod LinkStores
 pub mod GainedEntries
-pub mod Publish
+pub mod ClaimEntry
+pub mod OwnEntry
+pub mod LinkEntry
 pub mod StoredRooms
 pub mod ValueWords
-pub mod KeptLatches
+pub mod KeptClaims
 pub mod KeptRoomWords
 pub mod KeptValues
 pub mod UnkeptRooms
@@ -44,6 +49,3 @@ pub mod KeptHeldRooms
 pub mod FewerKeptRooms
 pub mod StoredCopies
 pub mod StoredKeptRooms
-pub mod ReachedEntries
-pub mod LinkLoads
-pub mod LinkStores

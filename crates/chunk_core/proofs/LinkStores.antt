@@ -11,8 +11,7 @@ use Rattle.chunk_core.specs.RoomStep.{put_room}
 use Rattle.chunk_core.specs.Rooms.{RoomMemory, at_first, at_next}
 use Rattle.chunk_core.proofs.ChainLinks.{reached_few}
 use Rattle.chunk_core.proofs.Chains.{behind, behind_each, behind_rises, behind_total, chain_behind, chain_front, chain_same, first_least, next_least}
-use Rattle.chunk_core.proofs.EntryNumbers.{each_of}
-use Rattle.chunk_core.proofs.LinkLoads.{few_entries}
+use Rattle.chunk_core.proofs.EntryNumbers.{each_of, few_entries}
 
 -- the first links of rooms with x at one room
 abbrev pub first_with : RoomMemory → (r x : ℕ) → ℕ → ℕ

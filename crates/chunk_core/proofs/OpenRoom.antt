@@ -14,17 +14,18 @@ use Rattle.chunk_core.specs.declared.holds.RoomHolds.{RoomHolds}
 use Rattle.oak_model.specs.Counts.{one_at, total, rows, Each, Has, one_if}
 use Rattle.oak_model.specs.Limits.{Sizes}
 use Rattle.oak_model.proofs.Changes.{stepped}
-use Rattle.oak_model.proofs.Counting.{one_at-same, one_at-true, test-cases, both_true, total_map}
+use Rattle.oak_model.proofs.Counting.{one_if_le, one_at-same, one_at-true, test-cases, both_true, total_map}
 use Rattle.oak_model.proofs.Lists.{rows_at}
 use Rattle.oak_model.proofs.MemberLaws.{has_some, each_at, each_has, filter-cases, each_filter}
 use Rattle.oak_model.proofs.PutLaws.{put-here, put-else}
+use Rattle.oak_model.proofs.RowLaws.{each_rows}
 use Rattle.oak_model.proofs.SumLaws.{total_in}
 use Rattle.pin_word.specs.PinWord.{state_of, generation_of, count_of}
 use Rattle.chunk_core.specs.CoverRule.{CoversPartition}
 use Rattle.chunk_core.specs.CoverSums.{weight, each, stray, all_of, keyless, owners_in_rooms, owning}
-use Rattle.chunk_core.specs.Covers.{Entry, Cover, cover_at, entry_at, key_at, entry_from, cover_from}
+use Rattle.chunk_core.specs.Covers.{Entry, Cover, cover_at, entry_at, key_at, entry_from, cover_from, used_at}
 use Rattle.chunk_core.specs.KeyWords.{key_in, low_number, high_from, high_number}
-use Rattle.chunk_core.specs.LinkedEntries.{linked, entries_in, prefix_in, first_numbers}
+use Rattle.chunk_core.specs.LinkedEntries.{linked, in_use, Rises, entries_in, prefix_in, first_numbers}
 use Rattle.chunk_core.specs.MayOnRooms.{MayOpenRoom}
 use Rattle.chunk_core.specs.MovingRanges.{takes, is_upper, upper_of, left_of, ranges_left}
 use Rattle.chunk_core.specs.RoomCopies.{without_room, entries_held}
@@ -34,14 +35,15 @@ use Rattle.chunk_core.specs.RoomStep.{put_room}
 use Rattle.chunk_core.specs.Rooms.{RoomMemory, at_room_pin}
 use Rattle.chunk_core.specs.Spans.{within}
 use Rattle.chunk_core.specs.ValueWord.{names_header}
-use Rattle.chunk_core.proofs.ChainedRooms.{copied_word}
+use Rattle.chunk_core.proofs.ChainedRooms.{chained_links, copied_word, copied_value}
 use Rattle.chunk_core.proofs.CoverLaws.{all_in, range_le}
 use Rattle.chunk_core.proofs.EntryNumbers.{numbers_once, take_rows, rows_total}
-use Rattle.chunk_core.proofs.RoomLinks.{total_linked}
+use Rattle.chunk_core.proofs.Chains.{rises_once}
+use Rattle.chunk_core.proofs.WholeChains.{rises_rows, whole_total}
 use Rattle.chunk_core.proofs.Ranges.{whole_parted, Parted, upper_parted, ranges_left-is, parted_covers}
 use Rattle.chunk_core.proofs.RoomStates.{given_up}
 use Rattle.chunk_core.proofs.Weights.{weight_open, weight_held, open_none, is_so}
-use Rattle.chunk_core.proofs.RoomOwners.{owners_in, used_owners}
+use Rattle.chunk_core.proofs.RoomOwners.{owners_in}
 
 -- carried entries by what their key words name
 total_true : (content : ℕ → List ℕ) (f : Entry → ℕ) (p : Carried → Bool) (xs : List Carried) → Each (λ (c : Carried). content c.word ≡ c.words) xs
@@ -104,9 +106,19 @@ module _ (z : Sizes) (m : RoomMemory) (content : ℕ → List ℕ) (is_key_word 
   true_words : Each (λ (y : Carried). content y.word ≡ y.words) g.carried
   true_words = each_at (λ (t : MovingRange). Each (λ (y : Carried). content y.word ≡ y.words) t.carried) a.moving (rule.carried seat a here) may.place g may.there
 
-  -- what is added up over the linked entries is so over those in use
+  -- all its entries in use are linked, each to the next
+  linked_is : linked m r ≡ rows 0 (entries_in (m.count r)) (λ j. j)
+  linked_is = chained_links z m r may.few may.chained
+
+  -- what is added up over them is so over those in use
   over_linked : (f : ℕ → ℕ) → total f (linked m r) ≡ total f (first_numbers (entries_in (m.count r)))
-  over_linked f = total_linked f m r
+  over_linked f = ap (total f) linked_is ∙ whole_total f (entries_in (m.count r))
+
+  linked_once : (i : ℕ) → i < entries_in (m.count r) → total (λ k. one_at k i) (linked m r) ≡ 1
+  linked_once i l = over_linked (λ k. one_at k i) ∙ numbers_once (entries_in (m.count r)) i l
+
+  used_owners : (names_it : ℕ → ℕ) → each (owning names_it) (used_at m content r) ≡ each (owning names_it) C
+  used_owners names_it = total_map (entry_at m content r) (owning names_it C.span) (in_use m r) ∙ (sym (over_linked (λ j. owning names_it C.span (entry_at m content r j))) ∙ sym (total_map (entry_at m content r) (owning names_it C.span) (linked m r)))
 
   -- the room's entries are those of the range's part
   entries : (f : Entry → ℕ) → total f C.entries ≡ total f (map entry_from (upper_of w g))
@@ -140,7 +152,7 @@ module _ (z : Sizes) (m : RoomMemory) (content : ℕ → List ℕ) (is_key_word 
   pub open_owners : (names_it : ℕ → ℕ) → owners_in_rooms z m' content hs' names_it ≡ owners_in_rooms z m content hs names_it
   unfolding total
   open_owners names_it = let s = owners_in z m m' content hs hs' (a ∷ []) (b ∷ []) (stepped hs seat a b here) r lr (λ j ne. put-else m.pin r x j ne) (λ j _. refl) names_it (weight_held (m.pin r) is_held) weight_now in
-      let t = ranges_left-is w (each (owning names_it)) a.moving may.place g may.there may.takes_it (λ j h at l. may.first j h at l) in let e = open_parted.entries (λ y. one_if (nat_lt 0 y.word) * names_it y.word) in let u = used_owners m content r names_it in omega arith
+      let t = ranges_left-is w (each (owning names_it)) a.moving may.place g may.there may.takes_it (λ j h at l. may.first j h at l) in let e = open_parted.entries (λ y. one_if (nat_lt 0 y.word) * names_it y.word) in let u = used_owners names_it in omega arith
 
   -- an entry of the prefix is a carried one
   among : (i : ℕ) → i < entries_in (m.count r) → (y : Carried) × Has y g.carried × (y.word ≡ m.key r i)
@@ -161,6 +173,18 @@ module _ (z : Sizes) (m : RoomMemory) (content : ℕ → List ℕ) (is_key_word 
   first_word : (f : ℕ → ℕ) → slice_index (rows 0 BOUND_WORDS f) 0 ≡ f 0
   first_word f = rows_at 0 BOUND_WORDS 0 f 0 (omega arith)
 
+  rises_here : Rises (λ i. key_at content (m.key r i)) (linked m r)
+  rises_here = subst (Rises (λ i. key_at content (m.key r i))) (sym linked_is) (rises_rows (λ i. key_at content (m.key r i)) (entries_in (m.count r)) 0 (entries_in (m.count r)) (λ i j l k. let p = may.chained.whole in sorted_here i j l (omega arith)) (omega arith))
+
   pub open_rooms : RoomsStand z m' content hs'
   open_rooms = given_up z m content hs rule seat a here r x held count generation (omega arith) (λ s is. open_none x s opened is) (ranges_left (copy_at z m r) a.moving)
-      (λ _. record { few = may.few; prefix = let pre = may.chained.whole in omega arith; sorted = sorted_here; bounds = subst (λ (t : ℕ × ℕ). AreBounds t.0 t.1) (λ i. (first_word (m.low r) i, first_word (m.high r) i)) may.bounds }) (true_left content w a.moving (rule.carried seat a here))
+      (λ _. record {
+        few = may.few;
+        prefix = let p = may.chained.whole in omega arith;
+        sorted = sorted_here;
+        used = subst (Each (λ i. i < entries_in (m.count r))) (sym linked_is) (each_rows (λ i. i < entries_in (m.count r)) 0 (entries_in (m.count r)) (λ j. j) (λ j le lt. omega arith));
+        rises = rises_here;
+        front = λ i l. let p = may.chained.whole in linked_once i (omega arith);
+        zeros = λ i l inside. let o = may.chained.zeros i l inside in (sym (copied_word z m r i inside) ∙ o.0, sym (copied_value z m r i inside) ∙ o.1);
+        bounds = subst (λ (t : ℕ × ℕ). AreBounds t.0 t.1) (λ i. (first_word (m.low r) i, first_word (m.high r) i)) may.bounds;
+      }) (λ i _. rises_once (λ i. key_at content (m.key r i)) (linked m r) rises_here i) (λ i _ l. let o = linked_once i l in let q = one_if_le (nat_lt 0 (m.key r i)) in omega arith) (true_left content w a.moving (rule.carried seat a here))

@@ -140,4 +140,4 @@ module _ (z : Sizes) (m : RoomMemory) (content : ℕ → List ℕ) (is_key_word 
   retire_partition = parted_covers z m m' content is_key_word hs hs' left.gone left.come left.parted retire_step (gone_none (λ (y : Cover). 1 - within y.span y.span.low) parts.begun) (gone_none (λ (y : Cover). keyless y.span) parts.keyed) (gone_none (each stray) parts.inside) (gone_none (λ (y : Cover). names_header y.span.base) parts.bases) parts
 
   pub retire_rooms : RoomsStand z m' content hs'
-  retire_rooms = given_up z m content hs rule seat a here r x held count generation (omega arith) (λ s is. free_none x s now is) (ranges_joined r a.moving) (λ weighs. absurd (let n = weight_free x now in omega arith)) (true_after content r a.moving (rule.carried seat a here))
+  retire_rooms = given_up z m content hs rule seat a here r x held count generation (omega arith) (λ s is. free_none x s now is) (ranges_joined r a.moving) (λ weighs. absurd (let n = weight_free x now in omega arith)) (λ i weighs. absurd (let n = weight_free x now in omega arith)) (λ i weighs. absurd (let n = weight_free x now in omega arith)) (true_after content r a.moving (rule.carried seat a here))

@@ -30,7 +30,9 @@ use Rattle.chunk_core.proofs.HeldRooms.{row_here, row_else, without_here, withou
 use Rattle.chunk_core.proofs.RangeMoves.{hold_still}
 use Rattle.chunk_core.proofs.RoomStates.{restated}
 use Rattle.chunk_core.proofs.Weights.{weight_open, weight_frozen, weight_held, weight_free, open_none, free_none, is_so, rows_are}
+use Rattle.chunk_core.proofs.Claims.{unclaimed_free}
 use Rattle.chunk_core.proofs.RoomOwners.{owners_held}
+use Rattle.chunk_core.proofs.UsedEntries.{used_owners}
 
 -- the copy of a room is whole
 pub whole_copy : (z : Sizes) (m : RoomMemory) (r : ℕ) → IsWholeCopy z (copy_at z m r)
@@ -56,7 +58,7 @@ module _ (z : Sizes) (m : RoomMemory) (content : ℕ → List ℕ) (is_key_word 
     freeze_rooms = restated z m content hs rule seat a here r x count generation (omega arith) (record { room = r; held_as = Frozen } ∷ a.held) a.moving
         (λ s is. let h = row_here r r s (record { room = r; held_as = Frozen }) a.held refl refl in let o = open_none (m.pin r) s was is in let n = ap (λ (t : ℕ). one_at t s) now in omega arith)
         (λ j s ne. row_else r j s (record { room = r; held_as = Frozen }) a.held refl ne)
-        (λ _. rule.ordered r (weight_open (m.pin r) was)) (λ _. inl (weight_frozen x now)) (rule.carried seat a here) (tt, (rule.passes seat a here).whole)
+        (λ _. rule.ordered r (weight_open (m.pin r) was)) (λ i _. rule.either r i (weight_open (m.pin r) was)) (λ i _. rule.keyed r i (weight_open (m.pin r) was)) (λ _. inl (weight_frozen x now)) (rule.carried seat a here) (tt, (rule.passes seat a here).whole)
 
     pub freeze_covers : (F : Cover → ℕ) → all_of z (put_room m (at_room_pin r) x) content (set hs seat (record a { held = record { room = r; held_as = Frozen } ∷ a.held })) F ≡ all_of z m content hs F
     freeze_covers = weight_covers z m content hs seat a (record a { held = record { room = r; held_as = Frozen } ∷ a.held }) here refl r x (weight_frozen x now ∙ sym (weight_open (m.pin r) was))
@@ -79,7 +81,7 @@ module _ (z : Sizes) (m : RoomMemory) (content : ℕ → List ℕ) (is_key_word 
     thaw_rooms = restated z m content hs rule seat a here r x count generation (omega arith) (without_room r a.held) a.moving
         (λ s is. let w = without_here r s a.held in let o = rows_are z m content hs rule seat a here r FROZEN (inl refl) is_mine s is in let n = open_none x s now is in omega arith)
         (λ j s ne. without_else r j s a.held ne)
-        (λ _. rule.ordered r (weight_frozen (m.pin r) is_frozen)) (λ _. inl (weight_open x now)) (rule.carried seat a here)
+        (λ _. rule.ordered r (weight_frozen (m.pin r) is_frozen)) (λ i _. rule.either r i (weight_frozen (m.pin r) is_frozen)) (λ i _. rule.keyed r i (weight_frozen (m.pin r) is_frozen)) (λ _. inl (weight_open x now)) (rule.carried seat a here)
         (each_without (λ (h : HeldRoom). IsWholeHeld z h.held_as) r a.held (rule.passes seat a here).whole)
 
     pub thaw_covers : (F : Cover → ℕ) → all_of z (put_room m (at_room_pin r) x) content (set hs seat (record a { held = without_room r a.held })) F ≡ all_of z m content hs F
@@ -97,7 +99,7 @@ module _ (z : Sizes) (m : RoomMemory) (content : ℕ → List ℕ) (is_key_word 
     claim_rooms = restated z m content hs rule seat a here r x count generation (omega arith) (record { room = r; held_as = Held (copy_at z m r) } ∷ a.held) a.moving
         (λ s is. let h = row_here r r s (record { room = r; held_as = Held (copy_at z m r) }) a.held refl refl in let o = free_none (m.pin r) s was is in let n = ap (λ (t : ℕ). one_at t s) now in omega arith)
         (λ j s ne. row_else r j s (record { room = r; held_as = Held (copy_at z m r) }) a.held refl ne)
-        (λ w. absurd (let n = weight_held x now in omega arith)) (λ w. absurd (let n = weight_free (m.pin r) was in omega arith)) (rule.carried seat a here) (whole_copy z m r, (rule.passes seat a here).whole)
+        (λ w. absurd (let n = weight_held x now in omega arith)) (λ i w. absurd (let n = weight_held x now in omega arith)) (λ i w. absurd (let n = weight_held x now in omega arith)) (λ w. absurd (let n = weight_free (m.pin r) was in omega arith)) (rule.carried seat a here) (whole_copy z m r, (rule.passes seat a here).whole)
 
     pub claim_covers : (F : Cover → ℕ) → all_of z (put_room m (at_room_pin r) x) content (set hs seat (record a { held = record { room = r; held_as = Held (copy_at z m r) } ∷ a.held })) F ≡ all_of z m content hs F
     claim_covers = weight_covers z m content hs seat a (record a { held = record { room = r; held_as = Held (copy_at z m r) } ∷ a.held }) here refl r x (weight_held x now ∙ sym (weight_free (m.pin r) was))
@@ -121,7 +123,7 @@ module _ (z : Sizes) (m : RoomMemory) (content : ℕ → List ℕ) (is_key_word 
     hold_rooms = restated z m content hs rule seat a here r x (count ∙ sym unpinned) generation (omega arith) (record { room = r; held_as = Held (copy_at z m r) } ∷ without_room r a.held) (moving_at m content r ∷ a.moving)
         (λ s is. let h = row_here r r s (record { room = r; held_as = Held (copy_at z m r) }) (without_room r a.held) refl refl in let w = without_here r s a.held in let o = rows_are z m content hs rule seat a here r FROZEN (inl refl) (omega arith) s is in let n = ap (λ (t : ℕ). one_at t s) now in omega arith)
         (λ j s ne. row_else r j s (record { room = r; held_as = Held (copy_at z m r) }) (without_room r a.held) refl ne ∙ without_else r j s a.held ne)
-        (λ w. absurd (let n = weight_held x now in omega arith)) (λ _. inr unpinned) (true_all (linked m r), rule.carried seat a here)
+        (λ w. absurd (let n = weight_held x now in omega arith)) (λ i w. absurd (let n = weight_held x now in omega arith)) (λ i w. absurd (let n = weight_held x now in omega arith)) (λ _. inr unpinned) (true_all (linked m r), rule.carried seat a here)
         (whole_copy z m r, each_without (λ (h : HeldRoom). IsWholeHeld z h.held_as) r a.held (rule.passes seat a here).whole)
 
     pub hold_covers : (F : Cover → ℕ) → all_of z (put_room m (at_room_pin r) x) content (set hs seat (record a { held = record { room = r; held_as = Held (copy_at z m r) } ∷ without_room r a.held; moving = moving_at m content r ∷ a.moving })) F ≡ all_of z m content hs F
@@ -130,7 +132,7 @@ module _ (z : Sizes) (m : RoomMemory) (content : ℕ → List ℕ) (is_key_word 
 
     pub hold_owners : (names_it : ℕ → ℕ) → owners_in_rooms z (put_room m (at_room_pin r) x) content (set hs seat (record a { held = record { room = r; held_as = Held (copy_at z m r) } ∷ without_room r a.held; moving = moving_at m content r ∷ a.moving })) names_it ≡ owners_in_rooms z m content hs names_it
     hold_owners names_it = let b : RoomHolds = record a { held = record { room = r; held_as = Held (copy_at z m r) } ∷ without_room r a.held; moving = moving_at m content r ∷ a.moving } in
-        owners_held z m (put_room m (at_room_pin r) x) content hs (set hs seat b) a b (stepped hs seat a b here) r inside (λ j ne. put-else m.pin r x j ne) (λ j _. refl) (weight_frozen (m.pin r) was) (ap weight (put-here m.pin r x r refl) ∙ weight_held x now) refl names_it
+        owners_held z m (put_room m (at_room_pin r) x) content hs (set hs seat b) a b (stepped hs seat a b here) r inside (λ j ne. put-else m.pin r x j ne) (λ j _. refl) (weight_frozen (m.pin r) was) (ap weight (put-here m.pin r x r refl) ∙ weight_held x now) refl names_it (used_owners z m content hs rule r (weight_frozen (m.pin r) was) (λ i. unclaimed_free z m content hs rule r i unpinned) names_it)
 
     pub hold_partition : CoversPartition z (put_room m (at_room_pin r) x) content is_key_word (set hs seat (record a { held = record { room = r; held_as = Held (copy_at z m r) } ∷ without_room r a.held; moving = moving_at m content r ∷ a.moving }))
     hold_partition = partition_same z m (put_room m (at_room_pin r) x) content content is_key_word hs (set hs seat (record a { held = record { room = r; held_as = Held (copy_at z m r) } ∷ without_room r a.held; moving = moving_at m content r ∷ a.moving })) hold_covers parts

@@ -1,28 +1,20 @@
 -- Who owns the blocks of keys in rooms: the entries in use of open and frozen ones, and carried entries. What changes of rooms and of moving ranges leave of that.
-use Rattle.std.proofs.Common.{◌≡◌, ◌≢◌, ℕ, ◌+◌, ◌*◌, ◌<◌, List, [], ◌∷◌, map, set, sym, ap, ◌∙◌, arith}
+use Rattle.std.proofs.Common.{◌≡◌, ◌≢◌, ℕ, ◌+◌, ◌*◌, ◌<◌, List, [], ◌∷◌, map, set, ap, arith}
 use mathlib.Core.Option.{some}
 use lib.ListN.{get_elem?}
 use Rattle.oak_model.specs.Counts.{total}
 use Rattle.oak_model.specs.Limits.{Sizes}
 use Rattle.oak_model.proofs.Changes.{Change}
-use Rattle.oak_model.proofs.Counting.{total_map}
 use Rattle.oak_model.proofs.Lists.{map_set_same}
 use Rattle.oak_model.proofs.SumLaws.{times-none, times-one}
 use Rattle.chunk_core.specs.declared.holds.MovingRange.{MovingRange}
 use Rattle.chunk_core.specs.declared.holds.RoomHolds.{RoomHolds}
-use Rattle.chunk_core.specs.Covers.{Cover, cover_at, cover_from, entry_at, moving_of, span_in, used_at}
+use Rattle.chunk_core.specs.Covers.{Cover, cover_at, cover_from, moving_of, used_at}
 use Rattle.chunk_core.specs.CoverSums.{covers, each, owners_in_rooms, owning, weight}
-use Rattle.chunk_core.specs.LinkedEntries.{in_use}
 use Rattle.chunk_core.specs.RoomReads.{moving_at}
 use Rattle.chunk_core.specs.Rooms.{RoomMemory}
-use Rattle.chunk_core.proofs.CoverLaws.{covers_step, moves, room_total}
+use Rattle.chunk_core.proofs.CoverLaws.{covers_step, moves}
 use Rattle.chunk_core.proofs.RangeMoves.{moving_cover}
-use Rattle.chunk_core.proofs.RoomLinks.{total_linked}
-
--- the entries in use of a room own the blocks that its linked ones own
-pub used_owners : (m : RoomMemory) (content : ℕ → List ℕ) (r : ℕ) (names_it : ℕ → ℕ) → each (owning names_it) (used_at m content r) ≡ each (owning names_it) (cover_at m content r)
-used_owners m content r names_it = total_map (entry_at m content r) (owning names_it (span_in m r)) (in_use m r)
-    ∙ (sym (total_linked (λ i. owning names_it (span_in m r) (entry_at m content r i)) m r) ∙ sym (room_total m content r (owning names_it)))
 
 -- a pass's step that leaves its moving ranges, and the words of rooms
 pub owners_idle : (z : Sizes) (m : RoomMemory) (content : ℕ → List ℕ) (hs : List RoomHolds) (seat : ℕ) (a b : RoomHolds) → get_elem? hs seat ≡ some a → b.moving ≡ a.moving → (names_it : ℕ → ℕ) → owners_in_rooms z m content (set hs seat b) names_it ≡ owners_in_rooms z m content hs names_it
@@ -46,9 +38,9 @@ module _ (z : Sizes) (m m' : RoomMemory) (content : ℕ → List ℕ) (hs hs' go
   pub owners_aside : weight (m.pin r) ≡ 0 → weight (m'.pin r) ≡ 0 → owners_in_rooms z m' content hs' names_it + total (moves (each (owning names_it))) gone ≡ owners_in_rooms z m content hs names_it + total (moves (each (owning names_it))) fresh
   owners_aside e e' = let s = step in let x = times-none (weight (m.pin r)) (each (owning names_it) (used_at m content r)) e in let y = times-none (weight (m'.pin r)) (each (owning names_it) (used_at m' content r)) e' in omega arith
 
--- a room's range comes to move with a pass: its linked entries own the blocks that its entries in use owned
+-- a room's range comes to move with a pass, where its linked entries own the blocks that its entries in use own
 pub owners_held : (z : Sizes) (m m' : RoomMemory) (content : ℕ → List ℕ) (hs hs' : List RoomHolds) (a b : RoomHolds) (c : Change hs hs' (a ∷ []) (b ∷ [])) (r : ℕ) → r < z.chunks → ((j : ℕ) → j ≢ r → m'.pin j ≡ m.pin j) → ((j : ℕ) → j ≢ r → used_at m' content j ≡ used_at m content j)
-    → weight (m.pin r) ≡ 1 → weight (m'.pin r) ≡ 0 → b.moving ≡ moving_at m content r ∷ a.moving → (names_it : ℕ → ℕ) → owners_in_rooms z m' content hs' names_it ≡ owners_in_rooms z m content hs names_it
+    → weight (m.pin r) ≡ 1 → weight (m'.pin r) ≡ 0 → b.moving ≡ moving_at m content r ∷ a.moving → (names_it : ℕ → ℕ) → each (owning names_it) (used_at m content r) ≡ each (owning names_it) (cover_at m content r) → owners_in_rooms z m' content hs' names_it ≡ owners_in_rooms z m content hs names_it
 unfolding total
-owners_held z m m' content hs hs' a b c r l pins same w w' moving names_it = let s = owners_out z m m' content hs hs' (a ∷ []) (b ∷ []) c r l pins same names_it w w' in
-    let e = ap (λ (gs : List MovingRange). total (each (owning names_it)) (map cover_from gs)) moving in let f = ap (each (owning names_it)) (moving_cover m content r) in let u = used_owners m content r names_it in omega arith
+owners_held z m m' content hs hs' a b c r l pins same w w' moving names_it used = let s = owners_out z m m' content hs hs' (a ∷ []) (b ∷ []) c r l pins same names_it w w' in
+    let e = ap (λ (gs : List MovingRange). total (each (owning names_it)) (map cover_from gs)) moving in let f = ap (each (owning names_it)) (moving_cover m content r) in omega arith

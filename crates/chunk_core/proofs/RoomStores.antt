@@ -15,7 +15,7 @@ use Rattle.chunk_core.specs.Covers.{Cover, cover_at, entry_at, key_at, moving_of
 use Rattle.chunk_core.specs.KeyWords.{low_number, high_number}
 use Rattle.chunk_core.specs.LinkedEntries.{entries_in, first_numbers, in_use, linked}
 use Rattle.chunk_core.specs.RoomStep.{put_room}
-use Rattle.chunk_core.specs.Rooms.{RoomMemory, RoomSpot, at_base, at_count, at_low, at_high, at_key, at_value, room_at, part_at, kind_at, same_room_spot, read_room}
+use Rattle.chunk_core.specs.Rooms.{RoomMemory, RoomSpot, at_base, at_count, at_first, at_low, at_high, at_key, at_value, at_next, room_at, part_at, kind_at, same_room_spot, read_room}
 use Rattle.chunk_core.proofs.CoverLaws.{moves, covers_parts, covers_same}
 use Rattle.chunk_core.proofs.RoomLinks.{linked_same}
 
@@ -25,7 +25,7 @@ read_else m p x q ne = ap (λ (t : Bool). cond t x (read_room m q)) (and_right (
 
 -- nor does another room get other linked entries
 pub linked_else : (m : RoomMemory) (p : RoomSpot) (x j : ℕ) → j ≢ room_at p → linked (put_room m p x) j ≡ linked m j
-linked_else m p x j ne = linked_same m (put_room m p x) j (read_else m p x (at_count j) ne)
+linked_else m p x j ne = linked_same m (put_room m p x) j (read_else m p x (at_first j) ne) (fun_ext (λ n. read_else m p x (at_next j n) ne))
 
 -- a room's range, with the entries of these numbers
 abbrev numbered_at : RoomMemory → (ℕ → List ℕ) → ℕ → List ℕ → Cover

@@ -1,6 +1,5 @@
 -- The numbers that passes keep of rooms, behind a store to a room that one of them holds: its own copy has the new number, and nothing else changes.
 use Rattle.std.proofs.Common.{◌≡◌, ◌≢◌, ℕ, zero, suc, ◌+◌, cond, List, [], ◌∷◌, ◌++◌, map, set, length, refl, sym, ap, ◌∙◌, subst, inr, arith, ⊎_elim, Option, Some, None}
-use Rattle.std.proofs.lemmas.Option.{none-some}
 use Rattle.std.specs.Prelude.{◌==◌, slice_index}
 use mathlib.Core.Option.{some}
 use lib.ListN.{get_elem?}
@@ -9,7 +8,7 @@ use Rattle.pin_word.specs.PinWord.{state_of}
 use Rattle.oak_model.specs.Counts.{one_if, total, rows, Each}
 use Rattle.oak_model.specs.Kept.{KeptWord, KeptNumbersStand, AreTrueTo, keeps}
 use Rattle.oak_model.specs.Limits.{Sizes}
-use Rattle.oak_model.proofs.Counting.{decided, one_at-le, one_at-same, total_append, total_at, total_set, total_two, total_zero}
+use Rattle.oak_model.proofs.Counting.{decided, one_at-le, total_append, total_at, total_set, total_two, total_zero}
 use Rattle.oak_model.proofs.KeptLaws.{kept_put, kept_unkept}
 use Rattle.oak_model.proofs.Lists.{at_map, at_set, at_unmap, each_append, set_there}
 use Rattle.oak_model.proofs.RowLaws.{each_first, each_rest}
@@ -18,23 +17,23 @@ use Rattle.chunk_core.specs.declared.states.TheConstants.{HELD}
 use Rattle.chunk_core.specs.declared.holds.Claim.{Claim}
 use Rattle.chunk_core.specs.declared.holds.EntryWords.{EntryWords}
 use Rattle.chunk_core.specs.declared.holds.HeldRoom.{HeldRoom}
-use Rattle.chunk_core.specs.declared.holds.Latch.{Latch}
 use Rattle.chunk_core.specs.declared.holds.MovingRange.{MovingRange}
 use Rattle.chunk_core.specs.declared.holds.RoomCopy.{RoomCopy}
 use Rattle.chunk_core.specs.declared.holds.RoomHeldAs.{RoomHeldAs}
 use Rattle.chunk_core.specs.declared.holds.RoomHeldAs.TheVariants.{Frozen, Held}
 use Rattle.chunk_core.specs.declared.holds.RoomHolds.{RoomHolds}
 use Rattle.chunk_core.specs.CoverSums.{weight}
-use Rattle.chunk_core.specs.KeptRooms.{kept_of_claim, kept_of_copy, kept_of_entries, kept_of_held, kept_of_latch, kept_of_rooms, kept_of_rooms_held}
+use Rattle.chunk_core.specs.KeptRooms.{kept_of_claim, kept_of_copy, kept_of_entries, kept_of_held, kept_of_rooms, kept_of_rooms_held}
 use Rattle.chunk_core.specs.MayOnRooms.{IsRoomWord}
 use Rattle.chunk_core.specs.RoomCopies.{copy_with, held_with, rooms_with}
-use Rattle.chunk_core.specs.RoomHolds.{latches_of}
-use Rattle.chunk_core.specs.RoomRule.{in_room_state, latches_on, IsWholeHeld, RoomsStand}
+use Rattle.chunk_core.specs.RoomHolds.{claims_on}
+use Rattle.chunk_core.specs.RoomRule.{in_room_state, IsWholeHeld, RoomsStand}
 use Rattle.chunk_core.specs.RoomStep.{put_room}
-use Rattle.chunk_core.specs.Rooms.{RoomMemory, RoomSpot, at_high, at_low, read_room, room_at, same_room_spot}
+use Rattle.chunk_core.specs.Rooms.{part_at, RoomMemory, RoomSpot, at_high, at_low, read_room, room_at, same_room_spot}
 use Rattle.chunk_core.proofs.RoomWords.{read_room-of}
 use Rattle.chunk_core.proofs.StoredCopies.{else_true, rooms_true}
-use Rattle.chunk_core.proofs.StoredRooms.{unlatched, whole_with}
+use Rattle.chunk_core.proofs.StoredRooms.{whole_with}
+use Rattle.chunk_core.proofs.Claims.{claim_cover, unclaimed}
 use Rattle.chunk_core.proofs.UnkeptRooms.{none_kept}
 use Rattle.chunk_core.proofs.Weights.{is_so, weight_held}
 
@@ -87,44 +86,38 @@ module _ (z : Sizes) (m : RoomMemory) (content : ℕ → List ℕ) (hs : List Ro
   mine : get_elem? ks seat ≡ some (kept_of_rooms a)
   mine = at_map kept_of_rooms hs seat a here
 
-  -- the room is no cover, and its latch is free
+  -- the room is no cover, and none of its entries is claimed
   pub aside : weight (m.pin (room_at p)) ≡ 0
   aside = weight_held (m.pin (room_at p)) (is_so z m content hs rule seat a here (room_at p) HELD (inr refl) (omega arith))
 
-  free : (j : ℕ) (u : RoomHolds) → get_elem? hs j ≡ some u → latches_on (room_at p) u ≡ 0
-  free j u at = let t = total_at (latches_on (room_at p)) hs j u at in let l = rule.latched (room_at p) in let n = unlatched z m content hs rule (room_at p) aside in omega arith
+  free : (i j : ℕ) (u : RoomHolds) → get_elem? hs j ≡ some u → claims_on (room_at p) i u ≡ 0
+  free i j u at = let t = total_at (claims_on (room_at p) i) hs j u at in let n = unclaimed z m content hs rule (room_at p) i (λ w. let a = aside in absurd (omega arith)) in omega arith
 
   -- no other pass keeps the word
   others_none : total (keeps same_room_spot p) (set ks seat []) ≡ 0
   unfolding total
   others_none = total_zero (keeps same_room_spot p) (set ks seat []) (λ j ws e. ⊎_elim (λ (t : (j ≡ seat) × ([] ≡ ws)). ap (keeps same_room_spot p) (sym t.1))
-      (λ (t : (j ≢ seat) × (get_elem? ks j ≡ some ws)). let u = at_unmap kept_of_rooms hs j ws t.1 in ap (keeps same_room_spot p) (sym u.2) ∙ none_kept p u.0 (free j u.0 u.1) (rule.passes j u.0 u.1).claim (unheld j u.0 t.0 u.1))
+      (λ (t : (j ≢ seat) × (get_elem? ks j ≡ some ws)). let u = at_unmap kept_of_rooms hs j ws t.1 in ap (keeps same_room_spot p) (sym u.2) ∙ none_kept p u.0 (free (part_at p) j u.0 u.1) (unheld j u.0 t.0 u.1))
       (at_set ks seat j [] ws e))
     where
       unheld : (j : ℕ) (u : RoomHolds) → j ≢ seat → get_elem? hs j ≡ some u → in_room_state (room_at p) HELD u ≡ 0
       unheld j u ne at = let t = total_two (in_room_state (room_at p) HELD) hs j seat u a ne at here in let h = rule.held (room_at p) HELD (inr refl) in let o = one_at-le (state_of (m.pin (room_at p))) HELD in let y = held in omega arith
 
-  -- what it keeps of a latch is of another room
-  latch_true : (l : Option Latch) → latches_of (room_at p) l ≡ 0 → AreTrueTo (read_room m) (kept_of_latch l) → AreTrueTo (read_room (put_room m p x)) (kept_of_latch l)
-  latch_true None e t = tt
-  latch_true (Some l) e t = else_true m p x l.room (λ s. let o = one_at-same l.room (room_at p) s in absurd (omega arith)) (kept_of_latch (Some l)) (refl, (refl, (refl, (refl, tt)))) t
-
-  claim_true : (c : Option Claim) → c ≡ None → AreTrueTo (read_room (put_room m p x)) (kept_of_claim c)
-  claim_true None e = tt
-  claim_true (Some c) e = absurd (none-some c (sym e))
+  -- what it keeps of a claim is of another room
+  claim_true : (c : Option Claim) → a.claim ≡ c → AreTrueTo (read_room m) (kept_of_claim c) → AreTrueTo (read_room (put_room m p x)) (kept_of_claim c)
+  claim_true None e t = tt
+  claim_true (Some c) e t = else_true m p x c.room (λ s. let w = claim_cover z m content hs rule seat a c here e in let q = ap (λ (y : ℕ). weight (m.pin y)) s in let n = aside in absurd (omega arith)) (kept_of_claim (Some c)) (refl, (refl, (refl, tt))) t
 
   -- what the pass keeps then is true
-  stored_true : AreTrueTo (read_room (put_room m p x)) (kept_of_latch a.latch ++ (kept_of_claim a.claim ++ kept_of_rooms_held (rooms_with p x a.held)))
+  stored_true : AreTrueTo (read_room (put_room m p x)) (kept_of_claim a.claim ++ kept_of_rooms_held (rooms_with p x a.held))
   stored_true = let P : KeptWord RoomSpot → Type 0 = (λ (t : KeptWord RoomSpot). read_room m t.spot ≡ t.number) in let P' : KeptWord RoomSpot → Type 0 = (λ (t : KeptWord RoomSpot). read_room (put_room m p x) t.spot ≡ t.number) in
-      let l = kept_of_latch a.latch in let c = kept_of_claim a.claim in let h = kept_of_rooms_held a.held in let t = kept.true_to seat (kept_of_rooms a) mine in
-      each_append P' l (c ++ kept_of_rooms_held (rooms_with p x a.held)) (latch_true a.latch (free seat a here) (each_first P l (c ++ h) t))
-      (each_append P' c (kept_of_rooms_held (rooms_with p x a.held)) (claim_true a.claim (rule.passes seat a here).claim) (rooms_true z m p x word a.held (rule.passes seat a here).whole (each_rest P c h (each_rest P l (c ++ h) t))))
+      let c = kept_of_claim a.claim in let h = kept_of_rooms_held a.held in let t = kept.true_to seat (kept_of_rooms a) mine in
+      each_append P' c (kept_of_rooms_held (rooms_with p x a.held)) (claim_true a.claim refl (each_first P c h t)) (rooms_true z m p x word a.held (rule.passes seat a here).whole (each_rest P c h t))
 
   -- and no word more often
-  stored_keep : (q : RoomSpot) → keeps same_room_spot q (kept_of_latch a.latch ++ (kept_of_claim a.claim ++ kept_of_rooms_held (rooms_with p x a.held))) ≡ keeps same_room_spot q (kept_of_rooms a)
-  stored_keep q = let f = λ (t : KeptWord RoomSpot). one_if (same_room_spot t.spot q) in let l = kept_of_latch a.latch in let c = kept_of_claim a.claim in
-      let s = total_append f l (c ++ kept_of_rooms_held (rooms_with p x a.held)) in let t = total_append f c (kept_of_rooms_held (rooms_with p x a.held)) in
-      let u = total_append f l (c ++ kept_of_rooms_held a.held) in let y = total_append f c (kept_of_rooms_held a.held) in let e = rooms_keep z q p x a.held (rule.passes seat a here).whole in omega arith
+  stored_keep : (q : RoomSpot) → keeps same_room_spot q (kept_of_claim a.claim ++ kept_of_rooms_held (rooms_with p x a.held)) ≡ keeps same_room_spot q (kept_of_rooms a)
+  stored_keep q = let f = λ (t : KeptWord RoomSpot). one_if (same_room_spot t.spot q) in let c = kept_of_claim a.claim in
+      let t = total_append f c (kept_of_rooms_held (rooms_with p x a.held)) in let y = total_append f c (kept_of_rooms_held a.held) in let e = rooms_keep z q p x a.held (rule.passes seat a here).whole in omega arith
 
   -- so the numbers that passes keep of rooms stand behind the store
   pub store_kept : (moving : List MovingRange) → KeptNumbersStand same_room_spot (read_room (put_room m p x)) (set (map kept_of_rooms hs) seat (kept_of_rooms (record a { held = rooms_with p x a.held; moving = moving })))

@@ -1,16 +1,14 @@
 -- The points on rooms after a store to a word of a held room.
-use Rattle.std.proofs.Common.{◌≡◌, ◌≢◌, ℕ, zero, suc, ◌*◌, ◌<◌, ◌==◌, cond, List, [], ◌∷◌, map, length, set, sym, refl, ap, ◌∙◌, subst, arith, Option, Some, None}
-use Rattle.std.specs.Prelude.{not}
+use Rattle.std.proofs.Common.{◌≡◌, ◌≢◌, ℕ, zero, suc, ◌*◌, ◌<◌, ◌==◌, cond, List, [], ◌∷◌, map, length, set, sym, refl, ap, ◌∙◌, subst, arith, Some}
+use Rattle.std.specs.Prelude.{not, nat_lt}
 use Rattle.std.proofs.lemmas.List.{length-set}
-use mathlib.Core.Logic.{dite}
 use mathlib.Core.Path.{fun_ext}
 use mathlib.Core.Option.{some}
-use native.Mathlib.Decide.{ℕ_discrete}
 use lib.ListN.{get_elem?}
 use Rattle.pin_word.specs.PinWord.{state_of, generation_of, count_of}
-use Rattle.oak_model.specs.Counts.{one_at, total, rows, Each}
+use Rattle.oak_model.specs.Counts.{one_at, one_if, total, rows, Each}
 use Rattle.oak_model.specs.Limits.{Sizes}
-use Rattle.oak_model.proofs.Counting.{one_at-true, test-cases, total_some}
+use Rattle.oak_model.proofs.Counting.{test-cases}
 use Rattle.oak_model.proofs.Lists.{each_map}
 use Rattle.oak_model.proofs.PutLaws.{put-cases}
 use Rattle.oak_model.proofs.MemberLaws.{each_filter}
@@ -18,7 +16,7 @@ use Rattle.chunk_core.specs.declared.layout.TheConstants.{BOUND_WORDS}
 use Rattle.chunk_core.specs.declared.holds.Carried.{Carried}
 use Rattle.chunk_core.specs.declared.holds.FoundEntry.{FoundEntry}
 use Rattle.chunk_core.specs.declared.holds.HeldRoom.{HeldRoom}
-use Rattle.chunk_core.specs.declared.holds.Latch.{Latch}
+use Rattle.chunk_core.specs.declared.holds.Claim.{Claim}
 use Rattle.chunk_core.specs.declared.holds.MovingRange.{MovingRange}
 use Rattle.chunk_core.specs.declared.holds.PinnedRoom.{PinnedRoom}
 use Rattle.chunk_core.specs.declared.holds.RoomCopy.{RoomCopy}
@@ -26,17 +24,17 @@ use Rattle.chunk_core.specs.declared.holds.RoomHeldAs.{RoomHeldAs}
 use Rattle.chunk_core.specs.declared.holds.RoomHeldAs.TheVariants.{Frozen, Held}
 use Rattle.chunk_core.specs.declared.holds.RoomHolds.{RoomHolds}
 use Rattle.chunk_core.specs.CoverSums.{weight}
-use Rattle.chunk_core.specs.LinkedEntries.{linked}
+use Rattle.chunk_core.specs.LinkedEntries.{entries_in, linked}
 use Rattle.chunk_core.specs.MayOnRooms.{IsRoomWord}
 use Rattle.chunk_core.specs.MovingRanges.{is_dropped, range_without, ranges_with}
-use Rattle.chunk_core.specs.PinnedRooms.{OnRoomPin, IsGoodRoom, EntryStands, RoomPinHolds}
+use Rattle.chunk_core.specs.PinnedRooms.{IsPrefixStill, EntryStands, RoomPinHolds}
 use Rattle.chunk_core.specs.RoomCopies.{changed, copy_with, held_with, rooms_with, entry_with}
-use Rattle.chunk_core.specs.RoomHolds.{latches_of}
-use Rattle.chunk_core.specs.RoomRule.{latches_on, room_state, LatchIsPinned, AreTrueRanges, IsInOrder, IsWholeCopy, IsWholeHeld, RoomsStand}
+use Rattle.chunk_core.specs.RoomRule.{room_state, AreTrueRanges, ClaimStands, IsInOrder, IsWholeCopy, IsWholeHeld, RoomsStand}
 use Rattle.chunk_core.specs.RoomStep.{of_key, of_value, of_next, put_room}
 use Rattle.chunk_core.specs.Rooms.{RoomMemory, RoomSpot, at_room_pin, at_base, at_count, at_latch, at_first, at_low, at_high, at_key, at_value, at_next, room_at}
 use Rattle.chunk_core.proofs.HeldRooms.{room_rows}
-use Rattle.chunk_core.proofs.RoomFrames.{good_still, rooms_stepped}
+use Rattle.chunk_core.proofs.RoomFrames.{good_still, claim_still, rooms_stepped}
+use Rattle.chunk_core.proofs.Claims.{claim_cover}
 use Rattle.chunk_core.proofs.RoomStores.{linked_else, read_else}
 
 -- what a pass keeps of the rooms that it has
@@ -85,18 +83,6 @@ true_dropped content word gs h = test-cases (word == 0) (λ t. AreTrueRanges con
     each [] h = tt
     each (g ∷ gs) h = (each_filter (λ c. not (is_dropped word c)) (λ (c : Carried). content c.word ≡ c.words) g.carried h.0, each gs h.1)
 
--- nobody has the latch of a room that is no cover
-pub unlatched : (z : Sizes) (m : RoomMemory) (content : ℕ → List ℕ) (hs : List RoomHolds) → RoomsStand z m content hs → (r : ℕ) → weight (m.pin r) ≡ 0 → m.latch r ≡ 0
-unlatched z m content hs rule r none = dite (ℕ_discrete (m.latch r) 0) (λ e. e) (λ ne. absurd (let k = rule.latched r in let t = total_some (latches_on r) hs (omega arith) in some_latch t.1 t.0 t.2 t.3))
-  where
-    on : (o : Option PinnedRoom) (l : Option Latch) → LatchIsPinned o l → OnRoomPin (λ p. IsGoodRoom p → RoomPinHolds z m content p) o → 0 < latches_of r l → ⊥
-    on o None h g l = absurd (omega arith)
-    on None (Some q) h g l = h
-    on (Some p) (Some q) h g l = let c = (g h.1).cover in let e = ap (λ (t : ℕ). weight (m.pin t)) (h.0 ∙ one_at-true q.room r l) in absurd (omega arith)
-
-    some_latch : (u : RoomHolds) (j : ℕ) → get_elem? hs j ≡ some u → 0 < latches_on r u → ⊥
-    some_latch u j at l = on u.pin u.latch (rule.passes j u at).latch (rule.good j u at) l
-
 -- a store changes no pin word, and the latch word of a held room is free before and after
 pub pin_still : (m : RoomMemory) (p : RoomSpot) (x : ℕ) → IsRoomWord p x → (j : ℕ) → (put_room m p x).pin j ≡ m.pin j
 pin_still m (at_room_pin r) x is j = absurd is
@@ -140,6 +126,10 @@ module _ (z : Sizes) (m : RoomMemory) (content : ℕ → List ℕ) (hs : List Ro
   entry_else : (j : ℕ) → j ≢ room_at p → (e : FoundEntry) → EntryStands (linked m j) (m.key j) content e → EntryStands (linked m' j) (m'.key j) content e
   entry_else j ne e t = record { linked = ap (total (λ k. one_at k e.number)) (linked_else m p x j ne) ∙ t.linked; word = read_else m p x (at_key j e.number) ne ∙ t.word; words = t.words }
 
+  -- a claim is of a cover
+  claim_else : (j : ℕ) (u : RoomHolds) (c : Claim) → get_elem? hs j ≡ some u → u.claim ≡ Some c → ClaimStands m content c → ClaimStands m' content c
+  claim_else j u c at is h = record { inside = subst (λ (n : ℕ). c.number < entries_in n) (sym (read_else m p x (at_count c.room) (other c.room (claim_cover z m content hs rule j u c at is)))) h.inside; words = h.words }
+
   pin_else : (q : PinnedRoom) → RoomPinHolds z m content q → RoomPinHolds z m' content q
   pin_else q h = let ne = other q.room h.cover in record {
     inside = h.inside;
@@ -148,11 +138,13 @@ module _ (z : Sizes) (m : RoomMemory) (content : ℕ → List ℕ) (hs : List Ro
     low = ap (rows 0 BOUND_WORDS) (fun_ext (λ n. read_else m p x (at_low q.room n) ne)) ∙ h.low;
     high = ap (rows 0 BOUND_WORDS) (fun_ext (λ n. read_else m p x (at_high q.room n) ne)) ∙ h.high;
     counted = h.counted;
+    prefix = subst (λ (t : ℕ). IsPrefixStill t q.count) (sym (read_else m p x (at_count q.room) ne)) h.prefix;
     entries = each_map (EntryStands (linked m q.room) (m.key q.room) content) (EntryStands (linked m' q.room) (m'.key q.room) content) q.entries (entry_else q.room ne) h.entries;
+    walked = each_map (EntryStands (linked m q.room) (m.key q.room) content) (EntryStands (linked m' q.room) (m'.key q.room) content) q.walked (entry_else q.room ne) h.walked;
   }
 
-  ordered : (j : ℕ) → j ≢ room_at p → IsInOrder z content (m.count j) (m.key j) (m.low j 0) (m.high j 0) → IsInOrder z content (m'.count j) (m'.key j) (m'.low j 0) (m'.high j 0)
-  ordered j ne o = subst (λ (t : ℕ × (ℕ → ℕ) × ℕ × ℕ). IsInOrder z content t.0 t.1 t.2 t.3) (λ i. (sym (read_else m p x (at_count j) ne) i, sym (fun_ext (λ n. read_else m p x (at_key j n) ne)) i, sym (read_else m p x (at_low j 0) ne) i, sym (read_else m p x (at_high j 0) ne) i)) o
+  ordered : (j : ℕ) → j ≢ room_at p → IsInOrder z content (m.count j) (m.key j) (m.value j) (linked m j) (m.low j 0) (m.high j 0) → IsInOrder z content (m'.count j) (m'.key j) (m'.value j) (linked m' j) (m'.low j 0) (m'.high j 0)
+  ordered j ne o = subst (λ (t : ℕ × (ℕ → ℕ) × (ℕ → ℕ) × List ℕ × ℕ × ℕ). IsInOrder z content t.0 t.1 t.2 t.3 t.4 t.5) (λ i. (sym (read_else m p x (at_count j) ne) i, sym (fun_ext (λ n. read_else m p x (at_key j n) ne)) i, sym (fun_ext (λ n. read_else m p x (at_value j n) ne)) i, sym (linked_else m p x j ne) i, sym (read_else m p x (at_low j 0) ne) i, sym (read_else m p x (at_high j 0) ne) i)) o
 
   pub store_rooms : RoomsStand z (put_room m p x) content (set hs seat (record a { held = rooms_with p x a.held; moving = moving }))
   unfolding room_rows
@@ -161,14 +153,18 @@ module _ (z : Sizes) (m : RoomMemory) (content : ℕ → List ℕ) (hs : List Ro
     held = λ j s is. let e = ap (λ (w : ℕ). one_at (state_of w) s) (pins j) in let t = rows_with p x j s a.held in omega arith;
     states = λ j. let e = ap state_of (pins j) in let o = rule.states j in omega arith;
     generations = λ j. ap generation_of (pins j);
-    latch = λ j. let e = latch_stays j in omega arith;
-    latches = λ j. let e = latch_stays j in let o = rule.latches j in omega arith;
+    latches = λ j. latch_stays j ∙ rule.latches j;
+    either = λ j i n w e. let was = sym (ap weight (pins j)) ∙ w in let q = rule.either j i was in let l = ap (total (λ k. one_at k i)) (linked_else m p x j (other j was)) in omega arith;
+    keyed = λ j i n w l e. let was = sym (ap weight (pins j)) ∙ w in let ne = other j was in let q = rule.keyed j i was (subst (λ (t : ℕ). i < entries_in t) (read_else m p x (at_count j) ne) l) in let g = ap (total (λ k. one_at k i)) (linked_else m p x j ne) in
+        let y = ap (λ (t : ℕ). one_if (nat_lt 0 t)) (read_else m p x (at_key j i) ne) in omega arith;
+    claims = λ j u c ne at is h. claim_else j u c at is h;
+    own_claim = claim_still m m' content content a.claim (λ c is h. claim_else seat a c here is h) (rule.claimed seat a here);
     ordered = λ j w. let was = sym (ap weight (pins j)) ∙ w in ordered j (other j was) (rule.ordered j was);
     others = λ j u q ne at is h. pin_else q h;
     own = good_still z m m' content content a.pin (λ q _ h. pin_else q h) (rule.good seat a here);
     carried = true_ranges;
-    stands = record { latch = (rule.passes seat a here).latch; claim = (rule.passes seat a here).claim; whole = whole_rooms z p x a.held (rule.passes seat a here).whole };
+    stands = record { claim = (rule.passes seat a here).claim; whole = whole_rooms z p x a.held (rule.passes seat a here).whole };
   }) rule
     where
       latch_stays : (j : ℕ) → m'.latch j ≡ m.latch j
-      latch_stays = latch_still m p x word (unlatched z m content hs rule (room_at p) none)
+      latch_stays = latch_still m p x word (rule.latches (room_at p))

@@ -1,10 +1,9 @@
--- The words of rooms that no other pass may change, each with its number: the count and the next entry of a room whose latch the pass has, the entry that it claimed, and all of a room that it holds but the pin word.
+-- The words of rooms that no other pass may change, each with its number: those of the entry that the pass claimed, and all of a room that it holds but the pin word.
 use Rattle.std.specs.Prelude.{ℕ, suc, List, [], ◌∷◌, ◌++◌, slice_index, Option, Some, None}
 use Rattle.oak_model.specs.Counts.{rows}
 use Rattle.oak_model.specs.Kept.{KeptWord}
 use Rattle.chunk_core.specs.declared.layout.TheConstants.{BOUND_WORDS}
 use Rattle.chunk_core.specs.declared.holds.EntryWords.{EntryWords}
-use Rattle.chunk_core.specs.declared.holds.Latch.{Latch}
 use Rattle.chunk_core.specs.declared.holds.Claim.{Claim}
 use Rattle.chunk_core.specs.declared.holds.RoomCopy.{RoomCopy}
 use Rattle.chunk_core.specs.declared.holds.RoomHeldAs.{RoomHeldAs}
@@ -12,16 +11,10 @@ use Rattle.chunk_core.specs.declared.holds.RoomHeldAs.TheVariants.{Frozen, Held}
 use Rattle.chunk_core.specs.declared.holds.HeldRoom.{HeldRoom}
 use Rattle.chunk_core.specs.declared.holds.RoomHolds.{RoomHolds}
 use Rattle.chunk_core.specs.Rooms.{RoomSpot, at_base, at_count, at_latch, at_first, at_low, at_high, at_key, at_value, at_next}
-use Rattle.chunk_core.specs.LinkedEntries.{entries_in}
 
 -- the three words of an entry
 abbrev pub kept_of_entry : ℕ → ℕ → EntryWords → List (KeptWord RoomSpot)
 kept_of_entry r i e = record { spot = at_key r i; number = e.word } ∷ record { spot = at_value r i; number = e.value } ∷ record { spot = at_next r i; number = e.next } ∷ []
-
--- with a latch the count, and the entry past it
-abbrev pub kept_of_latch : Option Latch → List (KeptWord RoomSpot)
-kept_of_latch None = []
-kept_of_latch (Some l) = record { spot = at_count l.room; number = l.count } ∷ kept_of_entry l.room (entries_in l.count) l.entry
 
 -- with a claim its entry
 abbrev pub kept_of_claim : Option Claim → List (KeptWord RoomSpot)
@@ -51,4 +44,4 @@ kept_of_rooms_held (h ∷ hs) = kept_of_held h.room h.held_as ++ kept_of_rooms_h
 
 -- all that a pass keeps of rooms
 abbrev pub kept_of_rooms : RoomHolds → List (KeptWord RoomSpot)
-kept_of_rooms a = kept_of_latch a.latch ++ (kept_of_claim a.claim ++ kept_of_rooms_held a.held)
+kept_of_rooms a = kept_of_claim a.claim ++ kept_of_rooms_held a.held

@@ -18,5 +18,4 @@ pub mod RoomsAfter
 pub mod ChainedRooms
 pub mod MayOnRooms
 pub mod LinkWords
-pub mod ReachedEntries
 pub mod FoundLinks

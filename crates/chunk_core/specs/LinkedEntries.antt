@@ -1,4 +1,4 @@
--- The entries of a room that are in use, those that are linked, and those that links reach. What a linked entry is stands here alone.
+-- The entries of a room that are in use, and those that are linked: that links reach. What a linked entry is stands here alone.
 use Rattle.std.specs.Prelude.{ℕ, zero, suc, ◌-◌, ◌/◌, ◌%◌, ◌^◌, ◌<◌, ◌==◌, cond, List, [], ◌∷◌}
 use Rattle.oak_model.specs.Counts.{Each}
 use Rattle.chunk_core.specs.Rooms.{RoomMemory}
@@ -20,10 +20,6 @@ first_numbers (suc n) = n ∷ first_numbers n
 abbrev pub in_use : RoomMemory → ℕ → List ℕ
 in_use m r = first_numbers (entries_in (m.count r))
 
--- the numbers of the linked ones: all that are in use
-abbrev pub linked : RoomMemory → ℕ → List ℕ
-linked m r = first_numbers (entries_in (m.count r))
-
 -- A link is 0 for none, and else the number of the entry that it names plus one.
 
 -- the entries that links reach from the link i on, n at most
@@ -38,6 +34,10 @@ farthest = 2 ^ 16
 -- the entries that links reach from the link i on
 abbrev pub reached : (ℕ → ℕ) → ℕ → List ℕ
 reached next i = chain farthest next i
+
+-- the numbers of the linked ones: those that links reach from the first link on
+abbrev pub linked : RoomMemory → ℕ → List ℕ
+linked m r = reached (m.next r) (m.first r)
 
 -- each is below all that are behind it
 abbrev pub Rises : (ℕ → ℕ) → List ℕ → Type 0

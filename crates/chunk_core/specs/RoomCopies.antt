@@ -1,7 +1,7 @@
--- The words that a pass keeps of a latched and of a held room, after its own stores to them.
-use Rattle.std.specs.Prelude.{ℕ, zero, suc, ◌==◌, cond, List, [], ◌∷◌, map, take, slice_index, slice_set, Option, Some, None}
+-- The words that a pass keeps of a claimed entry and of a held room, after its own stores to them.
+use Rattle.std.specs.Prelude.{ℕ, zero, suc, ◌==◌, not, cond, Bool, true, List, [], ◌∷◌, map, take, slice_index, slice_set, Option, Some, None}
 use Rattle.chunk_core.specs.declared.holds.EntryWords.{EntryWords}
-use Rattle.chunk_core.specs.declared.holds.Latch.{Latch}
+use Rattle.chunk_core.specs.declared.holds.Claim.{Claim}
 use Rattle.chunk_core.specs.declared.holds.RoomCopy.{RoomCopy}
 use Rattle.chunk_core.specs.declared.holds.RoomHeldAs.{RoomHeldAs}
 use Rattle.chunk_core.specs.declared.holds.RoomHeldAs.TheVariants.{Frozen, Held}
@@ -16,10 +16,22 @@ entry_with of_key x e = record e { word = x }
 entry_with of_value x e = record e { value = x }
 entry_with of_next x e = record e { next = x }
 
--- the latch with x at a word of the entry past the count
-abbrev pub latch_with : EntryField → ℕ → Option Latch → Option Latch
-latch_with f x None = None
-latch_with f x (Some l) = Some (record l { entry = entry_with f x l.entry })
+-- the claim with x at a word of its entry; with another key word, the words of the block that it names
+abbrev pub claim_with : (ℕ → List ℕ) → EntryField → ℕ → Claim → Claim
+claim_with content of_key x c = record c { entry = entry_with of_key x c.entry; words = content x }
+claim_with content of_value x c = record c { entry = entry_with of_value x c.entry }
+claim_with content of_next x c = record c { entry = entry_with of_next x c.entry }
+
+-- an entry whose key word becomes 0 is claimed no more
+abbrev pub stays_claimed : EntryField → ℕ → Bool
+stays_claimed of_key x = not (x == 0)
+stays_claimed of_value x = true
+stays_claimed of_next x = true
+
+-- what is claimed after a store to a word of the claimed entry
+abbrev pub claim_after : (ℕ → List ℕ) → EntryField → ℕ → Option Claim → Option Claim
+claim_after content f x None = None
+claim_after content f x (Some c) = cond (stays_claimed f x) (Some (claim_with content f x c)) None
 
 -- the list with f of its element i
 unfoldable pub changed : {A : Type 0} → ℕ → (A → A) → List A → List A
@@ -64,7 +76,7 @@ unfoldable pub copy_of : ℕ → List HeldRoom → Option RoomCopy
 copy_of r [] = None
 copy_of r (h ∷ hs) = cond (h.room == r) (copy_in h.held_as) (copy_of r hs)
 
--- the linked entries of a held room
+-- the entries in use of a held room
 abbrev pub entries_held : RoomCopy → List EntryWords
 entries_held w = take (entries_in w.count) w.entries
 

@@ -4,7 +4,8 @@ use prog.Atomic.{either}
 use Rattle.pin_word.specs.PinWord.{STATE}
 use Rattle.oak_model.specs.declared.writes.Kind.{Kind}
 use Rattle.chunk_core.specs.declared.states.TheConstants.{OPEN, FROZEN, HELD}
-use Rattle.chunk_core.specs.Rooms.{RoomMemory, RoomSpot, at_room_pin, at_count, at_latch, at_key, at_value, at_next, same_room_spot, read_room, rooms_of}
+use Rattle.chunk_core.specs.Rooms.{RoomMemory, RoomSpot, at_room_pin, at_count, at_key, at_value, at_next, same_room_spot, read_room, rooms_of}
+use Rattle.chunk_core.specs.LinkWords.{link_spot}
 
 -- the words of an entry
 pub data EntryField : Type 0 where
@@ -24,14 +25,12 @@ pub data RoomStep : Type 0 where
   pin_room : ℕ → RoomStep
   -- the pass's pin is undone
   unpin_room : ℕ → RoomStep
-  -- the latch of the pinned room is taken, where it is free
-  latch_room : ℕ → RoomStep
-  -- a word of the entry past the count becomes x
-  store_entry : EntryField → (r i x : ℕ) → RoomStep
-  -- the count becomes x, one more: the entry past it is in use
-  publish_entry : (r x : ℕ) → RoomStep
-  -- the latch is given up
-  unlatch_room : ℕ → RoomStep
+  -- the count of a pinned room, where it is the second number, becomes one more: the entry past it is in use, and the pass's own
+  claim_entry : (r old : ℕ) → RoomStep
+  -- a word of the claimed entry becomes x; it is claimed no more where its key word becomes 0
+  own_entry : EntryField → (r i x : ℕ) → RoomStep
+  -- the link that is the last number, the room's first or that of an entry, comes to name the claimed entry i
+  link_entry : (r : ℕ) → Option ℕ → (i old : ℕ) → RoomStep
   -- the value word of an entry, where it is the floor `old`, comes to name the fresh header that `new` names: a write of the kind
   set_value : (r i old new : ℕ) → Kind → RoomStep
   -- the value word of the entry whose header the pass buries becomes the floor x
@@ -55,10 +54,9 @@ pub data RoomStep : Type 0 where
 abbrev pub room_spot : RoomStep → RoomSpot
 room_spot (pin_room r) = at_room_pin r
 room_spot (unpin_room r) = at_room_pin r
-room_spot (latch_room r) = at_latch r
-room_spot (store_entry f r i x) = entry_spot f r i
-room_spot (publish_entry r x) = at_count r
-room_spot (unlatch_room r) = at_latch r
+room_spot (claim_entry r old) = at_count r
+room_spot (own_entry f r i x) = entry_spot f r i
+room_spot (link_entry r from i old) = link_spot r from
 room_spot (set_value r i old new kind) = at_value r i
 room_spot (unlink_entry r i x) = at_value r i
 room_spot (freeze_room r old) = at_room_pin r
@@ -73,10 +71,9 @@ room_spot (retire_room r) = at_room_pin r
 abbrev pub room_effect : RoomStep → ℕ → ℕ
 room_effect (pin_room r) n = (n + 1) % 2 ^ 64
 room_effect (unpin_room r) n = (n + (2 ^ 64 - 1)) % 2 ^ 64
-room_effect (latch_room r) n = either (n == 0) 1 n
-room_effect (store_entry f r i x) n = x
-room_effect (publish_entry r x) n = x
-room_effect (unlatch_room r) n = 0
+room_effect (claim_entry r old) n = either (n == old) (old + 1) n
+room_effect (own_entry f r i x) n = x
+room_effect (link_entry r from i old) n = either (n == old) (i + 1) n
 room_effect (set_value r i old new kind) n = either (n == old) new n
 room_effect (unlink_entry r i x) n = x
 room_effect (freeze_room r old) n = either (n == old) (old + STATE) n
@@ -89,9 +86,7 @@ room_effect (retire_room r) n = (n + (2 ^ 64 - HELD * STATE)) % 2 ^ 64
 
 -- the number that the step finds; a store finds none
 abbrev pub room_found : RoomStep → ℕ → Option ℕ
-room_found (store_entry f r i x) n = None
-room_found (publish_entry r x) n = None
-room_found (unlatch_room r) n = None
+room_found (own_entry f r i x) n = None
 room_found (unlink_entry r i x) n = None
 room_found (store_room p x) n = None
 room_found _ n = Some n

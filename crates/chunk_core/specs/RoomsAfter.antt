@@ -7,12 +7,15 @@ use Rattle.chunk_core.specs.declared.holds.PinnedRoom.{PinnedRoom}
 use Rattle.chunk_core.specs.declared.holds.RoomHeldAs.TheVariants.{Frozen, Held}
 use Rattle.chunk_core.specs.declared.holds.RoomHolds.{RoomHolds}
 use Rattle.chunk_core.specs.Rooms.{RoomMemory}
-use Rattle.chunk_core.specs.RoomStep.{RoomStep, pin_room, unpin_room, latch_room, store_entry, publish_entry, unlatch_room, set_value, unlink_entry, freeze_room, thaw_room, hold_room, claim_room, store_room, open_room, retire_room}
-use Rattle.chunk_core.specs.RoomReads.{pinned_at, found_below, latched_at, copy_at, moving_at}
-use Rattle.chunk_core.specs.RoomCopies.{latch_with, rooms_with, without_room, copy_of}
+use Rattle.chunk_core.specs.RoomStep.{RoomStep, pin_room, unpin_room, claim_entry, own_entry, link_entry, set_value, unlink_entry, freeze_room, thaw_room, hold_room, claim_room, store_room, open_room, retire_room}
+use Rattle.chunk_core.specs.LinkWords.{link_word}
+use Rattle.chunk_core.specs.FoundLinks.{leads, found_by}
+use Rattle.chunk_core.specs.RoomReads.{pinned_at, found_at, found_below, found_more, claimed_at, copy_at, moving_at}
+use Rattle.chunk_core.specs.LinkedEntries.{entries_in}
+use Rattle.chunk_core.specs.RoomCopies.{claim_after, rooms_with, without_room, copy_of}
 use Rattle.chunk_core.specs.MovingRanges.{word_dropped, ranges_with, ranges_opened, ranges_joined}
 
--- the pin, which has found the count and the entries below it
+-- the pin, which has found the count and the entries of the prefix
 abbrev pub pin_with : RoomMemory → (ℕ → List ℕ) → ℕ → PinnedRoom → PinnedRoom
 pin_with m content count p = record p { count = Some count; entries = found_below m content p.room count }
 
@@ -21,19 +24,27 @@ abbrev pub counted_pin : RoomMemory → (ℕ → List ℕ) → ℕ → Option Pi
 counted_pin m content r None = None
 counted_pin m content r (Some p) = Some (cond ((p.room == r) && (state_of p.found == OPEN)) (pin_with m content (m.count r) p) p)
 
--- a pass that publishes an entry has found it
-abbrev pub counted_more : RoomMemory → (ℕ → List ℕ) → ℕ → Option PinnedRoom → Option PinnedRoom
-counted_more m content count None = None
-counted_more m content count (Some p) = Some (pin_with m content count p)
+-- the pin, which has found the entry that a link names
+abbrev pub pin_walked : RoomMemory → (ℕ → List ℕ) → ℕ → PinnedRoom → PinnedRoom
+pin_walked m content link p = record p { walked = found_more (found_by m content p.room link) p.walked }
+
+-- a load of the first link of the room, or of the link of an entry that was found, finds what it names, under a good pin on the room
+abbrev pub walked_pin : RoomMemory → (ℕ → List ℕ) → ℕ → Option ℕ → Option PinnedRoom → Option PinnedRoom
+walked_pin m content r from None = None
+walked_pin m content r from (Some p) = Some (cond (((p.room == r) && (state_of p.found == OPEN)) && leads from p) (pin_walked m content (link_word m r from) p) p)
+
+-- a pass that links an entry has found it
+abbrev pub linked_pin : RoomMemory → (ℕ → List ℕ) → ℕ → ℕ → Option PinnedRoom → Option PinnedRoom
+linked_pin m content r i None = None
+linked_pin m content r i (Some p) = Some (record p { walked = found_at m content r i ∷ p.walked })
 
 -- what the pass has after a step, where these were the words of the rooms and of blocks
 abbrev pub rooms_after : Sizes → RoomMemory → (ℕ → List ℕ) → RoomStep → RoomHolds → RoomHolds
 rooms_after z m content (pin_room r) a = record a { pin = Some (pinned_at m r) }
 rooms_after z m content (unpin_room r) a = record a { pin = None }
-rooms_after z m content (latch_room r) a = record a { latch = cond (m.latch r == 0) (Some (latched_at m r (m.count r))) a.latch }
-rooms_after z m content (store_entry f r i x) a = record a { latch = latch_with f x a.latch }
-rooms_after z m content (publish_entry r x) a = record a { latch = Some (latched_at m r x); pin = counted_more m content x a.pin }
-rooms_after z m content (unlatch_room r) a = record a { latch = None }
+rooms_after z m content (claim_entry r old) a = record a { claim = cond (m.count r == old) (Some (claimed_at m content r (entries_in old))) a.claim }
+rooms_after z m content (own_entry f r i x) a = record a { claim = claim_after content f x a.claim }
+rooms_after z m content (link_entry r from i old) a = record a { claim = cond (link_word m r from == old) None a.claim; pin = cond (link_word m r from == old) (linked_pin m content r i a.pin) a.pin }
 rooms_after z m content (set_value r i old new kind) a = a
 rooms_after z m content (unlink_entry r i x) a = a
 rooms_after z m content (freeze_room r old) a = record a { held = cond (m.pin r == old) (record { room = r; held_as = Frozen } ∷ a.held) a.held }

@@ -11,7 +11,7 @@ pub struct FoundEntry {
 
 /// A pin of a room: the word that it found, and what stood at that moment in the room's base and in the
 /// words of its bounds. Once the count was loaded under it, the count that was found last, and the
-/// entries below it.
+/// entries of the prefix; and the entries that links found under it name, or that the pass linked itself.
 pub struct PinnedRoom {
     pub room: u32,
     pub found: u64,
@@ -20,6 +20,7 @@ pub struct PinnedRoom {
     pub high: LinkedList<u64>,
     pub count: Option<u64>,
     pub entries: LinkedList<FoundEntry>,
+    pub walked: LinkedList<FoundEntry>,
 }
 
 /// The words of an entry, which the pass alone changes.
@@ -29,15 +30,8 @@ pub struct EntryWords {
     pub next: u64,
 }
 
-/// The latch of a room, with the number of its count and the words of the entry past it.
-pub struct Latch {
-    pub room: u32,
-    pub count: u64,
-    pub entry: EntryWords,
-}
-
 /// An entry that a pass has claimed and not linked yet, with the words of its key's block, where its
-/// key word names one. No step claims an entry so far.
+/// key word names one.
 pub struct Claim {
     pub room: u32,
     pub number: u32,
@@ -84,11 +78,10 @@ pub struct MovingRange {
     pub carried: LinkedList<Carried>,
 }
 
-/// The pin of a pass, of which it has one at most, the latch or the entry that it has claimed, the rooms
+/// The pin of a pass, of which it has one at most, the entry that it has claimed, the rooms
 /// that it has frozen or holds, and the ranges of those that it holds.
 pub struct RoomHolds {
     pub pin: Option<PinnedRoom>,
-    pub latch: Option<Latch>,
     pub claim: Option<Claim>,
     pub held: LinkedList<HeldRoom>,
     pub moving: LinkedList<MovingRange>,

@@ -8,7 +8,7 @@ pub mod states;
 pub mod value_word;
 
 pub use holds::{
-    Carried, Claim, EntryWords, FoundEntry, HeldRoom, Latch, MovingRange, PinnedRoom, RoomCopy,
+    Carried, Claim, EntryWords, FoundEntry, HeldRoom, MovingRange, PinnedRoom, RoomCopy,
     RoomHeldAs, RoomHolds,
 };
 pub use states::{FREE, FROZEN, HELD, OPEN};

@@ -1,6 +1,6 @@
 -- Halving takes a binary digit.
 use Rattle.std.proofs.Common.{ℕ, zero, suc, ◌+◌, ◌/◌, ◌<◌, ◌≤◌, arith}
-use Rattle.chunk_ops.specs.Bits.{digits, bits}
+use Rattle.link_search.specs.Bits.{digits, bits}
 
 digits_more : (f g m n : ℕ) → m ≤ n → n ≤ g → digits f m ≤ digits g n
 digits_more zero g m n le fuel = omega arith

@@ -7,7 +7,7 @@ use mathlib.Core.Logic.{dite}
 use native.Mathlib.Decide.{dec_lt}
 use Rattle.oak_model.specs.Key.{key_cmp, AreBytes}
 use Rattle.arena_core.specs.Place.{length_in}
-use Rattle.chunk_ops.specs.Room.{Room, IsRoom, place_at, key_at, entries}
+use Rattle.chunk_ops.specs.Room.{Room, IsRoom, HasFound, key_at}
 use Rattle.oak_model.specs.WordBytes.{word_bytes}
 use Rattle.arena_core.specs.Words.{word_at, bytes_in}
 use Rattle.chunk_ops.proofs.OrderLaws.{padded_cmp, word_order, lengths_decide, same_number}
@@ -16,17 +16,17 @@ use Rattle.chunk_ops.proofs.OrderLaws.{padded_cmp, word_order, lengths_decide, s
 pub slice_bytes : (k : List ℕ) → ((i : ℕ) → Fits w8 (get_or k i 0)) → AreBytes k
 slice_bytes k h i = omega (arith, h i)
 
-module _ (r : Room) (e place : ℕ) (is : IsRoom r) (lt : e < entries r) (at : place ≡ place_at r e) where
+module _ (r : Room) (e place : ℕ) (is : IsRoom r) (lt : HasFound r e) (at : place ≡ r.place e) where
   pub stored_long : length_in place ≡ length (key_at r e)
   stored_long = ap length_in at ∙ is.long e lt
 
   pub words_order : (key : List ℕ) (i : ℕ) (now : Room) (o : Ordering) → now ≡ r
-      → ((f : ℕ) → f < entries now → place ≡ place_at now f → o ≡ nat_cmp (word_at key i) (word_at (key_at now f) i)) → o ≡ nat_cmp (word_at key i) (word_at (key_at r e) i)
-  words_order key i now o s h = subst (λ (q : Room). (f : ℕ) → f < entries q → place ≡ place_at q f → o ≡ nat_cmp (word_at key i) (word_at (key_at q f) i)) s h e lt at
+      → ((f : ℕ) → HasFound now f → place ≡ now.place f → o ≡ nat_cmp (word_at key i) (word_at (key_at now f) i)) → o ≡ nat_cmp (word_at key i) (word_at (key_at r e) i)
+  words_order key i now o s h = subst (λ (q : Room). (f : ℕ) → HasFound q f → place ≡ q.place f → o ≡ nat_cmp (word_at key i) (word_at (key_at q f) i)) s h e lt at
 
   pub order_step : (key : List ℕ) (i : ℕ) (now : Room) (o : Ordering) → AreBytes key → now ≡ r → padded_cmp (8 * i) key (key_at r e) ≡ Equal
-      → ((f : ℕ) → f < entries now → place ≡ place_at now f → o ≡ nat_cmp (word_at key i) (word_at (key_at now f) i)) → o ≡ padded_cmp (8 * i + 8) key (key_at r e)
-  order_step key i now o b s t h = subst (λ (q : Room). (f : ℕ) → f < entries q → place ≡ place_at q f → o ≡ nat_cmp (word_at key i) (word_at (key_at q f) i)) s h e lt at ∙ word_order key (key_at r e) i b (is.bytes e) t
+      → ((f : ℕ) → HasFound now f → place ≡ now.place f → o ≡ nat_cmp (word_at key i) (word_at (key_at now f) i)) → o ≡ padded_cmp (8 * i + 8) key (key_at r e)
+  order_step key i now o b s t h = subst (λ (q : Room). (f : ℕ) → HasFound q f → place ≡ q.place f → o ≡ nat_cmp (word_at key i) (word_at (key_at q f) i)) s h e lt at ∙ word_order key (key_at r e) i b (is.bytes e lt) t
 
 -- after as many words as the shorter key has
 pub lengths_last : (a b : List ℕ) (i n m : ℕ) → padded_cmp (8 * i) a b ≡ Equal → m ≡ min (length a) n → n ≡ length b → (m + 7) / 8 ≤ i → key_cmp a b ≡ nat_cmp (length a) n
@@ -36,9 +36,9 @@ lengths_last a b i n m t e s le = lengths_decide (8 * i) a b t (short (length a)
     short x y le = dite (dec_lt x y) (λ l. inl (omega arith)) (λ n. inr (omega arith))
 
 -- the bytes of a word that was loaded, as many as the key has there
-pub word_loaded : (r : Room) (e place : ℕ) (is : IsRoom r) (lt : e < entries r) (at : place ≡ place_at r e) (i n len : ℕ) (now : Room) → now ≡ r → len ≡ length (key_at r e)
-    → ((f : ℕ) → f < entries now → place ≡ place_at now f → take (length (key_at now f) - 8 * i) (word_bytes n) ≡ bytes_in i (key_at now f)) → take (len - 8 * i) (word_bytes n) ≡ bytes_in i (key_at r e)
-word_loaded r e place is lt at i n len now s l h = ap (λ (m : ℕ). take (m - 8 * i) (word_bytes n)) l ∙ subst (λ (q : Room). (f : ℕ) → f < entries q → place ≡ place_at q f → take (length (key_at q f) - 8 * i) (word_bytes n) ≡ bytes_in i (key_at q f)) s h e lt at
+pub word_loaded : (r : Room) (e place : ℕ) (is : IsRoom r) (lt : HasFound r e) (at : place ≡ r.place e) (i n len : ℕ) (now : Room) → now ≡ r → len ≡ length (key_at r e)
+    → ((f : ℕ) → HasFound now f → place ≡ now.place f → take (length (key_at now f) - 8 * i) (word_bytes n) ≡ bytes_in i (key_at now f)) → take (len - 8 * i) (word_bytes n) ≡ bytes_in i (key_at r e)
+word_loaded r e place is lt at i n len now s l h = ap (λ (m : ℕ). take (m - 8 * i) (word_bytes n)) l ∙ subst (λ (q : Room). (f : ℕ) → HasFound q f → place ≡ q.place f → take (length (key_at q f) - 8 * i) (word_bytes n) ≡ bytes_in i (key_at q f)) s h e lt at
 
 -- one word more agrees
 pub agree_more : (a b : List ℕ) (i : ℕ) → ((j : ℕ) → j < i → word_at a j ≡ word_at b j) → nat_cmp (word_at a i) (word_at b i) ≡ Equal → (j : ℕ) → j < i + 1 → word_at a j ≡ word_at b j

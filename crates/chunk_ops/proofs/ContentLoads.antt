@@ -21,7 +21,6 @@ use Rattle.oak_core.proofs.histories.LastLives.{KnowsKeyOf, loaded_key}
 use Rattle.oak_model.proofs.Counting.{one_at-same, one_at-other}
 use Rattle.chunk_core.specs.PinnedRooms.{found_in}
 use Rattle.chunk_core.specs.Rooms.{at_value}
-use Rattle.chunk_core.proofs.RoomLinks.{found_place}
 use Rattle.chunk_core.specs.ValueWord.{names_header, header_in, generation_in}
 use Rattle.oak_core.specs.declared.states.Knowledge.{Knowledge}
 use Rattle.oak_core.specs.declared.states.PassState.{PassState}
@@ -80,8 +79,8 @@ pub record LifeTold (z : Sizes) (call : ℕ) (key : List ℕ) (n : ℕ) (v w : P
 
 module _ (z : Sizes) (call r i n : ℕ) (v w : PassState) (p : HasRoomPin z r v) (key : List ℕ) (h : HasEntry r i key v) (t : Told z call (load (in_rooms (at_value r i))) v n w) where
   found : entry_key i (found_in (room_pin v)) ≡ Some key
-  found = let holds = pin_holds z call r (load (in_rooms (at_value r i))) v n w p t in let place = found_place (room_pin v).count (room_pin v).entries i h.entry holds.counted h.finds.there in let m = memory z t.table.words in
-      entry_key_is z m.rooms (content m.arena.bytes) (room_pin v) holds i h.entry place.0 place.1 ∙ ap Some h.key_is
+  found = let holds = pin_holds z call r (load (in_rooms (at_value r i))) v n w p t in let m = memory z t.table.words in
+      entry_key_is z m.rooms (content m.arena.bytes) (room_pin v) holds i h.entry h.finds.there h.finds.number ∙ ap Some h.key_is
 
   -- of the room that is pinned
   there : Told z call (load (in_rooms (at_value (room_pin v).room i))) v n w

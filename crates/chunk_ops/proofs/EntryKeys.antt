@@ -1,8 +1,6 @@
--- The key of an entry by its key word and the words of its block, and entries as a pin finds them.
-use Rattle.std.proofs.Common.{◌≡◌, ℕ, ◌+◌, ◌<◌, ◌≤◌, ◌&&◌, nat_lt, nat_le, Bool, List, [], ◌∷◌, length, take, sym, refl, ap, ◌∙◌, arith, inl, inr, Option, Some, None, eq-eqb}
+-- The key of an entry by its key word and the words of its block, and an entry as a pin finds it.
+use Rattle.std.proofs.Common.{◌≡◌, ℕ, ◌<◌, ◌≤◌, ◌&&◌, nat_lt, nat_le, Bool, List, [], ◌∷◌, take, sym, refl, ap, ◌∙◌, inl, inr, Some, eq-eqb}
 use Rattle.std.proofs.lemmas.Bool.{lt-ltb, le-leb}
-use mathlib.Core.Option.{some}
-use lib.ListN.{get_elem?}
 use Rattle.oak_model.specs.declared.classes.Class.{Class}
 use Rattle.oak_model.specs.declared.limits.TheConstants.{GREATEST_KEY}
 use Rattle.oak_model.specs.Class.{class_number, class_of}
@@ -14,19 +12,10 @@ use Rattle.oak_model.proofs.Counting.{true_both}
 use Rattle.arena_core.specs.Blocks.{words_held}
 use Rattle.arena_core.specs.Place.{class_in, length_in}
 use Rattle.chunk_core.specs.declared.holds.FoundEntry.{FoundEntry}
-use Rattle.chunk_core.specs.declared.holds.PinnedRoom.{PinnedRoom}
 use Rattle.chunk_core.specs.KeyWords.{key_length, key_bytes, key_in}
-use Rattle.chunk_core.specs.LinkedEntries.{entries_in, linked}
-use Rattle.chunk_core.specs.PinnedRooms.{EntryStands, RoomPinHolds, AreCounted}
-use Rattle.chunk_core.specs.RoomReads.{found_at}
-use Rattle.chunk_core.specs.Rooms.{RoomMemory}
-use Rattle.chunk_core.specs.RoomsAfter.{pin_with}
-use Rattle.chunk_core.proofs.CountLoads.{rows_has}
 use Rattle.oak_core.specs.declared.states.PassState.{PassState}
 use Rattle.oak_core.specs.EntryOwners.{is_class, is_key_word}
-use Rattle.oak_core.proofs.memory.MetLists.{at_inside, each_at}
 use Rattle.chunk_ops.specs.Adds.{MayAdd}
-use Rattle.chunk_ops.specs.PinRecords.{PinStays}
 
 pub each_has : {A : Type 0} (P : A → Type 0) (xs : List A) → ((x : A) → Has x xs → P x) → Each P xs
 each_has P [] f = tt
@@ -54,26 +43,8 @@ one_key z c b len k l v m n = let ws : List ℕ = words_held (class_number c) b 
 
 -- an entry as it is found
 
-abbrev entry_of : ℕ → ℕ → List ℕ → FoundEntry
+abbrev pub entry_of : ℕ → ℕ → List ℕ → FoundEntry
 entry_of n word words = record { number = n; word = word; words = words }
 
-found_same : (bytes : ℕ → List ℕ) (f : ℕ → ℕ) (i j : ℕ) (e : FoundEntry) → i ≡ j → e.number ≡ j → f e.number ≡ e.word → bytes e.word ≡ e.words → entry_of i (f i) (bytes (f i)) ≡ e
+pub found_same : (bytes : ℕ → List ℕ) (f : ℕ → ℕ) (i j : ℕ) (e : FoundEntry) → i ≡ j → e.number ≡ j → f e.number ≡ e.word → bytes e.word ≡ e.words → entry_of i (f i) (bytes (f i)) ≡ e
 found_same bytes f i j e is n w b = let a : i ≡ e.number = is ∙ sym n in let there : f i ≡ e.word = ap f a ∙ w in let all : bytes (f i) ≡ e.words = ap bytes there ∙ b in λ k. entry_of (a k) (there k) (all k)
-
-numbered : (o : Option ℕ) (es : List FoundEntry) → AreCounted o es → (i : ℕ) (e : FoundEntry) → get_elem? es i ≡ some e → e.number ≡ i
-numbered None es c i e at = let l = at_inside es i e at in let q : length es ≡ 0 = ap length c in absurd (omega arith)
-numbered (Some n) es c i e at = c.1 i e at
-
--- a pin that has found more entries, which are those of the room, has found what it had
-pub pin_grows : (z : Sizes) (m : RoomMemory) (bytes : ℕ → List ℕ) (p : PinnedRoom) (x : ℕ) → RoomPinHolds z m bytes p → length p.entries ≤ entries_in x → PinStays p (pin_with m bytes x p)
-pin_grows z m bytes p x h le = record {
-  room = refl;
-  found = refl;
-  base = refl;
-  low = refl;
-  high = refl;
-  entries = λ i e there.
-      let s = each_at (EntryStands (linked m p.room) (m.key p.room) bytes) p.entries h.entries i e there in let lt = at_inside p.entries i e there in
-      rows_has (found_at m bytes p.room) 0 (entries_in x) i (omega arith)
-      ∙ ap some (found_same bytes (m.key p.room) (0 + i) i e (let f : 0 + i ≡ i = omega arith in f) (numbered p.count p.entries h.counted i e there) s.word s.words);
-}

@@ -1,10 +1,9 @@
 -- What stands of an entry that a pin found: its key word names a block of the table, in which its key stands.
-use Rattle.std.proofs.Common.{◌≡◌, ℕ, ◌+◌, ◌*◌, ◌/◌, ◌%◌, ◌<◌, ◌≤◌, List, map, length, get_or, take, sym, refl, ap, ◌∙◌, subst, arith, Option, Some, None}
-use mathlib.Core.Option.{some}
-use lib.ListN.{get_elem?}
+use Rattle.std.proofs.Common.{◌≡◌, ℕ, ◌+◌, ◌*◌, ◌/◌, ◌%◌, ◌<◌, ◌≤◌, List, map, length, get_or, take, sym, refl, ap, ◌∙◌, subst, arith}
 use Rattle.oak_model.specs.declared.classes.Class.{Class}
 use Rattle.oak_model.specs.declared.limits.TheConstants.{CLASSES}
 use Rattle.oak_model.specs.Class.{class_number}
+use Rattle.oak_model.specs.Counts.{one_at, total}
 use Rattle.oak_model.specs.Key.{IsKey}
 use Rattle.oak_model.specs.Limits.{Sizes}
 use Rattle.oak_model.specs.WordBytes.{word_bytes, bytes_of}
@@ -16,28 +15,23 @@ use Rattle.chunk_core.specs.declared.holds.FoundEntry.{FoundEntry}
 use Rattle.chunk_core.specs.declared.holds.RoomHolds.{RoomHolds}
 use Rattle.chunk_core.specs.CoverSums.{weight}
 use Rattle.chunk_core.specs.KeyWords.{key_length}
-use Rattle.chunk_core.specs.LinkedEntries.{entries_in, linked}
+use Rattle.chunk_core.specs.LinkedEntries.{linked}
 use Rattle.chunk_core.specs.MayOnRooms.{FindsEntry}
-use Rattle.chunk_core.specs.PinnedRooms.{AreCounted, EntryStands, RoomPinHolds}
+use Rattle.chunk_core.specs.PinnedRooms.{EntryStands, RoomPinHolds}
 use Rattle.chunk_core.specs.Rooms.{at_key}
-use Rattle.chunk_core.proofs.RoomLinks.{linked_below}
+use Rattle.chunk_core.proofs.RoomLinks.{found_stands}
 use Rattle.oak_core.specs.declared.states.PassState.{PassState}
 use Rattle.oak_core.specs.EntryOwners.{is_key_word}
 use Rattle.oak_core.specs.Memory.{Memory, Spot, in_arena, in_rooms, index, IsInside, memory}
 use Rattle.oak_core.specs.PassState.{rooms_held}
 use Rattle.oak_core.specs.Splitting.{Loads}
 use Rattle.oak_core.specs.Step.{Step, load, Told}
-use Rattle.oak_core.proofs.memory.MetLists.{at_inside, each_at}
 use Rattle.chunk_ops.specs.PinRecords.{HasEntry, HasRoomPin, RoomPinned, OnlyMeets, pin_or, room_pin}
 use Rattle.chunk_ops.specs.RoomWords.{FindsKeyWord}
 use Rattle.chunk_ops.proofs.WordLoads.{pin_holds, load_at, load_reads}
 use Rattle.chunk_ops.proofs.WordParts.{byte_in, part_long}
-use Rattle.chunk_ops.proofs.KeyPlaces.{IsKeyPlace, key_place, is_key_below, block_below}
+use Rattle.chunk_ops.proofs.KeyPlaces.{IsKeyPlace, key_place, is_key_linked, block_linked}
 use Rattle.arena_core.proofs.ClassRooms.{place_room}
-
-pub counted_numbers : (o : Option ℕ) (es : List FoundEntry) (i : ℕ) (e : FoundEntry) → AreCounted o es → get_elem? es i ≡ some e → e.number ≡ i
-counted_numbers None es i e c at = let l = at_inside es i e at in let q : length es ≡ 0 = ap length c in absurd (omega arith)
-counted_numbers (Some n) es i e c at = c.1 i e at
 
 module _ (z : Sizes) (call r : ℕ) (x : Step) (v : PassState) (n : ℕ) (w : PassState) (p : HasRoomPin z r v) (t : Told z call x v n w) (i : ℕ) (k : List ℕ) (h : HasEntry r i k v) where
   abbrev m : Memory
@@ -54,28 +48,25 @@ module _ (z : Sizes) (call r : ℕ) (x : Step) (v : PassState) (n : ℕ) (w : Pa
 
   at_room : EntryStands (linked m.rooms r) (m.rooms.key r) (content m.arena.bytes) h.entry
   at_room = subst (λ (j : ℕ). EntryStands (linked m.rooms j) (m.rooms.key j) (content m.arena.bytes) h.entry) p.pin.room
-      (each_at (EntryStands (linked m.rooms (room_pin v).room) (m.rooms.key (room_pin v).room) (content m.arena.bytes)) (room_pin v).entries held.entries i h.entry h.finds.there)
-
-  number_is : h.entry.number ≡ i
-  number_is = counted_numbers (room_pin v).count (room_pin v).entries i h.entry held.counted h.finds.there
+      (found_stands z m.rooms (content m.arena.bytes) (room_pin v) held h.entry h.finds.there)
 
   pub word_there : m.rooms.key r i ≡ word
-  word_there = ap (m.rooms.key r) (sym number_is) ∙ at_room.word
+  word_there = ap (m.rooms.key r) (sym h.finds.number) ∙ at_room.word
 
   weighs : weight (m.rooms.pin r) ≡ 1
   weighs = subst (λ (j : ℕ). weight (m.rooms.pin j) ≡ 1) p.pin.room held.cover
 
-  pub entry_below : i < entries_in (m.rooms.count r)
-  entry_below = subst (λ (j : ℕ). j < entries_in (m.rooms.count r)) number_is (linked_below z m.rooms (content m.arena.bytes) r (t.rule.rooms.ordered r weighs) h.entry.number (let l = at_room.linked in omega arith))
+  entry_once : total (λ j. one_at j i) (linked m.rooms r) ≡ 1
+  entry_once = ap (λ (k : ℕ). total (λ j. one_at j k) (linked m.rooms r)) (sym h.finds.number) ∙ at_room.linked
 
   pub is_key_there : is_key_word word ≡ 1
-  is_key_there = subst (λ (y : ℕ). is_key_word y ≡ 1) word_there (is_key_below z t.table t.rule r i p.inside weighs entry_below)
+  is_key_there = subst (λ (y : ℕ). is_key_word y ≡ 1) word_there (is_key_linked z t.table t.rule r i p.inside weighs entry_once)
 
   pub key_there : IsKeyPlace word
   key_there = key_place word is_key_there
 
   pub block_there : block_in word < blocks z (class_in word)
-  block_there = subst (λ (y : ℕ). block_in y < blocks z (class_in y)) word_there (block_below z t.table t.rule r i p.inside weighs entry_below)
+  block_there = subst (λ (y : ℕ). block_in y < blocks z (class_in y)) word_there (block_linked z t.table t.rule r i p.inside weighs entry_once)
 
   pub class_there : class_in word < CLASSES
   class_there = let c = class_below key_there.place.class in let e = key_there.place.is_in in omega arith

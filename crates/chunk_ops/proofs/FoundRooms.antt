@@ -1,5 +1,5 @@
 -- Rooms that were tried one behind another.
-use Rattle.std.proofs.Common.{◌≡◌, ◌≢◌, ℕ, ◌+◌, ◌<◌, ◌⊎◌, ⊎_elim, inl, inr, sym, refl, ap, ◌∙◌, subst, arith, Some, None}
+use Rattle.std.proofs.Common.{◌≡◌, ◌≢◌, ℕ, ◌+◌, ◌<◌, ⊎_elim, inl, inr, sym, refl, ap, ◌∙◌, subst, arith, Some, None}
 use mathlib.Core.Logic.{dite}
 use native.Mathlib.Decide.{dec_lt}
 use Rattle.pin_word.specs.PinWord.{state_of}
@@ -50,8 +50,8 @@ module _ (z : Sizes) (call r : ℕ) (v w : PassState) (n : PinsNow z call r v w)
   now_begun = had_moment z call r n.number v w n.told
 
   -- which the pass may undo
-  pub no_latch_then : (w.rooms.latch ≡ None) × (w.rooms.claim ≡ None)
-  no_latch_then = let p = pin_on z call r n.number v w n.told in (p.latch, p.claim)
+  pub no_claim_then : w.rooms.claim ≡ None
+  no_claim_then = (pin_on z call r n.number v w n.told).claim
 
   -- loads show that the range is what is asked
   pub pins_asked : (x : PassState) (P : Span → Type 0) → OnlyMeets call w x → P (span_of (room_pin w)) → PinsOpen z call r P v x

@@ -1,60 +1,25 @@
--- What the loads of a search leave: behind that of the count the pass only met more, and of key words no more than the search reads.
-use Rattle.std.proofs.Common.{◌≡◌, ℕ, zero, suc, ◌+◌, ◌<◌, ◌≤◌, List, [], ◌∷◌, ◌++◌, sym, refl, ap, ◌∙◌, subst, arith, append_assoc, append-nil, Some}
+-- What the loads of the keys of a room leave: the pass only met more, and of key words no more than are read.
+use Rattle.std.proofs.Common.{◌≡◌, ◌≢◌, ℕ, zero, suc, ◌+◌, ◌<◌, ◌≤◌, List, [], ◌∷◌, ◌++◌, sym, refl, ap, ◌∙◌, subst, arith, append_assoc, append-nil, Some}
 use mathlib.Core.Logic.{dite}
 use native.Mathlib.Decide.{dec_lt}
 use Rattle.oak_model.specs.Counts.{one_at, below, total, Each}
 use Rattle.oak_model.specs.Limits.{Sizes}
 use Rattle.oak_model.proofs.Counting.{one_at-cases, one_at-true, below_some}
-use Rattle.oak_model.proofs.Lists.{each_append}
-use Rattle.chunk_core.specs.Rooms.{at_count, at_key, kind_at, part_at}
+use Rattle.chunk_core.specs.Rooms.{at_count, at_key, part_at}
 use Rattle.oak_core.specs.declared.states.Finding.{Finding}
 use Rattle.oak_core.specs.declared.states.PassState.{PassState}
 use Rattle.oak_core.specs.Finding.{finding, grown}
 use Rattle.oak_core.specs.Loading.{IsPlain}
-use Rattle.oak_core.specs.Memory.{Spot, at_given, in_arena, in_headers, in_rooms, index, IsInside}
+use Rattle.oak_core.specs.Memory.{Spot, in_rooms, index, IsInside}
 use Rattle.oak_core.specs.Step.{load, Told}
 use Rattle.oak_core.proofs.told.PlainLoads.{plain_state}
 use Rattle.oak_core.proofs.memory.Words.{index_apart}
 use Rattle.chunk_ops.specs.Finds.{is_key_word_of}
 use Rattle.chunk_ops.specs.PinRecords.{OnlyMeets}
-use Rattle.chunk_ops.specs.Reads.{key_loads, is_key_load, AreWords, ReadsKey, AreReadings, Compares, Looks, joined, Met, met_count, met_key, met_block}
-use Rattle.chunk_ops.specs.Room.{Room}
-use Rattle.chunk_ops.specs.RoomLoads.{LoadsEach, spot_of, number_of, last_count}
+use Rattle.chunk_ops.specs.Reads.{key_loads, is_key_load, Met, met_key, met_block}
+use Rattle.chunk_ops.specs.RoomLoads.{LoadsEach, spot_of, number_of}
 use Rattle.chunk_ops.proofs.WordLoads.{only_loaded}
 use Rattle.chunk_ops.proofs.MeetingCalls.{only_none, only_both}
-
--- a word of an entry or of a block
-abbrev pub IsOfEntry : Met → Type 0
-IsOfEntry (met_count n) = ⊥
-IsOfEntry (met_key i n) = Unit {0}
-IsOfEntry (met_block w j n) = Unit {0}
-
--- what keys are read by
-
-words_of_entry : (w j : ℕ) (ms : List Met) → AreWords w j ms → Each IsOfEntry ms
-words_of_entry w j [] a = tt
-words_of_entry w j (m ∷ ms) a = (subst IsOfEntry (sym a.0.1) tt, words_of_entry w (suc j) ms a.1)
-
-key_of_entry : (i : ℕ) (a b : List ℕ) (ms : List Met) → ReadsKey i a b ms → Each IsOfEntry ms
-key_of_entry i a b ms x = subst (Each IsOfEntry) (sym x.is) (tt, words_of_entry x.word 0 x.words x.each)
-
-joined_of_entry : (P : List Met → Type 0) → ((ms : List Met) → P ms → Each IsOfEntry ms) → (parts : List (List Met)) → Each P parts → Each IsOfEntry (joined parts)
-joined_of_entry P f [] e = tt
-joined_of_entry P f (m ∷ ms) e = each_append IsOfEntry m (joined ms) (f m e.0) (joined_of_entry P f ms e.1)
-
-pub looks_of_entry : (r : Room) (ms : List Met) → AreReadings (Looks r) ms → Each IsOfEntry ms
-looks_of_entry r ms a = subst (Each IsOfEntry) (sym a.1) (joined_of_entry (Looks r) (λ xs l. key_of_entry l.1.0 l.0 _ xs l.1.2) a.0 a.2)
-
-pub compares_of_entry : (k : List ℕ) (r : Room) (ms : List Met) → AreReadings (Compares k r) ms → Each IsOfEntry ms
-compares_of_entry k r ms a = subst (Each IsOfEntry) (sym a.1) (joined_of_entry (Compares k r) (λ xs l. key_of_entry l.0 k _ xs l.2) a.0 a.2)
-
--- none of them is the count
-
-pub count_kept : (n : ℕ) (ms : List Met) → Each IsOfEntry ms → last_count n ms ≡ n
-count_kept n [] e = refl
-count_kept n (met_count k ∷ ms) e = absurd e.0
-count_kept n (met_key i k ∷ ms) e = count_kept n ms e.1
-count_kept n (met_block w j k ∷ ms) e = count_kept n ms e.1
 
 module _ (z : Sizes) (call : ℕ) where
   -- the load of a word that teaches nothing
@@ -68,14 +33,13 @@ module _ (z : Sizes) (call : ℕ) where
   })
 
   module _ (r : ℕ) where
-    of_entry_plain : (m : Met) → IsOfEntry m → IsPlain (spot_of r m)
-    of_entry_plain (met_count n) p = absurd p
-    of_entry_plain (met_key i n) p = tt
-    of_entry_plain (met_block w j n) p = tt
+    of_entry_plain : (m : Met) → IsPlain (spot_of r m)
+    of_entry_plain (met_key i n) = tt
+    of_entry_plain (met_block w j n) = tt
 
-    pub loads_only : (ms : List Met) (v w : PassState) → Each IsOfEntry ms → LoadsEach z call r ms v w → OnlyMeets call v w
-    loads_only [] v w e l = subst (OnlyMeets call v) (sym l) (only_none call v)
-    loads_only (m ∷ ms) v w e l = only_both call v l.0 w (plain_only (spot_of r m) v (number_of m) l.0 (of_entry_plain m e.0) l.1) (loads_only ms l.0 w e.1 l.2)
+    pub loads_only : (ms : List Met) (v w : PassState) → LoadsEach z call r ms v w → OnlyMeets call v w
+    loads_only [] v w l = subst (OnlyMeets call v) (sym l) (only_none call v)
+    loads_only (m ∷ ms) v w l = only_both call v l.0 w (plain_only (spot_of r m) v (number_of m) l.0 (of_entry_plain m) l.1) (loads_only ms l.0 w l.2)
 
 -- how many of the words are key words
 
@@ -89,40 +53,40 @@ one_of_them g x (suc n) apart = one_at-cases x (g n) (λ (k : ℕ). below (λ i.
     (λ m. omega arith))
     (λ _. let h = one_of_them g x n (λ i j a b. apart i j (omega arith) (omega arith)) in omega arith)
 
-kind_of : Spot → ℕ
-kind_of at_given = 10
-kind_of (in_arena q) = 11
-kind_of (in_headers q) = 12
-kind_of (in_rooms q) = kind_at q
-
 part_of : Spot → ℕ
 part_of (in_rooms q) = part_at q
 part_of _ = 0
+
+-- the finding is of another word than the count
+abbrev pub IsBesideCount : Sizes → ℕ → Finding → Type 0
+IsBesideCount z r f = f.word ≢ index z (in_rooms (at_count r))
 
 module _ (z : Sizes) (call r : ℕ) (inside : r < z.chunks) where
   keys_apart : (i j : ℕ) → i < z.entries → j < z.entries → index z (in_rooms (at_key r i)) ≡ index z (in_rooms (at_key r j)) → i ≡ j
   unfolding part_of
   keys_apart i j a b e = ap part_of (index_apart z (in_rooms (at_key r i)) (in_rooms (at_key r j)) (inside, a) (inside, b) e)
 
-  not_key : (p : Spot) → IsInside z p → (kind_of p ≡ 7 → ⊥) → below (λ i. one_at (index z p) (index z (in_rooms (at_key r i)))) z.entries ≡ 0
-  unfolding kind_of
+  pub not_key : (p : Spot) → IsInside z p → ((i : ℕ) → p ≢ in_rooms (at_key r i)) → below (λ i. one_at (index z p) (index z (in_rooms (at_key r i)))) z.entries ≡ 0
   not_key p at ne = dite (dec_lt 0 (below (λ i. one_at (index z p) (index z (in_rooms (at_key r i)))) z.entries))
       (λ l. let s = below_some (λ i. one_at (index z p) (index z (in_rooms (at_key r i)))) z.entries l in
-      absurd (ne (ap kind_of (index_apart z p (in_rooms (at_key r s.0)) at (inside, s.1) (one_at-true (index z p) (index z (in_rooms (at_key r s.0))) s.2)))))
+      absurd (ne s.0 (index_apart z p (in_rooms (at_key r s.0)) at (inside, s.1) (one_at-true (index z p) (index z (in_rooms (at_key r s.0))) s.2))))
       (λ n. omega arith)
 
   key_words : (m : Met) → IsInside z (spot_of r m) → below (λ i. one_at (index z (spot_of r m)) (index z (in_rooms (at_key r i)))) z.entries ≤ is_key_load m
-  unfolding kind_of
-  key_words (met_count n) at = let h = not_key (in_rooms (at_count r)) at (λ e. absurd (omega arith)) in omega arith
   key_words (met_key i n) at = one_of_them (λ i. index z (in_rooms (at_key r i))) (index z (in_rooms (at_key r i))) z.entries keys_apart
-  key_words (met_block w j n) at = let h = not_key (spot_of r (met_block w j n)) at (λ e. absurd (omega arith)) in omega arith
+  key_words (met_block w j n) at = let h = not_key (spot_of r (met_block w j n)) at (λ i e. absurd cc) in omega arith
 
-  pub loads_few : (ms : List Met) (v w : PassState) → LoadsEach z call r ms v w → (more : List Finding) × (w.findings.met ≡ v.findings.met ++ more) × (total (is_key_word_of z r) more ≤ key_loads ms)
+  beside_count : (m : Met) → IsInside z (spot_of r m) → index z (spot_of r m) ≢ index z (in_rooms (at_count r))
+  beside_count (met_key i n) at e = let s = index_apart z (in_rooms (at_key r i)) (in_rooms (at_count r)) at (inside, omega arith) e in absurd cc
+  beside_count (met_block w j n) at e = let s = index_apart z (spot_of r (met_block w j n)) (in_rooms (at_count r)) at (inside, omega arith) e in absurd cc
+
+  pub loads_few : (ms : List Met) (v w : PassState) → LoadsEach z call r ms v w → (more : List Finding) × (w.findings.met ≡ v.findings.met ++ more) × (total (is_key_word_of z r) more ≤ key_loads ms) × Each (IsBesideCount z r) more
   unfolding total key_loads
-  loads_few [] v w l = ([], ap (λ (y : PassState). y.findings.met) l ∙ sym (append-nil v.findings.met), omega arith)
+  loads_few [] v w l = ([], ap (λ (y : PassState). y.findings.met) l ∙ sym (append-nil v.findings.met), omega arith, tt)
   loads_few (m ∷ ms) v w l = let t = l.1 in let rest = loads_few ms l.0 w l.2 in let f : Finding = finding z call (spot_of r m) (Some _) _ t.table.words v in
       let at : l.0.findings.met ≡ v.findings.met ++ f ∷ [] = ap (λ (y : PassState). y.findings.met) t.after in (
         f ∷ rest.0,
         rest.1 ∙ (ap (λ (xs : List Finding). xs ++ rest.0) at ∙ append_assoc v.findings.met (f ∷ []) rest.0),
         (let k = key_words m t.may in let few = rest.2 in omega arith),
+        (beside_count m t.may, rest.3),
       )

@@ -11,13 +11,13 @@ use Rattle.oak_model.proofs.Counting.{one_at-same, total_at}
 use Rattle.oak_model.proofs.Lists.{at_map, rows_at, rows_length}
 use Rattle.chunk_core.specs.declared.states.TheConstants.{OPEN, FROZEN, HELD}
 use Rattle.chunk_core.specs.declared.layout.TheConstants.{BOUND_WORDS}
-use Rattle.chunk_core.specs.declared.holds.Latch.{Latch}
+use Rattle.chunk_core.specs.declared.holds.Claim.{Claim}
 use Rattle.chunk_core.specs.declared.holds.PinnedRoom.{PinnedRoom}
 use Rattle.chunk_core.specs.declared.holds.RoomHolds.{RoomHolds}
 use Rattle.chunk_core.specs.CoverSums.{weight}
 use Rattle.chunk_core.specs.RoomHolds.{pins_of}
 use Rattle.chunk_core.specs.RoomReads.{pinned_at}
-use Rattle.chunk_core.specs.RoomRule.{room_pins, AreBounds, LatchIsPinned, RoomHoldsStand}
+use Rattle.chunk_core.specs.RoomRule.{room_pins, AreBounds, ClaimIsPinned, RoomHoldsStand}
 use Rattle.chunk_core.specs.RoomStep.{RoomStep, pin_room, unpin_room, room_spot, room_effect}
 use Rattle.chunk_core.specs.Rooms.{at_room_pin}
 use Rattle.oak_core.specs.declared.states.PassState.{PassState}
@@ -33,9 +33,10 @@ use Rattle.oak_core.proofs.memory.Words.{memory_read}
 use Rattle.chunk_ops.specs.PinRecords.{PinIsOn, RoomPinned, with_room_pin}
 use Rattle.chunk_ops.specs.RoomPins.{ChangesRoomPin, Unpins}
 
-no_latch : (o : Option Latch) → LatchIsPinned None o → o ≡ None
-no_latch None h = refl
-no_latch (Some l) h = absurd h
+-- a pass without a pin has claimed nothing
+no_claim : (o : Option Claim) → ClaimIsPinned None o → o ≡ None
+no_claim None h = refl
+no_claim (Some c) h = absurd h
 
 -- an open room is a cover
 open_weight : (w : ℕ) → state_of w ≡ OPEN → weight w ≡ 1
@@ -124,8 +125,7 @@ module _ (z : Sizes) (call r n : ℕ) (v w : PassState) (t : PinsRoomWord z call
     inside = there;
     is = refl;
     room = refl;
-    latch = no_latch v.rooms.latch (subst (λ (o : Option PinnedRoom). LatchIsPinned o v.rooms.latch) t.may.rooms bare.latch);
-    claim = bare.claim;
+    claim = no_claim v.rooms.claim (subst (λ (o : Option PinnedRoom). ClaimIsPinned o v.rooms.claim) t.may.rooms bare.claim);
   })
 
   pub pin_good : state_of n ≡ OPEN → RoomPinned z r w.rooms
@@ -138,7 +138,9 @@ module _ (z : Sizes) (call r n : ℕ) (v w : PassState) (t : PinsRoomWord z call
       low = rows_length 0 BOUND_WORDS ((memory z t.table.words).rooms.low r);
       high = rows_length 0 BOUND_WORDS ((memory z t.table.words).rooms.high r);
     };
-    few = omega arith;
+    few = t.rule.sizes.entries_greatest;
+    found = tt;
+    alike = λ e f has. absurd has;
   })
 
   pub pin_runs : (P : ℕ → Type 0) → P n → Runs (ChangesRoomPin z r P (λ k. k + 1)) v w
@@ -150,7 +152,7 @@ pub pins_one : (z : Sizes) (r : ℕ) (a : RoomHolds) → PinIsOn z r a → room_
 pins_one z r a p = ap (pins_of r) p.is ∙ one_at-same _ r p.room
 
 pub may_unpin : (z : Sizes) (call r : ℕ) (v : PassState) → PinIsOn z r v.rooms → MayOnRooms z call (unpin_room r) v
-may_unpin z call r v p = record { inside = (p.inside, omega arith); rooms = (pins_one z r v.rooms p, p.latch, p.claim) }
+may_unpin z call r v p = record { inside = (p.inside, omega arith); rooms = (pins_one z r v.rooms p, p.claim) }
 
 module _ (z : Sizes) (call r n : ℕ) (v w : PassState) (t : UnpinsRoomWord z call r v n w) where
   counts : 0 < count_of n

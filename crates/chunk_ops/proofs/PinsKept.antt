@@ -1,31 +1,17 @@
--- A pin that a call keeps is kept over several calls, and the latch with it.
-use Rattle.std.proofs.Common.{◌≡◌, ℕ, sym, refl, ap, ◌∙◌, subst, Option, Some, None}
+-- A pin that a call keeps is kept over several calls.
+use Rattle.std.proofs.Common.{ℕ, sym, refl, ap, ◌∙◌, subst, Option, Some}
 use Rattle.oak_model.specs.Limits.{Sizes}
-use Rattle.chunk_core.specs.declared.holds.Latch.{Latch}
 use Rattle.chunk_core.specs.declared.holds.PinnedRoom.{PinnedRoom}
 use Rattle.chunk_core.specs.declared.holds.RoomHolds.{RoomHolds}
-use Rattle.chunk_core.specs.MayOnRooms.{HasLatch}
-use Rattle.chunk_core.specs.RoomRule.{latches_on}
 use Rattle.oak_core.specs.declared.states.PassState.{PassState}
-use Rattle.oak_core.proofs.calls.CallSteps.{stands_learns}
-use Rattle.chunk_ops.specs.Latching.{with_latch}
-use Rattle.chunk_ops.specs.PinRecords.{HasRoomPin, RoomPinned, PinKept, PinStays, OnlyMeets, UnderPin, pin_or, room_pin, with_room_pin}
-use Rattle.chunk_ops.proofs.LatchSteps.{one_latch}
+use Rattle.oak_core.proofs.calls.CallSteps.{learns_both, stands_learns}
+use Rattle.chunk_ops.specs.PinRecords.{HasRoomPin, RoomPinned, PinKept, PinStays, OnlyMeets, UnderPin, pin_or, with_room_pin}
 
--- the pin does not ask for the latch
-pub pinned_latched : (z : Sizes) (r : ℕ) (a : RoomHolds) (o : Option Latch) → RoomPinned z r a → RoomPinned z r (with_latch o a)
-pinned_latched z r a o p = record {
-  inside = p.inside;
-  pin = record { is = p.pin.is; room = p.pin.room; good = p.pin.good };
-  bounds = record { fit = p.bounds.fit; low = p.bounds.low; high = p.bounds.high };
-  few = p.few;
-}
-
-pub kept_unlatched : (z : Sizes) (r : ℕ) (a b : RoomHolds) → PinKept z r a b → PinKept z r (with_latch None a) (with_latch None b)
-kept_unlatched z r a b k = record { has = pinned_latched z r b None k.has; stays = k.stays; rooms = ap (with_latch None) k.rooms }
+pub pins_same : (p : PinnedRoom) → PinStays p p
+pins_same p = record { room = refl; found = refl; base = refl; low = refl; high = refl; entries = λ e has. has }
 
 pub kept_same : (z : Sizes) (r : ℕ) (a : RoomHolds) → RoomPinned z r a → PinKept z r a a
-kept_same z r a p = record { has = p; stays = record { room = refl; found = refl; base = refl; low = refl; high = refl; entries = λ i e at. at }; rooms = ap (λ (o : Option PinnedRoom). with_room_pin o a) p.pin.is }
+kept_same z r a p = record { has = p; stays = pins_same (pin_or a.pin); rooms = ap (λ (o : Option PinnedRoom). with_room_pin o a) p.pin.is }
 
 pub pins_both : (p q s : PinnedRoom) → PinStays p q → PinStays q s → PinStays p s
 pins_both p q s a b = record {
@@ -34,13 +20,13 @@ pins_both p q s a b = record {
   base = b.base ∙ a.base;
   low = b.low ∙ a.low;
   high = b.high ∙ a.high;
-  entries = λ i e at. b.entries i e (a.entries i e at);
+  entries = λ e has. b.entries e (a.entries e has);
 }
 
 pub kept_both : (z : Sizes) (r : ℕ) (a b d : RoomHolds) → PinKept z r a b → PinKept z r b d → PinKept z r a d
 kept_both z r a b d k l = record { has = l.has; stays = pins_both (pin_or a.pin) (pin_or b.pin) (pin_or d.pin) k.stays l.stays; rooms = l.rooms ∙ ap (with_room_pin (Some (pin_or d.pin))) k.rooms }
 
--- loads keep it
+-- loads that leave the rooms keep it
 pub under_only : (z : Sizes) (call r : ℕ) (v w : PassState) → HasRoomPin z r v → OnlyMeets call v w → UnderPin z call r v w
 under_only z call r v w p o = record {
   learns = stands_learns call v w o.stands;
@@ -49,9 +35,10 @@ under_only z call r v w p o = record {
   pin = subst (λ (a : RoomHolds). PinKept z r v.rooms a) (sym o.rooms) (kept_same z r v.rooms p);
 }
 
--- under it the pass has its latch still
-pub latch_kept : (z : Sizes) (call r : ℕ) (v w : PassState) (l : Latch) → UnderPin z call r v w → HasLatch r v.rooms (room_pin v) l → HasLatch r w.rooms (room_pin w) l
-latch_kept z call r v w l u h = record { is = ap (λ (a : RoomHolds). a.latch) u.pin.rooms ∙ h.is; room = h.room; pin = u.pin.has.pin }
-
-pub latch_on : (r : ℕ) (a : RoomHolds) (p : PinnedRoom) (l : Latch) → HasLatch r a p l → latches_on r a ≡ 1
-latch_on r a p l h = one_latch r a.latch l h.is h.room
+pub under_both : (z : Sizes) (call r : ℕ) (u v w : PassState) → UnderPin z call r u v → UnderPin z call r v w → UnderPin z call r u w
+under_both z call r u v w a b = record {
+  learns = learns_both call u v w a.learns b.learns;
+  blocks = b.blocks ∙ a.blocks;
+  headers = b.headers ∙ a.headers;
+  pin = kept_both z r u.rooms v.rooms w.rooms a.pin b.pin;
+}

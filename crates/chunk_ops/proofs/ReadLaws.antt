@@ -1,11 +1,9 @@
 -- Readings one behind the other.
 use Rattle.std.proofs.Common.{◌≡◌, ℕ, suc, ◌+◌, ◌*◌, ◌<◌, List, [], ◌∷◌, ◌++◌, length, refl, subst, ap, ◌∙◌, arith, append_assoc, append-nil, length-append, ◌≤◌, sym}
-use Rattle.oak_model.proofs.Lists.{each_append, each_map}
-use Rattle.chunk_core.specs.LinkedEntries.{entries_in, prefix_in}
-use Rattle.chunk_ops.specs.Found.{CountsFirst}
-use Rattle.chunk_ops.specs.Room.{Room, key_at, entries}
+use Rattle.oak_model.proofs.Lists.{each_append}
+use Rattle.chunk_ops.specs.Room.{Room, HasFound, key_at}
 use Rattle.arena_core.specs.Words.{word_at}
-use Rattle.chunk_ops.specs.Reads.{is_key_load, key_loads, AreWords, LoadsKey, Compares, joined, AreReadings, Reads, Met, met_count, met_key, met_block}
+use Rattle.chunk_ops.specs.Reads.{is_key_load, key_loads, AreWords, LoadsKey, Compares, joined, AreReadings, Reads, Met, met_key, met_block}
 
 pub loads_append : (a b : List Met) → key_loads (a ++ b) ≡ key_loads a + key_loads b
 unfolding key_loads
@@ -46,29 +44,6 @@ module _ {S : Type 0} {pinned : S → Type 0} {room : S → Room} {meets : S →
     few = omega arith;
   }
 
-  -- what P says says Q
-  pub reads_as : (Q : Room → List Met → Type 0) → ((r : Room) (ms : List Met) → P r ms → Q r ms) → (n : ℕ) (s t : S) → Reads pinned room meets P n s t → Reads pinned room meets Q n s t
-  reads_as Q f n s t r = record {
-    pin = r.pin;
-    same = r.same;
-    more = r.more;
-    on = r.on;
-    each = (r.each.0, r.each.1, each_map (P (room t)) (Q (room t)) r.each.0 (f (room t)) r.each.2);
-    few = r.few;
-  }
-
-  -- the count was loaded first
-  pub counts : ((s t u : S) (a b : List Met) → meets s t a → meets t u b → meets s u (a ++ b)) → (n m w : ℕ) (s q t : S) → meets s q (met_count w ∷ []) → entries_in w ≡ entries (room q) → prefix_in w ≡ (room q).prefix → Reads pinned room meets P n q t → n ≤ m → CountsFirst meets (room t) P m s t
-  counts on n m w s q t e many prefix r le = let f = r.few in record {
-    word = w;
-    more = r.more;
-    on = on s q t (met_count w ∷ []) r.more e r.on;
-    many = many ∙ ap entries (sym r.same);
-    prefix = prefix ∙ ap (λ (x : Room). x.prefix) (sym r.same);
-    each = r.each;
-    few = omega arith;
-  }
-
 -- the key word of entry e was loaded, and then i words of its block
 abbrev pub Loaded : {S : Type 0} → (S → S → List Met → Type 0) → ℕ → ℕ → ℕ → S → S → Type 0
 Loaded meets e w i s t = (ws : List Met) × meets s t (met_key e w ∷ ws) × AreWords w 0 ws × (length ws ≡ i)
@@ -90,7 +65,7 @@ loaded_key meets e w i t a b u v l f g h s = let z = l.3 in (
 
 module _ {S : Type 0} {pinned : S → Type 0} {room : S → Room} {meets : S → S → List Met → Type 0} where
   -- the key of one entry was compared with k
-  pub key_reads : (k : List ℕ) (e : ℕ) (s t : S) → e < entries (room s) → LoadsKey meets e k (key_at (room s) e) s t → pinned t → room t ≡ room s → Reads pinned room meets (Compares k) 1 s t
+  pub key_reads : (k : List ℕ) (e : ℕ) (s t : S) → HasFound (room s) e → LoadsKey meets e k (key_at (room s) e) s t → pinned t → room t ≡ room s → Reads pinned room meets (Compares k) 1 s t
   unfolding key_loads
   key_reads k e s t lt l p r = let x = l.2 in let n = no_loads x.word 0 x.words x.each in let g : key_loads l.0 ≡ 1 + key_loads x.words = ap key_loads x.is in record {
     pin = p;

@@ -5,9 +5,10 @@ use native.Mathlib.Decide.{dec_lt}
 use Rattle.oak_model.specs.Limits.{Sizes}
 use Rattle.oak_model.proofs.Counting.{one_at-same}
 use Rattle.oak_model.proofs.Lists.{at_map, rows_at}
+use Rattle.oak_model.proofs.MemberLaws.{each_has}
 use Rattle.arena_core.specs.Place.{content}
 use Rattle.chunk_core.specs.declared.layout.TheConstants.{BOUND_WORDS}
-use Rattle.chunk_core.specs.PinnedRooms.{OnRoomPin, IsGoodRoom, RoomPinHolds}
+use Rattle.chunk_core.specs.PinnedRooms.{OnRoomPin, IsGoodRoom, RoomPinHolds, found_in}
 use Rattle.chunk_core.specs.CoverSums.{weight}
 use Rattle.chunk_core.specs.Covers.{Cover}
 use Rattle.chunk_core.specs.Rooms.{at_base, IsInRooms}
@@ -21,18 +22,17 @@ use Rattle.oak_core.specs.Splitting.{Loads}
 use Rattle.oak_core.specs.Step.{Step, load, Told}
 use Rattle.oak_core.proofs.seats.AloneRuns.{load_runs, runs_as}
 use Rattle.oak_core.proofs.calls.CallSteps.{step_alone}
-use Rattle.oak_core.proofs.memory.MetLists.{at_inside}
 use Rattle.oak_core.proofs.calls.QuietCalls.{quiet_load}
 use Rattle.oak_core.proofs.memory.Words.{index_apart, memory_read}
 use Rattle.chunk_ops.specs.declared.bounds.Bound.{Bound}
 use Rattle.chunk_ops.specs.declared.bounds.Bound.TheVariants.{Low, High}
 use Rattle.chunk_ops.specs.PinnedBounds.{bound_spot, bound_words}
-use Rattle.chunk_ops.specs.PinRecords.{HasEntry, HasRoomPin, OnlyMeets, WordsStay, room_pin}
+use Rattle.chunk_ops.specs.PinRecords.{HasEntry, HasRoomPin, IsFoundWell, OnlyMeets, WordsStay, room_pin}
 use Rattle.chunk_ops.specs.RoomWords.{FindsBase}
 use Rattle.oak_core.specs.Loading.{IsPlain}
 use Rattle.oak_core.proofs.told.PlainLoads.{met_at}
 
--- the load of a word other than a count only adds its finding
+-- the load of a plain word only adds its finding
 pub only_loaded : (z : Sizes) (call word n : ℕ) (v w : PassState) (q : Spot) → IsInside z q → IsPlain q → word ≡ index z q → Loads z call word v n w → OnlyMeets call v w
 only_loaded z call word n v w q inside plain at l = let met = met_at z call word n v w q inside plain at l in record {
   stands = subst (Stands call v) (sym met) (record { met = record { more = _ ∷ []; met = refl; calls = (refl, tt) }; numbers = refl; knowledge = refl; fulls = refl; swept = refl; sights = refl; gones = refl; rebalances = refl });
@@ -96,4 +96,4 @@ base_loaded z call r n v w p t = let h = pin_holds z call r (load (in_rooms (at_
 
 -- an entry that the pin found is one of the room's
 pub found_inside : (z : Sizes) (r i : ℕ) (k : List ℕ) (v : PassState) → HasRoomPin z r v → HasEntry r i k v → i < z.entries
-found_inside z r i k v p e = let l = at_inside (room_pin v).entries i e.entry e.finds.there in let few = p.few in omega arith
+found_inside z r i k v p e = let w = each_has (IsFoundWell z) (found_in (room_pin v)) e.entry p.found e.finds.there in let lt = w.number in let n = e.finds.number in omega arith

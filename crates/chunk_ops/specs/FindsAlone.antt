@@ -1,47 +1,44 @@
 -- What searches do to the words of the table, for a pass that is alone: they stay, and the room has in them what was found.
-use Rattle.std.specs.Prelude.{◌≡◌, ◌≢◌, ℕ, ◌<◌, List, Option, Some, None}
+use Rattle.std.specs.Prelude.{◌≡◌, ◌≢◌, ℕ, List, Option, Some, None}
+use Rattle.oak_model.specs.Counts.{one_at, total}
 use Rattle.oak_model.specs.Limits.{Sizes}
 use Rattle.arena_core.specs.Place.{content}
 use Rattle.oak_model.specs.KeyNumber.{key_number}
 use Rattle.chunk_core.specs.KeyWords.{key_bytes}
-use Rattle.chunk_core.specs.LinkedEntries.{entries_in}
+use Rattle.chunk_core.specs.LinkedEntries.{linked}
 use Rattle.oak_core.specs.Memory.{Memory, memory}
 use Rattle.chunk_ops.specs.declared.entries.EntryNo.{EntryNo}
 use Rattle.chunk_ops.specs.declared.entries.Found.{Found}
 use Rattle.chunk_ops.specs.declared.entries.Found.TheVariants.{Entry, Missing}
-use Rattle.chunk_ops.specs.declared.way.Way.{Way}
+use Rattle.chunk_ops.specs.Ways.{Way}
 use Rattle.chunk_ops.specs.Finds.{IsPast, IsNearer}
 
--- entry i of the room r is in use
-abbrev pub IsUsed : Memory → ℕ → ℕ → Type 0
-IsUsed m r i = i < entries_in (m.rooms.count r)
+-- entry i of the room r is linked
+abbrev pub IsLinked : Memory → ℕ → ℕ → Type 0
+IsLinked m r i = total (λ j. one_at j i) (linked m.rooms r) ≡ 1
 
 -- the key of that entry
-abbrev pub used_key : Memory → ℕ → ℕ → List ℕ
-used_key m r i = key_bytes (m.rooms.key r i) (content m.arena.bytes (m.rooms.key r i))
+abbrev pub linked_key : Memory → ℕ → ℕ → List ℕ
+linked_key m r i = key_bytes (m.rooms.key r i) (content m.arena.bytes (m.rooms.key r i))
 
--- the entry is in use and has the key, or none in use has it
+-- the entry is linked and has the key, or none that is linked has it
 abbrev pub HasKeyAt : Memory → ℕ → List ℕ → Found → Type 0
-HasKeyAt m r key (Entry i) = IsUsed m r i.0 × (used_key m r i.0 ≡ key)
-HasKeyAt m r key Missing = (i : ℕ) → IsUsed m r i → used_key m r i ≢ key
+HasKeyAt m r key (Entry i) = IsLinked m r i.0 × (linked_key m r i.0 ≡ key)
+HasKeyAt m r key Missing = (i : ℕ) → IsLinked m r i → linked_key m r i ≢ key
 
 -- the words stay, and say so
 abbrev pub FindsIn : Sizes → ℕ → List ℕ → Found → List ℕ → List ℕ → Type 0
 FindsIn z r key found before after = (after ≡ before) × HasKeyAt (memory z before) r key found
-
--- and the room's count is n in them
-abbrev pub CountedIn : Sizes → ℕ → List ℕ → ℕ → Found → List ℕ → List ℕ → Type 0
-CountedIn z r key n found before after = FindsIn z r key found before after × ((memory z before).rooms.count r ≡ n)
 
 -- an entry's number as what was found
 abbrev pub as_found : Option ℕ → Found
 as_found None = Missing
 as_found (Some i) = Entry (record { 0 = i })
 
--- the entry is in use and lies that way of the bound, and none in use does that is nearer; or none in use lies there
+-- the entry is linked and lies that way of the bound, and none that is linked does that is nearer; or none that is linked lies there
 abbrev pub HasNearest : Memory → ℕ → Way → Option (List ℕ) → Option EntryNo → Type 0
-HasNearest m r way bound (Some i) = IsUsed m r i.0 × IsPast way bound (key_number (used_key m r i.0)) × ((j : ℕ) → IsUsed m r j → IsPast way bound (key_number (used_key m r j)) → IsNearer way (key_number (used_key m r j)) (key_number (used_key m r i.0)) → ⊥)
-HasNearest m r way bound None = (j : ℕ) → IsUsed m r j → IsPast way bound (key_number (used_key m r j)) → ⊥
+HasNearest m r way bound (Some i) = IsLinked m r i.0 × IsPast way bound (key_number (linked_key m r i.0)) × ((j : ℕ) → IsLinked m r j → IsPast way bound (key_number (linked_key m r j)) → IsNearer way (key_number (linked_key m r j)) (key_number (linked_key m r i.0)) → ⊥)
+HasNearest m r way bound None = (j : ℕ) → IsLinked m r j → IsPast way bound (key_number (linked_key m r j)) → ⊥
 
 abbrev pub NearestIn : Sizes → ℕ → Way → Option (List ℕ) → Option EntryNo → List ℕ → List ℕ → Type 0
 NearestIn z r way bound found before after = (after ≡ before) × HasNearest (memory z before) r way bound found

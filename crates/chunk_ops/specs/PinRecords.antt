@@ -1,14 +1,19 @@
 -- The pin of a room, read off the state of the pass that has it, and what stays while it stands.
-use Rattle.std.specs.Prelude.{◌≡◌, ℕ, ◌<◌, ◌≤◌, List, [], length, slice_index, Option, Some, None}
-use mathlib.Core.Option.{some}
-use lib.ListN.{get_elem?}
+use Rattle.std.specs.Prelude.{◌≡◌, ℕ, ◌*◌, ◌<◌, ◌≤◌, List, [], length, slice_index, Option, Some, None}
+use Rattle.oak_model.specs.Counts.{Each, Has}
+use Rattle.oak_model.specs.Key.{IsKey, AreBytes}
+use Rattle.oak_model.specs.KeyNumber.{key_number}
 use Rattle.oak_model.specs.Limits.{Sizes}
+use Rattle.oak_model.specs.declared.limits.TheConstants.{CLASSES, GREATEST_ENTRIES}
+use Rattle.arena_core.specs.Arena.{block_words, blocks}
+use Rattle.arena_core.specs.Place.{class_in, block_in, length_in}
 use Rattle.chunk_core.specs.declared.layout.TheConstants.{BOUND_WORDS}
 use Rattle.chunk_core.specs.declared.holds.FoundEntry.{FoundEntry}
 use Rattle.chunk_core.specs.declared.holds.PinnedRoom.{PinnedRoom}
 use Rattle.chunk_core.specs.declared.holds.RoomHolds.{RoomHolds}
 use Rattle.chunk_core.specs.KeyWords.{key_bytes}
 use Rattle.chunk_core.specs.MayOnRooms.{PinsRoom, FindsEntry}
+use Rattle.chunk_core.specs.PinnedRooms.{found_in, found_key}
 use Rattle.chunk_core.specs.RoomRule.{AreBounds}
 use Rattle.oak_core.specs.declared.states.PassState.{PassState}
 use Rattle.oak_core.specs.AloneWords.{Runs}
@@ -17,7 +22,7 @@ use Rattle.oak_core.specs.QuietSteps.{Quiet}
 
 -- the pin of a pass, which says nothing where it has none
 abbrev pub pin_or : Option PinnedRoom → PinnedRoom
-pin_or None = record { room = 0; found = 0; base = 0; low = []; high = []; count = None; entries = [] }
+pin_or None = record { room = 0; found = 0; base = 0; low = []; high = []; count = None; entries = []; walked = [] }
 pin_or (Some p) = p
 
 abbrev pub room_pin : PassState → PinnedRoom
@@ -31,7 +36,6 @@ pub record PinIsOn (z : Sizes) (r : ℕ) (a : RoomHolds) : Type 0 where
   pub inside : r < z.chunks
   pub is : a.pin ≡ Some (pin_or a.pin)
   pub room : (pin_or a.pin).room ≡ r
-  pub latch : a.latch ≡ None
   pub claim : a.claim ≡ None
 
 -- all words of a pin's bounds were recorded, and neither bound is longer than a key
@@ -40,13 +44,27 @@ pub record HasBounds (p : PinnedRoom) : Type 0 where
   pub low : length p.low ≡ BOUND_WORDS
   pub high : length p.high ≡ BOUND_WORDS
 
+-- an entry that was found is one of those that a room has, and its key word names a block of the table with the key
+pub record IsFoundWell (z : Sizes) (e : FoundEntry) : Type 0 where
+  pub number : e.number < z.entries
+  pub class : class_in e.word < CLASSES
+  pub block : block_in e.word < blocks z (class_in e.word)
+  pub long : length_in e.word ≡ length (key_bytes e.word e.words)
+  pub key : IsKey (key_bytes e.word e.words)
+  pub bytes : AreBytes (key_bytes e.word e.words)
+  pub room : length (key_bytes e.word e.words) ≤ 8 * block_words (class_in e.word)
+  pub same : found_key e ≡ key_number (key_bytes e.word e.words)
+
 -- the pass has a good pin of the room
 pub record RoomPinned (z : Sizes) (r : ℕ) (a : RoomHolds) : Type 0 where
   pub inside : r < z.chunks
   pub pin : PinsRoom r a (pin_or a.pin)
   pub bounds : HasBounds (pin_or a.pin)
-  -- no more entries were found under it than a room has
-  pub few : length (pin_or a.pin).entries ≤ z.entries
+  -- a room of the table has no more entries than a room may have
+  pub few : z.entries ≤ GREATEST_ENTRIES
+  -- the entries that were found under it are so, one of each number
+  pub found : Each (IsFoundWell z) (found_in (pin_or a.pin))
+  pub alike : (e f : FoundEntry) → Has e (found_in (pin_or a.pin)) → Has f (found_in (pin_or a.pin)) → e.number ≡ f.number → e ≡ f
 
 abbrev pub HasRoomPin : Sizes → ℕ → PassState → Type 0
 HasRoomPin z r v = RoomPinned z r v.rooms
@@ -58,7 +76,7 @@ pub record PinStays (p q : PinnedRoom) : Type 0 where
   pub base : q.base ≡ p.base
   pub low : q.low ≡ p.low
   pub high : q.high ≡ p.high
-  pub entries : (i : ℕ) (e : FoundEntry) → get_elem? p.entries i ≡ some e → get_elem? q.entries i ≡ some e
+  pub entries : (e : FoundEntry) → Has e (found_in p) → Has e (found_in q)
 
 -- of rooms the pass has what it had, with the pin, which has no less found
 pub record PinKept (z : Sizes) (r : ℕ) (a b : RoomHolds) : Type 0 where

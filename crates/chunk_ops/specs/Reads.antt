@@ -2,16 +2,14 @@
 use Rattle.std.specs.Prelude.{◌≡◌, ℕ, suc, ◌+◌, ◌*◌, ◌<◌, ◌≤◌, List, [], ◌∷◌, ◌++◌, length}
 use Rattle.oak_model.specs.Counts.{Each}
 use Rattle.arena_core.specs.Words.{word_at}
-use Rattle.chunk_ops.specs.Room.{Room, key_at, entries}
+use Rattle.chunk_ops.specs.Room.{Room, HasFound, key_at}
 
--- a word that was loaded, with the number found
+-- a word that was loaded, with the number found: a key word, or a word of the block that it names
 pub data Met : Type 0 where
-  met_count : ℕ → Met
   met_key : ℕ → ℕ → Met
   met_block : ℕ → ℕ → ℕ → Met
 
 abbrev pub is_key_load : Met → ℕ
-is_key_load (met_count n) = 0
 is_key_load (met_key i n) = 1
 is_key_load (met_block w j n) = 0
 
@@ -42,11 +40,7 @@ LoadsKey meets i a b s t = (ms : List Met) × meets s t ms × ReadsKey i a b ms
 
 -- the key of one entry was compared with k
 abbrev pub Compares : List ℕ → Room → List Met → Type 0
-Compares k r ms = (i : ℕ) × (i < entries r) × ReadsKey i k (key_at r i) ms
-
--- with some key; the whole key of the entry was loaded where that is the key itself
-abbrev pub Looks : Room → List Met → Type 0
-Looks r ms = (k : List ℕ) × Compares k r ms
+Compares k r ms = (i : ℕ) × HasFound r i × ReadsKey i k (key_at r i) ms
 
 -- lists one behind the other
 abbrev pub joined : List (List Met) → List Met

@@ -1,30 +1,24 @@
--- What stands of a room while a pin on it stands: the entries below the count found.
-use Rattle.std.specs.Prelude.{◌≡◌, ℕ, ◌<◌, ◌≤◌, List, [], length, slice_index}
-use Rattle.std.specs.List.{slice_index_or}
+-- What stands of a room while a pin on it stands: the entries that were found.
+use Rattle.std.specs.Prelude.{◌≡◌, ℕ, ◌<◌, List, length}
 use Rattle.oak_model.specs.declared.limits.TheConstants.{GREATEST_ENTRIES}
-use Rattle.oak_model.specs.Key.{IsKey, AreBytes, IsKeyBefore}
+use Rattle.oak_model.specs.Key.{IsKey, AreBytes}
 use Rattle.arena_core.specs.Place.{length_in}
+use Rattle.link_search.specs.Linked.{Linked, IsFound}
 
--- the length of the sorted prefix, and of each entry the key word, which says where its key stands, and the bytes of the key
+-- what was found, by the numbers of entries, and of each the key word, which says where its key stands
 pub record Room : Type 0 where
-  pub prefix : ℕ
-  pub places : List ℕ
-  pub keys : List (List ℕ)
-
-abbrev pub place_at : Room → ℕ → ℕ
-place_at r i = slice_index r.places i
+  pub found : Linked
+  pub place : ℕ → ℕ
 
 abbrev pub key_at : Room → ℕ → List ℕ
-key_at r i = slice_index_or r.keys i []
+key_at r i = r.found.key i
 
-abbrev pub entries : Room → ℕ
-entries r = length r.keys
+abbrev pub HasFound : Room → ℕ → Type 0
+HasFound r i = IsFound r.found i
 
--- each key word has the key's length, and the entries of the prefix rise by their keys
+-- each key word has the key's length
 pub record IsRoom (r : Room) : Type 0 where
-  pub sorted : r.prefix ≤ entries r
-  pub few : entries r ≤ GREATEST_ENTRIES
-  pub long : (i : ℕ) → i < entries r → length_in (place_at r i) ≡ length (key_at r i)
-  pub key : (i : ℕ) → i < entries r → IsKey (key_at r i)
-  pub bytes : (i : ℕ) → AreBytes (key_at r i)
-  pub rises : (i j : ℕ) → i < j → j < r.prefix → IsKeyBefore (key_at r i) (key_at r j)
+  pub few : (i : ℕ) → HasFound r i → i < GREATEST_ENTRIES
+  pub long : (i : ℕ) → HasFound r i → length_in (r.place i) ≡ length (key_at r i)
+  pub key : (i : ℕ) → HasFound r i → IsKey (key_at r i)
+  pub bytes : (i : ℕ) → HasFound r i → AreBytes (key_at r i)

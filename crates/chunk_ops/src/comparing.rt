@@ -3,7 +3,7 @@ ghost use Rattle.std.specs.Prelude.{◌≡◌, ℕ, ◌*◌, ◌<◌, [], ◌∷
 ghost use Rattle.std.specs.Ordering.{nat_cmp};
 ghost use Rattle.oak_model.specs.Key.{key_cmp};
 ghost use Rattle.chunk_ops.specs.Reads.{Reads, LoadsKey, Compares, met_block};
-ghost use Rattle.chunk_ops.specs.Room.{place_at, key_at, entries};
+ghost use Rattle.chunk_ops.specs.Room.{HasFound, key_at};
 ghost use Rattle.arena_core.specs.Words.{word_at};
 
 use crate::room::SearchedRoom;
@@ -15,11 +15,11 @@ use std::cmp::Ordering;
 fn compare_word<R: SearchedRoom>(room: &mut R, key: &[u8], place: u64, i: usize) -> Ordering
     requires pinned { R.pinned room.old }
     requires ours { WORD * i < length key.now }
-    requires theirs { (e : ℕ) × (e < entries (R.room room.old)) × (place ≡ place_at (R.room room.old) e)
+    requires theirs { (e : ℕ) × HasFound (R.room room.old) e × (place ≡ (R.room room.old).place e)
         × (WORD * i < length (key_at (R.room room.old) e)) }
     ensures pinned { R.pinned room.new }
     ensures same { R.room room.new ≡ R.room room.old }
-    ensures order { (e : ℕ) → e < entries (R.room room.old) → place ≡ place_at (R.room room.old) e
+    ensures order { (e : ℕ) → HasFound (R.room room.old) e → place ≡ (R.room room.old).place e
         → result ≡ nat_cmp (word_at key.now i) (word_at (key_at (R.room room.old) e) i) }
     ensures meets { (n : ℕ) × R.meets room.old room.new (met_block place i n ∷ []) }
 {
@@ -32,7 +32,7 @@ fn compare_word<R: SearchedRoom>(room: &mut R, key: &[u8], place: u64, i: usize)
 /// none behind the first that differs.
 pub(crate) fn compare<R: SearchedRoom>(room: &mut R, key: &[u8], entry: u32) -> Ordering
     requires pinned { R.pinned room.old }
-    requires within { entry < entries (R.room room.old) }
+    requires found { HasFound (R.room room.old) entry }
     ensures reads { Reads R.pinned R.room R.meets (Compares key.now) 1 room.old room.new }
     ensures order { result ≡ key_cmp key.now (key_at (R.room room.old) entry) }
     ensures meets { LoadsKey R.meets entry key.now (key_at (R.room room.old) entry) room.old room.new }

@@ -20,7 +20,7 @@ pub enum Content {
     Floor { stamp: u64 },
 }
 
-/// Why no entry was added: the room has as many as it may, or its latch was taken.
+/// Why no entry was added: the room has as many as it may, or its count or a link was changed.
 #[derive(Clone, Copy, Debug, PartialEq, Eq)]
 pub enum AddHalt {
     Crowded,

@@ -1,8 +1,11 @@
-//! All entries of a pinned room, found by one load of its count, and their keys one by one.
-ghost use Rattle.std.specs.Prelude.{ℕ, List};
+//! The entries of a pinned room along its links, and their keys.
+ghost use Rattle.std.specs.Prelude.{◌≡◌, ℕ, List, MatchOption};
 ghost use Rattle.oak_model.specs.Key.{IsKey};
+ghost use Rattle.chunk_core.specs.LinkWords.{link_spot};
+ghost use Rattle.chunk_core.specs.Rooms.{IsInRooms};
+ghost use Rattle.oak_core.specs.Memory.{in_rooms, index};
 ghost use Rattle.oak_core.specs.Passes.{IsPassOf, Stays, state, key as sizes, call_of};
-ghost use Rattle.chunk_ops.specs.Listing.{ListsRoom};
+ghost use Rattle.chunk_ops.specs.Listing.{StepsTo, number_of};
 ghost use Rattle.chunk_ops.specs.PinRecords.{HasEntry, HasRoomPin, OnlyMeets};
 ghost use Rattle.chunk_ops.specs.Stored.{IsStored};
 
@@ -12,19 +15,37 @@ use crate::room_pins::RoomPin;
 use crate::stored::{KEY_WORDS, StoredKey};
 use arena_core::place::{block_in, class_in, length_in};
 use arena_core::words::{WORD, first_bytes};
-use chunk_core::count_word::entries_in;
 use oak_core::{OakTable, Pass, load};
 
-/// How many entries the pinned room had at one moment of this call, at which its count was loaded: those
-/// below this number, which the pin has found from then on. Each other key of the range was absent then.
-pub fn count_entries(table: &OakTable, pass: &mut Pass, pin: &RoomPin) -> u32
+/// The number of the room's first link, or of an entry's.
+fn link_word(table: &OakTable, pin: &RoomPin, from: Option<EntryNo>) -> u32
+    requires inside { IsInRooms (sizes table.now) (link_spot pin.now.room (number_of from)) }
+    ensures { result ≡ index (sizes table.now) (in_rooms (link_spot pin.now.room (number_of from))) }
+{
+    match from {
+        None => table.first_at(pin.room),
+        Some(entry) => table.next_at(pin.room, entry.0),
+    }
+}
+
+/// The entry that the room's first link names, or the link of an entry that the pin has found, by one load;
+/// none where the link ends. The pin has found it from then on, and its key is greater. Each key of the range
+/// that the link steps over was absent then.
+pub fn next_entry(
+    table: &OakTable,
+    pass: &mut Pass,
+    pin: &RoomPin,
+    from: Option<EntryNo>,
+) -> Option<EntryNo>
     requires own { IsPassOf table.now pass.old }
     requires pinned { HasRoomPin (sizes table.now) pin.now.room (state pass.old) }
+    requires from { MatchOption from Unit (λ i. (k : List ℕ) × HasEntry pin.now.room i.0 k (state pass.old)) }
     ensures own { Stays pass.old pass.new }
-    ensures lists { ListsRoom (sizes table.now) (call_of pass.old) pin.now.room result (state pass.old) (state pass.new) }
+    ensures steps { StepsTo (sizes table.now) (call_of pass.old) pin.now.room from result (state pass.old) (state pass.new) }
 {
-    let word = table.count_at(pin.room);
-    entries_in(load(table, pass, word))
+    let word = link_word(table, pin, from);
+    let link = load(table, pass, word) as u32;
+    link.checked_sub(1).map(EntryNo)
 }
 
 /// Loads the key of an entry: its key word once, and each word of its bytes once.

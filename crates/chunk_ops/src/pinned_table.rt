@@ -1,17 +1,45 @@
-//! The real table as a room that is searched.
-ghost use Rattle.chunk_ops.specs.RoomLoads.{IsPinnedTable, MeetsInTable, room_of, meets_nothing, meets_then};
+//! The real table as a room whose entries are linked.
+ghost use Rattle.std.specs.Prelude.{◌≡◌};
+ghost use Rattle.chunk_core.specs.LinkWords.{link_spot};
+ghost use Rattle.chunk_core.specs.Rooms.{IsInRooms};
+ghost use Rattle.oak_core.specs.Memory.{in_rooms, index};
+ghost use Rattle.oak_core.specs.Passes.{key as sizes};
+ghost use Rattle.chunk_ops.specs.ClaimLaws.{claim_apart, claims_still, holds_still};
+ghost use Rattle.chunk_ops.specs.LinkedTable.{ClaimsKey, FreesClaim, HoldsKey, IsLone, MeetsInTable, PointsTo, most_of};
+ghost use Rattle.chunk_ops.specs.FoundNumbers.{table_room};
+ghost use Rattle.chunk_ops.specs.OwnLinks.{own_link};
+ghost use Rattle.chunk_ops.specs.RoomLoads.{IsPinnedTable, LoadsInTable, loads_nothing, loads_then, room_of, view_of};
+ghost use Rattle.chunk_ops.specs.TableLaws.{lone_still, meets_nothing, meets_then, most_stays, own_count, table_few};
 
+use crate::comparing::compare;
+use crate::finding::search_sorted;
 use crate::room::SearchedRoom;
 use arena_core::place::{block_in, class_in};
-use oak_core::{OakTable, Pass, load};
+use chunk_core::count_word::entries_in;
+use link_search::{LinkedRoom, Sorted};
+use oak_core::{OakTable, Pass, load, steps};
+use std::cmp::Ordering;
 
-/// A pinned room of the table, and the count that was loaded of it last, 0 before the first load.
+/// The first link word of a room, or that of an entry.
+pub(crate) fn link_at(table: &OakTable, room: u32, from: Option<u32>) -> u32
+    requires inside { IsInRooms (sizes table.now) (link_spot room from) }
+    ensures { result ≡ index (sizes table.now) (in_rooms (link_spot room from)) }
+{
+    match from {
+        None => table.first_at(room),
+        Some(entry) => table.next_at(room, entry),
+    }
+}
+
+/// A pinned room of the table. Where an entry is to be added, the room's base, which is the entry's floor, and
+/// the key word that names the block of the key.
 #[derive(Drop)]
 pub(crate) struct PinnedTable<'p> {
     pub(crate) table: &'p OakTable,
     pub(crate) pass: &'p mut Pass,
     pub(crate) room: u32,
-    pub(crate) count: u64,
+    pub(crate) base: u64,
+    pub(crate) place: u64,
 }
 
 impl SearchedRoom for PinnedTable<'_> {
@@ -19,19 +47,13 @@ impl SearchedRoom for PinnedTable<'_> {
 
     ghost room = { room_of };
 
-    ghost meets = { MeetsInTable };
+    ghost meets = { LoadsInTable };
 
-    ghost is_room = { λ s p. p.ordered };
+    ghost is_room = { table_room };
 
-    ghost meets_none = { meets_nothing };
+    ghost meets_none = { loads_nothing };
 
-    ghost meets_both = { meets_then };
-
-    fn count(&mut self) -> u64 {
-        let word = self.table.count_at(self.room);
-        self.count = load(self.table, self.pass, word);
-        self.count
-    }
+    ghost meets_both = { loads_then };
 
     fn key_word(&mut self, entry: u32) -> u64 {
         let word = self.table.key_at(self.room, entry);
@@ -43,5 +65,103 @@ impl SearchedRoom for PinnedTable<'_> {
             .table
             .bytes_at(class_in(place), block_in(place), i as u32);
         load(self.table, self.pass, word)
+    }
+}
+
+impl LinkedRoom for PinnedTable<'_> {
+    ghost pinned = { IsPinnedTable };
+
+    ghost view = { view_of };
+
+    ghost meets = { MeetsInTable };
+
+    ghost most = { most_of };
+
+    ghost holds = { HoldsKey };
+
+    ghost claims = { ClaimsKey };
+
+    ghost points = { PointsTo };
+
+    ghost free = { FreesClaim };
+
+    ghost lone = { IsLone };
+
+    ghost few = { table_few };
+
+    ghost meets_none = { meets_nothing };
+
+    ghost meets_both = { meets_then };
+
+    ghost most_on = { most_stays };
+
+    ghost holds_on = { holds_still };
+
+    ghost claims_on = { claims_still };
+
+    ghost apart = { claim_apart };
+
+    ghost lone_on = { lone_still };
+
+    ghost own_count = { own_count };
+
+    ghost own_link = { own_link };
+
+    fn count(&mut self) -> u64 {
+        let word = self.table.count_at(self.room);
+        load(self.table, self.pass, word)
+    }
+
+    fn link(&mut self, from: Option<u32>) -> u32 {
+        let word = link_at(self.table, self.room, from);
+        load(self.table, self.pass, word) as u32
+    }
+
+    fn compare(&mut self, key: &[u8], entry: u32) -> Ordering {
+        compare(self, key, entry)
+    }
+
+    fn search(&mut self, key: &[u8], prefix: u32) -> Sorted {
+        match search_sorted(self, key, prefix) {
+            Ok(entry) => Sorted::At(entry),
+            Err(many) => Sorted::Between(many),
+        }
+    }
+
+    fn claim(&mut self, key: &[u8], old: u64, link: u32) -> bool {
+        let word = self.table.count_at(self.room);
+        if steps::claim_entry(self.table, self.pass, word, old, old + 1) != old {
+            return false;
+        }
+        let entry = entries_in(old);
+        let value = self.table.value_at(self.room, entry);
+        steps::own_entry(self.table, self.pass, value, self.base);
+        let next = self.table.next_at(self.room, entry);
+        steps::own_entry(self.table, self.pass, next, u64::from(link));
+        let place = self.table.key_at(self.room, entry);
+        steps::own_entry(self.table, self.pass, place, self.place);
+        true
+    }
+
+    fn link_to(&mut self, key: &[u8], from: Option<u32>, entry: u32, old: u32) -> bool {
+        let word = link_at(self.table, self.room, from);
+        let found = steps::link(
+            self.table,
+            self.pass,
+            word,
+            u64::from(old),
+            u64::from(entry + 1),
+        );
+        found == u64::from(old)
+    }
+
+    fn point(&mut self, key: &[u8], entry: u32, link: u32) {
+        let word = self.table.next_at(self.room, entry);
+        steps::own_entry(self.table, self.pass, word, u64::from(link));
+    }
+
+    fn give_up(&mut self, key: &[u8], entry: u32) {
+        let word = self.table.key_at(self.room, entry);
+        steps::own_entry(self.table, self.pass, word, 0);
     }
 }

@@ -45,11 +45,10 @@ pub(crate) fn pin_open(table: &OakTable, pass: &mut Pass, room: u32) -> Option<R
     Some(RoomPin { room })
 }
 
-/// Undoes the pass's pin. The pass has no latch and no entry that it claimed.
+/// Undoes the pass's pin. The pass has claimed no entry.
 pub fn unpin(table: &OakTable, pass: &mut Pass, pin: RoomPin)
     requires own { IsPassOf table.now pass.old }
     requires pinned { HasRoomPin (key table.now) pin.room (state pass.old) }
-    requires latch { (state pass.old).rooms.latch ≡ None }
     requires claim { (state pass.old).rooms.claim ≡ None }
     ensures own { Stays pass.old pass.new }
     ensures tries { PinsRooms (key table.now) 0 pass.old pass.new }

@@ -1,13 +1,9 @@
 //! A key that was loaded whole.
-ghost use Rattle.std.specs.Prelude.{◌≡◌, ℕ, ◌<◌, List, length};
+ghost use Rattle.std.specs.Prelude.{◌≡◌, ℕ, List};
 ghost use Rattle.oak_model.specs.Key.{IsKey, key_cmp};
-ghost use Rattle.chunk_ops.specs.Reads.{Reads, Looks};
-ghost use Rattle.chunk_ops.specs.Room.{key_at, entries};
 ghost use Rattle.chunk_ops.specs.Stored.{IsStored};
 
-use crate::room::SearchedRoom;
-use arena_core::place::length_in;
-use arena_core::words::{WORD, first_bytes, word_from};
+use arena_core::words::{WORD, word_from};
 use oak_model::GREATEST_KEY;
 use std::cmp::Ordering;
 
@@ -57,20 +53,4 @@ impl StoredKey {
     {
         self.cmp(other)
     }
-}
-
-/// Loads the key of an entry, each of its words once.
-pub(crate) fn load_key<R: SearchedRoom>(room: &mut R, entry: u32) -> StoredKey
-    requires pinned { R.pinned room.old }
-    requires within { entry < entries (R.room room.old) }
-    ensures reads { Reads R.pinned R.room R.meets Looks 1 room.old room.new }
-    ensures key { IsStored result (key_at (R.room room.old) entry) }
-{
-    let place = room.key_word(entry);
-    let length = length_in(place);
-    let mut words = [0; KEY_WORDS];
-    for i in 0..length.div_ceil(WORD) {
-        words[i] = first_bytes(room.block_word(place, i), length - WORD * i);
-    }
-    StoredKey { words, length }
 }

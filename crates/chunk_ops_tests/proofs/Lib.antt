@@ -1,1 +1,4 @@
 -- Proofs of the tests.
+mod AddedKeys
+mod FoundEntries
+mod StillPinned

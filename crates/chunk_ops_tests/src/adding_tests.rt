@@ -278,7 +278,7 @@ fn a_room_of_four(rt: HostRuntime) -> Result<(), Fail> {
     Ok(())
 }
 
-/// Adds the key, as often as the latch is taken by another pass.
+/// Adds the key, as often as another pass changes the room meanwhile.
 fn add_at_last(rt: &impl Abort, table: &OakTable, pass: &mut Pass, byte: u8)
     requires own { IsPassOf table.now pass.old }
     requires idle { HoldsNothing (state pass.old) }

@@ -5,25 +5,31 @@ ghost use Rattle.chunk_ops.specs.PinRecords.{HasRoomPin};
 ghost use Rattle.chunk_ops.specs.TestStates.{IsIdleAgain, StillPinned};
 
 use crate::adding_tests::adds_at;
-use chunk_ops::{EntryNo, RoomPin, StoredKey, count_entries, entry_key, pin_last, unpin};
+use chunk_ops::{RoomPin, StoredKey, entry_key, next_entry, pin_last, unpin};
 use oak_core::{OakTable, Pass};
 use oak_model::{NO_HINT, Shape};
 use std::process::Abort;
 use std::test::Fail;
 
-/// The entries of the pinned room have keys of these bytes, one each, in this order.
+/// Along the links of the pinned room there are entries with keys of these bytes, one each, in this order, and no more.
 fn lists_bytes(rt: &impl Abort, table: &OakTable, pass: &mut Pass, pin: &RoomPin, bytes: &[u8])
     requires own { IsPassOf table.now pass.old }
     requires pinned { HasRoomPin (sizes table.now) pin.now.room (state pass.old) }
     ensures own { Stays pass.old pass.new }
     ensures still { StillPinned (sizes table.now) pin.now.room (state pass.old) (state pass.new) }
 {
-    let many = count_entries(table, pass, pin);
-    assert_eq!(rt; many as usize, bytes.len());
-    for i in 0..many {
-        let key = entry_key(table, pass, pin, EntryNo(i));
-        assert!(rt; key == StoredKey::of(&[bytes[i as usize]]));
+    let mut from = None;
+    for byte in bytes {
+        let Some(entry) = next_entry(table, pass, pin, from) else {
+            assert!(rt; false);
+            return;
+        };
+        let key = entry_key(table, pass, pin, entry);
+        assert!(rt; key == StoredKey::of(&[*byte]));
+        from = Some(entry);
     }
+    let behind = next_entry(table, pass, pin, from);
+    assert!(rt; behind.is_none());
 }
 
 /// Pins the room that has the last keys, and lists it.
@@ -50,7 +56,7 @@ fn four_keys_are_listed(rt: HostRuntime) -> Result<(), Fail> {
     adds_at(&rt, &table, &mut pass, 0x61, 1);
     adds_at(&rt, &table, &mut pass, 0x63, 2);
     adds_at(&rt, &table, &mut pass, 0x64, 3);
-    room_has(&rt, &table, &mut pass, &[0x62, 0x61, 0x63, 0x64]);
+    room_has(&rt, &table, &mut pass, &[0x61, 0x62, 0x63, 0x64]);
     table.close(pass);
     Ok(())
 }

@@ -1,17 +1,21 @@
 -- What stays of the pass from one call to the next.
-use Rattle.std.proofs.Common.{◌≡◌, ℕ, List, sym, ap, ◌∙◌, subst}
+use Rattle.std.proofs.Common.{◌≡◌, ℕ, List, length, sym, refl, ap, ◌∙◌, subst}
 use Rattle.oak_model.specs.declared.classes.Class.{Class}
+use Rattle.oak_model.specs.Key.{IsKey}
 use Rattle.oak_model.specs.Limits.{Sizes}
 use Rattle.arena_core.specs.HeldBlocks.{no_blocks}
 use Rattle.header_core.specs.HeaderHolds.{no_headers}
 use Rattle.chunk_core.specs.declared.holds.RoomHolds.{RoomHolds}
 use Rattle.chunk_core.specs.MayOnRooms.{FindsEntry}
+use Rattle.chunk_core.specs.PinnedRooms.{span_of}
 use Rattle.oak_core.specs.declared.states.Knowledge.{Knowledge}
 use Rattle.oak_core.specs.declared.states.PassState.{PassState}
 use Rattle.oak_core.specs.CallSteps.{Learns}
 use Rattle.arena_ops.specs.Storing.{StoresBytes}
 use Rattle.arena_ops.specs.Taking.{Gives}
-use Rattle.chunk_ops.specs.PinRecords.{HasEntry, PinKept, UnderPin, pin_or}
+use Rattle.chunk_ops.specs.Adds.{KeepsBlock, MayAdd}
+use Rattle.chunk_ops.specs.AskedRanges.{CoversKey}
+use Rattle.chunk_ops.specs.PinRecords.{HasEntry, PinKept, pin_or, room_pin}
 use Rattle.key_rounds.specs.Rounds.{EndsCall, FindsMore, WroteBy, WroteNothing}
 use Rattle.key_rounds.proofs.Calls.{wrote_same}
 
@@ -27,8 +31,12 @@ learned_ends call v w l rooms blocks headers wrote = record { numbers = l.all.nu
 pub nothing_ends : (call : ℕ) (v w : PassState) → WroteNothing v w → w.blocks ≡ no_blocks → w.headers ≡ no_headers → WroteBy call v → EndsCall call v w
 nothing_ends call v w n blocks headers wrote = record { numbers = n.numbers; rooms = n.rooms; blocks = blocks; headers = headers; wrote = wrote_same call v w n.mine wrote }
 
+-- the key that was stored to a block may be added to the pinned room
+pub may_add : (z : Sizes) (stored_at : ℕ) (c : Class) (b : ℕ) (key : List ℕ) (v u x : PassState) → IsKey key → CoversKey key (span_of (room_pin v)) → WroteNothing v u → StoresBytes z stored_at c b key u x → MayAdd z c b (length key) key x
+may_add z stored_at c b key v u x is covers t s = record { is_key = is; long = refl; block = s.has; covers = subst (λ (a : RoomHolds). CoversKey key (span_of (pin_or a.pin))) (sym (s.rooms ∙ t.rooms)) covers }
+
 -- the key of a block was not added, and the block is given back
-pub refused_more : (z : Sizes) (stored_at added_at given_at r : ℕ) (c : Class) (b : ℕ) (key : List ℕ) (d : Class) (n : ℕ) (v u x y w : PassState) → WroteNothing v u → StoresBytes z stored_at c b key u x → UnderPin z added_at r x y → Gives z given_at d n y w → FindsMore z r v w
+pub refused_more : (z : Sizes) (stored_at added_at given_at r : ℕ) (c : Class) (b : ℕ) (key : List ℕ) (d : Class) (n : ℕ) (v u x y w : PassState) → WroteNothing v u → StoresBytes z stored_at c b key u x → KeepsBlock z added_at r c b key x y → Gives z given_at d n y w → FindsMore z r v w
 refused_more z stored_at added_at given_at r c b key d n v u x y w t s p g = record {
   numbers = ap (λ (q : PassState). q.numbers) g.after ∙ (p.learns.all.numbers ∙ (s.stands.numbers ∙ t.numbers));
   mine = ap (λ (q : PassState). q.knowledge.mine) g.after ∙ (p.learns.all.mine ∙ (ap (λ (q : Knowledge). q.mine) s.stands.knowledge ∙ t.mine));

@@ -16,14 +16,14 @@ use chunk_ops::{EntryNo, NotAdded, RoomPin, add};
 use oak_core::{OakTable, Pass};
 
 /// An entry of the key, which is added where the room has none. There is none where no block is free, where
-/// the room is full, and where its latch is taken.
+/// the room is full, and where its count or a link was changed meanwhile.
 pub fn add_key(table: &OakTable, pass: &mut Pass, pin: &RoomPin, key: &[u8]) -> Option<EntryNo>
     requires own { IsPassOf table.now pass.old }
     requires key { IsKey key.now }
     requires fits { class_of (length key.now) ≡ Some B16 }
     requires pinned { HasRoomPin (sizes table.now) pin.now.room (state pass.old) }
     requires covers { CoversKey key.now (span_of (room_pin (state pass.old))) }
-    requires latch { (state pass.old).rooms.latch ≡ None }
+    requires claim { (state pass.old).rooms.claim ≡ None }
     requires blocks { (state pass.old).blocks ≡ no_blocks }
     ensures own { Stays pass.old pass.new }
     ensures finds { FindsMore (sizes table.now) pin.now.room (state pass.old) (state pass.new) }

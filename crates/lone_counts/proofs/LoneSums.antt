@@ -14,7 +14,7 @@ use Rattle.arena_core.specs.Place.{content}
 use Rattle.chunk_core.specs.declared.holds.RoomHolds.{RoomHolds}
 use Rattle.chunk_core.specs.Covers.{Cover, Entry, cover_at}
 use Rattle.chunk_core.specs.CoverSums.{all_of, each, weight}
-use Rattle.chunk_core.specs.RoomHolds.{no_rooms}
+use Rattle.chunk_core.specs.RoomHolds.{claims_on, no_rooms}
 use Rattle.chunk_core.proofs.CoverLaws.{covers_parts, moves}
 use Rattle.header_core.specs.declared.holds.HeaderHolds.{HeaderHolds}
 use Rattle.header_core.specs.HeaderHolds.{no_headers}
@@ -52,6 +52,10 @@ module _ (z : Sizes) (words : List ℕ) (v : PassState) (l : LoneTable z words v
 
   pub no_room_sum : (f : RoomHolds → ℕ) → f no_rooms ≡ 0 → total f (map rooms_held l.moment.states) ≡ 0
   no_room_sum f none = total_zero f (map rooms_held l.moment.states) (λ j a e. ap f (each_part rooms_held no_rooms l.idle.rooms refl j a e) ∙ none)
+
+  -- no entry is claimed
+  pub unclaimed : (r i : ℕ) → total (claims_on r i) (map rooms_held l.moment.states) ≡ 0
+  unclaimed r i = no_room_sum (claims_on r i) refl
 
   -- all covers are rooms
   pub rooms_sum : (F : Cover → ℕ) → all_of z mem.rooms (content mem.arena.bytes) (map rooms_held l.moment.states) F ≡ below (λ r. weight (mem.rooms.pin r) * F (cover_at mem.rooms (content mem.arena.bytes) r)) z.chunks

@@ -15,13 +15,14 @@ use Rattle.oak_model.proofs.Lists.{at_unmap}
 use Rattle.oak_model.proofs.SumLaws.{times-one, times-none}
 use Rattle.arena_core.specs.Arena.{blocks}
 use Rattle.arena_core.specs.Place.{content}
+use Rattle.chunk_core.specs.declared.states.TheConstants.{OPEN}
 use Rattle.chunk_core.specs.Covers.{Entry, cover_at, entry_at, key_at, span_in}
 use Rattle.chunk_core.specs.CoverSums.{naming, stray, weight}
-use Rattle.chunk_core.specs.LinkedEntries.{entries_in, linked}
+use Rattle.chunk_core.specs.LinkedEntries.{linked}
 use Rattle.chunk_core.specs.Spans.{within}
 use Rattle.chunk_core.specs.ValueWord.{generation_in, header_in, names_header}
 use Rattle.chunk_core.proofs.CoverFacts.{entry_adds, entry_word}
-use Rattle.chunk_core.proofs.EntryNumbers.{number_below, numbers_once}
+use Rattle.chunk_core.proofs.RoomLinks.{links_once}
 use Rattle.chunk_core.proofs.SpanLaws.{within-le}
 use Rattle.header_core.specs.declared.states.TheConstants.{LIVE, LOCKED}
 use Rattle.oak_core.specs.declared.states.PassState.{PassState}
@@ -62,13 +63,14 @@ used_headers_are z words v m l is = headers_counted z words (last_states v) (tab
 
 -- ---- where the value of a key stands
 
--- the entry of a key, in the open room that has it
+-- the linked entry of a key, in the open room that has it
 record EntryOf (z : Sizes) (words : List ℕ) (k : ℕ) : Type 0 where
   room : ℕ
   inside : room < z.chunks
-  weighs : 0 < weight ((memory z words).rooms.pin room)
+  open_is : state_of ((memory z words).rooms.pin room) ≡ OPEN
+  weighs : weight ((memory z words).rooms.pin room) ≡ 1
   entry : ℕ
-  used : entry < entries_in ((memory z words).rooms.count room)
+  linked : total (λ j. one_at j entry) (linked (memory z words).rooms room) ≡ 1
   key_is : key_at (content (memory z words).arena.bytes) ((memory z words).rooms.key room entry) ≡ k
 
 both_more : (a b : ℕ) → 0 < a * b → (0 < a) × (0 < b)
@@ -77,7 +79,7 @@ both_more a b h = dite (ℕ_discrete a 0) (λ e. let n = times-none a b e in abs
     (λ e. let n : a * b ≡ a * 0 = ap (λ (x : ℕ). a * x) e in let q : a * 0 ≡ 0 = omega arith in let x : ℕ = a * b in let n' : x ≡ a * 0 = n in let h' : 0 < x = h in absurd (omega arith))
     (λ nb. ((omega arith), (omega arith))))
 
-module _ (z : Sizes) (words : List ℕ) (k : ℕ) where
+module _ (z : Sizes) (words : List ℕ) (v : PassState) (l : LoneTable z words v) (k : ℕ) where
   abbrev m : Memory
   m = memory z words
 
@@ -92,12 +94,14 @@ module _ (z : Sizes) (words : List ℕ) (k : ℕ) where
       let t = total_some (at_key k) (cover_at m.rooms bytes r).entries p.1 in
       let u = at_unmap (entry_at m.rooms bytes r) (linked m.rooms r) t.0 t.1 t.2 in
       let a = total_at (λ j. one_at j u.0) (linked m.rooms r) t.0 u.0 u.1 in let o = one_at-same u.0 u.0 refl in
+      let open_is = is_open z words v l r p.0 in let w = open_weight z words v l r open_is in let once = links_once z m.rooms bytes r (l.moment.rule.rooms.ordered r w) u.0 in
       record {
         room = r;
         inside = s.1;
-        weighs = p.0;
+        open_is = open_is;
+        weighs = w;
         entry = u.0;
-        used = number_below (entries_in (m.rooms.count r)) u.0 (omega arith);
+        linked = omega arith;
         key_is = ap (λ (e : Entry). e.key) u.2 ∙ one_at-true t.1.key k t.3;
       }
 
@@ -116,26 +120,25 @@ module _ (z : Sizes) (words : List ℕ) (v : PassState) (key : List ℕ) (l : Lo
   k = key_number key
 
   -- the value word of an entry of the key is what is looked up of it
-  word_there : (r i : ℕ) → r < z.chunks → weight (mem.rooms.pin r) ≡ 1 → i < entries_in (mem.rooms.count r) → key_at (content mem.arena.bytes) (mem.rooms.key r i) ≡ k → word_now z mem l.moment.states k ≡ mem.rooms.value r i + 1
-  word_there r i lt w used e = entry_word z mem.rooms (content mem.arena.bytes) (map rooms_held l.moment.states) l.moment.rule.covers.once r i k lt w (numbers_once (entries_in (mem.rooms.count r)) i used) e
+  word_there : (r i : ℕ) → r < z.chunks → weight (mem.rooms.pin r) ≡ 1 → total (λ j. one_at j i) (linked mem.rooms r) ≡ 1 → key_at (content mem.arena.bytes) (mem.rooms.key r i) ≡ k → word_now z mem l.moment.states k ≡ mem.rooms.value r i + 1
+  word_there r i lt w once e = entry_word z mem.rooms (content mem.arena.bytes) (map rooms_held l.moment.states) l.moment.rule.covers.once r i k lt w once e
 
   has_value : (b : List ℕ) → last_states v key ≡ Some b → HasValue z words key
   has_value b held = dite (ℕ_discrete (total (at_key k) (entries_of z mem)) 0)
       (λ none. let n = (table_stands z words v l).entries.none key none in let c : None ≡ Some b = sym n ∙ held in absurd cc)
-      (λ more. let e = entry_of z words k (omega arith) in let r : ℕ = e.room in let i : ℕ = e.entry in
-      let open_is = is_open z words v l r e.weighs in let w = open_weight z words v l r open_is in
-      let word = word_there r i e.inside w e.used e.key_is in
-      let adds = entry_adds z mem.rooms (content mem.arena.bytes) (map rooms_held l.moment.states) stray r i e.inside w (numbers_once (entries_in (mem.rooms.count r)) i e.used) in
+      (λ more. let e = entry_of z words v l k (omega arith) in let r : ℕ = e.room in let i : ℕ = e.entry in
+      let word = word_there r i e.inside e.weighs e.linked e.key_is in
+      let adds = entry_adds z mem.rooms (content mem.arena.bytes) (map rooms_held l.moment.states) stray r i e.inside e.weighs e.linked in
       let none = l.moment.rule.covers.inside in let few = within-le (span_in mem.rooms r) (key_at (content mem.arena.bytes) (mem.rooms.key r i)) in
       let in_it : within (span_in mem.rooms r) (key_at (content mem.arena.bytes) (mem.rooms.key r i)) ≡ 1 = omega arith in
       let at_most = valued-le (entry_at mem.rooms (content mem.arena.bytes) r i) in
       record {
         room = r;
         inside = e.inside;
-        open_is = open_is;
+        open_is = e.open_is;
         covers = subst (λ (n : ℕ). within (span_in mem.rooms r) n ≡ 1) e.key_is in_it;
         entry = i;
-        used = e.used;
+        linked = e.linked;
         key_is = e.key_is;
         named = dite (ℕ_discrete (names_header (mem.rooms.value r i)) 0)
             (λ floor. let n = ((l.moment.rule.keys.states k).floor (mem.rooms.value r i) word floor).0 in let c : None ≡ Some b = sym n ∙ (sym (state_at z words v l key is) ∙ held) in absurd cc)
@@ -148,8 +151,8 @@ module _ (z : Sizes) (words : List ℕ) (v : PassState) (key : List ℕ) (l : Lo
   -- the header that its entry names there is live, and is the home of the key
   live_home : (has : HasValue z words key) → IsHome z mem.headers (shown_by mem) (word_of has) (history_now l.moment.states k) × (state_of (mem.headers.pin (header_in (word_of has))) ≡ LIVE)
   live_home has = let r : ℕ = has.room in let i : ℕ = has.entry in let w = open_weight z words v l r has.open_is in
-      let word = word_there r i has.inside w has.used has.key_is in let x : ℕ = word_of has in let h : ℕ = header_in x in
-      let adds = entry_adds z mem.rooms (content mem.arena.bytes) (map rooms_held l.moment.states) (naming h) r i has.inside w (numbers_once (entries_in (mem.rooms.count r)) i has.used) in
+      let word = word_there r i has.inside w has.linked has.key_is in let x : ℕ = word_of has in let h : ℕ = header_in x in
+      let adds = entry_adds z mem.rooms (content mem.arena.bytes) (map rooms_held l.moment.states) (naming h) r i has.inside w has.linked in
       let all = entries_sum z words v l (header_named h) in let n = named_at z words v l h in
       let one : names_header x * one_at h h ≡ 1 = times-one (names_header x) (one_at h h) has.named ∙ one_at-same h h refl in
       ((l.moment.rule.keys.states k).named x word has.named, one_at-true (state_of (mem.headers.pin h)) LIVE (omega arith))

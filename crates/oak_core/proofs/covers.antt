@@ -17,5 +17,5 @@ pub mod RoomBases
 pub mod BasesRise
 pub mod ThawedRooms
 pub mod FoundEntries
-pub mod PublishFacts
 pub mod RoomPins
+pub mod ClaimedEntries

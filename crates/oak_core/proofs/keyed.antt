@@ -8,7 +8,6 @@ pub mod KeysUnnamed
 pub mod KeysStored
 pub mod UnchangedLocks
 pub mod SeatsAgree
-pub mod MissedKeys
 pub mod GainedKeys
 pub mod KeysAfter
 pub mod SeatBundles

@@ -13,7 +13,10 @@ pub mod KeepsArena
 pub mod KeepsHeaders
 pub mod KeepsLocked
 pub mod KeepsNotes
-pub mod KeepsLatches
+pub mod KeepsClaims
+pub mod KeepsOwns
+pub mod KeepsLinks
+pub mod KeepsLinkLoads
 pub mod KeepsRoomPins
 pub mod KeepsFreezes
 pub mod KeepsThaws
@@ -31,5 +34,4 @@ pub mod KeepsValueLoads
 pub mod KeepsStampLoads
 pub mod KeepsAllLoads
 pub mod KeepsFields
-pub mod KeepsPublish
 pub mod StampSteps

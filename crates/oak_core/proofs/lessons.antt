@@ -12,8 +12,6 @@ pub mod LessonSeats
 pub mod LessonRanges
 pub mod TaughtStates
 pub mod TaughtReads
-pub mod CountLessons
-pub mod PublishLessons
 pub mod GainedLessons
 pub mod TaughtSteps
 pub mod GapReach

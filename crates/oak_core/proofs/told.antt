@@ -14,3 +14,4 @@ pub mod SetTold
 pub mod UnlinkTold
 pub mod PinTold
 pub mod LinkReads
+pub mod LinkTold

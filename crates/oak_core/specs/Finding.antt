@@ -15,8 +15,8 @@ use Rattle.header_core.specs.declared.holds.HeldAs.TheVariants.{Owned, Fresh, Lo
 use Rattle.header_core.specs.declared.holds.HeldHeader.{HeldHeader}
 use Rattle.header_core.specs.Headers.{HeaderSpot, at_pin}
 use Rattle.header_core.specs.HeaderHolds.{had_header}
-use Rattle.chunk_core.specs.Rooms.{RoomSpot, at_room_pin, at_latch}
-use Rattle.chunk_core.specs.RoomHolds.{had_room, had_latch}
+use Rattle.chunk_core.specs.Rooms.{RoomSpot, at_room_pin}
+use Rattle.chunk_core.specs.RoomHolds.{had_room}
 use Rattle.oak_core.specs.declared.states.Finding.{Finding}
 use Rattle.oak_core.specs.declared.states.PassState.{PassState}
 use Rattle.oak_core.specs.declared.states.Taken.{Taken}
@@ -44,10 +44,9 @@ had_in_headers _ v = 0
 
 abbrev pub had_in_rooms : RoomSpot → PassState → ℕ
 had_in_rooms (at_room_pin r) v = had_room r v.rooms
-had_in_rooms (at_latch r) v = had_latch r v.rooms
 had_in_rooms _ v = 0
 
--- what the pass has at the word: of a word of bits those of its blocks, held or in a header of its own; of a pin word or a latch 1 where it has it
+-- what the pass has at the word: of a word of bits those of its blocks, held or in a header of its own; of a pin word 1 where it has it
 abbrev pub had : Spot → PassState → ℕ
 had at_given v = 0
 had (in_arena p) v = had_in_arena p v

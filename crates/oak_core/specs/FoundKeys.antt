@@ -4,7 +4,7 @@ use Rattle.chunk_core.specs.declared.holds.FoundEntry.{FoundEntry}
 use Rattle.chunk_core.specs.declared.holds.PinnedRoom.{PinnedRoom}
 use Rattle.chunk_core.specs.KeyWords.{key_bytes}
 use Rattle.chunk_core.specs.PinnedRooms.{found_in}
-use Rattle.oak_core.specs.CountTeaching.{is_pinned}
+use Rattle.oak_core.specs.LinkTeaching.{is_pinned}
 
 -- the key of the entry with the number
 unfoldable pub entry_key : ℕ → List FoundEntry → Option (List ℕ)

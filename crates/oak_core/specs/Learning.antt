@@ -1,6 +1,6 @@
 -- What a step teaches its pass of the histories, and the lesson that it keeps.
-use Rattle.std.specs.Prelude.{ℕ, suc, ◌-◌, ◌*◌, nat_lt, cond, Bool, List, [], ◌∷◌, ◌++◌, map, Option, Some, None}
-use Rattle.oak_model.specs.Counts.{one_at, one_if, total, longest}
+use Rattle.std.specs.Prelude.{ℕ, suc, ◌*◌, nat_lt, cond, Bool, List, [], ◌∷◌, ◌++◌, map, Option, Some, None}
+use Rattle.oak_model.specs.Counts.{one_if, one_at, longest}
 use Rattle.oak_model.specs.KeyNumber.{key_number}
 use Rattle.chunk_core.specs.declared.holds.FoundEntry.{FoundEntry}
 use Rattle.chunk_core.specs.Spans.{within}
@@ -9,7 +9,7 @@ use Rattle.oak_core.specs.declared.states.KeyedWrite.{KeyedWrite}
 use Rattle.oak_core.specs.declared.states.Knowledge.{Knowledge}
 use Rattle.oak_core.specs.declared.states.Lesson.{Lesson}
 use Rattle.oak_core.specs.declared.states.Taught.{Taught}
-use Rattle.oak_core.specs.declared.states.Taught.TheVariants.{OfKey, OfRoom, OfGap}
+use Rattle.oak_core.specs.declared.states.Taught.TheVariants.{OfKey, OfGap}
 use Rattle.oak_core.specs.PassState.{history, of_key}
 
 -- 1 where the number is above the key of an entry, or there is none
@@ -25,7 +25,6 @@ below_found (Some e) k = one_if (nat_lt k (found_key e))
 -- How far a lesson goes for a key: the number up to which it has all writes, plus one, or 0 where it says nothing of the key. All else about lessons is said by this alone.
 abbrev pub reach_of : Taught → ℕ → ℕ
 reach_of (OfKey n) k = one_at k (key_number n.key) * suc n.upto
-reach_of (OfRoom p) k = (within (span_of p) k - total (λ (e : FoundEntry). one_at (found_key e) k) p.entries) * suc p.base
 reach_of (OfGap g) k = within (span_of g.room) k * above_found g.from k * below_found g.to k * suc g.room.base
 
 -- the writes of the key that it has

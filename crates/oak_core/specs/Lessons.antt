@@ -5,23 +5,21 @@ use Rattle.oak_model.specs.Limits.{Sizes}
 use Rattle.oak_model.specs.Counts.{Each, Every, Has}
 use Rattle.header_core.specs.declared.states.TheConstants.{DEAD}
 use Rattle.header_core.specs.HeaderRule.{OnPin}
-use Rattle.chunk_core.specs.PinnedRooms.{OnRoomPin, Misses}
 use Rattle.oak_core.specs.declared.states.KeyedWrite.{KeyedWrite}
 use Rattle.oak_core.specs.declared.states.Knowledge.{Knowledge}
 use Rattle.oak_core.specs.declared.states.Lesson.{Lesson}
 use Rattle.oak_core.specs.declared.states.PassState.{PassState}
 use Rattle.oak_core.specs.declared.states.Taught.{Taught}
-use Rattle.oak_core.specs.declared.states.Taught.TheVariants.{OfKey, OfRoom, OfGap}
+use Rattle.oak_core.specs.declared.states.Taught.TheVariants.{OfKey, OfGap}
 use Rattle.oak_core.specs.Memory.{Memory}
 use Rattle.oak_core.specs.PassState.{seen_of, knowledge_of}
 use Rattle.oak_core.specs.KeyHistories.{state_behind, before, IsRemovedAt}
 use Rattle.oak_core.specs.KeyReads.{home_of, history_now, level_now}
 use Rattle.oak_core.specs.Learning.{reach_of, heard_of}
 
--- a key of a room's lesson, or of a gap's, is absent behind its writes
+-- a key of a gap's lesson is absent behind its writes
 abbrev pub IsAbsentBehind : Taught → ℕ → List KeyedWrite → Type 0
 IsAbsentBehind (OfKey n) k h = Unit {0}
-IsAbsentBehind (OfRoom p) k h = 0 < reach_of (OfRoom p) k → state_behind h ≡ None
 IsAbsentBehind (OfGap g) k h = 0 < reach_of (OfGap g) k → state_behind h ≡ None
 
 -- what holds of one lesson of a pass
@@ -54,8 +52,6 @@ pub record KnowsRemoval (k home stamp : ℕ) (q : Knowledge) : Type 0 where
 
 -- what a pass knows by its pins
 pub record PinsKnow (v : PassState) : Type 0 where
-  -- a key that a good room pin misses was absent at the place of the base
-  pub counted : OnRoomPin (λ p. (k : ℕ) → Misses p k → KnowsAbsent k p.base v.knowledge) v.rooms.pin
   -- the stamp that a pin found in a dead header is that of the removal
   pub removed : OnPin (λ p. state_of p.found ≡ DEAD → generation_of p.found ≡ p.wanted → (k : ℕ) × KnowsRemoval k (home_of p.header p.wanted) p.stamp v.knowledge) v.headers.pin
 

@@ -1,5 +1,7 @@
--- What the load of a link would teach its pass under a good pin, where links reach all linked entries of the room, and this one leads on from what was found: it knows of each key that the link steps over all that was written up to the base. No load teaches so yet.
-use Rattle.std.specs.Prelude.{ℕ, ◌&&◌, Bool, List, Option, Some, None}
+-- What the load of a link teaches its pass under a good pin, where the link leads on from what was found: it has found the entry that the link names, and knows of each key that the link steps over all that was written up to the base.
+use Rattle.std.specs.Prelude.{ℕ, ◌==◌, ◌&&◌, Bool, List, Option, Some, None}
+use Rattle.pin_word.specs.PinWord.{state_of}
+use Rattle.chunk_core.specs.declared.states.TheConstants.{OPEN}
 use Rattle.chunk_core.specs.declared.holds.PinnedRoom.{PinnedRoom}
 use Rattle.chunk_core.specs.FoundLinks.{leads, found_from, found_by}
 use Rattle.chunk_core.specs.LinkWords.{link_word}
@@ -9,9 +11,12 @@ use Rattle.oak_core.specs.declared.states.Gap.{Gap}
 use Rattle.oak_core.specs.declared.states.Knowledge.{Knowledge}
 use Rattle.oak_core.specs.declared.states.Sight.{Sight}
 use Rattle.oak_core.specs.declared.states.Taught.TheVariants.{OfGap}
-use Rattle.oak_core.specs.CountTeaching.{is_pinned}
 use Rattle.oak_core.specs.Learning.{taught_where}
 use Rattle.oak_core.specs.Sights.{sights_with}
+
+-- whether the pin is a good one of the room
+abbrev pub is_pinned : ℕ → PinnedRoom → Bool
+is_pinned r p = (p.room == r) && (state_of p.found == OPEN)
 
 -- what the link steps over, as it stands then
 abbrev pub gap_at : RoomMemory → (ℕ → List ℕ) → Option ℕ → PinnedRoom → Gap

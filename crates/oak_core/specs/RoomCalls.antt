@@ -1,9 +1,10 @@
 -- What a word names among the rooms, and what the steps on them tell.
-use Rattle.std.specs.Prelude.{◌≡◌, ℕ, ◌<◌}
+use Rattle.std.specs.Prelude.{◌≡◌, ℕ, ◌<◌, Option}
 use Rattle.oak_model.specs.declared.writes.Kind.{Kind}
 use Rattle.oak_model.specs.Limits.{Sizes}
-use Rattle.chunk_core.specs.Rooms.{RoomSpot, at_room_pin, at_count, at_latch, IsInRooms}
-use Rattle.chunk_core.specs.RoomStep.{EntryField, entry_spot, pin_room, unpin_room, latch_room, store_entry, publish_entry, unlatch_room, set_value, unlink_entry, freeze_room, hold_room, claim_room, store_room, open_room, retire_room}
+use Rattle.chunk_core.specs.LinkWords.{link_spot}
+use Rattle.chunk_core.specs.Rooms.{RoomSpot, at_room_pin, at_count, IsInRooms}
+use Rattle.chunk_core.specs.RoomStep.{EntryField, entry_spot, pin_room, unpin_room, claim_entry, own_entry, link_entry, set_value, unlink_entry, freeze_room, hold_room, claim_room, store_room, open_room, retire_room}
 use Rattle.oak_core.specs.declared.states.PassState.{PassState}
 use Rattle.oak_core.specs.Memory.{in_rooms, index}
 use Rattle.oak_core.specs.Step.{on_rooms, Told}
@@ -21,37 +22,33 @@ PinsRoomWord z call r v n w = Told z call (on_rooms (pin_room r)) v n w
 abbrev pub UnpinsRoomWord : Sizes → ℕ → ℕ → PassState → ℕ → PassState → Type 0
 UnpinsRoomWord z call r v n w = Told z call (on_rooms (unpin_room r)) v n w
 
--- the latch word of the room
-pub record NamesLatch (z : Sizes) (r word : ℕ) : Type 0 where
-  pub inside : r < z.chunks
-  pub word_is : word ≡ index z (in_rooms (at_latch r))
-
 -- a word of the entry i of the room
 pub record NamesEntryWord (z : Sizes) (f : EntryField) (r i word : ℕ) : Type 0 where
   pub inside : r < z.chunks
   pub entry : i < z.entries
   pub word_is : word ≡ index z (in_rooms (entry_spot f r i))
 
--- the latch was taken, where n is 0
-abbrev pub TakesLatch : Sizes → ℕ → ℕ → PassState → ℕ → PassState → Type 0
-TakesLatch z call r v n w = Told z call (on_rooms (latch_room r)) v n w
-
--- the word became x
-abbrev pub StoresEntry : Sizes → ℕ → EntryField → (r i x : ℕ) → PassState → PassState → Type 0
-StoresEntry z call f r i x v w = (n : ℕ) × Told z call (on_rooms (store_entry f r i x)) v n w
+-- the word of the claimed entry became x
+abbrev pub OwnsEntry : Sizes → ℕ → EntryField → (r i x : ℕ) → PassState → PassState → Type 0
+OwnsEntry z call f r i x v w = (n : ℕ) × Told z call (on_rooms (own_entry f r i x)) v n w
 
 -- the count word of the room
 pub record NamesCount (z : Sizes) (r word : ℕ) : Type 0 where
   pub inside : r < z.chunks
   pub word_is : word ≡ index z (in_rooms (at_count r))
 
--- the count became x, and the entry past it is in use
-abbrev pub PublishesEntry : Sizes → ℕ → (r x : ℕ) → PassState → PassState → Type 0
-PublishesEntry z call r x v w = (n : ℕ) × Told z call (on_rooms (publish_entry r x)) v n w
+-- the entry past the count was claimed, where n is the old count
+abbrev pub ClaimsEntry : Sizes → ℕ → (r old : ℕ) → PassState → ℕ → PassState → Type 0
+ClaimsEntry z call r old v n w = Told z call (on_rooms (claim_entry r old)) v n w
 
--- the latch was given up
-abbrev pub GivesLatch : Sizes → ℕ → ℕ → PassState → PassState → Type 0
-GivesLatch z call r v w = (n : ℕ) × Told z call (on_rooms (unlatch_room r)) v n w
+-- the link word of the room, the first one or that of an entry
+pub record NamesLink (z : Sizes) (r : ℕ) (from : Option ℕ) (word : ℕ) : Type 0 where
+  pub inside : IsInRooms z (link_spot r from)
+  pub word_is : word ≡ index z (in_rooms (link_spot r from))
+
+-- the claimed entry was linked, where n is the old link
+abbrev pub LinksEntry : Sizes → ℕ → (r : ℕ) → Option ℕ → (i old : ℕ) → PassState → ℕ → PassState → Type 0
+LinksEntry z call r from i old v n w = Told z call (on_rooms (link_entry r from i old)) v n w
 
 -- the value word was exchanged, where n is the floor `old`
 abbrev pub SetsValueWord : Sizes → ℕ → (r i old new : ℕ) → Kind → PassState → ℕ → PassState → Type 0

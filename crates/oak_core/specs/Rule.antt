@@ -1,5 +1,5 @@
 -- The table's rule: what holds between any two atomic steps. It is a record of bundles of points, each over the words and the parts of the passes' states that it speaks of.
-use Rattle.std.specs.Prelude.{◌≡◌, ℕ, suc, ◌^◌, ◌<◌, ◌≤◌, List, [], ◌∷◌, ◌++◌, map, length, slice_index, true}
+use Rattle.std.specs.Prelude.{◌≡◌, ◌⊎◌, Option, ℕ, suc, ◌^◌, ◌<◌, ◌≤◌, List, [], ◌∷◌, ◌++◌, map, length, slice_index, true}
 use Rattle.std.specs.Int.{bit_at}
 use Rattle.oak_model.specs.Limits.{Sizes, IsInLimits}
 use Rattle.oak_model.specs.Counts.{total, Every, Each, Begins}
@@ -8,7 +8,8 @@ use Rattle.arena_core.specs.Blocks.{BlocksAreOwned}
 use Rattle.arena_core.specs.Place.{content}
 use Rattle.chunk_core.specs.CoverRule.{CoversPartition}
 use Rattle.chunk_core.specs.KeptRooms.{kept_of_rooms}
-use Rattle.chunk_core.specs.RoomRule.{RoomsStand}
+use Rattle.chunk_core.specs.declared.holds.Claim.{Claim}
+use Rattle.chunk_core.specs.RoomRule.{OnClaim, RoomsStand}
 use Rattle.chunk_core.specs.Rooms.{read_room, same_room_spot}
 use Rattle.header_core.specs.declared.holds.HeaderHolds.{HeaderHolds}
 use Rattle.header_core.specs.HeaderRule.{PinsWhatItKnows}
@@ -70,15 +71,20 @@ HistoriesStand qs = (k : ℕ) → Every (λ (q : Knowledge). Each (λ (l : List 
 abbrev pub SpentIsSpent : PassState → Type 0
 SpentIsSpent v = v.numbers.spent ≡ true → v ≡ spent_state
 
--- what holds of each pass by itself, with what it knows and the headers that it holds
-pub record HoldsKnown (q : Knowledge) (a : HeaderHolds) : Type 0 where
+-- the key word of a claimed entry is 0, or names a block of the class that its length has, which is a key's
+abbrev pub ClaimHasKey : Option Claim → Type 0
+ClaimHasKey o = OnClaim (λ c. (c.entry.word ≡ 0) ⊎ (is_key_word c.entry.word ≡ 1)) o
+
+-- what holds of each pass by itself, with what it knows, the headers that it holds, and the entry that it has claimed
+pub record HoldsKnown (q : Knowledge) (a : HeaderHolds) (o : Option Claim) : Type 0 where
   -- it has a pin only on a header that it knows
   pub pin : PinsWhatItKnows (λ h g. knows_life h g q) a
   -- each word of the blocks of its headers has its number
   pub whole : HeadersAreWhole a
+  pub claim : ClaimHasKey o
 
 abbrev pub PassStands : PassState → Type 0
-PassStands v = HoldsKnown v.knowledge v.headers
+PassStands v = HoldsKnown v.knowledge v.headers v.rooms.claim
 
 -- a pass that was alone at its last step is alone, and the table has the words that it left
 abbrev pub AloneStands : List ℕ → PassState → Type 0

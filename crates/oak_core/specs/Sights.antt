@@ -5,7 +5,7 @@ use Rattle.oak_core.specs.declared.states.Findings.{Findings}
 use Rattle.oak_core.specs.declared.states.Gone.{Gone}
 use Rattle.oak_core.specs.declared.states.Sight.{Sight}
 use Rattle.oak_core.specs.declared.states.Taught.{Taught}
-use Rattle.oak_core.specs.declared.states.Taught.TheVariants.{OfKey, OfRoom, OfGap}
+use Rattle.oak_core.specs.declared.states.Taught.TheVariants.{OfKey, OfGap}
 use Rattle.oak_core.specs.Learning.{reach_of}
 
 -- the sights after a step of the call that taught x, where it taught it; its finding is the next that is met
@@ -22,10 +22,9 @@ pub record IsSighted (k at : ℕ) (sights : List Sight) : Type 0 where
   pub there : Has sight sights
   pub just : reach_of sight.taught k ≡ suc at
 
--- whether the sight is that of a room in which the key had no entry, or of a link that stepped over the key
+-- whether the sight is that of a link that stepped over the key, which had no entry
 abbrev pub IsBare : Taught → Type 0
 IsBare (OfKey n) = ⊥
-IsBare (OfRoom p) = Unit {0}
 IsBare (OfGap g) = Unit {0}
 
 -- and found without an entry: the number is the base of a room that was pinned

@@ -1,5 +1,5 @@
 -- The kinds of atomic step of one pass. A step names its word, what becomes of that word, what the step asks of the pass, and the pass's state after it, which may be read off the whole state of the table.
-use Rattle.std.specs.Prelude.{◌≡◌, ℕ, ◌^◌, ◌<◌, ◌⊎◌, ◌==◌, ◌&&◌, cond, Bool, true, false, nat_lt, List, [], ◌∷◌, map, ◌++◌, length, slice_index, slice_set, Option, Some, None, bit_or}
+use Rattle.std.specs.Prelude.{◌≡◌, ℕ, ◌^◌, ◌<◌, ◌⊎◌, ◌==◌, ◌&&◌, cond, Bool, true, false, nat_lt, [], ◌∷◌, map, ◌++◌, length, slice_index, slice_set, Option, Some, None, bit_or}
 use Rattle.std.specs.Int.{bit_at}
 use mathlib.Core.Option.{some}
 use lib.ListN.{get_elem?}
@@ -14,7 +14,7 @@ use Rattle.oak_core.specs.declared.states.PassState.{PassState}
 use Rattle.arena_core.specs.Arena.{at_bytes, block_words}
 use Rattle.arena_core.specs.ArenaStep.{ArenaStep, arena_spot, arena_effect, MayArena, blocks_after}
 use Rattle.arena_core.specs.declared.blocks.HeldBlocks.{HeldBlocks}
-use Rattle.arena_core.specs.Blocks.{HoldsBlock, block_from, without, words_held}
+use Rattle.arena_core.specs.Blocks.{HoldsBlock, block_from, without}
 use Rattle.arena_core.specs.Place.{IsPlace, class_in, block_in, class_from, content}
 use Rattle.header_core.specs.declared.holds.HeldAs.{HeldAs}
 use Rattle.header_core.specs.declared.holds.HeldAs.TheVariants.{Owned, Fresh, Locked, Buried}
@@ -23,11 +23,12 @@ use Rattle.header_core.specs.declared.states.TheConstants.{LOCKED}
 use Rattle.header_core.specs.declared.holds.HeaderHolds.{HeaderHolds}
 use Rattle.header_core.specs.HeaderHolds.{in_state, place_held}
 use Rattle.header_core.specs.HeaderStep.{HeaderStep, change_place, open_header, pin_header, release_header, lock_header, take_back, header_spot, header_effect, header_found, MayHeader, headers_after, reworded}
-use Rattle.chunk_core.specs.MayOnRooms.{MayRoom, MayPublish}
+use Rattle.chunk_core.specs.MayOnRooms.{MayRoom, MayLink}
 use Rattle.chunk_core.specs.declared.holds.RoomHolds.{RoomHolds}
 use Rattle.chunk_core.specs.MovingRanges.{drops, word_dropped}
-use Rattle.chunk_core.specs.RoomStep.{RoomStep, publish_entry, set_value, unlink_entry, store_room, room_spot, room_effect, room_found}
-use Rattle.chunk_core.specs.Rooms.{IsInRooms, at_count, at_value}
+use Rattle.chunk_core.specs.RoomStep.{RoomStep, EntryField, of_key, of_value, of_next, entry_spot, own_entry, link_entry, set_value, unlink_entry, store_room, room_spot, room_effect, room_found}
+use Rattle.chunk_core.specs.LinkWords.{link_spot}
+use Rattle.chunk_core.specs.Rooms.{IsInRooms, at_value}
 use Rattle.chunk_core.specs.RoomsAfter.{rooms_after}
 use Rattle.oak_core.specs.Memory.{Memory, Spot, at_given, in_arena, in_headers, in_rooms, index, IsInside, memory}
 use Rattle.oak_core.specs.Finding.{arena_finding, finding, leaving, noted, Shows}
@@ -35,7 +36,6 @@ use Rattle.oak_core.specs.Known.{knows_life, KnowsHeader}
 use Rattle.oak_core.specs.Lack.{Lacks, full_state}
 use Rattle.oak_core.specs.TableState.{TableState}
 use Rattle.oak_core.specs.Rule.{Rule}
-use Rattle.chunk_core.specs.LinkedEntries.{entries_in}
 use Rattle.oak_core.specs.EntryOwners.{is_key_word}
 use Rattle.oak_core.specs.HeaderTeaching.{knows_by_header, sights_by_header, gones_by_header}
 use Rattle.oak_core.specs.KeyedHeaders.{headers_keyed}
@@ -123,17 +123,22 @@ pub record MayOnRoom (z : Sizes) (x : RoomStep) (v : PassState) : Type 0 where
   pub inside : IsInRooms z (room_spot x)
   pub rooms : MayRoom z x v.rooms
 
--- the pass holds the block that the key word of the entry past the count names, and these are its words
-pub record HoldsKey (z : Sizes) (word : ℕ) (words : List ℕ) (a : HeldBlocks) : Type 0 where
-  pub block : HoldsBlock z (class_in word) (block_in word) a
-  pub words_are : words_held (class_in word) (block_in word) a.held ≡ words
+-- a key word that comes into a claimed entry names a block that the pass holds, of a key
+abbrev pub MayGiveKey : Sizes → EntryField → ℕ → HeldBlocks → Type 0
+MayGiveKey z of_key x a = 0 < x → (is_key_word x ≡ 1) × HoldsBlock z (class_in x) (block_in x) a
+MayGiveKey z of_value x a = Unit {0}
+MayGiveKey z of_next x a = Unit {0}
 
--- the entry past the count may be published, with the words of the block of its key
-pub record MayPublishEntry (z : Sizes) (r x : ℕ) (v : PassState) : Type 0 where
-  pub inside : IsInRooms z (at_count r)
-  pub words : List ℕ
-  pub rooms : MayPublish z is_key_word r x words v.rooms
-  pub block : HoldsKey z rooms.latch.entry.word words v.blocks
+-- a word may be stored to the entry that the pass claimed
+pub record MayOwnEntry (z : Sizes) (f : EntryField) (r i x : ℕ) (v : PassState) : Type 0 where
+  pub inside : IsInRooms z (entry_spot f r i)
+  pub rooms : MayRoom z (own_entry f r i x) v.rooms
+  pub block : MayGiveKey z f x v.blocks
+
+-- the claimed entry may be linked
+pub record MayLinkEntry (z : Sizes) (r : ℕ) (from : Option ℕ) (i old : ℕ) (v : PassState) : Type 0 where
+  pub inside : IsInRooms z (link_spot r from)
+  pub rooms : MayLink z is_key_word r from i old v.rooms
 
 -- a fresh header may be set as the value of an entry
 pub record MaySetValue (z : Sizes) (call r i old new : ℕ) (kind : Kind) (v : PassState) : Type 0 where
@@ -147,7 +152,8 @@ pub record MayUnlinkEntry (z : Sizes) (r i x : ℕ) (v : PassState) : Type 0 whe
 
 -- what each kind asks of its pass in its present call
 abbrev pub MayOnRooms : Sizes → ℕ → RoomStep → PassState → Type 0
-MayOnRooms z call (publish_entry r x) v = MayPublishEntry z r x v
+MayOnRooms z call (own_entry f r i x) v = MayOwnEntry z f r i x v
+MayOnRooms z call (link_entry r from i old) v = MayLinkEntry z r from i old v
 MayOnRooms z call (set_value r i old new kind) v = MaySetValue z call r i old new kind v
 MayOnRooms z call (unlink_entry r i x) v = MayUnlinkEntry z r i x v
 MayOnRooms z call x v = MayOnRoom z x v
@@ -208,9 +214,13 @@ blocks_with _ m a = a
 abbrev pub blocks_dropped : ℕ → Memory → RoomHolds → HeldBlocks → HeldBlocks
 blocks_dropped word m rooms a = cond (nat_lt 0 word && nat_lt 0 (drops word rooms.moving)) (block_back m.arena.bytes word a) a
 
--- the block of a key passes to the entry that is published, and comes back from one that is dropped
+-- the block of a key passes to the entry whose key word comes to name it, and back to the pass where the word becomes 0
+abbrev pub blocks_owned : ℕ → ℕ → Memory → HeldBlocks → HeldBlocks
+blocks_owned word x m a = record a { held = cond (x == 0) (cond (nat_lt 0 word) (block_from m.arena.bytes (class_from (class_in word)) (block_in word) ∷ a.held) a.held) (without (class_in x) (block_in x) a.held) }
+
+-- that of an entry that is dropped comes back, too
 abbrev pub blocks_by_room : RoomStep → Memory → RoomHolds → HeldBlocks → HeldBlocks
-blocks_by_room (publish_entry r x) m rooms a = let word = m.rooms.key r (entries_in (m.rooms.count r)) in record a { held = without (class_in word) (block_in word) a.held }
+blocks_by_room (own_entry of_key r i x) m rooms a = blocks_owned (m.rooms.key r i) x m a
 blocks_by_room (store_room p x) m rooms a = blocks_dropped (word_dropped m.rooms p x) m rooms a
 blocks_by_room _ m rooms a = a
 

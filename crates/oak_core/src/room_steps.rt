@@ -1,10 +1,10 @@
 //! The steps on the words of the rooms, which callers find in [`crate::steps`].
-ghost use Rattle.std.specs.Prelude.{◌≡◌, ℕ, ◌+◌, ◌-◌, ◌*◌};
+ghost use Rattle.std.specs.Prelude.{◌≡◌, ℕ, Option, ◌+◌, ◌-◌, ◌*◌};
 ghost use Rattle.pin_word.specs.PinWord.{STATE};
 ghost use Rattle.chunk_core.specs.declared.states.TheConstants.{OPEN, FROZEN, HELD};
 ghost use Rattle.chunk_core.specs.Rooms.{RoomSpot};
-ghost use Rattle.chunk_core.specs.RoomStep.{EntryField, of_value, pin_room, unpin_room, latch_room, store_entry, publish_entry, unlatch_room, set_value, unlink_entry, freeze_room, thaw_room, hold_room, claim_room, store_room, open_room, retire_room};
-ghost use Rattle.oak_core.specs.RoomCalls.{NamesRoomPin, NamesLatch, NamesEntryWord, NamesCount, NamesRoomWord, PinsRoomWord, UnpinsRoomWord, TakesLatch, StoresEntry, PublishesEntry, GivesLatch, SetsValueWord, UnlinksEntryWord, FreezesRoom, HoldsRoomWord, ClaimsRoom, StoresRoom, OpensRoom, RetiresRoom};
+ghost use Rattle.chunk_core.specs.RoomStep.{EntryField, of_value, pin_room, unpin_room, claim_entry, own_entry, link_entry, set_value, unlink_entry, freeze_room, thaw_room, hold_room, claim_room, store_room, open_room, retire_room};
+ghost use Rattle.oak_core.specs.RoomCalls.{NamesRoomPin, NamesEntryWord, NamesLink, NamesCount, NamesRoomWord, PinsRoomWord, UnpinsRoomWord, ClaimsEntry, OwnsEntry, LinksEntry, SetsValueWord, UnlinksEntryWord, FreezesRoom, HoldsRoomWord, ClaimsRoom, StoresRoom, OpensRoom, RetiresRoom};
 ghost use Rattle.oak_core.specs.Step.{MayOnRooms};
 ghost use Rattle.oak_core.specs.Thawing.{ThawsRoom};
 ghost use Rattle.oak_core.specs.Passes.{IsPassOf, Stays, TriesStay, state, key, call_of, tries};
@@ -31,7 +31,7 @@ pub fn pin_room(table: &OakTable, pass: &mut Pass, word: u32, operand: u64) -> u
     found
 }
 
-/// Undoes the pass's pin on a room, of which it has no latch: `word` is the room's pin word, and
+/// Undoes the pass's pin on a room, while it has no claim: `word` is the room's pin word, and
 /// `operand` one pin.
 pub fn unpin_room(table: &OakTable, pass: &mut Pass, word: u32, operand: u64) -> u64
     requires own { IsPassOf table.now pass.old }
@@ -45,56 +45,39 @@ pub fn unpin_room(table: &OakTable, pass: &mut Pass, word: u32, operand: u64) ->
     sub_said::<Brand>(table, pass, word as usize, operand)
 }
 
-/// Takes the latch of a room on which the pass has a good pin, where it is free: `word` is its latch
-/// word, `old` 0 and `new` 1. The pass has the latch where 0 was found. A pass has one latch at most.
-pub fn latch(table: &OakTable, pass: &mut Pass, word: u32, old: u64, new: u64) -> u64
+/// Claims the entry past the count of a room on which the pass has a good pin, where the count is `old`:
+/// `word` is the room's count word, and `new` its number with one entry more. The entry is in use from
+/// then on, and its words are the pass's own. A pass has one claim at most.
+pub fn claim_entry(table: &OakTable, pass: &mut Pass, word: u32, old: u64, new: u64) -> u64
     requires own { IsPassOf table.now pass.old }
-    requires names { (r : ℕ) × NamesLatch (key table.now) r word × (old ≡ 0) × (new ≡ 1) × MayOnRooms (key table.now)
-        (call_of pass.old) (latch_room r) (state pass.old) }
+    requires names { (r : ℕ) × NamesCount (key table.now) r word × (new ≡ old + 1) × MayOnRooms (key table.now) (call_of pass.old) (claim_entry r old) (state pass.old) }
     ensures own { Stays pass.old pass.new }
-    ensures told { (r : ℕ) → NamesLatch (key table.now) r word → TakesLatch (key table.now) (call_of pass.old) r
-        (state pass.old) result (state pass.new) }
+    ensures told { (r : ℕ) → NamesCount (key table.now) r word → ClaimsEntry (key table.now) (call_of pass.old) r old (state pass.old) result (state pass.new) }
 {
     exchange_said::<Brand>(table, pass, word as usize, old, new)
 }
 
-/// Stores a number to `word`, a word of the entry past the count of a room whose latch the pass has.
-pub fn store_entry(table: &OakTable, pass: &mut Pass, word: u32, value: u64)
+/// Stores a number to `word`, a word of the entry that the pass has claimed. A key word other than 0 names
+/// a block that the pass holds, which is the entry's from then on; with a key word of 0 the pass has the
+/// block back, and the entry is claimed no more.
+pub fn own_entry(table: &OakTable, pass: &mut Pass, word: u32, value: u64)
     requires own { IsPassOf table.now pass.old }
-    requires names { (f : EntryField) × (r : ℕ) × (i : ℕ) × NamesEntryWord (key table.now) f r i word
-        × MayOnRooms (key table.now) (call_of pass.old) (store_entry f r i value) (state pass.old) }
+    requires names { (f : EntryField) × (r : ℕ) × (i : ℕ) × NamesEntryWord (key table.now) f r i word × MayOnRooms (key table.now) (call_of pass.old) (own_entry f r i value) (state pass.old) }
     ensures own { Stays pass.old pass.new }
-    ensures told { (f : EntryField) (r i : ℕ) → NamesEntryWord (key table.now) f r i word
-        → StoresEntry (key table.now) (call_of pass.old) f r i value (state pass.old) (state pass.new) }
+    ensures told { (f : EntryField) (r i : ℕ) → NamesEntryWord (key table.now) f r i word → OwnsEntry (key table.now) (call_of pass.old) f r i value (state pass.old) (state pass.new) }
 {
     store_said::<Brand>(table, pass, word as usize, value);
 }
 
-/// Publishes the entry past the count of a room whose latch the pass has: `word` is the room's count
-/// word, and `value` its number with one entry more. The key word of the entry names a block that the
-/// pass holds, with a key of the room's range that no entry below the count has, and its value word is
-/// the room's base, its floor. The block is the entry's from then on.
-pub fn publish_entry(table: &OakTable, pass: &mut Pass, word: u32, value: u64)
+/// Links the entry that the pass has claimed, where the link is `old`: `word` is the room's first link
+/// word, or that of an entry that the pass found, and `new` names the claimed entry.
+pub fn link(table: &OakTable, pass: &mut Pass, word: u32, old: u64, new: u64) -> u64
     requires own { IsPassOf table.now pass.old }
-    requires names { (r : ℕ) × NamesCount (key table.now) r word × MayOnRooms (key table.now) (call_of pass.old)
-        (publish_entry r value) (state pass.old) }
+    requires names { (r : ℕ) × (from : Option ℕ) × (i : ℕ) × NamesLink (key table.now) r from word × (new ≡ i + 1) × MayOnRooms (key table.now) (call_of pass.old) (link_entry r from i old) (state pass.old) }
     ensures own { Stays pass.old pass.new }
-    ensures told { (r : ℕ) → NamesCount (key table.now) r word → PublishesEntry (key table.now)
-        (call_of pass.old) r value (state pass.old) (state pass.new) }
+    ensures told { (r : ℕ) (from : Option ℕ) (i : ℕ) → NamesLink (key table.now) r from word → new ≡ i + 1 → LinksEntry (key table.now) (call_of pass.old) r from i old (state pass.old) result (state pass.new) }
 {
-    store_said::<Brand>(table, pass, word as usize, value);
-}
-
-/// Gives up the pass's latch: `word` is the room's latch word, and `value` 0. What the pass stored to
-/// the entry past the count is lost to it, unless the entry was published.
-pub fn unlatch(table: &OakTable, pass: &mut Pass, word: u32, value: u64)
-    requires own { IsPassOf table.now pass.old }
-    requires names { (r : ℕ) × NamesLatch (key table.now) r word × (value ≡ 0) × MayOnRooms (key table.now)
-        (call_of pass.old) (unlatch_room r) (state pass.old) }
-    ensures own { Stays pass.old pass.new }
-    ensures told { (r : ℕ) → NamesLatch (key table.now) r word → GivesLatch (key table.now) (call_of pass.old) r (state pass.old) (state pass.new) }
-{
-    store_said::<Brand>(table, pass, word as usize, value);
+    exchange_said::<Brand>(table, pass, word as usize, old, new)
 }
 
 /// Sets a header that the pass has fresh as the value of an entry that it found under a good pin, where

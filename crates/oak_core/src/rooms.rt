@@ -1,7 +1,7 @@
 //! Where the words of a table's rooms lie.
 ghost use Rattle.std.specs.Prelude.{◌≡◌, ◌+◌, ◌<◌, ◌≤◌};
 ghost use Rattle.chunk_core.specs.declared.layout.TheConstants.{BOUND_WORDS};
-ghost use Rattle.chunk_core.specs.Rooms.{at_room_pin, at_base, at_count, at_latch, at_first, at_low, at_high, at_key, at_value, at_next, room_width};
+ghost use Rattle.chunk_core.specs.Rooms.{at_room_pin, at_base, at_count, at_first, at_low, at_high, at_key, at_value, at_next, room_width};
 ghost use Rattle.oak_core.specs.Memory.{in_rooms, index};
 ghost use Rattle.oak_core.specs.Passes.{key};
 
@@ -66,14 +66,6 @@ impl OakTable {
         ensures { result ≡ index (key self.now) (in_rooms (at_count room)) }
     {
         self.behind_pin(room, 2)
-    }
-
-    /// The number of a room's latch.
-    pub fn latch_at(&self, room: u32) -> u32
-        requires { room < (key self.now).chunks }
-        ensures { result ≡ index (key self.now) (in_rooms (at_latch room)) }
-    {
-        self.behind_pin(room, 3)
     }
 
     /// The number of a room's first link.

@@ -99,12 +99,10 @@ pub struct Gap {
     pub to: Option<FoundEntry>,
 }
 
-/// Of which keys a step taught its pass all writes up to a number: of one key, of each key of the range
-/// of a pinned room that has none of the entries found below its count, or of each key of a gap, the
-/// last two up to the room's base. No step teaches of a gap so far.
+/// Of which keys a step taught its pass all writes up to a number: of one key, or of each key of a gap,
+/// up to the room's base.
 pub enum Taught {
     OfKey(KeyedNumber),
-    OfRoom(PinnedRoom),
     OfGap(Gap),
 }
 

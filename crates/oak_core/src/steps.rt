@@ -13,8 +13,8 @@ pub use crate::header_steps::{
     take_back, unlock_header, unpin_header,
 };
 pub use crate::room_steps::{
-    claim_room, freeze, hold_room, latch, open_room, pin_room, publish_entry, retire_room,
-    set_value, store_entry, store_room, thaw_room, unlatch, unlink, unpin_room,
+    claim_entry, claim_room, freeze, hold_room, link, open_room, own_entry, pin_room, retire_room,
+    set_value, store_room, thaw_room, unlink, unpin_room,
 };
 use crate::table::{OakTable, Pass};
 use std::marker::Brand;

@@ -15,10 +15,12 @@ use Rattle.oak_core.specs.declared.states.PassState.{PassState}
 use Rattle.oak_core.specs.KeyHistories.{state_behind}
 use Rattle.oak_core.specs.Memory.{memory}
 use Rattle.oak_core.specs.PassState.{seen_of}
+use Rattle.chunk_ops.proofs.KeyPlaces.{linked_used}
 use Rattle.lone_counts.specs.LoneTable.{HasValue}
 use Rattle.lone_counts.specs.Maps.{last_states}
 use Rattle.lone_counts.proofs.TableCounts.{value_is_present}
 use Rattle.oak_map.proofs.LoneNoted.{MissesKey}
+use Rattle.oak_map.proofs.RoomOfKey.{weighs_one}
 use Rattle.oak_map.proofs.SettledSplits.{names_le}
 
 -- where all of a sum is nothing, so is each part
@@ -38,7 +40,8 @@ unfolding key_in
 key_there word words n e = e
 
 pub misses_key : (z : Sizes) (key : List ℕ) (u : PassState) → is_key key ≡ true → MissesKey z key u
-misses_key z key u is d t table same absent settled q o full covers i used e =
+misses_key z key u is d t table same absent settled q o full covers i once e =
+    let used : i < entries_in ((memory z d).rooms.count q) = linked_used z (record { words = d; states = table.moment.states }) table.moment.rule q i o.inside (weighs_one ((memory z d).rooms.pin q) o.state) once in
     let zero_add : i ≡ 0 + i = omega arith in let none : 1 - names_header ((memory z d).rooms.value q i) ≡ 0 = ap (λ (j : ℕ). 1 - names_header ((memory z d).rooms.value q j)) zero_add ∙ none_at (λ (x : EntryWords). 1 - names_header x.value) (words_at (memory z d).rooms q) 0 (entries_in ((memory z d).rooms.count q)) z.entries i used (omega arith) (settled.valued q o) in
     let has : HasValue z d key = record {
       room = q;
@@ -46,7 +49,7 @@ misses_key z key u is d t table same absent settled q o full covers i used e =
       open_is = o.state;
       covers = covers;
       entry = i;
-      used = used;
+      linked = once;
       key_is = key_there ((memory z d).rooms.key q i) (content (memory z d).arena.bytes ((memory z d).rooms.key q i)) (key_number key) e;
       named = let l = names_le ((memory z d).rooms.value q i) in omega arith;
     } in

@@ -16,7 +16,7 @@ use Rattle.oak_core.specs.Sights.{FoundOverSince}
 use Rattle.oak_core.specs.Step.{Step, Told, on_headers}
 use Rattle.oak_core.proofs.seats.AloneRuns.{moment_after, runs_as}
 use Rattle.oak_core.proofs.calls.QuietCalls.{only_both, only_none}
-use Rattle.chunk_ops.specs.Latching.{Never}
+use Rattle.chunk_ops.specs.AddsAlone.{Never}
 use Rattle.chunk_ops.specs.RoomPins.{HadMoment}
 use Rattle.value_ops.specs.declared.pinning.BadPin.{BadPin}
 use Rattle.value_ops.specs.declared.pinning.BadPin.TheVariants.{Dead, Locked, Other}

@@ -11,7 +11,7 @@ use Rattle.oak_core.specs.PassState.{HoldsNothing, IsAlone}
 use Rattle.oak_core.specs.QuietSteps.{IsQuiet, Quiet}
 use Rattle.oak_core.proofs.calls.CallSteps.{learns_none}
 use Rattle.oak_core.proofs.calls.QuietCalls.{only_both, only_none}
-use Rattle.chunk_ops.specs.Latching.{Never}
+use Rattle.chunk_ops.specs.AddsAlone.{Never}
 use Rattle.chunk_ops.proofs.MeetingCalls.{stays_then}
 use Rattle.value_ops.specs.declared.views.NoRead.{NoRead}
 use Rattle.value_ops.specs.Pinning.{AddsPin, KnowsLife, PinsLive}

@@ -25,7 +25,7 @@ use Rattle.oak_core.specs.Memory.{memory}
 use Rattle.oak_core.specs.PassState.{HoldsNothing, IsAlone, seen_of}
 use Rattle.oak_core.proofs.seats.AloneRuns.{runs_as}
 use Rattle.oak_core.proofs.memory.HomeWords.{home_is}
-use Rattle.chunk_ops.specs.Latching.{Never}
+use Rattle.chunk_ops.specs.AddsAlone.{Never}
 use Rattle.value_ops.specs.declared.pinning.BadPin.{BadPin}
 use Rattle.value_ops.specs.declared.pinning.BadPin.TheVariants.{Locked, Dead, Other}
 use Rattle.value_ops.specs.declared.views.NoRead.{NoRead}

@@ -20,7 +20,7 @@ use Rattle.oak_core.specs.Noting.{Notes}
 use Rattle.oak_core.specs.PassState.{HoldsNothing, IsAlone, seen_of}
 use Rattle.oak_core.specs.Step.{note_full}
 use Rattle.oak_core.proofs.seats.AloneRuns.{moment_before, note_runs}
-use Rattle.chunk_ops.specs.FindsAlone.{IsUsed, used_key}
+use Rattle.chunk_ops.specs.FindsAlone.{IsLinked, linked_key}
 use Rattle.lone_counts.specs.Lacks.{new_lack}
 use Rattle.lone_counts.specs.LoneTable.{LoneTable, retired_in}
 use Rattle.lone_counts.specs.Maps.{IsMapOf, last_states}
@@ -96,7 +96,7 @@ module _ (z : Sizes) (key : List ℕ) (ask : CellCall) (u : PassState) where
   pub full_of : (lack : Lack) (a c : List ℕ) → retired_in z c ≡ retired_in z a → StaysSettled z key ask u c → FullAt z key ask u lack c → PutsAlone z key ask u (Full lack) a c
   full_of lack a c e s f = record {
     full = λ m is. subst (λ (n : ℕ). FullAsLacks z m n key (HasNoRoomFor z key c) (last_states u key) (state_after (last_states u key) ask) (Full lack)) e (f.says m is);
-    settled = λ _. record { divides = s.divides; valued = s.valued; many = f.many };
+    settled = λ _. record { divides = s.divides; valued = s.valued; linked = s.linked; many = f.many };
     retired = e;
   }
 
@@ -110,7 +110,7 @@ module _ (z : Sizes) (key : List ℕ) (ask : CellCall) (u : PassState) where
   -- it lacks a room: the chunk of the key was rewritten, from c to d
   module _ (value : List ℕ) (makes : state_after None ask ≡ Some value) (call : ℕ) (w t : PassState) (f : FindsNoRoom z call key w t) (a c d : List ℕ) (e : retired_in z c ≡ retired_in z a) (r : Divided z (RewritesRoom z f.compacts.room f.compacts.held f.compacts.opened) c d) (all_open : AllOpen z c c)
       (s : StaysSettled z key ask u c) (many : AreMany z c) (room : FullRoom z key c) (n : NothingLacks z key value u c)
-      (missing : IsSettled z d → (q : ℕ) → IsOpen z d q → entries_in (room_in z d q).count ≡ z.entries → within (copy_span (room_in z d q)) (key_number key) ≡ 1 → (i : ℕ) → IsUsed (memory z d) q i → key_number (used_key (memory z d) q i) ≢ key_number key) where
+      (missing : IsSettled z d → (q : ℕ) → IsOpen z d q → entries_in (room_in z d q).count ≡ z.entries → within (copy_span (room_in z d q)) (key_number key) ≡ 1 → (i : ℕ) → IsLinked (memory z d) q i → key_number (linked_key (memory z d) q i) ≢ key_number key) where
     count_same : entries_in f.compacts.opened.count ≡ entries_in f.compacts.held.count
     count_same = let i = f.compacts.rewrites.sorted.count in let j = f.compacts.count_is in omega arith
 
@@ -118,7 +118,7 @@ module _ (z : Sizes) (key : List ℕ) (ask : CellCall) (u : PassState) where
     span_same = let p = f.compacts.rewrites.low in let q = f.compacts.rewrites.high in λ i. within (record { low = low_number (p i); high = high_number (q i); base = 0 }) (key_number key)
 
     settled_there : IsSettled z d
-    settled_there = rewritten_settled z call key f.compacts.room f.compacts.held f.compacts.opened w t f.compacts.rewrites c d r count_same s.valued many
+    settled_there = rewritten_settled z call key f.compacts.room f.compacts.held f.compacts.opened w t f.compacts.rewrites c d r count_same s.valued s.linked many
 
     still_open : IsOpen z d room.room
     still_open = opens_still z call key f.compacts.room f.compacts.held f.compacts.opened w t f.compacts.rewrites c d r count_same room.room room.is_open
@@ -136,6 +136,7 @@ module _ (z : Sizes) (key : List ℕ) (ask : CellCall) (u : PassState) where
       is_open = still_open;
       covers = still_covers;
       full = still_full;
+      linked = settled_there.linked room.room still_open;
       valued = settled_there.valued room.room still_open;
       missing = missing settled_there room.room still_open still_full still_covers;
     }

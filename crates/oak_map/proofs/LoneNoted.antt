@@ -17,7 +17,7 @@ use Rattle.oak_core.specs.Noting.{Notes}
 use Rattle.oak_core.specs.PassState.{HoldsNothing, IsAlone, seen_of}
 use Rattle.oak_core.specs.Step.{note_full}
 use Rattle.oak_core.proofs.seats.AloneRuns.{moment_after}
-use Rattle.chunk_ops.specs.FindsAlone.{IsUsed, used_key}
+use Rattle.chunk_ops.specs.FindsAlone.{IsLinked, linked_key}
 use Rattle.lone_counts.specs.LoneTable.{LoneTable}
 use Rattle.lone_counts.specs.Maps.{last_states}
 use Rattle.point_ops.specs.declared.halts.Halt.{Halt}
@@ -38,10 +38,10 @@ use Rattle.oak_map.proofs.SettledStays.{RoomsStay}
 use Rattle.oak_map.proofs.Trying.{idle_on, tries_leaves}
 use Rattle.oak_map.proofs.WordsThrough.{halts_somewhere, runs_through}
 
--- no entry in use has the key, in a full room of those as settling leaves them, where the key was absent at the call
+-- no linked entry has the key, in a full room of those as settling leaves them, where the key was absent at the call
 abbrev pub MissesKey : Sizes → List ℕ → PassState → Type 0
 MissesKey z key u = (d : List ℕ) (t : PassState) → LoneTable z d t → ((q : ℕ) → seen_of q t.knowledge ≡ seen_of q u.knowledge) → last_states u key ≡ None → IsSettled z d
-    → (q : ℕ) → IsOpen z d q → entries_in (room_in z d q).count ≡ z.entries → within (copy_span (room_in z d q)) (key_number key) ≡ 1 → (i : ℕ) → IsUsed (memory z d) q i → key_number (used_key (memory z d) q i) ≢ key_number key
+    → (q : ℕ) → IsOpen z d q → entries_in (room_in z d q).count ≡ z.entries → within (copy_span (room_in z d q)) (key_number key) ≡ 1 → (i : ℕ) → IsLinked (memory z d) q i → key_number (linked_key (memory z d) q i) ≢ key_number key
 
 -- the call began at u, its last try, from v to w, was refused, and it gave up until x
 module _ (z : Sizes) (call : ℕ) (key value : List ℕ) (ask : CellCall) (settled then : Bool) (result : Option Lack) (lack : Lack) (u v w x : PassState) (makes : state_after None ask ≡ Some value)

@@ -26,7 +26,7 @@ use Rattle.rebalance.specs.Copies.{copy_span}
 use Rattle.rebalance.specs.LoneCalls.{SettlesWords}
 use Rattle.oak_map.specs.LoneRetrying.{Retries, StaysSettled}
 use Rattle.oak_map.specs.MakingRoom.{IsRefused, MakesWay}
-use Rattle.oak_map.proofs.SettledSplits.{FullRoom, halved_valued, half_left, never_fewer}
+use Rattle.oak_map.proofs.SettledSplits.{FullRoom, halved_linked, halved_valued, half_left, never_fewer}
 use Rattle.oak_map.proofs.SettledStays.{RoomsStay, carried, opens_still, retired_same, settled_still, spare_stays}
 use Rattle.oak_map.proofs.WordsThrough.{still_to}
 
@@ -77,7 +77,7 @@ module _ (z : Sizes) (call : ℕ) (key value : List ℕ) (ask : CellCall) (settl
   settled_words : (a c d : List ℕ) → retired_in z c ≡ retired_in z a → SettlesWords z c d → Retries z key ask then u a d
   settled_words a c d e s = record {
     retired = retired_same z c d s.headers ∙ e;
-    settled_stays = λ _. record { divides = s.settled.divides; valued = s.settled.valued; rooms = inl s.settled.many };
+    settled_stays = λ _. record { divides = s.settled.divides; valued = s.settled.valued; linked = s.settled.linked; rooms = inl s.settled.many };
   }
 
   settles_on : (a c : List ℕ) (t : PassState) → LeavesWords c t → retired_in z c ≡ retired_in z a → Settles z call t x → RunsTo (λ _ d. Retries z key ask then u a d) c x
@@ -108,6 +108,7 @@ module _ (z : Sizes) (call : ℕ) (key value : List ℕ) (ask : CellCall) (settl
         settled_stays = λ is. let s = n.settled_stays (sym same ∙ is) in let there = r.does.divides.covered (key_number key) in record {
           divides = r.does.divides;
           valued = halved_valued z call key upper w t h c r.after r.does s.valued;
+          linked = halved_linked z call key upper w t h c r.after r.does s.linked;
           rooms = inr (λ alone. let f = lacks alone s in record {
             absent = f.absent;
             value = value;

@@ -49,7 +49,7 @@ too_few count entries chunks keys e full many fewer = le-cases count entries (λ
 -- settled rooms in which no key fits hold as many keys as the shape is for
 pub none_fewer : (count key_bytes value_bytes passes : ℕ) (z : Sizes) → z ≡ sizes_for_keys count key_bytes value_bytes passes → (key words : List ℕ) (w : PassState) (m : List Pair) → LoneTable z words w → IsMapOf (last_states w) m → IsSettled z words → HasNoRoomFor z key words → length m < count → ⊥
 none_fewer count key_bytes value_bytes passes z sizes key words w m table is settled none fewer =
-    let k = keys_are_entries z words w table none.all_open (λ r lt open_is. settled.valued r (record { inside = lt; state = open_is })) m is in
+    let k = keys_are_entries z words w table none.all_open (λ r lt open_is. settled.valued r (record { inside = lt; state = open_is })) (λ r lt open_is. settled.linked r (record { inside = lt; state = open_is })) m is in
     let r = rooms_hold z words settled.divides none.all_open settled in
     let f = below_at (λ r. entries_in (room_in z words r).count) z.chunks none.room none.is_open.inside in let g = none.full in
     let c = ap (λ (s : Sizes). s.chunks) sizes in let e : z.entries ≡ entries_for count = ap (λ (s : Sizes). s.entries) sizes in

@@ -20,9 +20,10 @@ use Rattle.oak_core.specs.declared.states.PassState.{PassState}
 use Rattle.oak_core.specs.Memory.{memory}
 use Rattle.oak_core.specs.Sweeping.{valueless}
 use Rattle.rebalance.specs.Calls.{Halves, Rewrites}
-use Rattle.rebalance.specs.Copies.{copy_span, values_in}
+use Rattle.rebalance.specs.Copies.{AllLinked, copy_span, linked_held, values_in}
 use Rattle.rebalance.specs.LoneCalls.{Divided, HalvesRoom, IsSettled, RewritesRoom}
 use Rattle.rebalance.specs.LoneWords.{IsOpen, room_in}
+use Rattle.rebalance.proofs.LinkedCopies.{linked_are}
 use Rattle.oak_map.specs.LoneRetrying.{AreMany, StaysSettled}
 
 -- ---- entries and their values
@@ -49,14 +50,17 @@ unfolding rows
 rows_length i zero f = refl
 rows_length i (suc n) f = ap suc (rows_length (suc i) n f)
 
--- a room that is full of entries, all with a value
-pub all_valued : (z : Sizes) (words : List ℕ) (r : ℕ) → entries_in (room_in z words r).count ≡ z.entries → valueless (room_in z words r) ≡ 0 → values_in (room_in z words r) ≡ z.entries
-all_valued z words r full none = let es = rows 0 z.entries (words_at (memory z words).rooms r) in let n = entries_in (room_in z words r).count in let l = rows_length 0 z.entries (words_at (memory z words).rooms r) in
-    let t = length-take-le n es (omega arith) in let a = total_all (take n es) in omega arith
+-- a room that is full of entries, all linked and with a value
+pub all_valued : (z : Sizes) (words : List ℕ) (r : ℕ) → entries_in (room_in z words r).count ≡ z.entries → AllLinked (room_in z words r) → valueless (room_in z words r) ≡ 0 → values_in (room_in z words r) ≡ z.entries
+all_valued z words r full all none = ap (total (λ (e : EntryWords). names_header e.value)) (linked_are (room_in z words r) all) ∙ used_valued
+  where
+    used_valued : total (λ (e : EntryWords). names_header e.value) (entries_held (room_in z words r)) ≡ z.entries
+    used_valued = let es = rows 0 z.entries (words_at (memory z words).rooms r) in let n = entries_in (room_in z words r).count in let l = rows_length 0 z.entries (words_at (memory z words).rooms r) in
+        let t = length-take-le n es (omega arith) in let a = total_all (take n es) in omega arith
 
 -- a chunk that was rewritten has an entry without a value no more
 rewritten_valued : (z : Sizes) (call : ℕ) (key : List ℕ) (r : ℕ) (held opened : RoomCopy) (v w : PassState) → Rewrites z call key r held opened v w → valueless opened ≡ 0
-rewritten_valued z call key r held opened v w h = h.kept (λ _ n. 1 - names_header n) ∙ lacks_none (entries_held held)
+rewritten_valued z call key r held opened v w h = h.kept (λ _ n. 1 - names_header n) ∙ lacks_none (linked_held held)
 
 -- ---- the full room of the key
 
@@ -74,7 +78,7 @@ module _ (z : Sizes) (key : List ℕ) (ask : CellCall) (u : PassState) (c : List
 
   -- it was not only compacted
   pub never_fewer : (q : ℕ) (held : RoomCopy) → IsOpen z c q → room_in z c q ≡ held → within (copy_span held) (key_number key) ≡ 1 → values_in held < z.entries → ⊥
-  never_fewer q held o was inside fewer = let e = the_room q held o was inside in let a = all_valued z c f.room f.full (s.valued f.room f.is_open) in
+  never_fewer q held o was inside fewer = let e = the_room q held o was inside in let a = all_valued z c f.room f.full (s.linked f.room f.is_open) (s.valued f.room f.is_open) in
       let b = ap (λ (k : ℕ). values_in (room_in z c k)) e in let d = ap values_in was in absurd (omega arith)
 
 -- ---- halved
@@ -96,6 +100,13 @@ module _ (z : Sizes) (call : ℕ) (key : List ℕ) (upper : ℕ) (v w : PassStat
       (λ ne. dite (ℕ_discrete q h.room)
       (λ e. ap (λ (k : ℕ). valueless (room_in z d k)) e ∙ (ap valueless r.does.is ∙ both.0))
       (λ nr. ap valueless (other_words q nr ne) ∙ all q (other_open q ne o)))
+
+  pub halved_linked : ((q : ℕ) → IsOpen z c q → AllLinked (room_in z c q)) → (q : ℕ) → IsOpen z d q → AllLinked (room_in z d q)
+  halved_linked all q o = dite (ℕ_discrete q upper)
+      (λ e. subst AllLinked (sym (ap (λ (k : ℕ). room_in z d k) e ∙ r.does.is_upper)) h.linked.1)
+      (λ ne. dite (ℕ_discrete q h.room)
+      (λ e. subst AllLinked (sym (ap (λ (k : ℕ). room_in z d k) e ∙ r.does.is)) h.linked.0)
+      (λ nr. subst AllLinked (sym (other_words q nr ne)) (all q (other_open q ne o))))
 
   -- the half that has the key has an entry left
   pub half_left : 2 ≤ z.entries → (q : ℕ) → IsOpen z d q → within (copy_span (room_in z d q)) (key_number key) ≡ 1 → entries_in (room_in z d q).count < z.entries
@@ -121,12 +132,15 @@ module _ (z : Sizes) (call : ℕ) (key : List ℕ) (room : ℕ) (held opened : R
       (λ is. ap (λ (k : ℕ). g (room_in z d k)) is ∙ (ap g r.does.is ∙ (e ∙ (sym (ap g r.does.was) ∙ ap (λ (k : ℕ). g (room_in z c k)) (sym is)))))
       (λ ne. ap g (r.does.leaves.words q ne))
 
-  pub rewritten_settled : ((q : ℕ) → IsOpen z c q → valueless (room_in z c q) ≡ 0) → AreMany z c → IsSettled z d
-  rewritten_settled all many = record {
+  pub rewritten_settled : ((q : ℕ) → IsOpen z c q → valueless (room_in z c q) ≡ 0) → ((q : ℕ) → IsOpen z c q → AllLinked (room_in z c q)) → AreMany z c → IsSettled z d
+  rewritten_settled all links many = record {
     divides = r.divides;
     valued = λ q o. dite (ℕ_discrete q room)
         (λ is. ap (λ (k : ℕ). valueless (room_in z d k)) is ∙ (ap valueless r.does.is ∙ rewritten_valued z call key room held opened v w h))
         (λ ne. ap valueless (r.does.leaves.words q ne) ∙ all q (was_open q o));
+    linked = λ q o. dite (ℕ_discrete q room)
+        (λ is. subst AllLinked (sym (ap (λ (k : ℕ). room_in z d k) is ∙ r.does.is)) h.linked)
+        (λ ne. subst AllLinked (sym (r.does.leaves.words q ne)) (links q (was_open q o)));
     many = λ x y o p e. let m = many x y (was_open x o) (was_open y p) (ap high_number (sym (agrees (λ (k : RoomCopy). k.high) h.high x)) ∙ (e ∙ ap (λ (ws : List ℕ). low_number ws + 1) (agrees (λ (k : RoomCopy). k.low) h.low y))) in
         let f = agrees (λ (k : RoomCopy). entries_in k.count) same x in let g = agrees (λ (k : RoomCopy). entries_in k.count) same y in omega arith;
   }

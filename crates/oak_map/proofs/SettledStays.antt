@@ -25,7 +25,7 @@ use Rattle.oak_core.specs.Sweeping.{valueless}
 use Rattle.lone_counts.specs.Lacks.{new_lack}
 use Rattle.lone_counts.specs.LoneTable.{retired_in}
 use Rattle.point_ops.specs.LoneInserts.{SpareOnly}
-use Rattle.rebalance.specs.Copies.{copy_span}
+use Rattle.rebalance.specs.Copies.{AllLinked, copy_span}
 use Rattle.rebalance.specs.LoneWords.{Divides, IsOpen, room_in, state_in}
 use Rattle.oak_map.specs.LoneRetrying.{AreMany, FitsNow, StaysSettled}
 
@@ -110,5 +110,6 @@ module _ (z : Sizes) (a b : List ℕ) (s : RoomsStay z a b) where
     settled_still t = record {
       divides = divides_still t.divides;
       valued = λ r o. carried (λ (w : RoomCopy). valueless w ≡ 0) r (t.valued r (was_open r o));
+      linked = λ r o. carried AllLinked r (t.linked r (was_open r o));
       rooms = ⊎_elim (λ (m : AreMany z a). inl (many_still m)) (λ (f : IsAlone u → FitsNow z key ask u a). inr (λ alone. fits_still (f alone))) t.rooms;
     }

@@ -11,10 +11,9 @@ use Rattle.arena_core.specs.Blocks.{holds}
 use Rattle.arena_core.specs.Place.{block_in, class_in, content, names_block}
 use Rattle.chunk_core.specs.CoverSums.{weight}
 use Rattle.chunk_core.specs.KeyWords.{key_bytes, key_in}
-use Rattle.chunk_core.specs.Rooms.{at_key}
-use Rattle.chunk_core.specs.LinkedEntries.{entries_in}
+use Rattle.chunk_core.specs.Rooms.{RoomSpot, at_first, at_key, at_next, read_room}
+use Rattle.chunk_core.specs.LinkedEntries.{linked, reached}
 use Rattle.chunk_core.proofs.CoverFacts.{entry_adds}
-use Rattle.chunk_core.proofs.EntryNumbers.{numbers_once}
 use Rattle.header_core.specs.Headers.{at_pin}
 use Rattle.oak_core.specs.declared.states.PassState.{PassState}
 use Rattle.oak_core.specs.AloneWords.{Moment}
@@ -26,7 +25,8 @@ use Rattle.oak_core.specs.PassState.{blocks_of, rooms_held}
 use Rattle.oak_core.proofs.owners.EntryBlocks.{key_some}
 use Rattle.oak_core.proofs.keyed.KeyPlaces.{key_word_few, word_is_key}
 use Rattle.oak_core.proofs.owners.OwnerLaws.{names_itself}
-use Rattle.chunk_ops.specs.FindsAlone.{IsUsed, used_key}
+use Rattle.chunk_ops.specs.FindsAlone.{IsLinked, linked_key}
+use Rattle.chunk_ops.proofs.KeyPlaces.{is_key_linked, owner_linked}
 use Rattle.point_ops.specs.LoneInserts.{IsClearIn, SpareOnly}
 
 module _ (z : Sizes) (words : List ℕ) (v : PassState) (l : Moment z words v) where
@@ -34,26 +34,21 @@ module _ (z : Sizes) (words : List ℕ) (v : PassState) (l : Moment z words v) w
   mem = memory z words
 
   -- the word of an entry's key names one
-  pub key_word_is : (r i : ℕ) → r < z.chunks → weight (mem.rooms.pin r) ≡ 1 → i < entries_in (mem.rooms.count r) → is_key_word (mem.rooms.key r i) ≡ 1
-  key_word_is r i lt one used = let placed = entry_adds z mem.rooms (content mem.arena.bytes) (map rooms_held l.states) (λ s x. 1 - is_key_word x.word) r i lt one (numbers_once (entries_in (mem.rooms.count r)) i used) in
-      let none = l.rule.covers.placed in let few = key_word_few (mem.rooms.key r i) in omega arith
+  pub key_word_is : (r i : ℕ) → r < z.chunks → weight (mem.rooms.pin r) ≡ 1 → IsLinked mem r i → is_key_word (mem.rooms.key r i) ≡ 1
+  key_word_is r i lt one once = is_key_linked z (record { words = words; states = l.states }) l.rule r i lt one once
 
-  -- the used key is one, with its number
-  pub used_is_key : (r i : ℕ) → r < z.chunks → weight (mem.rooms.pin r) ≡ 1 → IsUsed mem r i → IsKeyOf (key_in (mem.rooms.key r i) (content mem.arena.bytes (mem.rooms.key r i))) (used_key mem r i)
-  used_is_key r i lt one used = let w : ℕ = mem.rooms.key r i in word_is_key w (content mem.arena.bytes w) (key_word_is r i lt one used) (rows_length 0 (block_words (class_in w)) (mem.arena.bytes (class_in w) (block_in w)))
+  -- the linked key is one, with its number
+  pub linked_is_key : (r i : ℕ) → r < z.chunks → weight (mem.rooms.pin r) ≡ 1 → IsLinked mem r i → IsKeyOf (key_in (mem.rooms.key r i) (content mem.arena.bytes (mem.rooms.key r i))) (linked_key mem r i)
+  linked_is_key r i lt one used = let w : ℕ = mem.rooms.key r i in word_is_key w (content mem.arena.bytes w) (key_word_is r i lt one used) (rows_length 0 (block_words (class_in w)) (mem.arena.bytes (class_in w) (block_in w)))
 
   -- the block of an entry's key is taken
-  pub key_block_set : (r i : ℕ) → r < z.chunks → weight (mem.rooms.pin r) ≡ 1 → i < entries_in (mem.rooms.count r) → let w = mem.rooms.key r i in 0 < bit_at (mem.arena.bits (class_in w) (block_in w / 64)) (block_in w % 64)
-  key_block_set r i lt one used = let w : ℕ = mem.rooms.key r i in let once = numbers_once (entries_in (mem.rooms.count r)) i used in
-      let is = key_word_is r i lt one used in
-      let some = key_some w (omega arith) in
-      let adds = entry_adds z mem.rooms (content mem.arena.bytes) (map rooms_held l.states) (λ s x. one_if (nat_lt 0 x.word) * names_block (class_in w) (block_in w) x.word) r i lt one once in
-      let itself = times-one (one_if (nat_lt 0 w)) (names_block (class_in w) (block_in w) w) (ap one_if (lt-ltb 0 w some)) ∙ names_itself w in
+  pub key_block_set : (r i : ℕ) → r < z.chunks → weight (mem.rooms.pin r) ≡ 1 → IsLinked mem r i → let w = mem.rooms.key r i in 0 < bit_at (mem.arena.bits (class_in w) (block_in w / 64)) (block_in w % 64)
+  key_block_set r i lt one once = let w : ℕ = mem.rooms.key r i in
+      let owner = owner_linked z (record { words = words; states = l.states }) l.rule r i lt one once in
       let owned = l.rule.blocks.owned (class_in w) (block_in w) in
       let bit : ℕ = bit_at (mem.arena.bits (class_in w) (block_in w / 64)) (block_in w % 64) in
       let h : ℕ = total (holds (class_in w) (block_in w)) (map blocks_of l.states) in let o : ℕ = other_owners z mem.headers (class_in w) (block_in w) in let e : ℕ = entry_owners z mem.rooms (content mem.arena.bytes) (map rooms_held l.states) (class_in w) (block_in w) in
-      let owned' : bit ≡ h + (o + e) = owned in let adds' : one_if (nat_lt 0 w) * names_block (class_in w) (block_in w) w ≤ e = adds in
-      let n : ℕ = one_if (nat_lt 0 w) * names_block (class_in w) (block_in w) w in let n' : n ≤ e = adds' in let i' : n ≡ 1 = itself in let r : 0 < bit = omega arith in r
+      let owned' : bit ≡ h + (o + e) = owned in let owner' : 1 ≤ e = owner in let r : 0 < bit = omega arith in r
 
 module _ (z : Sizes) (b c : List ℕ) (s : SpareOnly z b c) where
   pub bits_stay : (k i : ℕ) → (memory z c).arena.bits k i ≡ (memory z b).arena.bits k i
@@ -73,9 +68,16 @@ module _ (z : Sizes) (b c : List ℕ) (s : SpareOnly z b c) where
   pub content_stays : (w : ℕ) → 0 < bit_at ((memory z c).arena.bits (class_in w) (block_in w / 64)) (block_in w % 64) → content (memory z c).arena.bytes w ≡ content (memory z b).arena.bytes w
   content_stays w set = rows_same 0 (block_words (class_in w)) ((memory z c).arena.bytes (class_in w) (block_in w)) ((memory z b).arena.bytes (class_in w) (block_in w)) (λ j _ _. bytes_stay (class_in w) (block_in w) j set)
 
+  room_word_stays : (p : RoomSpot) → read_room (memory z c).rooms p ≡ read_room (memory z b).rooms p
+  room_word_stays p = ⊎_elim (λ (n : ⊥). absurd n) (λ (e : read_room (memory z c).rooms p ≡ read_room (memory z b).rooms p). e) (s.same (in_rooms p))
+
   key_word_stays : (r i : ℕ) → (memory z c).rooms.key r i ≡ (memory z b).rooms.key r i
-  key_word_stays r i = ⊎_elim (λ (n : ⊥). absurd n) (λ (e : (memory z c).rooms.key r i ≡ (memory z b).rooms.key r i). e) (s.same (in_rooms (at_key r i)))
+  key_word_stays r i = room_word_stays (at_key r i)
+
+  -- which entries are linked
+  pub links_stay : (r : ℕ) → linked (memory z c).rooms r ≡ linked (memory z b).rooms r
+  links_stay r = let first = room_word_stays (at_first r) in let next = λ (i : ℕ). room_word_stays (at_next r i) in λ j. reached (λ i. next i j) (first j)
 
   -- so the key of an entry
-  pub used_key_stays : (v : PassState) → Moment z c v → (r i : ℕ) → r < z.chunks → weight ((memory z c).rooms.pin r) ≡ 1 → IsUsed (memory z c) r i → used_key (memory z c) r i ≡ used_key (memory z b) r i
-  used_key_stays v l r i lt one used = let w : ℕ = (memory z c).rooms.key r i in ap (key_bytes w) (content_stays w (key_block_set z c v l r i lt one used)) ∙ ap (λ (n : ℕ). key_bytes n (content (memory z b).arena.bytes n)) (key_word_stays r i)
+  pub linked_key_stays : (v : PassState) → Moment z c v → (r i : ℕ) → r < z.chunks → weight ((memory z c).rooms.pin r) ≡ 1 → IsLinked (memory z c) r i → linked_key (memory z c) r i ≡ linked_key (memory z b) r i
+  linked_key_stays v l r i lt one used = let w : ℕ = (memory z c).rooms.key r i in ap (key_bytes w) (content_stays w (key_block_set z c v l r i lt one used)) ∙ ap (λ (n : ℕ). key_bytes n (content (memory z b).arena.bytes n)) (key_word_stays r i)

@@ -9,7 +9,7 @@ use Rattle.oak_core.specs.AloneWords.{Runs, RunsTo}
 use Rattle.oak_core.specs.PassState.{IsAlone}
 use Rattle.oak_core.proofs.seats.AloneRuns.{runs_as}
 use Rattle.oak_core.proofs.covers.FullClaims.{claims_none}
-use Rattle.chunk_ops.specs.Latching.{Never}
+use Rattle.chunk_ops.specs.AddsAlone.{Never}
 use Rattle.point_ops.specs.declared.halts.Halt.{Halt}
 use Rattle.point_ops.specs.Halting.{Halts}
 use Rattle.point_ops.specs.LonePuts.{LoneHalts}

@@ -5,7 +5,7 @@ use Rattle.oak_core.specs.declared.states.PassState.{PassState}
 use Rattle.oak_core.specs.AloneWords.{Runs}
 use Rattle.oak_core.specs.PassState.{IsAlone}
 use Rattle.oak_core.specs.QuietSteps.{Quiet}
-use Rattle.chunk_ops.specs.Latching.{Never}
+use Rattle.chunk_ops.specs.AddsAlone.{Never}
 use Rattle.chunk_ops.specs.RoomPins.{HadMoment}
 use Rattle.value_ops.specs.Pinning.{AddsPin, KnowsLife, MeetsMore, PinsLive}
 use Rattle.value_ops.specs.Views.{Viewed}

@@ -6,7 +6,7 @@ use Rattle.oak_model.specs.Limits.{Sizes}
 use Rattle.oak_core.specs.declared.states.PassState.{PassState}
 use Rattle.oak_core.specs.AloneWords.{Runs}
 use Rattle.oak_core.specs.QuietSteps.{Quiet}
-use Rattle.chunk_ops.specs.Latching.{Never}
+use Rattle.chunk_ops.specs.AddsAlone.{Never}
 use Rattle.chunk_ops.specs.RoomPins.{HadMoment}
 use Rattle.value_ops.specs.declared.views.NoRead.{NoRead}
 use Rattle.value_ops.specs.declared.views.NoRead.TheVariants as no_read

@@ -16,7 +16,7 @@ use Rattle.chunk_core.specs.Spans.{within}
 use Rattle.oak_core.specs.declared.states.PassState.{PassState}
 use Rattle.oak_core.specs.Memory.{memory}
 use Rattle.oak_core.specs.Sweeping.{valueless}
-use Rattle.chunk_ops.specs.FindsAlone.{IsUsed, used_key}
+use Rattle.chunk_ops.specs.FindsAlone.{IsLinked, linked_key}
 use Rattle.lone_counts.specs.Lacks.{new_lack, over_lack}
 use Rattle.lone_counts.specs.LoneTable.{retired_in}
 use Rattle.lone_counts.specs.Maps.{IsMapOf, last_states}
@@ -24,7 +24,7 @@ use Rattle.point_ops.specs.declared.halts.Halt.TheVariants.{Crowded, NoBlock, No
 use Rattle.point_ops.specs.LonePuts.{KeepsRooms, LoneHalts}
 use Rattle.point_ops.specs.LoneReplies.{SeesTheSame, WroteAlone}
 use Rattle.point_ops.specs.Needs.{Needs}
-use Rattle.rebalance.specs.Copies.{copy_span}
+use Rattle.rebalance.specs.Copies.{AllLinked, copy_span}
 use Rattle.rebalance.specs.LoneCalls.{IsSettled}
 use Rattle.rebalance.specs.LoneWords.{IsOpen, room_in, state_in}
 
@@ -33,15 +33,16 @@ abbrev pub IsReply : Wrote → Type 0
 IsReply (Full lack) = ⊥
 IsReply _ = Unit {0}
 
--- Each room is open, and the one that has the key in its range is full of entries, all with a value and none of the key.
+-- Each room is open, and the one that has the key in its range is full of entries, all linked and with a value, and none of the key.
 pub record HasNoRoomFor (z : Sizes) (key words : List ℕ) : Type 0 where
   pub all_open : (r : ℕ) → r < z.chunks → state_in z words r ≡ OPEN
   pub room : ℕ
   pub is_open : IsOpen z words room
   pub covers : within (copy_span (room_in z words room)) (key_number key) ≡ 1
   pub full : entries_in (room_in z words room).count ≡ z.entries
+  pub linked : AllLinked (room_in z words room)
   pub valued : valueless (room_in z words room) ≡ 0
-  pub missing : (i : ℕ) → IsUsed (memory z words) room i → key_number (used_key (memory z words) room i) ≢ key_number key
+  pub missing : (i : ℕ) → IsLinked (memory z words) room i → key_number (linked_key (memory z words) room i) ≢ key_number key
 
 -- `Full` with what the map lacks; and where it lacks nothing, exactly where there is no room
 abbrev pub FullBy : Option Lack → Type 0 → Wrote → Type 0

@@ -16,7 +16,7 @@ use Rattle.lone_counts.specs.Lacks.{new_lack}
 use Rattle.lone_counts.specs.LoneTable.{retired_in}
 use Rattle.lone_counts.specs.Maps.{IsMapOf, last_states}
 use Rattle.point_ops.specs.LoneReplies.{SeesWhole}
-use Rattle.rebalance.specs.Copies.{copy_span}
+use Rattle.rebalance.specs.Copies.{AllLinked, copy_span}
 use Rattle.rebalance.specs.LoneWords.{Divides, IsOpen, room_in}
 use Rattle.oak_map.specs.LonePuts.{FirstRefused}
 
@@ -35,10 +35,11 @@ pub record FitsNow (z : Sizes) (key : List ℕ) (ask : CellCall) (u : PassState)
   pub covers : within (copy_span (room_in z words room)) (key_number key) ≡ 1
   pub left : entries_in (room_in z words room).count < z.entries
 
--- The open rooms divide the keys among them, and each entry has a value; and neighbours are as settling leaves them, but where the chunk of the key was halved since, and then the next try of a pass that is alone is not refused.
+-- The open rooms divide the keys among them, and each entry is linked and has a value; and neighbours are as settling leaves them, but where the chunk of the key was halved since, and then the next try of a pass that is alone is not refused.
 pub record StaysSettled (z : Sizes) (key : List ℕ) (ask : CellCall) (u : PassState) (words : List ℕ) : Type 0 where
   pub divides : Divides z words
   pub valued : (r : ℕ) → IsOpen z words r → valueless (room_in z words r) ≡ 0
+  pub linked : (r : ℕ) → IsOpen z words r → AllLinked (room_in z words r)
   pub rooms : AreMany z words ⊎ (IsAlone u → FitsNow z key ask u words)
 
 -- of the words at the call and the present ones: no header more is retired, and once the call has settled the table stays so

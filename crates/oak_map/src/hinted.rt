@@ -1,6 +1,6 @@
 //! One try of each call, which looks first where the pass's hint says: the hint is asked for in each try.
 ghost use Rattle.std.specs.Prelude.{◌≡◌, ◌⊎◌, ◌<◌, ◌+◌, ◌-◌, ◌^◌, IfErr, IfOk};
-ghost use Rattle.chunk_ops.specs.Latching.{Never};
+ghost use Rattle.chunk_ops.specs.AddsAlone.{Never};
 ghost use Rattle.oak_core.specs.AloneWords.{Runs};
 ghost use Rattle.oak_core.specs.MayWrite.{IsNewCall};
 ghost use Rattle.oak_core.specs.PassState.{HoldsNothing, IsAlone};

@@ -23,19 +23,19 @@ use Rattle.oak_core.specs.PassState.{bare_state}
 use Rattle.oak_core.specs.Lack.{TookBut}
 use Rattle.oak_core.specs.QuietSteps.{MetOnly, Quiet}
 use Rattle.oak_core.specs.Sights.{SightedSince}
-use Rattle.oak_core.proofs.calls.CallSteps.{stands_learns, step_in}
+use Rattle.oak_core.proofs.calls.CallSteps.{stands_learns, step_in, step_until}
 use Rattle.oak_core.proofs.calls.FoundThere.{found_first, found_later}
 use Rattle.oak_core.proofs.known.KnownReads.{read_since, read_stays}
 use Rattle.oak_core.proofs.memory.MetLists.{at_behind, at_inside}
 use Rattle.oak_core.proofs.known.PinsKnown.{has_first, has_later}
-use Rattle.chunk_ops.specs.Adds.{LeavesCount}
+use Rattle.chunk_ops.specs.Adds.{FoundOther, LeavesCount}
 use Rattle.chunk_ops.specs.AskedRanges.{CoversKey}
 use Rattle.chunk_ops.specs.Contents.{EntryNamed}
 use Rattle.chunk_ops.specs.RoomPins.{FoundMoved}
 use Rattle.chunk_ops.specs.Setting.{FoundSet}
 use Rattle.point_ops.specs.FoundWords.{FoundWord, FoundChanged, FoundApart, FoundHad}
-use Rattle.point_ops.specs.Halting.BusyBy.{locked, dead, pinned, rose, latched, changed}
-use Rattle.point_ops.specs.Halting.{AllTaken, BusyBy, EntryChanged, Halts, IsTaken, IsUnfree, KeyHeaderFound, KeyHeaderRose, NoneFree, RoomCrowded, RoomLatched, SpareNow}
+use Rattle.point_ops.specs.Halting.BusyBy.{locked, dead, pinned, rose, crossed, changed}
+use Rattle.point_ops.specs.Halting.{AllTaken, BusyBy, EntryChanged, Halts, IsTaken, IsUnfree, KeyHeaderFound, KeyHeaderRose, NoneFree, RoomChanged, RoomCrowded, SpareNow}
 use Rattle.point_ops.specs.Needs.{Needs, NeedsNow}
 use Rattle.point_ops.specs.declared.halts.Halt.{Halt}
 use Rattle.point_ops.specs.declared.halts.Halt.TheVariants.{Busy, Moved, Crowded, NoBlock, NoHeader}
@@ -91,8 +91,20 @@ module _ (call : ℕ) (u v w t : PassState) (a : MetMore call u v) (b : MetMore 
     pub named_in : (r i : ℕ) (key : List ℕ) (h g : ℕ) → EntryNamed z call r i key h g v w → EntryNamed z call r i key h g u t
     named_in r i key h g s = record { step = step_in z call _ u v w t a b s.step; home = s.home; taught = s.taught }
 
-    pub latched_in : (key : List ℕ) → RoomLatched z call key v w → RoomLatched z call key u t
-    latched_in key f = record { r = f.r; step = step_in z call _ u v w t a b f.step; taken = f.taken; covers = f.covers; free = f.free }
+    abbrev other_in : (r : ℕ) → FoundOther z call r v w → FoundOther z call r u t
+    other_in r f = record {
+      place = f.place;
+      is = f.is;
+      first = step_in z call _ u v w t a b f.first;
+      kind = f.kind;
+      names = f.names;
+      second = step_until z call _ f.first.to w t b f.second;
+      other = f.other;
+      left = f.left;
+    }
+
+    pub crossed_in : (key : List ℕ) → RoomChanged z call key v w → RoomChanged z call key u t
+    crossed_in key f = record { r = f.r; found = other_in f.r f.found; covers = f.covers }
 
     pub set_in : (r i floor : ℕ) (key : List ℕ) → FoundSet z call r i floor key v w → FoundSet z call r i floor key u t
     set_in r i floor key f = record { new = f.new; kind = f.kind; step = step_in z call _ u v w t a b f.step; entry = f.entry; other = f.other }
@@ -175,7 +187,7 @@ module _ (z : Sizes) (call : ℕ) (key : List ℕ) (u v w t : PassState) (a : Le
   pub read_in : (at : ℕ) (s : State) → ReadAt (key_number key) at s v w → ReadAt (key_number key) at s u t
   read_in at s r = read_stays (key_number key) at s u w t b.all.seen b.all.remembers (read_since (key_number key) at s u v w a.all.seen r)
 
-  -- no part stored to the count of a room
+  -- no part stored to the count of a room, nor to a key word of it
   pub crowded_in : ((r : ℕ) → MetOnly (LeavesCount z r) u v) → ((r : ℕ) → MetOnly (LeavesCount z r) w t) → RoomCrowded z call key v w → RoomCrowded z call key u t
   crowded_in before behind f = record {
     r = f.r;
@@ -215,7 +227,7 @@ module _ (z : Sizes) (call : ℕ) (key : List ℕ) (u v w t : PassState) (a : Le
   busy_in ask (dead s f) = dead s (header_in call u v w t a.met b.met z key _ f)
   busy_in ask (pinned s f) = pinned s (header_in call u v w t a.met b.met z key _ f)
   busy_in ask (rose s f) = rose s (rose_in call u v w t a.met b.met z key f)
-  busy_in ask (latched s f) = latched s (latched_in call u v w t a.met b.met z key f)
+  busy_in ask (crossed s f) = crossed s (crossed_in call u v w t a.met b.met z key f)
   busy_in ask (changed s f) = changed s (entry_in f)
 
   -- before and behind it the call only loaded, pinned and undid pins

@@ -19,7 +19,7 @@ use Rattle.chunk_ops.specs.PinRecords.{HasEntry, OnlyLearns, OnlyMeets, PinKept,
 use Rattle.chunk_ops.specs.RoomWords.{FindsBase}
 use Rattle.chunk_ops.specs.declared.entries.Content.TheVariants.{Value, Floor}
 use Rattle.chunk_ops.specs.declared.entries.EntryNo.{EntryNo}
-use Rattle.chunk_ops.proofs.PinsKept.{kept_both, kept_same, under_only}
+use Rattle.chunk_ops.proofs.PinsKept.{kept_same, under_both, under_only}
 use Rattle.point_ops.specs.Spots.{FoundAway, FoundNamed}
 use Rattle.point_ops.proofs.Composed.{last_in}
 use Rattle.value_ops.proofs.LoadedViews.{known_loaded, names_home}
@@ -34,15 +34,7 @@ last_until call k at s u v w x r = last_in call k at s u u v w (learns_none call
 
 -- an entry that the pin found is one still
 pub entry_under : (z : Sizes) (call r i : ℕ) (key : List ℕ) (v w : PassState) → UnderPin z call r v w → HasEntry r i key v → HasEntry r i key w
-entry_under z call r i key v w u x = record { entry = x.entry; finds = record { pin = u.pin.has.pin; there = u.pin.stays.entries i x.entry x.finds.there }; key_is = x.key_is }
-
-pub under_both : (z : Sizes) (call r : ℕ) (u v w : PassState) → UnderPin z call r u v → UnderPin z call r v w → UnderPin z call r u w
-under_both z call r u v w a b = record {
-  learns = learns_both call u v w a.learns b.learns;
-  blocks = b.blocks ∙ a.blocks;
-  headers = b.headers ∙ a.headers;
-  pin = kept_both z r u.rooms v.rooms w.rooms a.pin b.pin;
-}
+entry_under z call r i key v w u x = record { entry = x.entry; finds = record { pin = u.pin.has.pin; there = u.pin.stays.entries x.entry x.finds.there; number = x.finds.number }; key_is = x.key_is }
 
 module _ (z : Sizes) (call r : ℕ) (v u w : PassState) (first : UnderPin z call r v u) (later : ℕ) (same : later ≡ call) where
   -- behind the search comes what leaves the pin

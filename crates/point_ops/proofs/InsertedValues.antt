@@ -32,7 +32,7 @@ use Rattle.point_ops.specs.declared.halts.Halt.{Halt}
 use Rattle.point_ops.specs.declared.halts.Halt.TheVariants.{Busy, Moved, Crowded, NoBlock, NoHeader}
 use Rattle.point_ops.specs.Inserts.{AddingHalts, InsertHalts, MakesFresh, MakingHalts, TakesOnly}
 use Rattle.point_ops.specs.Halting.{AllTaken}
-use Rattle.point_ops.proofs.Composed.{crowded_in, latched_in, set_in, taken_in}
+use Rattle.point_ops.proofs.Composed.{crossed_in, crowded_in, set_in, taken_in}
 use Rattle.point_ops.proofs.OwnSteps.{front_leaves, front_none, none_but, only_but, only_in, only_leaves, quiet_but}
 use Rattle.point_ops.proofs.WritesIn.{writes_behind}
 
@@ -103,7 +103,7 @@ module _ (z : Sizes) (call r h g stamp : ℕ) (key bytes : List ℕ) (v u w : Pa
           took c spare is q = only_in (TookBut (Block c) spare) v u w x (only_but v u z d b c spare is own) (quiet_but u w c spare q) (none_but w x c spare (front_none w x z later back))
 
           by : (why : Halt) → AddingHalts why z call key u w → InsertHalts why z call key value entry floor v x
-          by Busy f = inl (latched_in call v u w x made.met gone.met z key f)
+          by Busy f = inl (crossed_in call v u w x made.met gone.met z key f)
           by Moved f = absurd f
           by Crowded f = (none, crowded_in z call key v u w x made gone (λ i. only_leaves z i v u d b own) (λ i. front_leaves z i w x later back) f)
           by (NoBlock c) f = dite (ℕ_discrete (class_in m.one.header.place) (class_number c))

@@ -31,10 +31,12 @@ pub mod LoneNamed
 pub mod LoneLooks
 pub mod LoneWords
 pub mod LoneTakes
+pub mod LoneKeys
 pub mod LoneBlocks
 pub mod LoneHeaders
 pub mod LoneReturns
 pub mod LoneFresh
+pub mod PutEntries
 pub mod LoneEntered
 pub mod LoneInserted
 pub mod LoneRefused

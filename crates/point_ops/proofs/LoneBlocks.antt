@@ -4,10 +4,8 @@ use Rattle.std.specs.Prelude.{bit_or}
 use Rattle.oak_model.specs.declared.classes.Class.{Class}
 use Rattle.oak_model.specs.Class.{class_number, class_of}
 use Rattle.oak_model.specs.Limits.{Sizes}
-use Rattle.oak_model.proofs.RowLaws.{rows_same}
 use Rattle.arena_core.specs.Arena.{at_bits, at_bytes, block_words, blocks}
 use Rattle.arena_core.specs.ArenaStep.{bit_of}
-use Rattle.arena_core.specs.Place.{class_in, block_in, content}
 use Rattle.arena_core.specs.Words.{words_of}
 use Rattle.arena_core.proofs.ClassRooms.{class_room}
 use Rattle.arena_core.proofs.PlaceLaws.{class_below}
@@ -16,33 +14,19 @@ use Rattle.arena_ops.specs.Looking.{bit_spot}
 use Rattle.arena_ops.specs.PutWords.{PutsBytesIn}
 use Rattle.arena_ops.specs.Taking.{Takes}
 use Rattle.arena_ops.proofs.PutWords.{spot_from}
-use Rattle.chunk_core.specs.KeyWords.{key_bytes}
-use Rattle.chunk_core.specs.LinkedEntries.{entries_in}
 use Rattle.chunk_core.specs.PinnedRooms.{span_of}
 use Rattle.chunk_core.specs.Spans.{Span}
-use Rattle.chunk_core.specs.Rooms.{at_count, at_key}
 use Rattle.oak_core.specs.declared.states.PassState.{PassState}
 use Rattle.oak_core.specs.AloneWords.{Runs}
 use Rattle.oak_core.specs.Memory.{Spot, at_given, in_arena, in_headers, in_rooms, index, memory, read}
 use Rattle.oak_core.proofs.seats.AloneRuns.{Then, runs_then, runs_as}
 use Rattle.oak_core.proofs.memory.ArenaNames.{bit_inside}
 use Rattle.oak_core.proofs.memory.Words.{memory_read}
-use Rattle.chunk_ops.specs.FindsAlone.{IsUsed}
 use Rattle.chunk_ops.specs.PinRecords.{HasRoomPin, room_pin}
-use Rattle.point_ops.specs.LoneInserts.{IsOfBlock, KeepsBut, KeysStay, MakesBlockIn, MakesBlockUnder}
+use Rattle.point_ops.specs.LoneInserts.{IsOfBlock, KeepsBut, MakesBlockIn, MakesBlockUnder}
+use Rattle.point_ops.proofs.LoneKeys.{keys_stay}
 use Rattle.point_ops.proofs.LoneTakes.{TakesIn, takes_alone}
 use Rattle.point_ops.proofs.LoneWords.{but_as, but_both, but_put, but_same, but_set, read_stored}
-
--- a change that leaves the count and the key words of a room, and the blocks of its entries in use, leaves its keys
-pub keys_stay : (z : Sizes) (r : ℕ) (P : Spot → Type 0) (a d : List ℕ) → KeepsBut z P a d → (P (in_rooms (at_count r)) → ⊥) → ((i : ℕ) → P (in_rooms (at_key r i)) → ⊥)
-    → ((i : ℕ) → IsUsed (memory z a) r i → (k : ℕ) → P (in_arena (at_bytes (class_in ((memory z a).rooms.key r i)) (block_in ((memory z a).rooms.key r i)) k)) → ⊥) → KeysStay z r a d
-keys_stay z r P a d k count key bytes = record {
-  count = ap entries_in (but_same z P a d k (in_rooms (at_count r)) count);
-  keys = λ i used. let word : ℕ = (memory z a).rooms.key r i in let same : (memory z d).rooms.key r i ≡ word = but_same z P a d k (in_rooms (at_key r i)) (key i) in
-      ap (λ (n : ℕ). key_bytes n (content (memory z d).arena.bytes n)) same
-      ∙ ap (key_bytes word) (rows_same 0 (block_words (class_in word)) ((memory z d).arena.bytes (class_in word) (block_in word)) ((memory z a).arena.bytes (class_in word) (block_in word))
-      (λ l _ _. but_same z P a d k (in_arena (at_bytes (class_in word) (block_in word) l)) (bytes i used l)));
-}
 
 -- the bytes of the block alone
 abbrev IsByteOf : Class → ℕ → Spot → Type 0
@@ -78,7 +62,7 @@ module _ (z : Sizes) (r : ℕ) (span : Span) (c : Class) (b : ℕ) (bytes : List
     bit = but_same z (IsByteOf c b) m d puts (bit_spot c b) (λ e. e)
         ∙ (ap (λ (ws : List ℕ). read (memory z ws) (bit_spot c b)) t.becomes ∙ (read_stored z a (bit_spot c b) (bit_or (get_or a (index z (bit_spot c b)) 0) (bit_of b)) t.wide (bit_inside z c b inside)
         ∙ ap (λ (n : ℕ). bit_or n (bit_of b)) (sym (memory_read z a (bit_spot c b) (bit_inside z c b inside)))));
-    keys = keys_stay z r (IsOfBlock c b) a d both (λ e. e) (λ i e. e) (λ i used k e. t.apart i used e);
+    keys = keys_stay z r (IsOfBlock c b) a d both (λ e. e) (λ e. e) (λ i e. e) (λ i e. e) (λ i once k e. t.apart i once e);
   }
 
 -- to a pass that is alone

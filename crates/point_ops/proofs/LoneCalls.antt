@@ -13,7 +13,7 @@ use Rattle.oak_core.proofs.seats.AloneRuns.{Then, runs_as, runs_then}
 use Rattle.chunk_ops.specs.declared.entries.Content.TheVariants.{Value}
 use Rattle.chunk_ops.specs.declared.entries.EntryNo.{EntryNo}
 use Rattle.chunk_ops.specs.Contents.{Says}
-use Rattle.chunk_ops.specs.Latching.{Never}
+use Rattle.chunk_ops.specs.AddsAlone.{Never}
 use Rattle.chunk_ops.specs.LoneRooms.{HasNoRoom, NeverAlone}
 use Rattle.chunk_ops.specs.PinRecords.{HasEntry, WordsStay}
 use Rattle.chunk_ops.specs.RoomPins.{AddsRoomPin, DropsRoomPin}

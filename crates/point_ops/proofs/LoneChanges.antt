@@ -17,7 +17,7 @@ use Rattle.oak_core.specs.Finding.{LoadsMore}
 use Rattle.oak_core.specs.Memory.{in_headers, index}
 use Rattle.oak_core.proofs.seats.AloneRuns.{Then, runs_as, runs_then}
 use Rattle.oak_core.proofs.memory.Words.{memory_read}
-use Rattle.chunk_ops.specs.Latching.{Never}
+use Rattle.chunk_ops.specs.AddsAlone.{Never}
 use Rattle.chunk_ops.specs.PinRecords.{HasRoomPin, RoomPinned}
 use Rattle.value_ops.specs.declared.locking.NoLock.{NoLock}
 use Rattle.value_ops.specs.AloneLocks.{FindsClass, LocksPin, RefusesPin, UnlocksPin, pin_in}

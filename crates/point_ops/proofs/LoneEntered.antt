@@ -1,38 +1,31 @@
 -- To a pass that is alone: an entry that a key gets, or does not get.
-use Rattle.std.proofs.Common.{◌≡◌, ℕ, ◌+◌, ◌<◌, List, length, set, length-set, sym, refl, ap, ◌∙◌, subst, arith, ⊎_elim, Some, None}
+use Rattle.std.proofs.Common.{◌≡◌, ℕ, ◌<◌, List, length, sym, refl, ap, ◌∙◌, subst, ⊎_elim, Option, Some, None}
 use Rattle.oak_model.specs.declared.classes.Class.{Class}
-use Rattle.oak_model.specs.Class.{class_number, class_of}
+use Rattle.oak_model.specs.Class.{class_of}
 use Rattle.oak_model.specs.Limits.{Sizes}
 use Rattle.arena_core.specs.Arena.{at_bits, at_bytes}
-use Rattle.arena_core.specs.Place.{place_word}
 use Rattle.arena_ops.specs.Looking.{AllSet}
 use Rattle.arena_ops.specs.Taking.{ClearsBit}
-use Rattle.chunk_core.specs.LinkedEntries.{entries_in}
+use Rattle.chunk_core.specs.LinkWords.{link_spot}
 use Rattle.chunk_core.specs.Spans.{Span}
-use Rattle.chunk_core.specs.Rooms.{at_base, at_count, at_key, at_value}
+use Rattle.chunk_core.specs.Rooms.{at_base}
 use Rattle.oak_core.specs.declared.states.PassState.{PassState}
 use Rattle.oak_core.specs.AloneWords.{Runs}
-use Rattle.oak_core.specs.Memory.{Spot, IsInside, at_given, in_arena, in_headers, in_rooms, index, memory, word_count}
+use Rattle.oak_core.specs.Memory.{Spot, at_given, in_arena, in_headers, in_rooms, memory, word_count}
 use Rattle.oak_core.proofs.seats.AloneRuns.{Then, runs_then, runs_as, runs_none}
 use Rattle.chunk_ops.specs.declared.entries.AddHalt.{AddHalt}
 use Rattle.chunk_ops.specs.declared.entries.AddHalt.TheVariants as adds
 use Rattle.chunk_ops.specs.declared.entries.EntryNo.{EntryNo}
-use Rattle.chunk_ops.specs.declared.entries.Found.TheVariants.{Missing}
-use Rattle.chunk_ops.specs.AddsAlone.{AddsIn, AddsNext, CrowdedIn, KeepsEntry, NotAddedIn}
-use Rattle.chunk_ops.specs.FindsAlone.{HasKeyAt}
-use Rattle.chunk_ops.specs.Latching.{Never}
-use Rattle.chunk_ops.proofs.KeptKeys.{number_other}
+use Rattle.chunk_ops.specs.AddsAlone.{AddsIn, AddsNext, CrowdedIn, KeepsEntry, Never, NotAddedIn}
 use Rattle.point_ops.specs.Inserts.{halt_of}
-use Rattle.point_ops.specs.LoneInserts.{AddingHaltsIn, GetsEntryIn, IsClearIn, IsEntered, IsOfBlock, KeepsBut, KeysStay, MakesBlockUnder}
+use Rattle.point_ops.specs.LoneInserts.{AddingHaltsIn, GetsEntryIn, IsClearIn, IsEntered, IsOfBlock, KeepsBut, MakesBlockUnder}
 use Rattle.point_ops.specs.LonePuts.{EntersFor}
 use Rattle.point_ops.specs.declared.halts.Halt.{Halt}
 use Rattle.point_ops.specs.declared.halts.Halt.TheVariants.{NoBlock}
+use Rattle.point_ops.proofs.LoneKeys.{missing_still}
 use Rattle.point_ops.proofs.LoneReturns.{block_returned}
-use Rattle.point_ops.proofs.LoneWords.{but_as, but_both, but_none, but_same, but_set, read_stored}
-
--- where the keys of a room stay, none of its entries comes to have a key
-pub missing_stays : (z : Sizes) (r : ℕ) (a m : List ℕ) (key : List ℕ) → KeysStay z r a m → HasKeyAt (memory z a) r key Missing → HasKeyAt (memory z m) r key Missing
-missing_stays z r a m key k none = λ i used same. let was : i < entries_in ((memory z a).rooms.count r) = subst (λ (n : ℕ). i < n) k.count used in none i was (sym (k.keys i was) ∙ same)
+use Rattle.point_ops.proofs.LoneWords.{but_as, but_both, but_none, but_same}
+use Rattle.point_ops.proofs.PutEntries.{put_but, put_value}
 
 -- ---- a block was made for the key
 
@@ -55,39 +48,22 @@ module _ (z : Sizes) (r : ℕ) (span : Span) (inside : r < z.chunks) (c : Class)
 
   -- and it is that of the next entry
   module _ (i : EntryNo) (len : ℕ) (d : List ℕ) (n : AddsNext z r i c b len key m d) where
-    abbrev key_at : Spot
-    key_at = in_rooms (at_key r i.0)
-
-    abbrev value_at : Spot
-    value_at = in_rooms (at_value r i.0)
-
-    abbrev count_at : Spot
-    count_at = in_rooms (at_count r)
-
-    count_there : IsInside z (in_rooms (at_count r))
-    count_there = (inside, omega arith)
-
-    abbrev named : List ℕ
-    named = set m (index z key_at) (place_word (class_number c) b len)
-
-    abbrev valued : List ℕ
-    valued = set named (index z value_at) ((memory z m).rooms.base r)
+    link_entered : (from : Option ℕ) → IsEntered z r a (in_rooms (link_spot r from))
+    link_entered None = refl
+    link_entered (Some q) = refl
 
     then : KeepsBut z (IsEntered z r a) m d
-    then = subst (KeepsBut z E m) (sym n.becomes) (but_both z E m valued (set valued (index z count_at) ((memory z m).rooms.count r + 1))
-        (but_both z E m named valued (but_set z E m key_at (place_word (class_number c) b len) (inside, n.room) refl) (but_set z E named value_at ((memory z m).rooms.base r) (inside, n.room) refl))
-        (but_set z E valued count_at ((memory z m).rooms.count r + 1) count_there refl))
+    then = subst (KeepsBut z E m) (sym n.becomes) (put_but z r inside n.from i.0 n.room c b len m n.link E refl refl refl refl (link_entered n.from))
 
     value_is : (memory z d).rooms.value r i.0 ≡ span.base
-    value_is = ap (λ (ws : List ℕ). (memory z ws).rooms.value r i.0) n.becomes ∙ (number_other z valued count_at ((memory z m).rooms.count r + 1) count_there value_at refl
-        ∙ (read_stored z named value_at ((memory z m).rooms.base r) (length-set m (index z key_at) (place_word (class_number c) b len) ∙ long) (inside, n.room)
-        ∙ (but_same z (IsOfBlock c b) a m made.0.but (in_rooms (at_base r)) (λ e. e) ∙ ap (λ (s : Span). s.base) made.1)))
+    value_is = ap (λ (ws : List ℕ). (memory z ws).rooms.value r i.0) n.becomes ∙ (put_value z r inside n.from i.0 n.room c b len m n.link long
+        ∙ (but_same z (IsOfBlock c b) a m made.0.but (in_rooms (at_base r)) (λ e. e) ∙ ap (λ (s : Span). s.base) made.1))
 
     next_entered : (floor : ℕ) → floor ≡ span.base → GetsEntryIn z r i.0 floor a d
     next_entered floor same = record { but = but_both z E a m d first then; value = value_is ∙ sym same }
 
   entered : (i : EntryNo) (len : ℕ) (d : List ℕ) → AddsIn z r i c b len key m d → (floor : ℕ) → floor ≡ span.base → EntersFor z r None floor key i a d
-  entered i len d s floor same away = ⊎_elim (λ (k : KeepsEntry z r i c b key m d). absurd (missing_stays z r a m key made.0.keys away.1 i.0 k.0.0 k.0.1)) (λ (n : AddsNext z r i c b len key m d). next_entered i len d n floor same) s.was
+  entered i len d s floor same away = ⊎_elim (λ (k : KeepsEntry z r i c b key m d). absurd (missing_still z r a m made.0.keys key away.1 i.0 k.0.0 k.0.1)) (λ (n : AddsNext z r i c b len key m d). next_entered i len d n floor same) s.was
 
   crowded : (n d : List ℕ) → class_of (length key) ≡ Some c → CrowdedIn z r key m n → ClearsBit z c b n d → AddingHaltsIn (halt_of adds.Crowded) z r key a d
   crowded n d fits s g = (block_returned z r c b a m made.0 m d (but_none z _ m) (subst (λ (ws : List ℕ). ClearsBit z c b ws d) s.0 g), sym made.0.keys.count ∙ s.1, (c, fits, (b, made.0.inside, made.0.clear)))

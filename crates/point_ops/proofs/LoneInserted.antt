@@ -1,5 +1,5 @@
 -- What an insertion of a pass that is alone leaves of the words: a value was made, the key has its entry, and the entry the value.
-use Rattle.std.proofs.Common.{◌≡◌, ℕ, ◌+◌, ◌*◌, ◌<◌, List, sym, refl, ap, ◌∙◌, subst, arith, inl, inr, ⊎_elim, Option, Some, None}
+use Rattle.std.proofs.Common.{◌≡◌, ℕ, ◌+◌, ◌*◌, List, sym, refl, ap, ◌∙◌, subst, arith, inl, inr, ⊎_elim, Option, Some, None}
 use Rattle.pin_word.specs.PinWord.{state_of, STATE}
 use Rattle.oak_model.specs.declared.classes.Class.{Class}
 use Rattle.oak_model.specs.Limits.{Sizes}
@@ -16,8 +16,7 @@ use Rattle.chunk_ops.proofs.KeptKeys.{number_other}
 use Rattle.value_ops.proofs.ClaimFacts.{free_word}
 use Rattle.point_ops.specs.LoneInserts.{GetsEntryIn, InsertedIn, IsClearIn, IsEntered, IsFreeIn, IsInserted, IsOfBlock, IsOfHeader, KeepsBut, KeysStay, MakesFreshIn}
 use Rattle.point_ops.specs.LoneLives.{AwayIn}
-use Rattle.point_ops.proofs.LoneBlocks.{keys_stay}
-use Rattle.point_ops.proofs.LoneEntered.{missing_stays}
+use Rattle.point_ops.proofs.LoneKeys.{key_still, keys_both, keys_stay, missing_still}
 use Rattle.point_ops.proofs.LoneReturns.{clear_was, free_was, header_spare}
 use Rattle.point_ops.proofs.LoneWords.{but_as, but_both, but_same, but_set}
 
@@ -32,10 +31,7 @@ module _ (z : Sizes) (r h : ℕ) (c : Class) (b : ℕ) (a m : List ℕ) (f : Mak
 
   -- no key of the room changed
   pub fresh_keys : KeysStay z r a m
-  fresh_keys = let k = f.1.keys in let l = keys_stay z r (IsOfHeader h) mid m f.2.but (λ e. e) (λ i e. e) (λ i used k e. e) in record {
-    count = l.count ∙ k.count;
-    keys = λ i used. l.keys i (subst (λ (n : ℕ). i < n) (sym k.count) used) ∙ k.keys i used;
-  }
+  fresh_keys = keys_both z r a mid f.1.keys m (keys_stay z r (IsOfHeader h) mid m f.2.but (λ e. e) (λ e. e) (λ i e. e) (λ i e. e) (λ i once k e. e))
 
   pub fresh_clear : (d e : ℕ) → IsClearIn z d e m → IsClearIn z d e a
   fresh_clear d e s = clear_was z r c b a mid f.1 d e (header_spare z h mid m f.2 (in_arena (at_bytes d e 0)) s)
@@ -49,8 +45,8 @@ module _ (z : Sizes) (r h : ℕ) (c : Class) (b : ℕ) (a m : List ℕ) (f : Mak
 
   -- so a key that was away is so still
   pub fresh_away : (entry : Option EntryNo) (floor : ℕ) (key : List ℕ) → AwayIn entry floor z r key a a → AwayIn entry floor z r key m m
-  fresh_away None floor key w = (refl, missing_stays z r a m key fresh_keys w.1)
-  fresh_away (Some i) floor key w = ((refl, (subst (λ (n : ℕ). i.0 < n) (sym fresh_keys.count) w.0.1.0, fresh_keys.keys i.0 w.0.1.0 ∙ w.0.1.1)), subst (λ (n : ℕ). Says (Floor floor) n) (sym (fresh_value i.0)) w.1)
+  fresh_away None floor key w = (refl, missing_still z r a m fresh_keys key w.1)
+  fresh_away (Some i) floor key w = ((refl, key_still z r a m fresh_keys i key w.0.1), subst (λ (n : ℕ). Says (Floor floor) n) (sym (fresh_value i.0)) w.1)
 
   abbrev I : Spot → Type 0
   I = IsInserted z r a
@@ -79,10 +75,10 @@ module _ (z : Sizes) (r h : ℕ) (c : Class) (b : ℕ) (a m : List ℕ) (f : Mak
   entry_inserted (in_rooms (at_room_pin j)) s = absurd s
   entry_inserted (in_rooms (at_base j)) s = absurd s
   entry_inserted (in_rooms (at_latch j)) s = absurd s
-  entry_inserted (in_rooms (at_first j)) s = absurd s
+  entry_inserted (in_rooms (at_first j)) s = s
   entry_inserted (in_rooms (at_low j i)) s = absurd s
   entry_inserted (in_rooms (at_high j i)) s = absurd s
-  entry_inserted (in_rooms (at_next j i)) s = absurd s
+  entry_inserted (in_rooms (at_next j i)) s = s
 
   fresh_but : KeepsBut z (IsInserted z r a) a m
   fresh_but = but_both z I a mid m (but_as z (IsOfBlock c b) I a mid block_inserted f.1.but) (but_as z (IsOfHeader h) I mid m header_inserted f.2.but)

@@ -1,5 +1,5 @@
 -- An insertion by a pass that is alone, part by part.
-use Rattle.std.proofs.Common.{◌≡◌, ℕ, List, length, sym, ap, ◌∙◌, subst, arith, Option, Some, None, Result, Ok, Err, IfOk, IfErr}
+use Rattle.std.proofs.Common.{◌≡◌, ℕ, List, length, sym, ap, ◌∙◌, subst, Option, Some, None, Result, Ok, Err, IfOk, IfErr}
 use Rattle.oak_model.specs.declared.classes.Class.{Class}
 use Rattle.oak_model.specs.Class.{class_of}
 use Rattle.oak_model.specs.Limits.{Sizes}
@@ -12,13 +12,13 @@ use Rattle.oak_core.specs.declared.states.PassState.{PassState}
 use Rattle.oak_core.specs.AloneWords.{Runs}
 use Rattle.oak_core.specs.Memory.{IsInside, in_rooms, memory}
 use Rattle.oak_core.proofs.seats.AloneRuns.{Then, runs_then, runs_as}
-use Rattle.oak_core.proofs.memory.MetLists.{at_inside}
 use Rattle.chunk_ops.specs.declared.entries.EntryNo.{EntryNo}
 use Rattle.chunk_ops.specs.declared.entries.Found.TheVariants.{Missing}
 use Rattle.chunk_ops.specs.AskedRanges.{CoversKey}
 use Rattle.chunk_ops.specs.FindsAlone.{HasKeyAt}
-use Rattle.chunk_ops.specs.PinRecords.{HasEntry, HasRoomPin, pin_or, room_pin}
+use Rattle.chunk_ops.specs.PinRecords.{HasEntry, HasRoomPin, pin_or}
 use Rattle.chunk_ops.specs.Setting.{LeavesIn, SetsIn}
+use Rattle.chunk_ops.proofs.WordLoads.{found_inside}
 use Rattle.point_ops.specs.LoneInserts.{AddingHaltsIn, FindsOther, GivesBackIn, MakesFreshUnder, MakingHaltsIn, NamesBlock}
 use Rattle.point_ops.specs.LoneLives.{AwayIn, FloorIsBase}
 use Rattle.point_ops.specs.LonePuts.{EntersFor, InsertsFor}
@@ -38,7 +38,7 @@ base_kept (Some i) floor v u same is = tt
 
 -- an entry that the pin found is one of the table's
 pub entry_there : (z : Sizes) (r i : ℕ) (k : List ℕ) (v : PassState) → HasRoomPin z r v → HasEntry r i k v → IsInside z (in_rooms (at_value r i))
-entry_there z r i k v pin h = let l = at_inside (room_pin v).entries i h.entry h.finds.there in let few = pin.few in (pin.inside, omega arith)
+entry_there z r i k v pin h = (pin.inside, found_inside z r i k v pin h)
 
 missing_of : (z : Sizes) (r floor : ℕ) (key a : List ℕ) (entry : Option EntryNo) → entry ≡ None → AwayIn entry floor z r key a a → HasKeyAt (memory z a) r key Missing
 missing_of z r floor key a entry e away = let w : AwayIn None floor z r key a a = subst (λ (o : Option EntryNo). AwayIn o floor z r key a a) e away in w.1

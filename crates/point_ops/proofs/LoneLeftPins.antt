@@ -20,7 +20,6 @@ use Rattle.oak_core.proofs.seats.AloneRuns.{Then, runs_as, runs_then}
 use Rattle.chunk_ops.specs.declared.entries.Content.TheVariants.{Value}
 use Rattle.chunk_ops.specs.declared.entries.EntryNo.{EntryNo}
 use Rattle.chunk_ops.specs.Contents.{Says}
-use Rattle.chunk_ops.specs.FindsAlone.{IsUsed}
 use Rattle.chunk_ops.specs.RoomPins.{AddsRoomPin, DropsRoomPin}
 use Rattle.chunk_ops.proofs.PinSteps.{undone}
 use Rattle.value_ops.specs.AloneLocks.{pin_in, place_in}
@@ -28,6 +27,7 @@ use Rattle.value_ops.specs.Locking.{may_lock}
 use Rattle.point_ops.specs.LoneInserts.{KeepsBut}
 use Rattle.point_ops.specs.LoneLeft.{ClearsBlockIn, IsOfValue, IsRemoved, KeyNames, LeavesBy, LeavesUnder, RemovesIn, RemovesKey, RewritesIn, RewritesKey}
 use Rattle.point_ops.specs.LoneLives.{EntrySays}
+use Rattle.point_ops.proofs.LoneKeys.{key_before}
 use Rattle.point_ops.proofs.LonePins.{IsPinOf, around, keys_were, pinned, unpinned}
 use Rattle.point_ops.proofs.LoneWords.{but_same}
 
@@ -58,8 +58,8 @@ module _ (z : Sizes) (r : ℕ) (inside : r < z.chunks) (a b : List ℕ) (up : Ad
   place_was h = was (in_headers (at_place h)) (λ e. e)
 
   pub names_were : (i : EntryNo) (h g : ℕ) (key : List ℕ) → KeyNames z r i h g key b → KeyNames z r i h g key a
-  names_were i h g key n = let k = keys_were z r inside a b up in let used : IsUsed (memory z a) r i.0 = subst (λ (m : ℕ). i.0 < m) k.count n.has.0 in record {
-    has = (used, sym (k.keys i.0 used) ∙ n.has.1);
+  names_were i h g key n = record {
+    has = key_before z r a b (keys_were z r inside a b up) i key n.has;
     says = subst (Says (Value h g)) (was (in_rooms (at_value r i.0)) (λ e. e)) n.says;
   }
 

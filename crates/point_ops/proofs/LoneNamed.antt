@@ -41,7 +41,7 @@ use Rattle.chunk_core.specs.KeyWords.{key_bytes}
 use Rattle.chunk_core.specs.LinkedEntries.{linked}
 use Rattle.chunk_core.specs.PinnedRooms.{found_in}
 use Rattle.chunk_core.proofs.CoverFacts.{entry_adds}
-use Rattle.chunk_core.proofs.RoomLinks.{found_place, found_stands}
+use Rattle.chunk_core.proofs.RoomLinks.{found_stands}
 use Rattle.oak_core.specs.PassState.{rooms_held}
 use Rattle.oak_core.proofs.covers.FoundValues.{numbered}
 
@@ -86,7 +86,7 @@ module _ (z : Sizes) (words : List ℕ) (v : PassState) (m : Moment z words v) (
     holds = pin_holds z mem m.states m.rule.rooms m.rule.covers m.seat v m.here (room_pin v) has.finds.pin.is has.finds.pin.good
 
     found : entry_key i (found_in (room_pin v)) ≡ Some k
-    found = let place = found_place (room_pin v).count (room_pin v).entries i has.entry holds.counted has.finds.there in entry_key_is z mem.rooms (content mem.arena.bytes) (room_pin v) holds i has.entry place.0 place.1 ∙ ap Some has.key_is
+    found = entry_key_is z mem.rooms (content mem.arena.bytes) (room_pin v) holds i has.entry has.finds.there has.finds.number ∙ ap Some has.key_is
 
     word : word_now z mem m.states (key_number k) ≡ mem.rooms.value (room_pin v).room i + 1
     word = value_there z mem m.states m.rule.rooms m.rule.covers m.seat v m.here (room_pin v) has.finds.pin.is has.finds.pin.good i k found

@@ -1,5 +1,5 @@
 -- The entry that a key gets by a pass that is alone: what its addition leaves of the words, and of their bits.
-use Rattle.std.proofs.Common.{◌≡◌, ℕ, ◌+◌, ◌/◌, ◌<◌, ◌==◌, ◌&&◌, cond, List, length, set, length-set, sym, refl, ap, ◌∙◌, subst, arith, ⊎_elim, eq-eqb, ne_eqb, Some, None}
+use Rattle.std.proofs.Common.{◌≡◌, ℕ, ◌+◌, ◌/◌, ◌<◌, ◌==◌, ◌&&◌, cond, List, length, sym, refl, ap, ◌∙◌, subst, inl, inr, ⊎_elim, eq-eqb, ne_eqb, Option, Some, None}
 use Rattle.std.specs.Prelude.{bit_or}
 use mathlib.Core.Logic.{dite}
 use native.Mathlib.Decide.{ℕ_discrete}
@@ -8,12 +8,12 @@ use Rattle.oak_model.specs.Class.{class_number, class_of}
 use Rattle.oak_model.specs.Limits.{Sizes}
 use Rattle.arena_core.specs.Arena.{at_bits}
 use Rattle.arena_core.specs.ArenaStep.{bit_of}
-use Rattle.arena_core.specs.Place.{place_word}
-use Rattle.chunk_core.specs.Rooms.{at_count, at_key, at_value}
+use Rattle.chunk_core.specs.LinkWords.{link_spot}
+use Rattle.chunk_core.specs.Rooms.{at_count}
 use Rattle.chunk_core.specs.Spans.{Span}
 use Rattle.oak_core.specs.declared.states.PassState.{PassState}
 use Rattle.oak_core.specs.AloneWords.{Runs}
-use Rattle.oak_core.specs.Memory.{Spot, IsInside, at_given, in_arena, in_headers, in_rooms, index, memory, word_count}
+use Rattle.oak_core.specs.Memory.{Spot, at_given, in_arena, in_headers, in_rooms, memory, word_count}
 use Rattle.oak_core.proofs.seats.AloneRuns.{Then, runs_as, runs_none, runs_then}
 use Rattle.chunk_ops.specs.declared.entries.EntryNo.{EntryNo}
 use Rattle.chunk_ops.specs.declared.entries.Found.TheVariants.{Missing}
@@ -21,8 +21,9 @@ use Rattle.chunk_ops.specs.AddsAlone.{AddsIn, AddsNext, KeepsEntry}
 use Rattle.chunk_ops.specs.FindsAlone.{HasKeyAt}
 use Rattle.point_ops.specs.LoneInserts.{IsOfBlock, KeepsBut, MakesBlockIn, MakesBlockUnder}
 use Rattle.point_ops.specs.LonePutLeft.{AddsKeyIn, GetsFor, IsNewEntry, with_bit}
-use Rattle.point_ops.proofs.LoneEntered.{missing_stays}
-use Rattle.point_ops.proofs.LoneWords.{but_as, but_both, but_same, but_set, read_stored}
+use Rattle.point_ops.proofs.LoneKeys.{missing_still}
+use Rattle.point_ops.proofs.LoneWords.{but_as, but_both, but_same}
+use Rattle.point_ops.proofs.PutEntries.{put_but, put_count}
 
 -- ---- the bits, where a block was made
 
@@ -48,64 +49,38 @@ bits_made z r c b a m made d j = let n : ℕ = (memory z a).arena.bits d j in di
 
 -- ---- the entry
 
--- its two words, and the count of its room
-abbrev IsOfEntry : (r i : ℕ) → Spot → Type 0
-IsOfEntry r i (in_rooms (at_count q)) = q ≡ r
-IsOfEntry r i (in_rooms (at_key q j)) = (q ≡ r) × (j ≡ i)
-IsOfEntry r i (in_rooms (at_value q j)) = (q ≡ r) × (j ≡ i)
-IsOfEntry _ _ _ = ⊥
+-- its three words, the count of its room, and the link that names it: all of them words of rooms
+module _ (r i : ℕ) (from : Option ℕ) (c : Class) (b : ℕ) where
+  abbrev IsOfEntry : Spot → Type 0
+  IsOfEntry (in_rooms p) = IsNewEntry r i from c b (in_rooms p)
+  IsOfEntry _ = ⊥
 
-entry_new : (r i : ℕ) (c : Class) (b : ℕ) (p : Spot) → IsOfEntry r i p → IsNewEntry r i c b p
-entry_new r i c b (in_rooms (at_count q)) s = s
-entry_new r i c b (in_rooms (at_key q j)) s = s
-entry_new r i c b (in_rooms (at_value q j)) s = s
-entry_new r i c b (in_rooms (Rattle.chunk_core.specs.Rooms.at_room_pin j)) s = absurd s
-entry_new r i c b (in_rooms (Rattle.chunk_core.specs.Rooms.at_base j)) s = absurd s
-entry_new r i c b (in_rooms (Rattle.chunk_core.specs.Rooms.at_latch j)) s = absurd s
-entry_new r i c b (in_rooms (Rattle.chunk_core.specs.Rooms.at_first j)) s = absurd s
-entry_new r i c b (in_rooms (Rattle.chunk_core.specs.Rooms.at_low j k)) s = absurd s
-entry_new r i c b (in_rooms (Rattle.chunk_core.specs.Rooms.at_high j k)) s = absurd s
-entry_new r i c b (in_rooms (Rattle.chunk_core.specs.Rooms.at_next j k)) s = absurd s
-entry_new r i c b (in_arena q) s = absurd s
-entry_new r i c b (in_headers q) s = absurd s
-entry_new r i c b at_given s = absurd s
+  entry_new : (p : Spot) → IsOfEntry p → IsNewEntry r i from c b p
+  entry_new (in_rooms p) s = s
+  entry_new (in_arena q) s = absurd s
+  entry_new (in_headers q) s = absurd s
+  entry_new at_given s = absurd s
 
-block_new : (r i : ℕ) (c : Class) (b : ℕ) (p : Spot) → IsOfBlock c b p → IsNewEntry r i c b p
-block_new r i c b (in_arena q) s = s
-block_new r i c b (in_headers q) s = absurd s
-block_new r i c b (in_rooms q) s = absurd s
-block_new r i c b at_given s = absurd s
+  block_new : (p : Spot) → IsOfBlock c b p → IsNewEntry r i from c b p
+  block_new (in_arena q) s = s
+  block_new (in_headers q) s = absurd s
+  block_new (in_rooms q) s = absurd s
+  block_new at_given s = absurd s
+
+link_new : (r i : ℕ) (from : Option ℕ) (c : Class) (b : ℕ) → IsNewEntry r i from c b (in_rooms (link_spot r from))
+link_new r i None c b = (refl, refl)
+link_new r i (Some q) c b = (refl, inr refl)
 
 module _ (z : Sizes) (r : ℕ) (span : Span) (inside : r < z.chunks) (c : Class) (b : ℕ) (key : List ℕ) (fits : class_of (length key) ≡ Some c) (a m : List ℕ) (made : MakesBlockUnder z r span c b a m) where
   module _ (i : EntryNo) (len : ℕ) (d : List ℕ) (s : AddsIn z r i c b len key m d) (n : AddsNext z r i c b len key m d) (missing : HasKeyAt (memory z a) r key Missing) where
-    abbrev key_at : Spot
-    key_at = in_rooms (at_key r i.0)
-
-    abbrev value_at : Spot
-    value_at = in_rooms (at_value r i.0)
-
-    abbrev count_at : Spot
-    count_at = in_rooms (at_count r)
-
-    count_there : IsInside z (in_rooms (at_count r))
-    count_there = (inside, omega arith)
-
-    abbrev named : List ℕ
-    named = set m (index z key_at) (place_word (class_number c) b len)
-
-    abbrev valued : List ℕ
-    valued = set named (index z value_at) ((memory z m).rooms.base r)
-
     abbrev E : Spot → Type 0
-    E = IsOfEntry r i.0
+    E = IsOfEntry r i.0 n.from c b
 
-    long : length valued ≡ word_count z
-    long = length-set named (index z value_at) ((memory z m).rooms.base r) ∙ (length-set m (index z key_at) (place_word (class_number c) b len) ∙ (made.0.but.size ∙ made.0.wide))
+    long : length m ≡ word_count z
+    long = made.0.but.size ∙ made.0.wide
 
-    then : KeepsBut z (IsOfEntry r i.0) m d
-    then = subst (KeepsBut z E m) (sym n.becomes) (but_both z E m valued (set valued (index z count_at) ((memory z m).rooms.count r + 1))
-        (but_both z E m named valued (but_set z E m key_at (place_word (class_number c) b len) (inside, n.room) (refl, refl)) (but_set z E named value_at ((memory z m).rooms.base r) (inside, n.room) (refl, refl)))
-        (but_set z E valued count_at ((memory z m).rooms.count r + 1) count_there refl))
+    then : KeepsBut z (IsOfEntry r i.0 n.from c b) m d
+    then = subst (KeepsBut z E m) (sym n.becomes) (put_but z r inside n.from i.0 n.room c b len m n.link E refl (refl, refl) (refl, inl refl) (refl, refl) (link_new r i.0 n.from c b))
 
     adds_key : AddsKeyIn z r i key a d
     adds_key = record {
@@ -113,17 +88,18 @@ module _ (z : Sizes) (r : ℕ) (span : Span) (inside : r < z.chunks) (c : Class)
       fits = fits;
       block = b;
       clear = made.0.clear;
-      but = let N : Spot → Type 0 = IsNewEntry r i.0 c b in but_both z N a m d (but_as z (IsOfBlock c b) N a m (block_new r i.0 c b) made.0.but) (but_as z E N m d (entry_new r i.0 c b) then);
+      from = n.from;
+      but = let N : Spot → Type 0 = IsNewEntry r i.0 n.from c b in but_both z N a m d (but_as z (IsOfBlock c b) N a m (block_new r i.0 n.from c b) made.0.but) (but_as z E N m d (entry_new r i.0 n.from c b) then);
       bits = λ e j. but_same z E m d then (in_arena (at_bits e j)) (λ x. x) ∙ bits_made z r c b a m made.0 e j;
       next = n.next ∙ made.0.keys.count;
       room = n.room;
       missing = missing;
-      count = ap (λ (ws : List ℕ). (memory z ws).rooms.count r) n.becomes ∙ (read_stored z valued count_at ((memory z m).rooms.count r + 1) long count_there ∙ ap (λ (k : ℕ). k + 1) (but_same z (IsOfBlock c b) a m made.0.but (in_rooms (at_count r)) (λ e. e)));
+      count = ap (λ (ws : List ℕ). (memory z ws).rooms.count r) n.becomes ∙ (put_count z r inside n.from i.0 n.room c b len m n.link long ∙ ap (λ (k : ℕ). k + 1) (but_same z (IsOfBlock c b) a m made.0.but (in_rooms (at_count r)) (λ e. e)));
       has = s.now;
     }
 
   adds_for : (i : EntryNo) (len : ℕ) (d : List ℕ) → AddsIn z r i c b len key m d → (floor : ℕ) → GetsFor None floor z r i key a d
-  adds_for i len d s floor away = ⊎_elim (λ (k : KeepsEntry z r i c b key m d). absurd (missing_stays z r a m key made.0.keys away.1 i.0 k.0.0 k.0.1)) (λ (n : AddsNext z r i c b len key m d). adds_key i len d s n away.1) s.was
+  adds_for i len d s floor away = ⊎_elim (λ (k : KeepsEntry z r i c b key m d). absurd (missing_still z r a m made.0.keys key away.1 i.0 k.0.0 k.0.1)) (λ (n : AddsNext z r i c b len key m d). adds_key i len d s n away.1) s.was
 
 -- to a pass that is alone
 pub adds_alone : (z : Sizes) (r : ℕ) (span : Span) → r < z.chunks → (c : Class) (b : ℕ) (key : List ℕ) → class_of (length key) ≡ Some c → (v u w : PassState) → Runs (MakesBlockUnder z r span c b) v u

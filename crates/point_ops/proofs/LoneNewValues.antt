@@ -1,5 +1,5 @@
 -- The value that a key without one gets by a pass that is alone: what its insertion leaves of the words, and of their bits.
-use Rattle.std.proofs.Common.{◌≡◌, ℕ, ◌+◌, ◌*◌, ◌<◌, ◌⊎◌, List, length, sym, refl, ap, ◌∙◌, subst, inl, inr, Option, Some, None}
+use Rattle.std.proofs.Common.{◌≡◌, ℕ, ◌+◌, ◌*◌, ◌⊎◌, List, length, sym, refl, ap, ◌∙◌, subst, inl, inr, Option, Some, None}
 use Rattle.pin_word.specs.PinWord.{STATE}
 use Rattle.oak_model.specs.declared.classes.Class.{Class}
 use Rattle.oak_model.specs.Class.{class_number, class_of}
@@ -23,8 +23,8 @@ use Rattle.value_ops.specs.AloneLocks.{pin_in}
 use Rattle.point_ops.specs.LoneInserts.{IsOfBlock, IsOfHeader, KeepsBut, KeysStay, MakesFreshIn, MakesFreshUnder}
 use Rattle.point_ops.specs.LoneLives.{AwayIn}
 use Rattle.point_ops.specs.LonePutLeft.{AddsKeyIn, GetsFor, GotEntryIn, HadEntryIn, InsertsKey, InsertsKeyFor, IsNewEntry, IsNewValue, with_bit}
-use Rattle.point_ops.proofs.LoneBlocks.{keys_stay}
 use Rattle.point_ops.proofs.LoneInserted.{fresh_away, fresh_clear, fresh_free, fresh_keys}
+use Rattle.point_ops.proofs.LoneKeys.{key_still, keys_stay}
 use Rattle.point_ops.proofs.LoneNewEntries.{bits_made}
 use Rattle.point_ops.proofs.LoneWords.{but_as, but_both, but_same, but_set, read_stored}
 
@@ -80,10 +80,7 @@ module _ (z : Sizes) (r h g : ℕ) (c : Class) (b : ℕ) (key value : List ℕ) 
     only = set_but (IsValueOf r i.0) (refl, refl)
 
     set_keys : KeysStay z r n q
-    set_keys = keys_stay z r (IsValueOf r i.0) n q only (λ e. e) (λ j e. e) (λ j used k e. e)
-
-    has_key : HasKeyAt (memory z n) r key (Entry i) → HasKeyAt (memory z q) r key (Entry i)
-    has_key k = (subst (λ (t : ℕ). i.0 < t) (sym set_keys.count) k.0, set_keys.keys i.0 k.0 ∙ k.1)
+    set_keys = keys_stay z r (IsValueOf r i.0) n q only (λ e. e) (λ e. e) (λ j e. e) (λ j e. e) (λ j once k e. e)
 
     named : (memory z q).rooms.value r i.0 ≡ home_of h g
     named = ap (λ (ws : List ℕ). (memory z ws).rooms.value r i.0) s.1 ∙ read_stored z n value_at home wide there
@@ -110,7 +107,7 @@ module _ (z : Sizes) (r h g : ℕ) (c : Class) (b : ℕ) (key value : List ℕ) 
       pin = set_pin ∙ (pin ∙ fresh_pin);
       covers = covers;
       names = named;
-      has = has_key has;
+      has = key_still z r n q set_keys i key has;
       entry = entry;
     }
 
@@ -126,7 +123,7 @@ module _ (z : Sizes) (r h g : ℕ) (c : Class) (b : ℕ) (key value : List ℕ) 
 
     -- or which is new
     got : (k : ℕ) → AwayIn None k z r key a a → AddsKeyIn z r i key m n → InsertsKey z r key value a q
-    got k away e = inserts_by (but_same z (IsNewEntry r i.0 e.class e.block) m n e.but (in_headers (at_pin h)) (λ x. x)) e.has (inr (record {
+    got k away e = inserts_by (but_same z (IsNewEntry r i.0 e.from e.class e.block) m n e.but (in_headers (at_pin h)) (λ x. x)) e.has (inr (record {
       class = e.class;
       fits = e.fits;
       block = e.block;
@@ -135,8 +132,9 @@ module _ (z : Sizes) (r h g : ℕ) (c : Class) (b : ℕ) (key value : List ℕ) 
       next = e.next ∙ (fresh_keys z r h c b a m f).count;
       room = e.room;
       count = set_count ∙ (e.count ∙ ap (λ (t : ℕ). t + 1) fresh_count);
-      but = let W : Spot → Type 0 = λ p. V p ⊎ IsNewEntry r i.0 e.class e.block p in but_both z W a m q (but_as z V W a m (λ p x. inl x) fresh_but)
-          (but_both z W m n q (but_as z (IsNewEntry r i.0 e.class e.block) W m n (λ p x. inr x) e.but) (set_but W (inl (refl, refl))));
+      from = e.from;
+      but = let W : Spot → Type 0 = λ p. V p ⊎ IsNewEntry r i.0 e.from e.class e.block p in but_both z W a m q (but_as z V W a m (λ p x. inl x) fresh_but)
+          (but_both z W m n q (but_as z (IsNewEntry r i.0 e.from e.class e.block) W m n (λ p x. inr x) e.but) (set_but W (inl (refl, refl))));
       bits = λ d j. set_bits d j ∙ (e.bits d j ∙ ap (with_bit e.class e.block d j) (fresh_bits d j));
     }))
 

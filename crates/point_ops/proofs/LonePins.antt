@@ -31,7 +31,7 @@ use Rattle.point_ops.specs.LoneInserts.{FitsValue, InsertHaltsIn, IsClearIn, IsF
 use Rattle.point_ops.specs.LonePuts.{IsPut, KeepsRooms, LoneHalts, PutsIn, PutsUnder}
 use Rattle.point_ops.specs.declared.halts.Halt.{Halt}
 use Rattle.point_ops.specs.declared.halts.Halt.TheVariants.{Busy, Moved, Crowded, NoBlock, NoHeader}
-use Rattle.point_ops.proofs.LoneBlocks.{keys_stay}
+use Rattle.point_ops.proofs.LoneKeys.{keys_stay, missing_before}
 use Rattle.point_ops.proofs.LoneWords.{but_as, but_same, but_set}
 
 -- the pin word of the room
@@ -76,10 +76,10 @@ module _ (z : Sizes) (r : ℕ) (inside : r < z.chunks) (a b : List ℕ) (up : Ad
   spare_was at_given s = absurd s
 
   pub keys_were : KeysStay z r a b
-  keys_were = keys_stay z r (IsPinOf r) a b pinned (λ e. e) (λ i e. e) (λ i used k e. e)
+  keys_were = keys_stay z r (IsPinOf r) a b pinned (λ e. e) (λ e. e) (λ i e. e) (λ i e. e) (λ i once k e. e)
 
   pub missing_was : (key : List ℕ) → HasKeyAt (memory z b) r key Missing → HasKeyAt (memory z a) r key Missing
-  missing_was key none = λ i used same. none i (subst (λ (n : ℕ). i < n) (sym keys_were.count) used) (keys_were.keys i used ∙ same)
+  missing_was key none = missing_before z r a b keys_were key none
 
   pub span_was : span_in (memory z b).rooms r ≡ span_in (memory z a).rooms r
   span_was = let low : rows 0 BOUND_WORDS ((memory z b).rooms.low r) ≡ rows 0 BOUND_WORDS ((memory z a).rooms.low r) = rows_same 0 BOUND_WORDS ((memory z b).rooms.low r) ((memory z a).rooms.low r) (λ j _ _. but_same z (IsPinOf r) a b pinned (in_rooms (at_low r j)) (λ e. e)) in

@@ -20,9 +20,7 @@ use Rattle.oak_core.specs.Memory.{Spot, in_arena, in_headers, in_rooms, memory, 
 use Rattle.oak_core.proofs.seats.AloneRuns.{Then, runs_as, runs_then}
 use Rattle.chunk_ops.specs.declared.entries.Content.TheVariants.{Value}
 use Rattle.chunk_ops.specs.declared.entries.EntryNo.{EntryNo}
-use Rattle.chunk_ops.specs.declared.entries.Found.TheVariants.{Entry}
 use Rattle.chunk_ops.specs.AskedRanges.{CoversKey}
-use Rattle.chunk_ops.specs.FindsAlone.{HasKeyAt, IsUsed}
 use Rattle.chunk_ops.specs.RoomPins.{AddsRoomPin, DropsRoomPin}
 use Rattle.chunk_ops.proofs.PinSteps.{undone}
 use Rattle.value_ops.specs.AloneLocks.{place_in}
@@ -30,7 +28,7 @@ use Rattle.point_ops.specs.LoneInserts.{IsOfBlock, KeepsBut, KeysStay}
 use Rattle.point_ops.specs.LoneLeft.{ClearsBlockIn}
 use Rattle.point_ops.specs.LoneLives.{AwayIn, EntrySays}
 use Rattle.point_ops.specs.LonePutLeft.{ExchangesIn, GotEntryIn, HadEntryIn, InsertsKey, InsertsKeyFor, IsNewEntry, IsNewValue, IsRefilled, IsSwapped, OverIn, OverKey, PutLeavesBy, PutLeavesUnder, RefillsIn, with_bit}
-use Rattle.point_ops.proofs.LoneBlocks.{keys_stay}
+use Rattle.point_ops.proofs.LoneKeys.{key_before, key_still, keys_stay}
 use Rattle.point_ops.proofs.LoneLeftPins.{bit_around, names_were, now, place_was, rewrites_around, was}
 use Rattle.point_ops.proofs.LonePins.{IsPinOf, around, clear_was, free_was, header_was, keys_were, missing_was, span_was, unpinned}
 use Rattle.point_ops.proofs.LoneUnderPins.{away_stays}
@@ -65,13 +63,7 @@ module _ (z : Sizes) (r : ℕ) (inside : r < z.chunks) (a b : List ℕ) (up : Ad
   bits_after e j = after (in_arena (at_bits e j)) (λ x. x)
 
   keys_after : KeysStay z r c d
-  keys_after = keys_stay z r (IsPinOf r) c d (unpinned z r inside a b up c d down) (λ e. e) (λ j e. e) (λ j used k e. e)
-
-  has_before : (i : EntryNo) (key : List ℕ) → HasKeyAt (memory z b) r key (Entry i) → HasKeyAt (memory z a) r key (Entry i)
-  has_before i key k = let s = keys_were z r inside a b up in let used : IsUsed (memory z a) r i.0 = subst (λ (m : ℕ). i.0 < m) s.count k.0 in (used, sym (s.keys i.0 used) ∙ k.1)
-
-  has_after : (i : EntryNo) (key : List ℕ) → HasKeyAt (memory z c) r key (Entry i) → HasKeyAt (memory z d) r key (Entry i)
-  has_after i key k = (subst (λ (m : ℕ). i.0 < m) (sym keys_after.count) k.0, keys_after.keys i.0 k.0 ∙ k.1)
+  keys_after = keys_stay z r (IsPinOf r) c d (unpinned z r inside a b up c d down) (λ e. e) (λ e. e) (λ j e. e) (λ j e. e) (λ j once k e. e)
 
   -- ---- a value in place of another
 
@@ -106,7 +98,7 @@ module _ (z : Sizes) (r : ℕ) (inside : r < z.chunks) (a b : List ℕ) (up : Ad
 
   had_around : (i : EntryNo) (h : ℕ) (e : Class) (n : ℕ) (key : List ℕ) → HadEntryIn z r i h e n key b c → HadEntryIn z r i h e n key a d
   had_around i h e n key s = record {
-    had = has_before i key s.had;
+    had = key_before z r a b (keys_were z r inside a b up) i key s.had;
     floor = ap names_header (sym (before (in_rooms (at_value r i.0)) (λ x. x))) ∙ s.floor;
     but = around z r inside a b up c d down (IsNewValue r i.0 h e n) (λ x. x) s.but;
     bits = λ k j. bits_after k j ∙ (s.bits k j ∙ ap (with_bit e n k j) (bits_before k j));
@@ -122,7 +114,8 @@ module _ (z : Sizes) (r : ℕ) (inside : r < z.chunks) (a b : List ℕ) (up : Ad
     next = s.next ∙ (keys_were z r inside a b up).count;
     room = s.room;
     count = after (in_rooms (at_count r)) (λ x. x) ∙ (s.count ∙ ap (λ (k : ℕ). k + 1) (before (in_rooms (at_count r)) (λ x. x)));
-    but = around z r inside a b up c d down (λ p. IsNewValue r i.0 h e n p ⊎ IsNewEntry r i.0 s.class s.block p) (λ x. ⊎_elim (λ y. y) (λ y. y) x) s.but;
+    from = s.from;
+    but = around z r inside a b up c d down (λ p. IsNewValue r i.0 h e n p ⊎ IsNewEntry r i.0 s.from s.class s.block p) (λ x. ⊎_elim (λ y. y) (λ y. y) x) s.but;
     bits = λ k j. bits_after k j ∙ (s.bits k j ∙ ap (λ (m : ℕ). with_bit s.class s.block k j (with_bit e n k j m)) (bits_before k j));
   }
 
@@ -139,7 +132,7 @@ module _ (z : Sizes) (r : ℕ) (inside : r < z.chunks) (a b : List ℕ) (up : Ad
     pin = after (in_headers (at_pin s.h)) (λ x. x) ∙ (s.pin ∙ ap (λ (k : ℕ). k + 2 * STATE) (header_was z r inside a b up s.h));
     covers = subst (CoversKey key) (span_was z r inside a b up) s.covers;
     names = after (in_rooms (at_value r s.i.0)) (λ x. x) ∙ s.names;
-    has = has_after s.i key s.has;
+    has = key_still z r c d keys_after s.i key s.has;
     entry = ⊎_elim (λ (f : HadEntryIn z r s.i s.h s.class s.block key b c). inl (had_around s.i s.h s.class s.block key f)) (λ (f : GotEntryIn z r s.i s.h s.class s.block key b c). inr (got_around s.i s.h s.class s.block key f)) s.entry;
   }
 

@@ -3,9 +3,10 @@ use Rattle.std.proofs.Common.{◌≡◌, ℕ, ◌*◌, ◌/◌, ◌^◌, ◌<◌
 use Rattle.std.specs.Prelude.{bit_or}
 use Rattle.std.proofs.lemmas.Bool.{lt-ltb}
 use Rattle.std.proofs.lemmas.Nat.{le_or_l}
+use mathlib.Core.Path.{fun_ext}
 use Rattle.oak_model.specs.declared.classes.Class.{Class}
 use Rattle.oak_model.specs.Class.{class_number}
-use Rattle.oak_model.specs.Counts.{one_if, rows}
+use Rattle.oak_model.specs.Counts.{one_at, one_if, rows, total}
 use Rattle.oak_model.specs.Limits.{Sizes}
 use Rattle.oak_model.proofs.Counting.{total_map}
 use Rattle.oak_model.proofs.RowLaws.{rows_same}
@@ -18,10 +19,11 @@ use Rattle.chunk_core.specs.declared.layout.TheConstants.{BOUND_WORDS}
 use Rattle.chunk_core.specs.KeyWords.{high_number, low_number}
 use Rattle.chunk_core.specs.PinnedRooms.{span_of}
 use Rattle.chunk_core.specs.Spans.{Span}
-use Rattle.chunk_core.specs.LinkedEntries.{entries_in, in_use}
-use Rattle.chunk_core.specs.Rooms.{RoomSpot, at_base, at_count, at_high, at_key, at_low}
+use Rattle.chunk_core.specs.LinkedEntries.{entries_in, in_use, linked}
+use Rattle.chunk_core.specs.Rooms.{RoomSpot, at_base, at_first, at_high, at_key, at_low, at_next}
 use Rattle.chunk_core.proofs.CoverLaws.{room_le}
 use Rattle.chunk_core.proofs.EntryNumbers.{numbers_once}
+use Rattle.chunk_core.proofs.RoomLinks.{linked_same}
 use Rattle.oak_core.specs.declared.states.Finding.{Finding}
 use Rattle.oak_core.specs.declared.states.PassState.{PassState}
 use Rattle.oak_core.specs.AloneWords.{LeavesWords, Runs, RunsTo}
@@ -40,10 +42,10 @@ use Rattle.oak_core.proofs.owners.HeadersInArena.{names_named}
 use Rattle.oak_core.proofs.memory.Words.{index_below, memory_read}
 use Rattle.arena_ops.specs.Looking.{bit_spot}
 use Rattle.arena_ops.specs.Taking.{SetsBit, Takes}
-use Rattle.chunk_ops.specs.FindsAlone.{IsUsed}
+use Rattle.chunk_ops.specs.FindsAlone.{IsLinked}
 use Rattle.chunk_ops.specs.PinRecords.{HasRoomPin, room_pin}
 use Rattle.chunk_ops.proofs.KeptKeys.{number_other}
-use Rattle.chunk_ops.proofs.KeyPlaces.{is_key_below}
+use Rattle.chunk_ops.proofs.KeyPlaces.{is_key_linked, linked_used}
 use Rattle.chunk_ops.proofs.WordLoads.{pin_holds}
 use Rattle.point_ops.specs.LoneInserts.{IsClearIn}
 
@@ -63,24 +65,24 @@ runs_left P Q v w moves f h = record {
     so : (before : List ℕ) → RunsTo P before w → RunsTo Q before w
     so before r = record { after = r.after; leaves = r.leaves; does = f before r.after r.leaves r.does }
 
--- an entry below the count of a room that is a cover has its key's block
-pub key_owned : (z : Sizes) (s : TableState) → Rule z s → (r i : ℕ) → r < z.chunks → weight ((memory z s.words).rooms.pin r) ≡ 1 → i < entries_in ((memory z s.words).rooms.count r)
+-- a linked entry of a room that is a cover has its key's block
+pub key_owned : (z : Sizes) (s : TableState) → Rule z s → (r i : ℕ) → r < z.chunks → weight ((memory z s.words).rooms.pin r) ≡ 1 → IsLinked (memory z s.words) r i
     → 1 ≤ entry_owners z (memory z s.words).rooms (content (memory z s.words).arena.bytes) (map rooms_held s.states) (class_in ((memory z s.words).rooms.key r i)) (block_in ((memory z s.words).rooms.key r i))
-key_owned z s rule r i inside weighs below = let m : Memory = memory z s.words in let word : ℕ = m.rooms.key r i in let names : ℕ → ℕ = names_block (class_in word) (block_in word) in let ms = map moving_of (map rooms_held s.states) in
+key_owned z s rule r i inside weighs once = let m : Memory = memory z s.words in let word : ℕ = m.rooms.key r i in let names : ℕ → ℕ = names_block (class_in word) (block_in word) in let ms = map moving_of (map rooms_held s.states) in
     let a = room_le z.chunks m.rooms.pin (used_at m.rooms (content m.arena.bytes)) ms (each (owning names)) r inside weighs in
     let b = total_map (entry_at m.rooms (content m.arena.bytes) r) (owning names (span_in m.rooms r)) (in_use m.rooms r) in
-    let c = total_in (λ j. owning names (span_in m.rooms r) (entry_at m.rooms (content m.arena.bytes) r j)) i (in_use m.rooms r) (let o = numbers_once (entries_in (m.rooms.count r)) i below in omega arith) in
-    let some_word : 0 < word = key_some word (let k = is_key_below z s rule r i inside weighs below in omega arith) in
+    let c = total_in (λ j. owning names (span_in m.rooms r) (entry_at m.rooms (content m.arena.bytes) r j)) i (in_use m.rooms r) (let o = numbers_once (entries_in (m.rooms.count r)) i (linked_used z s rule r i inside weighs once) in omega arith) in
+    let some_word : 0 < word = key_some word (let k = is_key_linked z s rule r i inside weighs once in omega arith) in
     let d : one_if (nat_lt 0 word) * names_block (class_in word) (block_in word) word ≡ 1 = (λ j. one_if (lt-ltb 0 word some_word j) * names_named (class_in word) (block_in word) word refl refl j) in omega arith
 
--- The bit of the block was clear, and is set, in words of the table. No entry in use of the room r, which has this range and base, has the block.
+-- The bit of the block was clear, and is set, in words of the table. No linked entry of the room r, which has this range and base, has the block.
 pub record TakesIn (z : Sizes) (r : ℕ) (span : Span) (c : Class) (b : ℕ) (before after : List ℕ) : Type 0 where
   pub wide : length before ≡ word_count z
   pub small : (memory z before).arena.bits (class_number c) (b / 64) < 2 ^ 64
   pub clear : IsClearIn z (class_number c) b before
   pub range : span_in (memory z before).rooms r ≡ span
   pub becomes : after ≡ set before (index z (bit_spot c b)) (bit_or (get_or before (index z (bit_spot c b)) 0) (bit_of b))
-  pub apart : (i : ℕ) → IsUsed (memory z before) r i → (class_in ((memory z before).rooms.key r i) ≡ class_number c) × (block_in ((memory z before).rooms.key r i) ≡ b) → ⊥
+  pub apart : (i : ℕ) → IsLinked (memory z before) r i → (class_in ((memory z before).rooms.key r i) ≡ class_number c) × (block_in ((memory z before).rooms.key r i) ≡ b) → ⊥
 
 module _ (z : Sizes) (call : ℕ) (c : Class) (b : ℕ) (v w : PassState) (t : Takes z call c b v w) where
   abbrev ws : List ℕ
@@ -121,11 +123,14 @@ module _ (z : Sizes) (call : ℕ) (c : Class) (b : ℕ) (v w : PassState) (t : T
         let base : (memory z a).rooms.base r ≡ (room_pin v).base = sym (in_room (at_base r)) ∙ ((λ i. (memory z ws).rooms.base (sym pin.pin.room i)) ∙ h.base) in
         λ i. record { low = low_number (low i); high = high_number (high i); base = base i }
 
-    apart : (r : ℕ) → HasRoomPin z r v → (i : ℕ) → IsUsed (memory z a) r i → (class_in ((memory z a).rooms.key r i) ≡ class_number c) × (block_in ((memory z a).rooms.key r i) ≡ b) → ⊥
-    apart r pin i used same = let m : Memory = memory z ws in let h = pin_holds z call r x (grown t.before v) t.number w pin t.told in
+    links_are : (r : ℕ) → linked (memory z ws).rooms r ≡ linked (memory z a).rooms r
+    links_are r = linked_same (memory z a).rooms (memory z ws).rooms r (in_room (at_first r)) (fun_ext (λ i. in_room (at_next r i)))
+
+    apart : (r : ℕ) → HasRoomPin z r v → (i : ℕ) → IsLinked (memory z a) r i → (class_in ((memory z a).rooms.key r i) ≡ class_number c) × (block_in ((memory z a).rooms.key r i) ≡ b) → ⊥
+    apart r pin i once same = let m : Memory = memory z ws in let h = pin_holds z call r x (grown t.before v) t.number w pin t.told in
         let weighs : weight (m.rooms.pin r) ≡ 1 = subst (λ (k : ℕ). weight (m.rooms.pin k) ≡ 1) pin.pin.room h.cover in
-        let below : i < entries_in (m.rooms.count r) = subst (λ (k : ℕ). i < entries_in k) (sym (in_room (at_count r))) used in
-        let owned = key_owned z t.told.table t.told.rule r i pin.inside weighs below in
+        let here : IsLinked m r i = ap (total (λ j. one_at j i)) (links_are r) ∙ once in
+        let owned = key_owned z t.told.table t.told.rule r i pin.inside weighs here in
         let e : class_in (m.rooms.key r i) ≡ class_number c = ap class_in (in_room (at_key r i)) ∙ same.0 in let f : block_in (m.rooms.key r i) ≡ b = ap block_in (in_room (at_key r i)) ∙ same.1 in
         let owned' : 1 ≤ entry_owners z m.rooms (content m.arena.bytes) (map rooms_held t.told.table.states) (class_number c) b = subst (λ (q : ℕ × ℕ). 1 ≤ entry_owners z m.rooms (content m.arena.bytes) (map rooms_held t.told.table.states) q.0 q.1) (λ j. (e j, f j)) owned in
         let free = t.free in omega arith

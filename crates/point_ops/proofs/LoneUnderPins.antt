@@ -11,7 +11,7 @@ use Rattle.oak_core.specs.Memory.{Spot as WordSpot, at_given, in_arena, in_heade
 use Rattle.oak_core.proofs.seats.AloneRuns.{Then, runs_as, runs_then}
 use Rattle.chunk_ops.specs.declared.entries.Content.TheVariants.{Value}
 use Rattle.chunk_ops.specs.declared.entries.EntryNo.{EntryNo}
-use Rattle.chunk_ops.specs.Latching.{Never}
+use Rattle.chunk_ops.specs.AddsAlone.{Never}
 use Rattle.chunk_ops.specs.PinRecords.{HasEntry, WordsStay}
 use Rattle.chunk_ops.proofs.MeetingCalls.{both_stay, stays_then}
 use Rattle.value_ops.specs.Locking.{IsDeadAt}
@@ -48,10 +48,10 @@ inserted_put z r a (in_rooms (at_value j i)) s = tt
 inserted_put z r a (in_rooms (at_room_pin j)) s = absurd s
 inserted_put z r a (in_rooms (at_base j)) s = absurd s
 inserted_put z r a (in_rooms (at_latch j)) s = absurd s
-inserted_put z r a (in_rooms (at_first j)) s = absurd s
+inserted_put z r a (in_rooms (at_first j)) s = tt
 inserted_put z r a (in_rooms (at_low j i)) s = absurd s
 inserted_put z r a (in_rooms (at_high j i)) s = absurd s
-inserted_put z r a (in_rooms (at_next j i)) s = absurd s
+inserted_put z r a (in_rooms (at_next j i)) s = tt
 
 pub inserted_keeps : (z : Sizes) (r : ℕ) (v w : PassState) → Runs (InsertedIn z r) v w → Runs (KeepsRooms z) v w
 inserted_keeps z r v w s = runs_as (InsertedIn z r) (KeepsRooms z) v w (λ a d i. record { but = but_as z (IsInserted z r a) IsPut a d (inserted_put z r a) i.but; pins = i.pins }) s

@@ -7,7 +7,7 @@ use Rattle.oak_model.specs.Class.{class_of}
 use Rattle.oak_model.specs.Limits.{Sizes}
 use Rattle.oak_core.specs.declared.states.PassState.{PassState}
 use Rattle.oak_core.specs.CallSteps.{Learns, MetMore, Stands}
-use Rattle.oak_core.specs.Finding.{IsOf, LoadsMore}
+use Rattle.oak_core.specs.Finding.{LoadsMore}
 use Rattle.oak_core.specs.QuietSteps.{MetOnly, Quiet, TookNone}
 use Rattle.oak_core.proofs.calls.CallSteps.{learns_both, stands_both, stands_in, stands_learns, met_none}
 use Rattle.oak_core.proofs.calls.QuietCalls.{of_took, only_both, quiet_loads, quiet_took}

@@ -1,19 +1,18 @@
--- What the steps of a part of a call took, and that they left the counts of rooms.
-use Rattle.std.proofs.Common.{◌≡◌, ℕ, ◌<◌, Option, Some, None, sym, ap, ◌∙◌, subst}
+-- What the steps of a part of a call took, and that they left the counts and the key words of rooms.
+use Rattle.std.proofs.Common.{◌≡◌, ◌≢◌, ℕ, ◌<◌, Option, Some, None, sym, ap, ◌∙◌, subst, ⊎_elim, arith}
 use Rattle.oak_model.specs.declared.classes.Class.{Class}
 use Rattle.oak_model.specs.declared.replies.Lack.TheVariants.{Block}
 use Rattle.oak_model.specs.Limits.{Sizes}
-use Rattle.oak_model.proofs.Lists.{each_map}
 use Rattle.oak_model.proofs.MemberLaws.{each_has, each_in}
-use Rattle.chunk_core.specs.Rooms.{at_count}
+use Rattle.chunk_core.specs.Rooms.{RoomSpot, at_count, at_key}
 use Rattle.oak_core.specs.declared.states.Finding.{Finding}
 use Rattle.oak_core.specs.declared.states.PassState.{PassState}
 use Rattle.oak_core.specs.declared.states.Taken.{Taken}
 use Rattle.oak_core.specs.Finding.{IsBefore, IsOf}
 use Rattle.oak_core.specs.Lack.{TookBut}
 use Rattle.oak_core.specs.Memory.{in_rooms, index, rooms_at}
-use Rattle.oak_core.specs.QuietSteps.{MetOnly, Quiet, TookNone}
-use Rattle.oak_core.proofs.calls.QuietCalls.{front_stored, only_both, only_map, quiet_stored, quiet_took}
+use Rattle.oak_core.specs.QuietSteps.{CountsByOne, IsQuiet, MetOnly, Quiet, StoredNone, TookNone}
+use Rattle.oak_core.proofs.calls.QuietCalls.{only_both, only_map, quiet_took}
 use Rattle.oak_core.proofs.memory.Words.{rooms_from}
 use Rattle.arena_ops.specs.Taking.{Takes, TookThis}
 use Rattle.chunk_ops.specs.Adds.{LeavesCount}
@@ -53,12 +52,23 @@ module _ (v w : PassState) where
 
 -- ---- what was left of rooms
 
+found_stored : {A : Type 0} (o : Option A) (n : A) → o ≡ Some n → o ≢ None
+found_stored o n e f = let k : Some n ≡ None = sym e ∙ f in absurd cc
+
+-- a quiet step stores nothing
+quiet_step : (word : ℕ) (f : Finding) → IsQuiet f → StoredNone word f
+quiet_step word f is at = ⊎_elim (λ (e : f.found ≡ Some f.left). found_stored f.found f.left e) (λ (e : (n : ℕ) × (f.found ≡ Some n) × CountsByOne n f.left). found_stored f.found e.0 e.1) is.1
+
+-- nor does one in front of the rooms to a word of theirs
+front_step : (z : Sizes) (p : RoomSpot) (f : Finding) → f.word < rooms_at z → StoredNone (index z (in_rooms p)) f
+front_step z p f lt at = let le = rooms_from z p in let k : f.word ≡ index z (in_rooms p) = at in absurd (omega arith)
+
 module _ (z : Sizes) (r : ℕ) (v w : PassState) where
   pub quiet_leaves : Quiet v w → MetOnly (LeavesCount z r) v w
-  quiet_leaves q = quiet_stored (index z (in_rooms (at_count r))) v w q
+  quiet_leaves q = only_map IsQuiet (LeavesCount z r) v w (λ f is. record { count = quiet_step (index z (in_rooms (at_count r))) f is; keys = λ i. quiet_step (index z (in_rooms (at_key r i))) f is }) q
 
   before_leaves : (P : Finding → Type 0) → ((f : Finding) → P f → f.word < rooms_at z) → MetOnly P v w → MetOnly (LeavesCount z r) v w
-  before_leaves P front m = front_stored z 0 (index z (in_rooms (at_count r))) v w m.more (rooms_from z (at_count r)) m.met (each_map P (λ (f : Finding). f.word < rooms_at z) m.more front m.each)
+  before_leaves P front m = only_map P (LeavesCount z r) v w (λ f is. record { count = front_step z (at_count r) f (front f is); keys = λ i. front_step z (at_key r i) f (front f is) }) m
 
   pub front_leaves : (call : ℕ) → MetOnly (IsOf z call) v w → MetOnly (LeavesCount z r) v w
   front_leaves call m = before_leaves (IsOf z call) (λ f is. is.1) m

@@ -24,7 +24,7 @@ use Rattle.arena_ops.specs.Taking.{Takes, Gives, FindsNone}
 use Rattle.value_ops.specs.Claiming.{ClaimsHeader, FindsNoneFree}
 use Rattle.value_ops.specs.Filling.{Fills, Withdraws}
 use Rattle.value_ops.specs.OneHeader.{IsOneBlock}
-use Rattle.value_ops.proofs.OneHeaderLaws.{without_block, one_holds, taken_one, taken_headers, given_none, given_headers}
+use Rattle.value_ops.proofs.OneHeaderLaws.{without_block, one_holds, taken_one, taken_headers, given_headers}
 use Rattle.point_ops.specs.Inserts.{GivesAllBack, MakesBlock, TakesOnly}
 use Rattle.point_ops.proofs.OwnSteps.{front_at, front_only, taken_only}
 
@@ -111,12 +111,12 @@ module _ (z : Sizes) (call : ℕ) (c : Class) (b : ℕ) (v u : PassState) (none 
 
 -- ---- it is given back
 
-module _ (z : Sizes) (call : ℕ) (c : Class) (b : ℕ) (u w : PassState) (at : ℕ) (same : at ≡ call) (o : IsOneBlock c b u.blocks) (g : Gives z at c b u w) where
+module _ (z : Sizes) (call : ℕ) (c : Class) (b : ℕ) (u w : PassState) (at : ℕ) (same : at ≡ call) (left : given c b u.blocks ≡ no_blocks) (g : Gives z at c b u w) where
   pub back_stands : Stands call u w
   back_stands = stands_in call at u w same (given_stands z at u w c b g)
 
   pub back_blocks : w.blocks ≡ no_blocks
-  back_blocks = given_none z at u w c b o g
+  back_blocks = ap (λ (y : PassState). y.blocks) g.after ∙ left
 
   pub back_headers : w.headers ≡ u.headers
   back_headers = given_headers z at u w c b g

@@ -34,7 +34,7 @@ use Rattle.value_ops.specs.declared.locking.NoLock.{NoLock}
 use Rattle.value_ops.specs.declared.locking.NoLock.TheVariants as no_lock
 use Rattle.point_ops.specs.Changes.{NoLockBy, OverHalts}
 use Rattle.point_ops.specs.FoundWords.{FoundWord}
-use Rattle.point_ops.specs.Halting.BusyBy.{locked, dead, pinned, latched, changed}
+use Rattle.point_ops.specs.Halting.BusyBy.{locked, dead, pinned, crossed, changed}
 use Rattle.point_ops.specs.Halting.{AllTaken, BusyBy, Halts, IsDeadAt, IsLockedOut, IsPinned, KeyHeaderFound, KeyHeaderRose, SetsValue, SpareNow, WantsLock}
 use Rattle.point_ops.specs.Inserts.{InsertHalts, SpareFor}
 use Rattle.point_ops.specs.Needs.{value_class}
@@ -42,7 +42,7 @@ use Rattle.point_ops.specs.Parts.{KeepsHeld, KeepsUnder, ReadSo, WritesAt, Wrote
 use Rattle.point_ops.specs.Spots.{FoundAway, FoundNamed}
 use Rattle.point_ops.specs.declared.halts.Halt.{Halt}
 use Rattle.point_ops.specs.declared.halts.Halt.TheVariants.{Busy, Moved, Crowded, NoBlock, NoHeader}
-use Rattle.point_ops.proofs.Composed.{bare_in, changed_both, changed_in, crowded_in, free_in, latched_in, named_in, read_in, set_in, sighted_in, taken_in, word_in}
+use Rattle.point_ops.proofs.Composed.{bare_in, changed_both, changed_in, crossed_in, crowded_in, free_in, named_in, read_in, set_in, sighted_in, taken_in, word_in}
 use Rattle.point_ops.proofs.OwnSteps.{none_but, quiet_but, quiet_leaves}
 use Rattle.point_ops.proofs.WritesIn.{writes_behind, written_in}
 
@@ -114,7 +114,7 @@ module _ (z : Sizes) (call : ℕ) (key : List ℕ) (v u w : PassState) (c2 : ℕ
       took c spare o = only_both (TookBut (Block c) spare) v u w (quiet_but v u c spare looked) o
 
       by : (why : Halt) → InsertHalts why z call key value entry floor u w → Halts why z call key ask v w
-      by Busy (inl x) = latched sets (latched_in call v u w w a.met (met_none call w) z key x)
+      by Busy (inl x) = crossed sets (crossed_in call v u w w a.met (met_none call w) z key x)
       by Busy (inr x) = changed sets record { r = x.0; i = x.1; floor = floor; found = set_in call v u w w a.met (met_none call w) z x.0 x.1 floor key x.2; sighted = found; read = absent }
       by Moved x = absurd x
       by Crowded x = (crowded_in z call key v u w w a (learns_none call w) (λ i. quiet_leaves z i v u looked) (λ i. only_none (LeavesCount z i) w w refl) x.1, record { at = floor; before = None; read = absent; sighted = found; needs = (refl, inserts, bare x.0) })

@@ -21,11 +21,12 @@ use Rattle.oak_core.specs.QuietSteps.{MetOnly}
 use Rattle.oak_core.proofs.calls.CallSteps.{stands_both, stands_in}
 use Rattle.oak_core.proofs.calls.QuietCalls.{only_both}
 use Rattle.oak_core.proofs.covers.SetsValue.{held_row}
+use Rattle.arena_ops.specs.Storing.{given}
 use Rattle.arena_ops.specs.Taking.{Gives}
 use Rattle.value_ops.specs.Claiming.{ClaimsHeader, FindsNoneFree}
 use Rattle.value_ops.specs.Filling.{Fills, Withdraws}
 use Rattle.value_ops.specs.OneHeader.{IsOneBlock}
-use Rattle.value_ops.proofs.OneHeaderLaws.{claimed_one, claimed_blocks, filled_one, filled_none}
+use Rattle.value_ops.proofs.OneHeaderLaws.{claimed_one, claimed_blocks, filled_one, filled_none, without_block}
 use Rattle.point_ops.specs.Halting.{NoneFree}
 use Rattle.point_ops.specs.Inserts.{GivesAllBack, MakesBlock, MakesFresh, TakesOnly}
 use Rattle.point_ops.proofs.Composed.{free_in}
@@ -70,18 +71,18 @@ module _ (z : Sizes) (call : ℕ) (c : Class) (b : ℕ) (bytes : List ℕ) (v u 
     looked : GivesAllBack call u w
     looked = subst (λ (k : ℕ). GivesAllBack k u w) same (unclaimed_back z at u w f)
 
-    one : IsOneBlock c b w.blocks
-    one = subst (IsOneBlock c b) (sym looked.blocks) m.one
+    left : given c b w.blocks ≡ no_blocks
+    left = ap (given c b) looked.blocks ∙ without_block c b u.blocks m.one
 
     gone : Stands call w x
-    gone = back_stands z call c b w x later follows one g
+    gone = back_stands z call c b w x later follows left g
 
     pub unmade_back : v.blocks ≡ no_blocks → GivesAllBack call v x
     unmade_back bare = record {
       stands = stands_both call v u x m.stands (stands_both call u w x looked.stands gone);
-      blocks = back_blocks z call c b w x later follows one g ∙ sym bare;
-      headers = back_headers z call c b w x later follows one g ∙ (looked.headers ∙ m.headers);
-      rooms = back_rooms z call c b w x later follows one g ∙ (looked.rooms ∙ m.rooms);
+      blocks = back_blocks z call c b w x later follows left g ∙ sym bare;
+      headers = back_headers z call c b w x later follows left g ∙ (looked.headers ∙ m.headers);
+      rooms = back_rooms z call c b w x later follows left g ∙ (looked.rooms ∙ m.rooms);
     }
 
     pub unmade_free : NoneFree z call v x

@@ -15,8 +15,7 @@ use Rattle.header_core.specs.declared.states.TheConstants.{LIVE, LOCKED, DEAD}
 use Rattle.header_core.specs.Headers.{at_pin}
 use Rattle.oak_core.specs.Usage.{is_free}
 use Rattle.chunk_core.specs.declared.holds.FoundEntry.{FoundEntry}
-use Rattle.chunk_core.specs.PinnedRooms.{found_key, span_of}
-use Rattle.chunk_core.specs.RoomStep.{latch_room}
+use Rattle.chunk_core.specs.PinnedRooms.{found_in, found_key, span_of}
 use Rattle.chunk_core.specs.LinkedEntries.{entries_in}
 use Rattle.chunk_core.specs.Rooms.{at_count}
 use Rattle.oak_model.specs.Counts.{Has}
@@ -28,9 +27,9 @@ use Rattle.oak_core.specs.Lack.{TookBut}
 use Rattle.oak_core.specs.Memory.{in_headers, in_rooms}
 use Rattle.oak_core.specs.QuietSteps.{MetOnly}
 use Rattle.oak_core.specs.Sights.{SightedSince}
-use Rattle.oak_core.specs.Step.{load, on_rooms}
+use Rattle.oak_core.specs.Step.{load}
 use Rattle.arena_ops.specs.Looking.{bit_spot}
-use Rattle.chunk_ops.specs.Adds.{LeavesCount}
+use Rattle.chunk_ops.specs.Adds.{FoundOther, LeavesCount}
 use Rattle.chunk_ops.specs.AskedRanges.{CoversKey}
 use Rattle.chunk_ops.specs.Contents.{EntryNamed}
 use Rattle.chunk_ops.specs.PinRecords.{room_pin}
@@ -71,13 +70,11 @@ pub record KeyHeaderRose (z : Sizes) (call : ℕ) (key : List ℕ) (v w : PassSt
   pub named : EntryNamed z call r i key h g v w
   pub found : FoundChanged z call (in_headers (at_pin h)) (IsDeadAt g) (λ n. state_of n ≡ LIVE) v w
 
--- the latch of the pinned room that covers the key was found taken, by another pass
-pub record RoomLatched (z : Sizes) (call : ℕ) (key : List ℕ) (v w : PassState) : Type 0 where
+-- the count or a link of the pinned room that covers the key was found other than it was loaded before in the call, with no step of the call between that changed it
+pub record RoomChanged (z : Sizes) (call : ℕ) (key : List ℕ) (v w : PassState) : Type 0 where
   pub r : ℕ
-  pub step : StepOfCall z call (on_rooms (latch_room r)) v w
-  pub taken : 0 < step.number
-  pub covers : CoversKey key (span_of (room_pin step.from))
-  pub free : step.from.rooms.latch ≡ None
+  pub found : FoundOther z call r v w
+  pub covers : CoversKey key (span_of (room_pin found.first.from))
 
 -- where a value was to be set the value word of the key's entry was another number than the floor, or the base, that the call had found for the key
 pub record EntryChanged (z : Sizes) (call : ℕ) (key : List ℕ) (v w : PassState) : Type 0 where
@@ -106,22 +103,22 @@ WantsLock (Compute r n) = Unit {0}
 WantsLock (Upsert v r n) = Unit {0}
 WantsLock Remove = Unit {0}
 
--- Why a call is busy. The key's header was locked, or of another generation than its entry said; it was dead where a value was to be set; it was pinned, or rose between two looks, where its lock was wanted; the room's latch was taken, or the entry's value word had changed, where a value was to be set.
+-- Why a call is busy. The key's header was locked, or of another generation than its entry said; it was dead where a value was to be set; it was pinned, or rose between two looks, where its lock was wanted; the room's count or a link was changed, or the entry's value word had changed, where a value was to be set.
 pub data BusyBy (z : Sizes) (call : ℕ) (key : List ℕ) (ask : CellCall) (v w : PassState) : Type 0 where
   locked : KeyHeaderFound z call key IsLockedOut v w → BusyBy z call key ask v w
   dead : SetsValue ask → KeyHeaderFound z call key IsDeadAt v w → BusyBy z call key ask v w
   pinned : WantsLock ask → KeyHeaderFound z call key IsPinned v w → BusyBy z call key ask v w
   rose : WantsLock ask → KeyHeaderRose z call key v w → BusyBy z call key ask v w
-  latched : SetsValue ask → RoomLatched z call key v w → BusyBy z call key ask v w
+  crossed : SetsValue ask → RoomChanged z call key v w → BusyBy z call key ask v w
   changed : SetsValue ask → EntryChanged z call key v w → BusyBy z call key ask v w
 
--- The count of a room was found at the room's size in the call, no entry below it had the key, and the key was read absent at the base then. No step of the call stored to that count, so none had changed it.
+-- The count of a room was found at the room's size in the call, no entry that was found then had the key, and the key was read absent at the base behind that. No step of the call stored to that count, nor to the key word of an entry of the room, so no entry that it claimed is among them.
 pub record RoomCrowded (z : Sizes) (call : ℕ) (key : List ℕ) (v w : PassState) : Type 0 where
   pub r : ℕ
   pub step : StepOfCall z call (load (in_rooms (at_count r))) v w
   pub full : entries_in step.number ≡ z.entries
   pub covers : CoversKey key (span_of (room_pin step.to))
-  pub none : (e : FoundEntry) → Has e (room_pin step.to).entries → found_key e ≢ key_number key
+  pub none : (e : FoundEntry) → Has e (found_in (room_pin step.to)) → found_key e ≢ key_number key
   pub base : ℕ
   pub absent : ReadAbsent call (key_number key) base v w
   pub own : MetOnly (LeavesCount z r) v w

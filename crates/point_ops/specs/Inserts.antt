@@ -19,7 +19,7 @@ use Rattle.arena_ops.specs.Storing.{HasBytes}
 use Rattle.arena_ops.specs.Taking.{TookThis}
 use Rattle.chunk_ops.specs.Setting.{FoundSet}
 use Rattle.value_ops.specs.OneHeader.{IsOneHeader, IsOneBlock}
-use Rattle.point_ops.specs.Halting.{AllTaken, NoneFree, SetWith, RoomCrowded, RoomLatched}
+use Rattle.point_ops.specs.Halting.{AllTaken, NoneFree, SetWith, RoomCrowded, RoomChanged}
 use Rattle.point_ops.specs.declared.halts.Halt.{Halt}
 use Rattle.point_ops.specs.declared.halts.Halt.TheVariants.{Busy, Moved, Crowded, NoBlock, NoHeader}
 
@@ -61,7 +61,7 @@ MakingHalts NoHeader z call c v w = NoneFree z call v w
 
 -- why the key was given no entry
 abbrev pub AddingHalts : Halt → Sizes → ℕ → List ℕ → PassState → PassState → Type 0
-AddingHalts Busy z call key v w = RoomLatched z call key v w
+AddingHalts Busy z call key v w = RoomChanged z call key v w
 AddingHalts Moved z call key v w = ⊥
 AddingHalts Crowded z call key v w = RoomCrowded z call key v w
 AddingHalts (NoBlock c) z call key v w = (class_of (length key) ≡ Some c) × SetWith z call c v v w × Quiet v w
@@ -74,7 +74,7 @@ SpareFor (Some b) c key value entry = (class_of (length value) ≡ Some c) × (c
 
 -- why a value was not inserted for a key that was read absent at the floor; entry says whether it has one
 abbrev pub InsertHalts : Halt → Sizes → ℕ → (key value : List ℕ) → Option EntryNo → ℕ → PassState → PassState → Type 0
-InsertHalts Busy z call key value entry floor v w = RoomLatched z call key v w ⊎ ((r : ℕ) × (i : ℕ) × FoundSet z call r i floor key v w)
+InsertHalts Busy z call key value entry floor v w = RoomChanged z call key v w ⊎ ((r : ℕ) × (i : ℕ) × FoundSet z call r i floor key v w)
 InsertHalts Moved z call key value entry floor v w = ⊥
 InsertHalts Crowded z call key value entry floor v w = (entry ≡ None) × RoomCrowded z call key v w
 InsertHalts (NoBlock c) z call key value entry floor v w = (spare : Option ℕ) × AllTaken z call c spare v w × SpareFor spare c key value entry × ((class_of (length value) ≡ Some c) ⊎ ((class_of (length key) ≡ Some c) × (entry ≡ None))) × MetOnly (TookBut (Block c) spare) v w

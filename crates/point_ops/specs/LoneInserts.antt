@@ -11,8 +11,8 @@ use Rattle.arena_core.specs.Place.{class_in, block_in}
 use Rattle.arena_ops.specs.Looking.{AllSet, IsSetIn}
 use Rattle.arena_ops.specs.Taking.{ClearsBit}
 use Rattle.chunk_core.specs.Covers.{span_in}
-use Rattle.chunk_core.specs.LinkedEntries.{entries_in}
-use Rattle.chunk_core.specs.Rooms.{at_count, at_key, at_value}
+use Rattle.chunk_core.specs.LinkedEntries.{entries_in, linked}
+use Rattle.chunk_core.specs.Rooms.{at_count, at_first, at_key, at_next, at_value}
 use Rattle.chunk_core.specs.Spans.{Span}
 use Rattle.header_core.specs.declared.states.TheConstants.{LIVE}
 use Rattle.header_core.specs.HeaderHolds.{place_held}
@@ -22,7 +22,7 @@ use Rattle.oak_core.specs.Memory.{Spot, at_given, in_arena, in_headers, in_rooms
 use Rattle.oak_core.specs.Usage.{is_free}
 use Rattle.chunk_ops.specs.declared.entries.Found.TheVariants.{Missing}
 use Rattle.chunk_ops.specs.AskedRanges.{CoversKey}
-use Rattle.chunk_ops.specs.FindsAlone.{HasKeyAt, IsUsed, used_key}
+use Rattle.chunk_ops.specs.FindsAlone.{HasKeyAt, IsLinked, linked_key}
 use Rattle.value_ops.specs.Filling.{FreesPin}
 use Rattle.point_ops.specs.declared.halts.Halt.{Halt}
 use Rattle.point_ops.specs.declared.halts.Halt.TheVariants.{Busy, Moved, Crowded, NoBlock, NoHeader}
@@ -53,10 +53,11 @@ IsSpare _ _ _ = ⊥
 abbrev pub SpareOnly : Sizes → List ℕ → List ℕ → Type 0
 SpareOnly z before after = KeepsBut z (IsSpare z before) before after
 
--- the keys of the room's entries in use are as before, and so is how many there are
+-- the keys of the room's linked entries are as before, and so are which these are, and how many entries are in use
 pub record KeysStay (z : Sizes) (r : ℕ) (before after : List ℕ) : Type 0 where
   pub count : entries_in ((memory z after).rooms.count r) ≡ entries_in ((memory z before).rooms.count r)
-  pub keys : (i : ℕ) → IsUsed (memory z before) r i → used_key (memory z after) r i ≡ used_key (memory z before) r i
+  pub links : linked (memory z after).rooms r ≡ linked (memory z before).rooms r
+  pub keys : (i : ℕ) → IsLinked (memory z before) r i → linked_key (memory z after) r i ≡ linked_key (memory z before) r i
 
 -- ---- what is made
 
@@ -128,13 +129,15 @@ MakesBlockUnder z r span c b before after = MakesBlockIn z r c b before after ×
 abbrev pub MakesFreshUnder : Sizes → ℕ → Span → ℕ → Class → ℕ → List ℕ → List ℕ → Type 0
 MakesFreshUnder z r span h c b before after = MakesFreshIn z r h c b before after × (span_in (memory z before).rooms r ≡ span)
 
--- a word that may change where the room r gets an entry: of bits, of blocks whose bit is clear, the room's count, and the words of its entries
+-- a word that may change where the room r gets an entry: of bits, of blocks whose bit is clear, the room's count, its first link, and the words of its entries
 abbrev pub IsEntered : Sizes → ℕ → List ℕ → Spot → Type 0
 IsEntered z r words (in_arena (at_bits c j)) = Unit {0}
 IsEntered z r words (in_arena (at_bytes c b k)) = IsClearIn z c b words
 IsEntered z r words (in_rooms (at_count j)) = j ≡ r
 IsEntered z r words (in_rooms (at_key j i)) = j ≡ r
 IsEntered z r words (in_rooms (at_value j i)) = j ≡ r
+IsEntered z r words (in_rooms (at_first j)) = j ≡ r
+IsEntered z r words (in_rooms (at_next j i)) = j ≡ r
 IsEntered _ _ _ _ = ⊥
 
 -- no other word changed, and the value word of the entry i is the floor

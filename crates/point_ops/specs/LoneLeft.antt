@@ -22,7 +22,7 @@ use Rattle.value_ops.specs.Locking.{may_lock}
 use Rattle.point_ops.specs.LoneInserts.{KeepsBut}
 use Rattle.point_ops.specs.LonePuts.{IsOpenIn}
 
--- the entry i of the room r is in use and has the key, and its value word names the header at the generation
+-- the entry i of the room r is linked and has the key, and its value word names the header at the generation
 pub record KeyNames (z : Sizes) (r : ℕ) (i : EntryNo) (h g : ℕ) (key words : List ℕ) : Type 0 where
   pub has : HasKeyAt (memory z words) r key (Entry i)
   pub says : Says (Value h g) ((memory z words).rooms.value r i.0)

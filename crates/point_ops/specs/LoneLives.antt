@@ -15,7 +15,7 @@ use Rattle.chunk_ops.specs.declared.entries.Found.TheVariants.{Entry, Missing}
 use Rattle.chunk_ops.specs.Contents.{Says}
 use Rattle.chunk_ops.specs.FindsAlone.{FindsIn}
 use Rattle.chunk_ops.specs.PinRecords.{room_pin}
-use Rattle.chunk_ops.specs.Latching.{Never}
+use Rattle.chunk_ops.specs.AddsAlone.{Never}
 use Rattle.value_ops.specs.AloneLocks.{pin_in}
 use Rattle.value_ops.specs.Pinning.{IsLiveAt}
 use Rattle.value_ops.specs.Locking.{IsDeadAt, may_lock}
@@ -27,11 +27,11 @@ use Rattle.point_ops.specs.declared.spots.Spot.{Spot}
 use Rattle.point_ops.specs.declared.spots.Spot.TheVariants.{Absent, Present}
 use Rattle.point_ops.specs.LoneInserts.{KeepsBut}
 
--- the entry of the key is in use, and its value word says so
+-- the entry of the key is linked, and its value word says so
 abbrev pub EntrySays : EntryNo → Content → Sizes → (r : ℕ) → (key before after : List ℕ) → Type 0
 EntrySays i c z r key before after = FindsIn z r key (Entry i) before after × Says c ((memory z before).rooms.value r i.0)
 
--- the key has no entry in use, or one whose value word is the floor
+-- the key has no linked entry, or one whose value word is the floor
 abbrev pub AwayIn : Option EntryNo → ℕ → Sizes → (r : ℕ) → (key before after : List ℕ) → Type 0
 AwayIn None floor z r key before after = FindsIn z r key Missing before after
 AwayIn (Some i) floor z r key before after = EntrySays i (Floor floor) z r key before after

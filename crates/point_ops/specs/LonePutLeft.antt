@@ -11,7 +11,7 @@ use Rattle.arena_core.specs.ArenaStep.{bit_of}
 use Rattle.arena_core.specs.Place.{block_in, class_in, place_word}
 use Rattle.chunk_core.specs.Covers.{span_in}
 use Rattle.chunk_core.specs.LinkedEntries.{entries_in}
-use Rattle.chunk_core.specs.Rooms.{at_count, at_key, at_value}
+use Rattle.chunk_core.specs.Rooms.{at_count, at_first, at_key, at_next, at_value}
 use Rattle.chunk_core.specs.ValueWord.{names_header}
 use Rattle.header_core.specs.Headers.{at_place, at_stamp}
 use Rattle.oak_core.specs.KeyReads.{home_of}
@@ -96,21 +96,24 @@ IsNewValue r i h c b (in_headers p) = IsOfHeader h (in_headers p)
 IsNewValue r i h c b (in_rooms (at_value q j)) = (q ≡ r) × (j ≡ i)
 IsNewValue _ _ _ _ _ _ = ⊥
 
--- a word of the key's block, or the one that has its bit, or the key word or the value word of the entry, or the count of the room
-abbrev pub IsNewEntry : (r i : ℕ) → Class → ℕ → Spot → Type 0
-IsNewEntry r i c b (in_arena p) = IsOfBlock c b (in_arena p)
-IsNewEntry r i c b (in_rooms (at_count q)) = q ≡ r
-IsNewEntry r i c b (in_rooms (at_key q j)) = (q ≡ r) × (j ≡ i)
-IsNewEntry r i c b (in_rooms (at_value q j)) = (q ≡ r) × (j ≡ i)
-IsNewEntry _ _ _ _ _ = ⊥
+-- a word of the key's block, or the one that has its bit, or one of the three words of the entry, or the count of the room, or the link that comes to name the entry
+abbrev pub IsNewEntry : (r i : ℕ) → Option ℕ → Class → ℕ → Spot → Type 0
+IsNewEntry r i from c b (in_arena p) = IsOfBlock c b (in_arena p)
+IsNewEntry r i from c b (in_rooms (at_count q)) = q ≡ r
+IsNewEntry r i from c b (in_rooms (at_key q j)) = (q ≡ r) × (j ≡ i)
+IsNewEntry r i from c b (in_rooms (at_value q j)) = (q ≡ r) × (j ≡ i)
+IsNewEntry r i from c b (in_rooms (at_first q)) = (q ≡ r) × (from ≡ None)
+IsNewEntry r i from c b (in_rooms (at_next q j)) = (q ≡ r) × ((j ≡ i) ⊎ (from ≡ Some j))
+IsNewEntry _ _ _ _ _ _ = ⊥
 
--- The room had no entry of the key and not as many as it may, and has one more, which is of the key and names its block, whose bit was clear and is set. No other word changed.
+-- The room had no entry of the key and not as many as it may, and has one more, which is of the key, names its block, whose bit was clear and is set, and is named by one link. No other word changed.
 pub record AddsKeyIn (z : Sizes) (r : ℕ) (i : EntryNo) (key before after : List ℕ) : Type 0 where
   pub class : Class
   pub fits : class_of (length key) ≡ Some class
   pub block : ℕ
   pub clear : IsClearIn z (class_number class) block before
-  pub but : KeepsBut z (IsNewEntry r i.0 class block) before after
+  pub from : Option ℕ
+  pub but : KeepsBut z (IsNewEntry r i.0 from class block) before after
   pub bits : (d j : ℕ) → (memory z after).arena.bits d j ≡ with_bit class block d j ((memory z before).arena.bits d j)
   pub next : i.0 ≡ entries_in ((memory z before).rooms.count r)
   pub room : i.0 < z.entries
@@ -144,7 +147,8 @@ pub record GotEntryIn (z : Sizes) (r : ℕ) (i : EntryNo) (h : ℕ) (c : Class) 
   pub next : i.0 ≡ entries_in ((memory z before).rooms.count r)
   pub room : i.0 < z.entries
   pub count : (memory z after).rooms.count r ≡ (memory z before).rooms.count r + 1
-  pub but : KeepsBut z (λ p. IsNewValue r i.0 h c b p ⊎ IsNewEntry r i.0 class block p) before after
+  pub from : Option ℕ
+  pub but : KeepsBut z (λ p. IsNewValue r i.0 h c b p ⊎ IsNewEntry r i.0 from class block p) before after
   pub bits : (d j : ℕ) → (memory z after).arena.bits d j ≡ with_bit class block d j (with_bit c b d j ((memory z before).arena.bits d j))
 
 -- The room covers the key, whose entry names a header that was free and is live. The bit of the value's block was clear. The entry is the one that the key had, or it is new; nothing else changed.

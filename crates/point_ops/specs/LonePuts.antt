@@ -3,7 +3,7 @@ use Rattle.std.specs.Prelude.{◌≡◌, ℕ, ◌<◌, ◌⊎◌, List, Option, 
 use Rattle.pin_word.specs.PinWord.{state_of}
 use Rattle.oak_model.specs.Limits.{Sizes}
 use Rattle.chunk_core.specs.declared.states.TheConstants.{OPEN}
-use Rattle.chunk_core.specs.Rooms.{at_count, at_key, at_value}
+use Rattle.chunk_core.specs.Rooms.{at_count, at_first, at_key, at_next, at_value}
 use Rattle.header_core.specs.declared.states.TheConstants.{LIVE}
 use Rattle.oak_core.specs.Memory.{Spot, in_arena, in_headers, in_rooms, memory}
 use Rattle.chunk_ops.specs.declared.entries.EntryNo.{EntryNo}
@@ -21,13 +21,15 @@ InsertsFor result z r entry floor key value before after = AwayIn entry floor z 
 
 -- ---- a call that writes a value
 
--- a word that such a call may change: of the arena, of headers, and the count and the entries of rooms
+-- a word that such a call may change: of the arena, of headers, and the count, the first link and the entries of rooms
 abbrev pub IsPut : Spot → Type 0
 IsPut (in_arena p) = Unit {0}
 IsPut (in_headers p) = Unit {0}
 IsPut (in_rooms (at_count r)) = Unit {0}
 IsPut (in_rooms (at_key r i)) = Unit {0}
 IsPut (in_rooms (at_value r i)) = Unit {0}
+IsPut (in_rooms (at_first r)) = Unit {0}
+IsPut (in_rooms (at_next r i)) = Unit {0}
 IsPut _ = ⊥
 
 -- No pin word of a room changed, nor a bound or a base. Each header's pin word is as before, but for one that was free and is live; so those that are retired are those that were.

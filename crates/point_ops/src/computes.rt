@@ -20,7 +20,7 @@ ghost use Rattle.point_ops.specs.LonePutLeft.{PutLeavesBy, PutLeavesUnder};
 ghost use Rattle.point_ops.specs.Parts.{Answers, KeepsUnder, WroteFits};
 ghost use Rattle.point_ops.specs.Counted.{Feeds, FeedsAlone, times_done};
 ghost use Rattle.oak_core.specs.AloneWords.{Runs};
-ghost use Rattle.chunk_ops.specs.Latching.{Never};
+ghost use Rattle.chunk_ops.specs.AddsAlone.{Never};
 ghost use Rattle.point_ops.specs.Replies.{Refuses};
 ghost use Rattle.point_ops.specs.LoneLeft.{LeavesBy, LeavesUnder};
 ghost use Rattle.point_ops.specs.declared.halts.Halt.TheVariants as halts;
@@ -69,7 +69,7 @@ fn compute_pinned(
     requires key { IsKey key.now }
     requires covers { CoversKey key.now (span_of (room_pin (state pass.old))) }
     requires pinned { HasRoomPin (sizes table.now) pin.now.room (state pass.old) }
-    requires latch { (state pass.old).rooms.latch ≡ None }
+    requires claim { (state pass.old).rooms.claim ≡ None }
     requires blocks { (state pass.old).blocks ≡ no_blocks }
     requires headers { (state pass.old).headers ≡ no_headers }
     requires turn { IsNewCall (call_of pass.old) (state pass.old) }
@@ -156,7 +156,7 @@ fn upsert_pinned(
     requires key { IsKey key.now }
     requires covers { CoversKey key.now (span_of (room_pin (state pass.old))) }
     requires pinned { HasRoomPin (sizes table.now) pin.now.room (state pass.old) }
-    requires latch { (state pass.old).rooms.latch ≡ None }
+    requires claim { (state pass.old).rooms.claim ≡ None }
     requires blocks { (state pass.old).blocks ≡ no_blocks }
     requires headers { (state pass.old).headers ≡ no_headers }
     requires turn { IsNewCall (call_of pass.old) (state pass.old) }

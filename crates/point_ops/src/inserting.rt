@@ -177,7 +177,7 @@ fn add_entry(table: &OakTable, pass: &mut Pass, pin: &RoomPin, key: &[u8]) -> Re
     requires key { IsKey key.now }
     requires covers { CoversKey key.now (span_of (room_pin (state pass.old))) }
     requires pinned { HasRoomPin (sizes table.now) pin.now.room (state pass.old) }
-    requires latch { (state pass.old).rooms.latch ≡ None }
+    requires claim { (state pass.old).rooms.claim ≡ None }
     requires none { (state pass.old).blocks ≡ no_blocks }
     ensures own { Stays pass.old pass.new }
     ensures under { UnderPin (sizes table.now) (call_of pass.old) pin.now.room (state pass.old) (state pass.new) }
@@ -211,7 +211,7 @@ fn entry_for(
     requires key { IsKey key.now }
     requires covers { CoversKey key.now (span_of (room_pin (state pass.old))) }
     requires pinned { HasRoomPin (sizes table.now) pin.now.room (state pass.old) }
-    requires latch { (state pass.old).rooms.latch ≡ None }
+    requires claim { (state pass.old).rooms.claim ≡ None }
     requires none { (state pass.old).blocks ≡ no_blocks }
     requires entry { IfSome entry (λ i. HasEntry pin.now.room i.0 key.now (state pass.old)) }
     ensures own { Stays pass.old pass.new }
@@ -294,7 +294,7 @@ pub(crate) fn insert(
     requires value { IsValue value.now }
     requires covers { CoversKey key.now (span_of (room_pin (state pass.old))) }
     requires pinned { HasRoomPin (sizes table.now) pin.now.room (state pass.old) }
-    requires latch { (state pass.old).rooms.latch ≡ None }
+    requires claim { (state pass.old).rooms.claim ≡ None }
     requires blocks { (state pass.old).blocks ≡ no_blocks }
     requires headers { (state pass.old).headers ≡ no_headers }
     requires entry { IfSome entry (λ i. HasEntry pin.now.room i.0 key.now (state pass.old)) }

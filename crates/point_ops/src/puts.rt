@@ -100,7 +100,7 @@ fn put_pinned(
     requires key { IsKey key.now }
     requires covers { CoversKey key.now (span_of (room_pin (state pass.old))) }
     requires pinned { HasRoomPin (sizes table.now) pin.now.room (state pass.old) }
-    requires latch { (state pass.old).rooms.latch ≡ None }
+    requires claim { (state pass.old).rooms.claim ≡ None }
     requires blocks { (state pass.old).blocks ≡ no_blocks }
     requires headers { (state pass.old).headers ≡ no_headers }
     requires turn { IsNewCall (call_of pass.old) (state pass.old) }
@@ -135,8 +135,8 @@ fn put_pinned(
 /// Puts the value of a key: `New` where it was absent, `Over` where it was present. The answer is the cell's
 /// at the place of the number `at` in the key's history, and `at` is the stamp of the write.
 ///
-/// It is refused with `Busy` only where this key's header, its room's latch or its entry was found at work
-/// by another pass; with `Moved`, where no room was found open with the key in its range; with `Crowded`,
+/// It is refused with `Busy` only where this key's header, its room's count or links, or its entry was found
+/// at work by another pass; with `Moved`, where no room was found open with the key in its range; with `Crowded`,
 /// where the room was found full, by no step of this call, and the key without an entry; with `NoBlock` and
 /// `NoHeader`, where none was found free and the call needs one. Of the class that is lacking the call took
 /// no block itself but the one for its value. After a refusal the map, and what the pass holds and wrote, is

@@ -29,7 +29,7 @@ ghost use Rattle.point_ops.specs.FoundWords.{FoundWord};
 ghost use Rattle.point_ops.specs.Halting.{Halts, IsLockedOut};
 ghost use Rattle.point_ops.specs.Parts.{Answers, KeepsUnder, WroteFits};
 ghost use Rattle.oak_core.specs.AloneWords.{Runs};
-ghost use Rattle.chunk_ops.specs.Latching.{Never};
+ghost use Rattle.chunk_ops.specs.AddsAlone.{Never};
 ghost use Rattle.point_ops.specs.Replies.{Refuses};
 ghost use Rattle.point_ops.specs.LoneLeft.{LeavesBy, LeavesUnder};
 ghost use Rattle.point_ops.specs.LoneReplies.{SameAlone, WroteAlone};
@@ -83,7 +83,7 @@ fn remove_pinned(
     requires key { IsKey key.now }
     requires covers { CoversKey key.now (span_of (room_pin (state pass.old))) }
     requires pinned { HasRoomPin (sizes table.now) pin.now.room (state pass.old) }
-    requires latch { (state pass.old).rooms.latch ≡ None }
+    requires claim { (state pass.old).rooms.claim ≡ None }
     requires blocks { (state pass.old).blocks ≡ no_blocks }
     requires headers { (state pass.old).headers ≡ no_headers }
     requires turn { IsNewCall (call_of pass.old) (state pass.old) }

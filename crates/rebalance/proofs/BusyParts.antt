@@ -29,7 +29,7 @@ module _ (z : Sizes) (call looks : ℕ) (u v t s : PassState) (before : MetMore 
 
   -- one that came to be held without the key
   off_busy : (key : List ℕ) (r : ℕ) → HoldsOff z call key r v t → HoldsOff z call key r u s
-  off_busy key r o = let c = o.came in record { copy = o.copy; came = record { old = c.old; step = step_in z call (on_rooms (hold_room r c.old)) u v t s before after c.step; found_is = c.found_is; copy_is = c.copy_is }; off = o.off }
+  off_busy key r o = let c = o.came in record { copy = o.copy; came = record { old = c.old; step = step_in z call (on_rooms (hold_room r c.old)) u v t s before after c.step; found_is = c.found_is; copy_is = c.copy_is; linked = c.linked }; off = o.off }
 
   -- each, as none had the key
   moved_busy : (key : List ℕ) → FoundMoved z call (CoversKey key) v t → FoundMoved z call (CoversKey key) u s

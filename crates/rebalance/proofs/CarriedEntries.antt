@@ -36,14 +36,12 @@ use Rattle.oak_core.specs.Step.{load, Told}
 use Rattle.oak_core.specs.TableState.{TableState}
 use Rattle.oak_core.proofs.owners.HeadersInArena.{names_named}
 use Rattle.oak_core.proofs.memory.MetLists.{each_at}
-use Rattle.chunk_ops.specs.RoomLoads.{NamesKey}
 use Rattle.chunk_ops.specs.RoomPins.{HadMoment}
 use Rattle.chunk_ops.proofs.KeyPlaces.{IsKeyPlace, key_place, key_word_few}
-use Rattle.chunk_ops.proofs.PinnedWords.{named_inside}
 use Rattle.chunk_ops.proofs.WordLoads.{load_reads}
 use Rattle.chunk_ops.proofs.WordParts.{part_long, part_small, word_part}
 use Rattle.rebalance.specs.HeldRooms.{IsCarried, IsNamed}
-use Rattle.rebalance.specs.HeldTables.{NamesValued, carried_in, is_valued, key_of_entry, valued, with_word}
+use Rattle.rebalance.specs.HeldTables.{NamesKey, NamesValued, carried_in, is_valued, key_of_entry, valued, with_word}
 
 -- ---- which entry a key word finds
 
@@ -180,6 +178,10 @@ carried_names z v moment c h value = let gs = v.rooms.moving in let m = moment.1
     }
 
 -- ---- the load of a word of its block
+
+-- the word is one of the table's
+named_inside : (z : Sizes) (word j : ℕ) (k : List ℕ) → NamesKey z word k → 8 * j < length k → IsInArena z (at_bytes (class_in word) (block_in word) j)
+named_inside z word j k n lt = let a = n.room in let b : ℕ = block_words (class_in word) in (n.class, n.block, (let q : j < b = omega arith in q))
 
 pub block_inside : (z : Sizes) (place i : ℕ) (cs : List Carried) → NamesValued z place cs → 8 * i < length (key_of_entry (with_word place cs)) → IsInArena z (at_bytes (class_in place) (block_in place) i)
 block_inside z place i cs x few = named_inside z place i (key_bytes x.entry.word x.entry.words) x.block (subst (λ (o : Option Carried). 8 * i < length (key_of_entry o)) x.first few)

@@ -44,7 +44,7 @@ use Rattle.rebalance.specs.Repeating.{RepeatsIn}
 use Rattle.rebalance.specs.Resting.{rests_both, rests_of, tries_of}
 use Rattle.oak_core.specs.declared.sorting.SortSlot.{SortSlot}
 use Rattle.chunk_core.specs.PinnedRooms.{span_of}
-use Rattle.chunk_ops.specs.Latching.{Never}
+use Rattle.chunk_ops.specs.AddsAlone.{Never}
 use Rattle.chunk_ops.specs.LoneRooms.{FreezesNone, HasElsewhere, NeverElsewhere, NeverUnfrozen}
 use Rattle.rebalance.specs.Busy.{HoldsOff, IsBusyFor, SweepsOff}
 use Rattle.rebalance.proofs.NeverRuns.{never_first, never_last, never_so, unless_first, unless_last}
@@ -145,6 +145,7 @@ holds_pinned z call r v a b u f n h = let w : RoomCopy = h.0 in let g : MovingRa
       step = step_since z call (on_rooms (hold_room r p.word)) v b u (met_both call v a b f.beside.stands.met n.stands.met) p.step;
       found_is = p.was;
       copy_is = subst (λ (y : PassState). copy_of r y.rooms.held ≡ Some w) (sym p.last) p.has.copy;
+      linked = p.linked;
     };
     last = p.last;
     copied = p.copy_is;
@@ -262,7 +263,6 @@ module _ (z : Sizes) (call looks r : ℕ) (key : List ℕ) (v x : PassState) (on
         blocks = front_beside.blocks ∙ only.blocks;
         headers = front_beside.headers ∙ only.headers;
         pin = ap (λ (a : RoomHolds). a.pin) front_rooms;
-        latch = ap (λ (a : RoomHolds). a.latch) front_rooms ∙ only.latch;
         claim = ap (λ (a : RoomHolds). a.claim) front_rooms ∙ only.claim;
       };
       whole = h.whole;
@@ -292,7 +292,6 @@ module _ (z : Sizes) (call looks r : ℕ) (key : List ℕ) (v x : PassState) (on
           blocks = works.blocks ∙ f.only.blocks;
           headers = works.headers ∙ f.only.headers;
           pin = works.pin ∙ f.only.pin;
-          latch = works.latch ∙ f.only.latch;
           claim = works.claim ∙ f.only.claim;
         };
         whole = f.whole;
@@ -311,6 +310,7 @@ module _ (z : Sizes) (call looks r : ℕ) (key : List ℕ) (v x : PassState) (on
           step = step_in z call (on_rooms (hold_room r h.came.old)) v x y q p.stands.met works.stands.met h.came.step;
           found_is = h.came.found_is;
           copy_is = h.came.copy_is;
+          linked = h.came.linked;
         };
         copied = h.copied;
         still = subst (λ (s : PassState). AwayFromPins z s q) (sym h.last) works.away;
@@ -338,7 +338,7 @@ module _ (z : Sizes) (call looks r : ℕ) (key : List ℕ) (v x : PassState) (on
         alone_off = never_so (NeverElsewhere (key_number key) v) v u never_off
 
         held_off : HoldsOff z call key r v u
-        held_off = record { copy = w; came = record { old = h.came.old; step = step_in z call (on_rooms (hold_room r h.came.old)) v x y u p.stands.met later.met h.came.step; found_is = h.came.found_is; copy_is = h.came.copy_is }; off = off }
+        held_off = record { copy = w; came = record { old = h.came.old; step = step_in z call (on_rooms (hold_room r h.came.old)) v x y u p.stands.met later.met h.came.step; found_is = h.came.found_is; copy_is = h.came.copy_is; linked = h.came.linked }; off = off }
 
         pub busy_off : IsBusyFor z call looks key v u
         busy_off = inr (r, inr held_off)
@@ -350,6 +350,6 @@ module _ (z : Sizes) (call looks r : ℕ) (key : List ℕ) (v x : PassState) (on
         back_off = record {
           beside = works_both call v y u (works_of_stands call v y front_beside) later;
           claims = o.claims ∙ (c.works.stands.claims ∙ (works.stands.claims ∙ front_beside.stands.claims));
-          rooms = o.rooms ∙ (λ i. record { pin = (c.front.only.pin ∙ sym only.pin) i; latch = (c.front.only.latch ∙ sym only.latch) i; claim = (c.front.only.claim ∙ sym only.claim) i; held = v.rooms.held; moving = v.rooms.moving });
+          rooms = o.rooms ∙ (λ i. record { pin = (c.front.only.pin ∙ sym only.pin) i; claim = (c.front.only.claim ∙ sym only.claim) i; held = v.rooms.held; moving = v.rooms.moving });
           ended = o.moment;
         }

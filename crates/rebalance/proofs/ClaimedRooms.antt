@@ -10,7 +10,6 @@ use Rattle.oak_model.specs.Counts.{one_at, one_if, total, Each}
 use Rattle.oak_model.specs.Limits.{Sizes}
 use Rattle.oak_model.proofs.Counting.{one_at-same, one_at-other, total_at, test-cases, both_true}
 use Rattle.oak_model.proofs.Lists.{at_map, at_last, at_longer}
-use Rattle.arena_core.specs.Place.{content}
 use Rattle.chunk_core.specs.declared.holds.HeldRoom.{HeldRoom}
 use Rattle.chunk_core.specs.declared.holds.RoomCopy.{RoomCopy}
 use Rattle.chunk_core.specs.declared.holds.RoomHeldAs.TheVariants.{Held}
@@ -42,7 +41,6 @@ use Rattle.rebalance.specs.Holding.{Claims, FindsUsed, HasHeld, HasOnly, with_cl
 use Rattle.rebalance.specs.LoneWords.{MovesWith}
 use Rattle.rebalance.proofs.HeldAlone.{copy_first}
 use Rattle.rebalance.proofs.LoneSteps.{room_moves_with}
-use Rattle.rebalance.proofs.MirroredRooms.{latch_free}
 use Rattle.rebalance.proofs.RoomExchanges.{exchanged_state, claim_beside, claim_takes, trying_since}
 use Rattle.rebalance.specs.Resting.{OnlyRests, OnlyTries, only_tries, trying_both}
 
@@ -156,7 +154,7 @@ claims z call r old n u v w only t e = let m : Memory = memory z t.table.words i
     beside = trying_since call u v w (only_tries call u v only) (claim_beside z call r old n v w t);
     rooms = takes ∙ ap (with_claimed r copy) only.rooms;
     has = subst (HasHeld z r copy) (sym takes) (record { held = claimed_once z call r old n v w t e copy; copy = copy_first r copy v.rooms.held; whole = whole_copy z m.rooms r });
-    latch = latch_free z m.rooms (content m.arena.bytes) (map rooms_held t.table.states) t.rule.rooms r (ap count_of (pin_found z call r (claim_room r old) refl v n w t t.may.inside.0 ∙ e) ∙ t.may.rooms.count);
+    latch = t.rule.rooms.latches r;
     ended = (_, moment_after z call (on_rooms (claim_room r old)) v n w t);
     alone = stays_then (MovesWith z r FREE HELD copy) u v w only.still (room_moves_with z call r (claim_room r old) refl v n w t t.may.inside.0 FREE HELD copy (ap state_of e ∙ t.may.rooms.state)
         (exchanged_state n old HELD e (let o = t.may.rooms.state in omega arith) ∙ ap (λ (k : ℕ). k + HELD) t.may.rooms.state) refl);

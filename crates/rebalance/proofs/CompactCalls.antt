@@ -55,7 +55,7 @@ sweeps_since call key u v w b m s = record {
 
 -- a room that came to be held before was held in the call
 pub held_until : (z : Sizes) (call r : ℕ) (w : RoomCopy) (v u t : PassState) → MetMore call u t → ComesToHold z call r w v u → ComesToHold z call r w v t
-held_until z call r w v u t met c = record { old = c.old; step = step_until z call (on_rooms (hold_room r c.old)) v u t met c.step; found_is = c.found_is; copy_is = c.copy_is }
+held_until z call r w v u t met c = record { old = c.old; step = step_until z call (on_rooms (hold_room r c.old)) v u t met c.step; found_is = c.found_is; copy_is = c.copy_is; linked = c.linked }
 
 -- and one that is opened later is opened in it
 pub opened_since : (z : Sizes) (call r : ℕ) (w : RoomCopy) (v u t : PassState) → MetMore call v u → OpensWith z call r w u t → OpensWith z call r w v t
@@ -67,7 +67,7 @@ leaves_all call v u idle b rooms = record { met = b.met; numbers = b.numbers; kn
 
 -- it holds nothing but rooms
 pub idle_only : (v : PassState) → HoldsNothing v → HoldsOnlyRooms v
-idle_only v i = record { blocks = i.blocks; headers = i.headers; pin = ap (λ a. a.pin) i.rooms; latch = ap (λ a. a.latch) i.rooms; claim = ap (λ a. a.claim) i.rooms }
+idle_only v i = record { blocks = i.blocks; headers = i.headers; pin = ap (λ a. a.pin) i.rooms; claim = ap (λ a. a.claim) i.rooms }
 
 module _ (z : Sizes) (call : ℕ) (key : List ℕ) (is_key : IsKey key) (bytes : AreBytes key) (r dropped : ℕ) (slots : List SortSlot) (w : RoomCopy) (g : MovingRange) (v u1 u2 u3 : PassState) (idle : HoldsNothing v) (f : HoldsFor z call key r w g v u1)
     (c : CompactsFront z call r dropped slots w v.rooms.held v.rooms.moving u1 u2) (o : OpensFront z call r c.words v.rooms.held v.rooms.moving u2 u3) where
@@ -78,11 +78,11 @@ module _ (z : Sizes) (call : ℕ) (key : List ℕ) (is_key : IsKey key) (bytes :
   all = works_both call v u2 u3 first o.beside
 
   rooms_back : u3.rooms ≡ v.rooms
-  rooms_back = o.rooms ∙ (λ i. record { pin = (c.front.only.pin ∙ sym (ap (λ a. a.pin) idle.rooms)) i; latch = (c.front.only.latch ∙ sym (ap (λ a. a.latch) idle.rooms)) i; claim = (c.front.only.claim ∙ sym (ap (λ a. a.claim) idle.rooms)) i; held = v.rooms.held; moving = v.rooms.moving })
+  rooms_back = o.rooms ∙ (λ i. record { pin = (c.front.only.pin ∙ sym (ap (λ a. a.pin) idle.rooms)) i; claim = (c.front.only.claim ∙ sym (ap (λ a. a.claim) idle.rooms)) i; held = v.rooms.held; moving = v.rooms.moving })
 
   swept_key : SweepsKey key v u3
   swept_key = sweeps_since call key v u2 u3 first.swept first.met
-      (o.sweeps (mirrors_valued z c.words c.range c.front.mirrors c.has.valued) key is_key bytes (same_span w c.words c.rewritten.low c.rewritten.high (key_number key) ∙ f.inside))
+      (o.sweeps (mirrors_valued z c.words c.range c.front.mirrors c.rewritten.linked c.has.valued) key is_key bytes (same_span w c.words c.rewritten.low c.rewritten.high (key_number key) ∙ f.inside))
 
   -- it claimed no room
   unclaimed : u3.findings.rebalances.claims ≡ v.findings.rebalances.claims
@@ -100,6 +100,7 @@ module _ (z : Sizes) (call : ℕ) (key : List ℕ) (is_key : IsKey key) (bytes :
       low = c.rewritten.low;
       high = c.rewritten.high;
       kept = c.rewritten.kept;
+      linked = c.rewritten.linked;
       base = c.rewritten.base;
       sorted = c.rewritten.sorted;
       swept = swept_key;

@@ -4,9 +4,10 @@ use Rattle.std.specs.Prelude.{slice_index}
 use Rattle.std.specs.List.Sorted.{IsPermutation}
 use Rattle.std.proofs.lemmas.List.{length-map}
 use Rattle.oak_model.specs.declared.limits.TheConstants.{GREATEST_ENTRIES}
-use Rattle.oak_model.specs.Counts.{rows}
+use Rattle.oak_model.specs.Counts.{rows, total}
 use Rattle.oak_model.specs.Limits.{Sizes}
 use Rattle.oak_model.proofs.Lists.{rows_length}
+use Rattle.chunk_core.specs.declared.holds.EntryWords.{EntryWords}
 use Rattle.chunk_core.specs.declared.holds.MovingRange.{MovingRange}
 use Rattle.chunk_core.specs.declared.layout.TheConstants.{BOUND_WORDS}
 use Rattle.chunk_core.specs.LinkedEntries.{entries_in}
@@ -16,17 +17,25 @@ use Rattle.chunk_core.specs.Rooms.{RoomMemory}
 use Rattle.oak_core.specs.declared.sorting.SortSlot.{SortSlot}
 use Rattle.rebalance.specs.declared.entries.Entry.{Entry}
 use Rattle.rebalance.specs.CarriedKeys.{HaveKeys}
-use Rattle.rebalance.specs.Compacted.{in_use, KeysRise}
+use Rattle.rebalance.specs.Compacted.{linked_in, KeysRise}
 use Rattle.rebalance.specs.DroppedRange.{sum_of, sum_carried, dropped_range, WordsDiffer}
 use Rattle.rebalance.specs.Dropping.{DropsKeys}
-use Rattle.rebalance.specs.Entries.{greatest, kept, dropped}
+use Rattle.rebalance.specs.Copies.{AllLinked}
+use Rattle.rebalance.specs.Entries.{entries, greatest, has_word, kept, dropped}
 use Rattle.rebalance.specs.Filled.{IsFilled, Fills}
 use Rattle.rebalance.specs.Mirrors.{Mirrors, RangeStands}
 use Rattle.rebalance.specs.SlotRanges.{SlotsHave, BoundsAre}
 use Rattle.rebalance.specs.Slots.{entry_of}
 use Rattle.rebalance.proofs.DroppedRange.{parted_sum}
-use Rattle.rebalance.proofs.FilledCopies.{copied_sum, filled_many, filled_prefix, filled_sum, filled_rises, permuted_total, length_total}
+use Rattle.rebalance.proofs.FilledCopies.{copied_sum, filled_linked, filled_many, filled_prefix, filled_sum, filled_rises, permuted_total, length_total}
+use Rattle.rebalance.proofs.LinkedCopies.{linked_are}
 use Rattle.rebalance.proofs.MirroredEntries.{drops, kept_left, all_valued}
+use Rattle.rebalance.proofs.PassedOnes.{fewer_pass}
+use Rattle.rebalance.proofs.SlotKeys.{slot_carried}
+
+-- Each entry of a room that was filled with the entries of a range is linked.
+pub slots_linked : (z : Sizes) (m : RoomMemory) (r : ℕ) (xs : List SortSlot) (base : ℕ) (g : MovingRange) (keys : ℕ → List ℕ) → z.entries ≤ GREATEST_ENTRIES → IsFilled z.entries r xs base m → length xs ≤ z.entries → SlotsHave keys xs g → AllLinked (copy_at z m r)
+slots_linked z m r xs base g keys limit filled few slots = filled_linked z m r xs base filled few limit (λ i d l. let t = slot_carried keys xs g slots i d l in let k = t.3.named.some_word in let w = t.2 in omega arith)
 
 -- A room that was filled with the entries of a range mirrors it.
 pub filled_mirrors : (z : Sizes) (m : RoomMemory) (r : ℕ) (xs : List SortSlot) (base : ℕ) (g : MovingRange) (keys : ℕ → List ℕ) → z.entries ≤ GREATEST_ENTRIES → IsFilled z.entries r xs base m → length xs ≤ z.entries → base ≡ g.base → BoundsAre m r g → SlotsHave keys xs g → Mirrors z (copy_at z m r) g
@@ -37,7 +46,7 @@ filled_mirrors z m r xs base g keys limit filled few base_is bounds slots = let 
   latch = bounds.latch;
   few = omega arith;
   prefix = omega arith;
-  entries = λ f. filled_sum z m r xs base filled few limit f ∙ slots.sums f;
+  entries = λ f. ap (total (λ (e : EntryWords). f e.word e.value)) (linked_are (copy_at z m r) (slots_linked z m r xs base g keys limit filled few slots)) ∙ (filled_sum z m r xs base filled few limit f ∙ slots.sums f);
   bounds = subst (λ (p : List ℕ × List ℕ). AreBounds (slice_index p.0 0) (slice_index p.1 0)) (λ t. (sym bounds.low t, sym bounds.high t)) bounds.fit;
   sorted = λ i j c d lt l ch dh ci dj. filled_rises z m r xs base filled few limit keys slots.rise i j c d lt (omega arith) (slots.have c ch (slots.valued c ch)) (slots.have d dh (slots.valued d dh)) ci dj;
 }
@@ -62,37 +71,37 @@ bounds_still m n r g h b low high latch lows highs = record {
 
 -- A room that mirrors the range g, whose slots have its entries with a value.
 module _ (z : Sizes) (m : RoomMemory) (r : ℕ) (g : MovingRange) (mirrors : Mirrors z (copy_at z m r) g) (stands : RangeStands g) (differ : WordsDiffer g) where
-  -- what is added up over its entries in use
-  pub used_sum : (f : ℕ → ℕ → ℕ) → sum_of f (in_use m r) ≡ sum_carried f g.carried
+  -- what is added up over its linked entries
+  pub used_sum : (f : ℕ → ℕ → ℕ) → sum_of f (linked_in m r) ≡ sum_carried f g.carried
   used_sum f = sym (copied_sum z m r f mirrors.few) ∙ mirrors.entries f
 
-  module _ (keys : ℕ → List ℕ) (have : HaveKeys keys g.carried) (xs : List SortSlot) (same : IsPermutation (kept (in_use m r)) (map entry_of xs)) where
+  module _ (keys : ℕ → List ℕ) (have : HaveKeys keys g.carried) (xs : List SortSlot) (same : IsPermutation (kept (linked_in m r)) (map entry_of xs)) where
     -- they have what is left of the range
-    pub slots_have : KeysRise keys xs → SlotsHave keys xs (dropped_range (dropped (in_use m r)) g)
+    pub slots_have : KeysRise keys xs → SlotsHave keys xs (dropped_range (dropped (linked_in m r)) g)
     slots_have rise = record {
-      sums = λ f. permuted_total (λ (e : Entry). f e.place e.value) (kept (in_use m r)) (map entry_of xs) same ∙ kept_left (in_use m r) g stands differ used_sum f;
+      sums = λ f. permuted_total (λ (e : Entry). f e.place e.value) (kept (linked_in m r)) (map entry_of xs) same ∙ kept_left (linked_in m r) g stands differ used_sum f;
       rise = rise;
-      have = λ c h. have c ((drops (in_use m r) g stands differ used_sum).some c h);
-      valued = all_valued (in_use m r) g stands differ used_sum;
+      have = λ c h. have c ((drops (linked_in m r) g stands differ used_sum).some c h);
+      valued = all_valued (linked_in m r) g stands differ used_sum;
     }
 
     -- they are no more than the room has
     pub slots_few : length xs ≤ z.entries
-    slots_few = let a = permuted_total (λ (e : Entry). 1) (kept (in_use m r)) (map entry_of xs) same in let b = length_total (map entry_of xs) in let c = length-map xs entry_of in
-        let d = parted_sum (λ w v. 1) (in_use m r) in let e = length_total (in_use m r) in let l = rows_length 0 (entries_in (m.count r)) (λ (i : ℕ). let y : Entry = record { place = m.key r i; value = m.value r i } in y) in
+    slots_few = let a = permuted_total (λ (e : Entry). 1) (kept (linked_in m r)) (map entry_of xs) same in let b = length_total (map entry_of xs) in let c = length-map xs entry_of in
+        let d = parted_sum (λ w v. 1) (linked_in m r) in let e = length_total (linked_in m r) in let p = fewer_pass has_word (entries m r (entries_in (m.count r))) in let l = rows_length 0 (entries_in (m.count r)) (λ (i : ℕ). let y : Entry = record { place = m.key r i; value = m.value r i } in y) in
         let few = mirrors.few in omega arith
 
     -- the base that was read is that of what is left
-    pub read_base : (base : ℕ) → base ≡ greatest (m.base r) (dropped (in_use m r)) → base ≡ (dropped_range (dropped (in_use m r)) g).base
-    read_base base is = is ∙ (ap (λ (b : ℕ). greatest b (dropped (in_use m r))) mirrors.base ∙ sym (drops (in_use m r) g stands differ used_sum).base)
+    pub read_base : (base : ℕ) → base ≡ greatest (m.base r) (dropped (linked_in m r)) → base ≡ (dropped_range (dropped (linked_in m r)) g).base
+    read_base base is = is ∙ (ap (λ (b : ℕ). greatest b (dropped (linked_in m r))) mirrors.base ∙ sym (drops (linked_in m r) g stands differ used_sum).base)
 
     -- and the room has its bounds
-    pub read_bounds : (n : ℕ) (m1 : RoomMemory) → DropsKeys r n m m1 → BoundsAre m1 r (dropped_range (dropped (in_use m r)) g)
-    read_bounds n m1 gone = let d = drops (in_use m r) g stands differ used_sum in
-        bounds_still m m1 r g (dropped_range (dropped (in_use m r)) g) (bounds_of z m r g mirrors) (ap (λ (f : ℕ → ℕ → ℕ). f r) gone.low) (ap (λ (f : ℕ → ℕ → ℕ). f r) gone.high) (ap (λ (f : ℕ → ℕ). f r) gone.latch) d.low d.high
+    pub read_bounds : (n : ℕ) (m1 : RoomMemory) → DropsKeys r n m m1 → BoundsAre m1 r (dropped_range (dropped (linked_in m r)) g)
+    read_bounds n m1 gone = let d = drops (linked_in m r) g stands differ used_sum in
+        bounds_still m m1 r g (dropped_range (dropped (linked_in m r)) g) (bounds_of z m r g mirrors) (ap (λ (f : ℕ → ℕ → ℕ). f r) gone.low) (ap (λ (f : ℕ → ℕ → ℕ). f r) gone.high) (ap (λ (f : ℕ → ℕ). f r) gone.latch) d.low d.high
 
     -- the room is filled with them, in the order of their keys
-    pub compacted_mirrors : (base n : ℕ) (m1 m2 : RoomMemory) → z.entries ≤ GREATEST_ENTRIES → KeysRise keys xs → base ≡ greatest (m.base r) (dropped (in_use m r)) → DropsKeys r n m m1 → Fills z.entries r xs base m1 m2 → Mirrors z (copy_at z m2 r) (dropped_range (dropped (in_use m r)) g)
-    compacted_mirrors base n m1 m2 limit rise base_is gone fills = let g1 : MovingRange = dropped_range (dropped (in_use m r)) g in let b = fills.bounds_kept in
+    pub compacted_mirrors : (base n : ℕ) (m1 m2 : RoomMemory) → z.entries ≤ GREATEST_ENTRIES → KeysRise keys xs → base ≡ greatest (m.base r) (dropped (linked_in m r)) → DropsKeys r n m m1 → Fills z.entries r xs base m1 m2 → Mirrors z (copy_at z m2 r) (dropped_range (dropped (linked_in m r)) g)
+    compacted_mirrors base n m1 m2 limit rise base_is gone fills = let g1 : MovingRange = dropped_range (dropped (linked_in m r)) g in let b = fills.bounds_kept in
         filled_mirrors z m2 r xs base g1 keys limit fills.filled slots_few (read_base base base_is)
         (bounds_still m1 m2 r g1 g1 (read_bounds n m1 gone) (ap (λ (f : ℕ → ℕ → ℕ). f r) b.low) (ap (λ (f : ℕ → ℕ → ℕ). f r) b.high) (ap (λ (f : ℕ → ℕ). f r) b.latch) refl refl) (slots_have rise)

@@ -1,4 +1,4 @@
--- The base of a copy, where each of its entries has a value.
+-- The base of a copy, where each of its entries is linked and has a value.
 use Rattle.std.proofs.Common.{◌≡◌, ℕ, ◌≤◌, ◌==◌, not, cond, List, [], ◌∷◌, length, map, refl, ap, ◌∙◌, arith}
 use Rattle.std.proofs.lemmas.List.{length-take}
 use Rattle.oak_model.specs.Counts.{total}
@@ -8,9 +8,10 @@ use Rattle.chunk_core.specs.LinkedEntries.{entries_in}
 use Rattle.chunk_core.specs.RoomCopies.{entries_held}
 use Rattle.chunk_core.specs.ValueWord.{names_header}
 use Rattle.rebalance.specs.declared.entries.Entry.{Entry}
-use Rattle.rebalance.specs.Copies.{base_without, values_in}
+use Rattle.rebalance.specs.Copies.{base_without, has_key_word, linked_held, values_in}
 use Rattle.rebalance.specs.Entries.{dropped, greatest}
 use Rattle.rebalance.proofs.DroppedRange.{named-cases}
+use Rattle.rebalance.proofs.PassedOnes.{fewer_pass}
 
 -- a word names a header or not
 pub value_small : (v : ℕ) → names_header v ≤ 1
@@ -34,4 +35,4 @@ first_only b = refl
 
 -- where none was dropped the base is what it was
 pub base_still : (w : RoomCopy) → entries_in w.count ≡ values_in w → base_without w ≡ w.base
-base_still w e = let n = length-take (entries_in w.count) w.entries in ap (greatest w.base) (none_without (entries_held w) (omega arith)) ∙ first_only w.base
+base_still w e = let n = length-take (entries_in w.count) w.entries in let p = fewer_pass has_key_word (entries_held w) in ap (greatest w.base) (none_without (linked_held w) (omega arith)) ∙ first_only w.base

@@ -11,7 +11,7 @@ use Rattle.chunk_core.specs.Rooms.{RoomMemory}
 use Rattle.chunk_core.specs.ValueWord.{names_header}
 use Rattle.rebalance.specs.declared.entries.Entry.{Entry}
 use Rattle.rebalance.specs.Dropping.{DropsKeys, dropped_ranges}
-use Rattle.rebalance.specs.Entries.{entries, dropped}
+use Rattle.rebalance.specs.Entries.{dropped, linked_among}
 use Rattle.rebalance.specs.HeldRooms.{IsCarried, IsLoose}
 
 -- one entry more is dropped, behind the others
@@ -38,7 +38,7 @@ drops_none r m = record {
   gone = λ j l _. absurd (omega arith);
 }
 
-pub ranges_none : (m : RoomMemory) (r : ℕ) (gs : List MovingRange) → gs ≡ dropped_ranges (dropped (entries m r 0)) gs
+pub ranges_none : (m : RoomMemory) (r : ℕ) (gs : List MovingRange) → gs ≡ dropped_ranges (dropped (linked_among m r 0)) gs
 unfolding rows dropped_ranges
 ranges_none m r gs = refl
 

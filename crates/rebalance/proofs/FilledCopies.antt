@@ -1,7 +1,7 @@
 -- The copy of a held room by its words, and of one in which sorted slots were stored.
-use Rattle.std.proofs.Common.{◌≡◌, ℕ, zero, suc, ◌+◌, ◌<◌, ◌≤◌, List, [], ◌∷◌, map, length, get_or, sym, ◌∙◌, ap, refl, subst, arith}
+use Rattle.std.proofs.Common.{◌≡◌, ℕ, zero, suc, ◌+◌, ◌<◌, ◌≤◌, cond, nat_lt, List, [], ◌∷◌, map, length, get_or, sym, ◌∙◌, ap, refl, subst, arith}
 use Rattle.std.specs.Prelude.{slice_index}
-use Rattle.std.specs.List.{slice_index_or}
+use Rattle.std.specs.List.{filter, slice_index_or}
 use Rattle.std.specs.List.Sorted.{IsPermutation}
 use Rattle.std.proofs.lemmas.List.{get_or-map}
 use Rattle.std.proofs.lemmas.List.Recursion.{is_sum_by}
@@ -23,13 +23,15 @@ use Rattle.chunk_core.proofs.EntryNumbers.{take_rows}
 use Rattle.oak_core.specs.declared.sorting.SortSlot.{SortSlot}
 use Rattle.rebalance.specs.declared.entries.Entry.{Entry}
 use Rattle.rebalance.specs.CarriedKeys.{HasKey}
-use Rattle.rebalance.specs.Compacted.{in_use, KeysRise}
-use Rattle.rebalance.specs.Copies.{entries_of}
+use Rattle.rebalance.specs.Compacted.{linked_in, KeysRise}
+use Rattle.rebalance.specs.Copies.{AllLinked, entries_of, has_key_word, linked_held}
 use Rattle.rebalance.specs.DroppedRange.{sum_of}
-use Rattle.rebalance.specs.Entries.{entries}
+use Rattle.rebalance.specs.Entries.{entries, has_word}
 use Rattle.rebalance.specs.Filled.{IsFilled, count_of}
 use Rattle.rebalance.specs.Mirrors.{carried_key}
 use Rattle.rebalance.specs.Slots.{entry_of}
+use Rattle.rebalance.proofs.DroppedRange.{total_filter}
+use Rattle.rebalance.proofs.PassedOnes.{pass_mapped}
 
 -- a list that is copied is the list
 pub rows_back : (n : ℕ) (xs : List ℕ) → length xs ≡ n → rows 0 n (slice_index xs) ≡ xs
@@ -69,14 +71,20 @@ unfolding prefix_in
 count_prefix n le = omega arith
 
 module _ (z : Sizes) (m : RoomMemory) (r : ℕ) where
-  -- what is added up over the linked entries of the copy
-  pub copied_sum : (f : ℕ → ℕ → ℕ) → entries_in (m.count r) ≤ z.entries → total (λ (e : EntryWords). f e.word e.value) (entries_held (copy_at z m r)) ≡ sum_of f (in_use m r)
-  copied_sum f few = ap (total (λ (e : EntryWords). f e.word e.value)) (take_rows 0 (entries_in (m.count r)) z.entries (words_at m r) few)
+  -- what is added up over the entries in use of the copy
+  copied_used : (f : ℕ → ℕ → ℕ) → entries_in (m.count r) ≤ z.entries → total (λ (e : EntryWords). f e.word e.value) (entries_held (copy_at z m r)) ≡ sum_of f (entries m r (entries_in (m.count r)))
+  copied_used f few = ap (total (λ (e : EntryWords). f e.word e.value)) (take_rows 0 (entries_in (m.count r)) z.entries (words_at m r) few)
       ∙ total_rows (λ (e : EntryWords). f e.word e.value) (λ (e : Entry). f e.place e.value) (words_at m r) (λ i. record { place = m.key r i; value = m.value r i }) (λ k. refl) 0 (entries_in (m.count r))
 
-  -- its linked entries are those in use
-  pub copied_entries : entries_in (m.count r) ≤ z.entries → entries_of (copy_at z m r) ≡ in_use m r
-  copied_entries few = let F : EntryWords → Entry = λ e. record { place = e.word; value = e.value } in ap (map F) (take_rows 0 (entries_in (m.count r)) z.entries (words_at m r) few) ∙ mapped_rows F (words_at m r) 0 (entries_in (m.count r))
+  -- and over the linked ones
+  pub copied_sum : (f : ℕ → ℕ → ℕ) → entries_in (m.count r) ≤ z.entries → total (λ (e : EntryWords). f e.word e.value) (linked_held (copy_at z m r)) ≡ sum_of f (linked_in m r)
+  copied_sum f few = total_filter has_key_word (λ (e : EntryWords). f e.word e.value) (entries_held (copy_at z m r))
+      ∙ (copied_used (λ w v. cond (nat_lt 0 w) (f w v) 0) few ∙ sym (total_filter has_word (λ (e : Entry). f e.place e.value) (entries m r (entries_in (m.count r)))))
+
+  -- these are the ones of the memory
+  pub copied_entries : entries_in (m.count r) ≤ z.entries → entries_of (copy_at z m r) ≡ linked_in m r
+  copied_entries few = let F : EntryWords → Entry = λ e. record { place = e.word; value = e.value } in sym (pass_mapped has_key_word has_word F (λ e. refl) (entries_held (copy_at z m r)))
+      ∙ ap (filter has_word) (ap (map F) (take_rows 0 (entries_in (m.count r)) z.entries (words_at m r) few) ∙ mapped_rows F (words_at m r) 0 (entries_in (m.count r)))
 
   -- the key word of an entry of the copy
   pub copied_word : (i : ℕ) → i < z.entries → word_held (copy_at z m r) i ≡ m.key r i
@@ -95,7 +103,7 @@ module _ (z : Sizes) (m : RoomMemory) (r : ℕ) where
 
     -- what is added up over them
     pub filled_sum : (f : ℕ → ℕ → ℕ) → total (λ (e : EntryWords). f e.word e.value) (entries_held (copy_at z m r)) ≡ sum_of f (map entry_of xs)
-    filled_sum f = copied_sum f (let q = filled_many in omega arith) ∙ (ap (λ (n : ℕ). sum_of f (entries m r n)) filled_many ∙ ap (sum_of f) filled.is)
+    filled_sum f = copied_used f (let q = filled_many in omega arith) ∙ (ap (λ (n : ℕ). sum_of f (entries m r n)) filled_many ∙ ap (sum_of f) filled.is)
 
     -- and the key word of each
     pub filled_key : (i : ℕ) (d : SortSlot) → i < length xs → m.key r i ≡ (slice_index_or xs i d).key
@@ -103,6 +111,11 @@ module _ (z : Sizes) (m : RoomMemory) (r : ℕ) where
         ap (m.key r) (let q : i ≡ 0 + i = omega arith in q)
         ∙ (ap (λ (e : Entry). e.place) (sym (rows_at 0 (length xs) i f (entry_of d) l))
         ∙ (ap (λ (es : List Entry). (get_or es i (entry_of d)).place) filled.is ∙ ap (λ (e : Entry). e.place) (get_or-map entry_of xs i d (entry_of d) l)))
+
+    -- where each slot has a key word, each of its entries is linked
+    pub filled_linked : ((i : ℕ) (d : SortSlot) → i < length xs → 0 < (slice_index_or xs i d).key) → AllLinked (copy_at z m r)
+    filled_linked named i l = let n = filled_many in let d : SortSlot = record { words = []; length = 0; key = 0; value = 0 } in
+        let w = copied_word i (omega arith) in let k = filled_key i d (omega arith) in let p = named i d (omega arith) in omega arith
 
     -- entries of the range whose words stand in the room rise as these
     pub filled_rises : (keys : ℕ → List ℕ) → KeysRise keys xs → (i j : ℕ) (c d : Carried) → i < j → j < length xs → HasKey keys c → HasKey keys d → c.word ≡ word_held (copy_at z m r) i → d.word ≡ word_held (copy_at z m r) j → carried_key c < carried_key d

@@ -15,7 +15,6 @@ use Rattle.chunk_core.specs.declared.holds.MovingRange.{MovingRange}
 use Rattle.chunk_core.specs.declared.holds.RoomCopy.{RoomCopy}
 use Rattle.chunk_core.specs.LinkedEntries.{entries_in}
 use Rattle.chunk_core.specs.MovingRanges.{base_with, greater, is_dropped, range_without}
-use Rattle.chunk_core.specs.RoomCopies.{entries_held}
 use Rattle.chunk_core.specs.RoomReads.{copy_at}
 use Rattle.chunk_core.specs.Rooms.{RoomMemory}
 use Rattle.chunk_core.specs.ValueWord.{names_header}
@@ -23,16 +22,16 @@ use Rattle.oak_core.specs.declared.sorting.SortSlot.{SortSlot}
 use Rattle.oak_core.specs.declared.states.PassState.{PassState}
 use Rattle.rebalance.specs.declared.entries.Entry.{Entry}
 use Rattle.rebalance.specs.declared.reading.Read.{Read}
-use Rattle.rebalance.specs.Copies.{entries_of, values_in}
+use Rattle.rebalance.specs.Copies.{entries_of, linked_held, values_in}
 use Rattle.rebalance.specs.Chunks.{HoldsFront, IsRewritten, keys_in}
-use Rattle.rebalance.specs.Compacted.{IsCompacted, ReadsSorted, in_use}
+use Rattle.rebalance.specs.Compacted.{IsCompacted, ReadsSorted, linked_in}
 use Rattle.rebalance.specs.DroppedRange.{dropped_range, range_with, sum_of}
 use Rattle.rebalance.specs.Entries.{dropped, kept, has_value, greatest}
 use Rattle.rebalance.specs.HeldRooms.{AllValued}
 use Rattle.rebalance.specs.Mirrors.{Mirrors, held_memory}
 use Rattle.rebalance.specs.SlotRanges.{SlotsHave}
 use Rattle.rebalance.specs.Slots.{entry_of}
-use Rattle.rebalance.proofs.CompactedMirrors.{compacted_mirrors, slots_few, slots_have}
+use Rattle.rebalance.proofs.CompactedMirrors.{compacted_mirrors, slots_few, slots_have, slots_linked}
 use Rattle.rebalance.proofs.DroppedRange.{named-cases, total_filter}
 use Rattle.rebalance.proofs.FilledCopies.{copied_entries, copied_sum, filled_many, filled_prefix, filled_sum, length_total, permuted_total}
 use Rattle.rebalance.proofs.FrontRooms.{front_differ, front_keys, front_mirrors, front_stands, front_words}
@@ -89,14 +88,14 @@ module _ (z : Sizes) (limit : z.entries ≤ GREATEST_ENTRIES) (r : ℕ) (w : Roo
   abbrev m : RoomMemory
   m = held_memory v.rooms.held
 
-  -- the count and the entries in use, by the memory
+  -- the count and the linked entries, by the memory
   pub count_is : (held_memory v.rooms.held).count r ≡ w.count
   count_is = ap (λ (c : RoomCopy). c.count) (front_words z r w g hs gs v f)
 
-  pub words_sum : (F : ℕ → ℕ → ℕ) → total (λ (e : EntryWords). F e.word e.value) (entries_held w) ≡ sum_of F (in_use (held_memory v.rooms.held) r)
-  words_sum F = ap (λ (c : RoomCopy). total (λ (e : EntryWords). F e.word e.value) (entries_held c)) (sym (front_words z r w g hs gs v f)) ∙ copied_sum z m r F (front_mirrors z r w g hs gs v f).few
+  pub words_sum : (F : ℕ → ℕ → ℕ) → total (λ (e : EntryWords). F e.word e.value) (linked_held w) ≡ sum_of F (linked_in (held_memory v.rooms.held) r)
+  words_sum F = ap (λ (c : RoomCopy). total (λ (e : EntryWords). F e.word e.value) (linked_held c)) (sym (front_words z r w g hs gs v f)) ∙ copied_sum z m r F (front_mirrors z r w g hs gs v f).few
 
-  words_entries : entries_of w ≡ in_use (held_memory v.rooms.held) r
+  words_entries : entries_of w ≡ linked_in (held_memory v.rooms.held) r
   words_entries = ap entries_of (sym (front_words z r w g hs gs v f)) ∙ copied_entries z m r (front_mirrors z r w g hs gs v f).few
 
   module _ (slots : List SortSlot) (x : Read) (read : ReadsSorted (keys_in v.rooms.moving) (held_memory v.rooms.held) r slots x) (m' : RoomMemory) (compacts : IsCompacted z.entries r (entries_in ((held_memory v.rooms.held).count r)) (take x.kept slots) x.base (held_memory v.rooms.held) m') where
@@ -104,7 +103,7 @@ module _ (z : Sizes) (limit : z.entries ≤ GREATEST_ENTRIES) (r : ℕ) (w : Roo
     xs = take x.kept slots
 
     abbrev pub range' : MovingRange
-    range' = dropped_range (dropped (in_use (held_memory v.rooms.held) r)) g
+    range' = dropped_range (dropped (linked_in (held_memory v.rooms.held) r)) g
 
     abbrev pub words' : RoomCopy
     words' = copy_at z m' r
@@ -125,15 +124,16 @@ module _ (z : Sizes) (limit : z.entries ≤ GREATEST_ENTRIES) (r : ℕ) (w : Roo
 
     -- as many are kept as had a value
     pub kept_values : length xs ≡ values_in w
-    kept_values = let a = length_total (map entry_of xs) in let b = length-map xs entry_of in let c = permuted_total (λ (e : Entry). 1) (kept (in_use m r)) (map entry_of xs) read.same in
-        let d = kept_sum (λ w v. 1) (in_use m r) in let e = words_sum (λ w v. names_header v * 1) in let t = values_once (entries_held w) in omega arith
+    kept_values = let a = length_total (map entry_of xs) in let b = length-map xs entry_of in let c = permuted_total (λ (e : Entry). 1) (kept (linked_in m r)) (map entry_of xs) read.same in
+        let d = kept_sum (λ w v. 1) (linked_in m r) in let e = words_sum (λ w v. names_header v * 1) in let t = values_once (linked_held w) in omega arith
 
     pub now_rewritten : IsRewritten w words'
     now_rewritten = let bounds = compacts.fills.bounds_kept in let drops = compacts.drops in record {
       low = ap (λ (F : ℕ → ℕ → ℕ). rows 0 BOUND_WORDS (F r)) (bounds.low ∙ drops.low) ∙ ap (λ (c : RoomCopy). c.low) (front_words z r w g hs gs v f);
       high = ap (λ (F : ℕ → ℕ → ℕ). rows 0 BOUND_WORDS (F r)) (bounds.high ∙ drops.high) ∙ ap (λ (c : RoomCopy). c.high) (front_words z r w g hs gs v f);
-      base = compacts.fills.filled.base_is ∙ (read.base ∙ (ap (λ (c : RoomCopy). greatest c.base (dropped (in_use m r))) (front_words z r w g hs gs v f) ∙ ap (λ (es : List Entry). greatest w.base (dropped es)) (sym words_entries)));
-      kept = λ F. filled_sum z m' r xs x.base compacts.fills.filled few limit F ∙ (permuted_total (λ (e : Entry). F e.place e.value) (kept (in_use m r)) (map entry_of xs) read.same ∙ (kept_sum F (in_use m r) ∙ sym (words_sum (λ w v. names_header v * F w v))));
+      base = compacts.fills.filled.base_is ∙ (read.base ∙ (ap (λ (c : RoomCopy). greatest c.base (dropped (linked_in m r))) (front_words z r w g hs gs v f) ∙ ap (λ (es : List Entry). greatest w.base (dropped es)) (sym words_entries)));
+      kept = λ F. filled_sum z m' r xs x.base compacts.fills.filled few limit F ∙ (permuted_total (λ (e : Entry). F e.place e.value) (kept (linked_in m r)) (map entry_of xs) read.same ∙ (kept_sum F (linked_in m r) ∙ sym (words_sum (λ w v. names_header v * F w v))));
+      linked = slots_linked z m' r xs x.base range' (keys_in v.rooms.moving) limit compacts.fills.filled few still_has;
       sorted = record { count = filled_many z m' r xs x.base compacts.fills.filled few limit ∙ kept_values; prefix = filled_prefix z m' r xs x.base compacts.fills.filled few limit ∙ kept_values };
     }
 

@@ -40,7 +40,7 @@ use Rattle.chunk_ops.specs.RoomPins.{HadMoment}
 use Rattle.chunk_ops.proofs.BoundOrder.{by_numbers, less_is}
 use Rattle.chunk_ops.proofs.OrderLaws.{cmp_less}
 use Rattle.chunk_ops.proofs.WordParts.{part_small}
-use Rattle.rebalance.specs.Copies.{copy_span}
+use Rattle.rebalance.specs.Copies.{AllLinked, copy_span}
 use Rattle.rebalance.specs.Chunks.{HoldsFront, OpensFront, held_row}
 use Rattle.rebalance.specs.ListedRows.{SameWords, rows_of}
 use Rattle.rebalance.specs.HeldTables.{HoldsAlone, WorksOnRooms, filled}
@@ -90,15 +90,15 @@ module _ (z : Sizes) (r : ℕ) (w : RoomCopy) (g : MovingRange) (hs : List HeldR
       ∙ (λ i. record { low = low_number (bound_read w.low f.whole.low i); high = high_number (bound_read w.high f.whole.high i); base = w.base })
 
   -- it may be opened over all of its range
-  pub front_opens : IsChained z w → MayOpenCopy z (copy_of r v.rooms.held) v.rooms.moving
-  front_opens chained = subst (λ (o : Option RoomCopy). MayOpenCopy z o v.rooms.moving) (sym front_copy) (subst (λ (l : List MovingRange). MayOpenCopy z (Some w) l) (sym f.moving)
-      (opens_whole z w g f.mirrors (range_stands z v f.moment 0 g (ap (λ (l : List MovingRange). get_elem? l 0) f.moving)) (g ∷ gs) 0 refl (λ j h at lt. absurd (omega arith)) chained))
+  pub front_opens : IsChained z w → AllLinked w → MayOpenCopy z (copy_of r v.rooms.held) v.rooms.moving
+  front_opens chained all = subst (λ (o : Option RoomCopy). MayOpenCopy z o v.rooms.moving) (sym front_copy) (subst (λ (l : List MovingRange). MayOpenCopy z (Some w) l) (sym f.moving)
+      (opens_whole z w g f.mirrors (range_stands z v f.moment 0 g (ap (λ (l : List MovingRange). get_elem? l 0) f.moving)) (g ∷ gs) 0 refl (λ j h at lt. absurd (omega arith)) chained all))
 
 -- ---- a look at its words
 
 -- what a pass has of rooms stays where their words and ranges do
 pub looked_rooms : (z : Sizes) (call : ℕ) (v w : PassState) → HadMoment z v → WorksOnRooms z call v w → held_memory w.rooms.held ≡ held_memory v.rooms.held → w.rooms.moving ≡ v.rooms.moving → w.rooms ≡ v.rooms
-looked_rooms z call v w h works words ranges = let held = rooms_same z v w h (works.moment h) works.listed words in λ i. record { pin = works.pin i; latch = works.latch i; claim = works.claim i; held = held i; moving = ranges i }
+looked_rooms z call v w h works words ranges = let held = rooms_same z v w h (works.moment h) works.listed words in λ i. record { pin = works.pin i; claim = works.claim i; held = held i; moving = ranges i }
 
 -- The words of the front room may be others: where those of the other rooms stay, the pass has these as it had them.
 pub front_kept : (z : Sizes) (r : ℕ) (w : RoomCopy) (g : MovingRange) (hs : List HeldRoom) (gs : List MovingRange) (v u : PassState) → HoldsFront z r w g hs gs v → HadMoment z u → rows_of u.rooms.held ≡ rows_of v.rooms.held

@@ -1,13 +1,15 @@
 -- The room that the pass came to hold last was read: what it is filled with, and that it is as it was where each of its entries has a value.
-use Rattle.std.proofs.Common.{◌≡◌, ℕ, ◌+◌, ◌*◌, ◌<◌, ◌≤◌, ◌==◌, not, cond, List, [], ◌∷◌, length, map, take, refl, sym, ap, ◌∙◌, subst, arith, length-take-le}
+use Rattle.std.proofs.Common.{◌≡◌, ℕ, ◌+◌, ◌*◌, ◌<◌, ◌≤◌, ◌==◌, not, cond, List, [], ◌∷◌, length, map, take, refl, sym, ap, ◌∙◌, subst, arith, length-take-le, ltb-true}
+use Rattle.std.specs.List.{filter}
 use Rattle.std.proofs.lemmas.List.{length-map}
 use mathlib.Core.Logic.{dite}
 use mathlib.Core.Option.{some}
+use lib.ListN.{get_elem?}
 use native.Mathlib.Decide.{ℕ_discrete, dec_lt}
 use Rattle.oak_model.specs.Counts.{Each, total}
 use Rattle.oak_model.specs.Limits.{Sizes}
 use Rattle.oak_model.proofs.Lists.{rows_length}
-use Rattle.oak_model.proofs.MemberLaws.{each_at}
+use Rattle.oak_model.proofs.MemberLaws.{each_at, filter-cases}
 use Rattle.chunk_core.specs.declared.holds.HeldRoom.{HeldRoom}
 use Rattle.chunk_core.specs.declared.holds.MovingRange.{MovingRange}
 use Rattle.chunk_core.specs.declared.holds.RoomCopy.{RoomCopy}
@@ -23,10 +25,10 @@ use Rattle.rebalance.specs.declared.entries.Entry.{Entry}
 use Rattle.rebalance.specs.declared.reading.Read.{Read}
 use Rattle.rebalance.specs.Copies.{values_in}
 use Rattle.rebalance.specs.Chunks.{CompactsFront, HoldsFront, ReadsFront, keys_in}
-use Rattle.rebalance.specs.Compacted.{ReadsSorted, in_use}
+use Rattle.rebalance.specs.Compacted.{ReadsSorted, linked_in}
 use Rattle.rebalance.specs.DroppedRange.{sum_of}
 use Rattle.rebalance.specs.Dropping.{DropsKeys, dropped_ranges}
-use Rattle.rebalance.specs.Entries.{dropped, kept}
+use Rattle.rebalance.specs.Entries.{dropped, entries, has_word, kept}
 use Rattle.rebalance.specs.Filled.{Fills}
 use Rattle.rebalance.specs.HeldRooms.{AllValued}
 use Rattle.rebalance.specs.HeldTables.{Apart, HoldsAlone, IsHeldRow, WorksOnRooms, works_none, works_both}
@@ -38,6 +40,7 @@ use Rattle.rebalance.proofs.FrontCompacts.{count_is, kept_sum, words_sum}
 use Rattle.rebalance.proofs.FrontLaws.{looked_rooms}
 use Rattle.rebalance.proofs.FrontRewrites.{entries_limited, front_compacts, only_still}
 use Rattle.rebalance.proofs.FrontRooms.{front_alone}
+use Rattle.rebalance.proofs.PassedOnes.{all_pass}
 
 -- ---- lists in which each entry has a value
 
@@ -62,6 +65,11 @@ valued_many : (es : List Entry) → Each (λ (e : Entry). names_header e.value �
 unfolding total
 valued_many [] h = refl
 valued_many (e ∷ es) h = let t = valued_many es h.1 in let v = h.0 in omega arith
+
+-- those that are linked have key words
+each_keyed : (es : List Entry) → Each (λ (e : Entry). 0 < e.place) (filter has_word es)
+each_keyed [] = tt
+each_keyed (e ∷ es) = let t = each_keyed es in filter-cases has_word e es (Each (λ (x : Entry). 0 < x.place)) (λ p. (ltb-true 0 e.place p, t)) (λ _. t)
 
 nothing_dropped : (gs : List MovingRange) → dropped_ranges [] gs ≡ gs
 unfolding dropped_ranges
@@ -98,24 +106,44 @@ module _ (z : Sizes) (call r : ℕ) (w : RoomCopy) (g : MovingRange) (hs : List 
     pub full_count : entries_in ((held_memory v.rooms.held).count r) ≡ z.entries
     full_count = let a = reads.read.many in let b = in_few in omega arith
 
-    values_each : Each (λ (e : Entry). names_header e.value ≡ 1) (in_use m r)
-    values_each = let xs = take x.kept slots in let a = length_total (map entry_of xs) in let b = length-map xs entry_of in let c = permuted_total (λ (e : Entry). 1) (kept (in_use m r)) (map entry_of xs) reads.read.same in
-        let d = kept_sum (λ w v. 1) (in_use m r) in let l = length-take-le x.kept slots reads.read.fits in let k = rows_length 0 (entries_in (m.count r)) (λ (i : ℕ). let y : Entry = record { place = m.key r i; value = m.value r i } in y) in let n = full_count in
-        each_valued (in_use m r) (omega arith)
+    abbrev used : List Entry
+    used = entries m r (entries_in (m.count r))
+
+    used_long : length used ≡ entries_in (m.count r)
+    used_long = rows_length 0 (entries_in (m.count r)) (λ (i : ℕ). let y : Entry = record { place = m.key r i; value = m.value r i } in y)
+
+    values_many : sum_of (λ w v. names_header v * 1) (linked_in m r) ≡ entries_in (m.count r)
+    values_many = let xs = take x.kept slots in let a = length_total (map entry_of xs) in let b = length-map xs entry_of in let c = permuted_total (λ (e : Entry). 1) (kept (linked_in m r)) (map entry_of xs) reads.read.same in
+        let d = kept_sum (λ w v. 1) (linked_in m r) in let l = length-take-le x.kept slots reads.read.fits in let n = full_count in omega arith
+
+    -- so each entry is linked
+    full_linked : linked_in m r ≡ used
+    full_linked = let a = values_many in let b = values_small (linked_in m r) in let k = used_long in all_pass has_word used (omega arith)
+
+    values_each : Each (λ (e : Entry). names_header e.value ≡ 1) (linked_in m r)
+    values_each = let a = values_many in let k = used_long in let l = ap length full_linked in each_valued (linked_in m r) (omega arith)
 
     -- no entry is among those to be dropped
-    pub full_none : dropped (in_use (held_memory v.rooms.held) r) ≡ []
-    full_none = valued_none (in_use m r) values_each
+    pub full_none : dropped (linked_in (held_memory v.rooms.held) r) ≡ []
+    full_none = valued_none (linked_in m r) values_each
 
     -- as many have a value as a room has entries
     pub full_values : values_in w ≡ z.entries
-    full_values = let a = words_sum z (entries_limited z v f.moment) r w g hs gs v f (λ _ v. names_header v) in let b = valued_many (in_use m r) values_each in let k = rows_length 0 (entries_in (m.count r)) (λ (i : ℕ). let y : Entry = record { place = m.key r i; value = m.value r i } in y) in
-        let n = full_count in omega arith
+    full_values = let a = words_sum z (entries_limited z v f.moment) r w g hs gs v f (λ _ v. names_header v) in let b = valued_many (linked_in m r) values_each in let k = used_long in let l = ap length full_linked in let n = full_count in omega arith
+
+    abbrev row : ℕ → Entry
+    row j = record { place = m.key r j; value = m.value r j }
+
+    row_there : (i : ℕ) → i < entries_in (m.count r) → get_elem? used i ≡ some (row i)
+    row_there i l = rows_has row 0 (entries_in (m.count r)) i l ∙ ap (λ (k : ℕ). some (row k)) (let q : 0 + i ≡ i = omega arith in q)
 
     -- each entry has one
     pub full_valued : (i : ℕ) → i < entries_in ((held_memory v.rooms.held).count r) → names_header ((held_memory v.rooms.held).value r i) ≡ 1
-    full_valued i l = let y : ℕ → Entry = (λ (j : ℕ). record { place = m.key r j; value = m.value r j }) in
-        each_at (λ (e : Entry). names_header e.value ≡ 1) (in_use m r) values_each i (y i) (rows_has y 0 (entries_in (m.count r)) i l ∙ ap (λ (k : ℕ). some (y k)) (let q : 0 + i ≡ i = omega arith in q))
+    full_valued i l = each_at (λ (e : Entry). names_header e.value ≡ 1) used (subst (Each (λ (e : Entry). names_header e.value ≡ 1)) full_linked values_each) i (row i) (row_there i l)
+
+    -- and a key word
+    pub full_keyed : (i : ℕ) → i < entries_in ((held_memory v.rooms.held).count r) → 0 < (held_memory v.rooms.held).key r i
+    full_keyed i l = each_at (λ (e : Entry). 0 < e.place) used (subst (Each (λ (e : Entry). 0 < e.place)) full_linked (each_keyed used)) i (row i) (row_there i l)
 
     key_same : (q j : ℕ) → (held_memory u.rooms.held).key q j ≡ m.key q j
     key_same q j = let d = reads.drops in dite (ℕ_discrete q r)
@@ -137,7 +165,7 @@ module _ (z : Sizes) (call r : ℕ) (w : RoomCopy) (g : MovingRange) (hs : List 
     full_again t e = record {
       works = works_none z call t;
       drops = subst (λ (a : RoomHolds). DropsKeys r (entries_in ((held_memory a.held).count r)) (held_memory a.held) (held_memory a.held)) (sym e) drops_none;
-      ranges = subst (λ (a : RoomHolds). a.moving ≡ dropped_ranges (dropped (in_use (held_memory a.held) r)) a.moving) (sym e) (sym (ap (λ (ds : List Entry). dropped_ranges ds v.rooms.moving) full_none ∙ nothing_dropped v.rooms.moving));
+      ranges = subst (λ (a : RoomHolds). a.moving ≡ dropped_ranges (dropped (linked_in (held_memory a.held) r)) a.moving) (sym e) (sym (ap (λ (ds : List Entry). dropped_ranges ds v.rooms.moving) full_none ∙ nothing_dropped v.rooms.moving));
       read = subst (λ (a : RoomHolds). ReadsSorted (keys_in a.moving) (held_memory a.held) r slots x) (sym e) reads.read;
       named = reads.named;
     }
@@ -153,7 +181,6 @@ module _ (z : Sizes) (call r : ℕ) (w : RoomCopy) (g : MovingRange) (hs : List 
         blocks = b ∙ f.only.blocks;
         headers = h ∙ f.only.headers;
         pin = ap (λ (a : RoomHolds). a.pin) e ∙ f.only.pin;
-        latch = ap (λ (a : RoomHolds). a.latch) e ∙ f.only.latch;
         claim = ap (λ (a : RoomHolds). a.claim) e ∙ f.only.claim;
       };
       whole = f.whole;

@@ -18,7 +18,7 @@ use Rattle.oak_core.specs.declared.states.PassState.{PassState}
 use Rattle.chunk_ops.specs.RoomPins.{HadMoment}
 use Rattle.rebalance.specs.declared.reading.Read.{Read}
 use Rattle.rebalance.specs.Chunks.{CompactsFront, HoldsFront, held_row, keys_in}
-use Rattle.rebalance.specs.Compacted.{IsCompacted, ReadsSorted, in_use}
+use Rattle.rebalance.specs.Compacted.{IsCompacted, ReadsSorted, linked_in}
 use Rattle.rebalance.specs.DroppedRange.{dropped_range, range_with}
 use Rattle.rebalance.specs.Dropping.{dropped_ranges}
 use Rattle.rebalance.specs.Entries.{dropped}
@@ -39,7 +39,7 @@ entries_limited z v m = m.1.rule.sizes.entries_greatest
 
 -- a pass that worked on its rooms holds nothing else still
 pub only_still : (z : Sizes) (call : ℕ) (v u : PassState) → WorksOnRooms z call v u → HoldsOnlyRooms v → HoldsOnlyRooms u
-only_still z call v u w o = record { blocks = w.blocks ∙ o.blocks; headers = w.headers ∙ o.headers; pin = w.pin ∙ o.pin; latch = w.latch ∙ o.latch; claim = w.claim ∙ o.claim }
+only_still z call v u w o = record { blocks = w.blocks ∙ o.blocks; headers = w.headers ∙ o.headers; pin = w.pin ∙ o.pin; claim = w.claim ∙ o.claim }
 
 -- a compaction of one room leaves the words of the others
 pub compacted_else : (z : Sizes) (e r n : ℕ) (xs : List SortSlot) (base : ℕ) (m m' : RoomMemory) → IsCompacted e r n xs base m m' → (q : ℕ) → q ≢ r → SameWords z q m m'
@@ -67,7 +67,7 @@ dropped_origin [] g = refl
 dropped_origin (e ∷ es) g = dropped_origin es (range_with e.place g) ∙ test-cases (e.place == 0) (λ b. (cond b g (range_without e.place g)).room ≡ g.room) (λ _. refl) (λ _. refl)
 
 module _ (z : Sizes) (call r : ℕ) (w : RoomCopy) (g : MovingRange) (hs : List HeldRoom) (gs : List MovingRange) (v : PassState) (f : HoldsFront z r w g hs gs v) (others : Each AllValued gs) (rows : Each (IsHeldRow z) hs) (several : Apart hs)
-    (u : PassState) (works : WorksOnRooms z call v u) (slots : List SortSlot) (x : Read) (ranges : u.rooms.moving ≡ dropped_ranges (dropped (in_use (held_memory v.rooms.held) r)) v.rooms.moving) (read : ReadsSorted (keys_in v.rooms.moving) (held_memory v.rooms.held) r slots x)
+    (u : PassState) (works : WorksOnRooms z call v u) (slots : List SortSlot) (x : Read) (ranges : u.rooms.moving ≡ dropped_ranges (dropped (linked_in (held_memory v.rooms.held) r)) v.rooms.moving) (read : ReadsSorted (keys_in v.rooms.moving) (held_memory v.rooms.held) r slots x)
     (compacts : IsCompacted z.entries r (entries_in ((held_memory v.rooms.held).count r)) (take x.kept slots) x.base (held_memory v.rooms.held) (held_memory u.rooms.held)) where
   abbrev limit : z.entries ≤ GREATEST_ENTRIES
   limit = entries_limited z v f.moment
@@ -76,7 +76,7 @@ module _ (z : Sizes) (call r : ℕ) (w : RoomCopy) (g : MovingRange) (hs : List 
   words = copy_at z (held_memory u.rooms.held) r
 
   abbrev range : MovingRange
-  range = dropped_range (dropped (in_use (held_memory v.rooms.held) r)) g
+  range = dropped_range (dropped (linked_in (held_memory v.rooms.held) r)) g
 
   now_rows : (u.rooms.held ≡ held_row r (copy_at z (held_memory u.rooms.held) r) ∷ hs) × IsWholeCopy z (copy_at z (held_memory u.rooms.held) r)
   now_rows = rows_are z r w hs u.rooms.held f.whole rows f.apart several (subst (λ (vs : List HeldRoom). RowsStay z vs u.rooms.held) f.held works.rows)
@@ -86,7 +86,7 @@ module _ (z : Sizes) (call r : ℕ) (w : RoomCopy) (g : MovingRange) (hs : List 
   now_front = record {
     inside = f.inside;
     held = now_rows.0;
-    moving = ranges ∙ (dropped_each (dropped (in_use (held_memory v.rooms.held) r)) v.rooms.moving ∙ (ap (map (dropped_range (dropped (in_use (held_memory v.rooms.held) r)))) f.moving ∙ ap (λ (l : List MovingRange). range ∷ l) (all_stay (dropped (in_use (held_memory v.rooms.held) r)) gs others)));
+    moving = ranges ∙ (dropped_each (dropped (linked_in (held_memory v.rooms.held) r)) v.rooms.moving ∙ (ap (map (dropped_range (dropped (linked_in (held_memory v.rooms.held) r)))) f.moving ∙ ap (λ (l : List MovingRange). range ∷ l) (all_stay (dropped (linked_in (held_memory v.rooms.held) r)) gs others)));
     apart = f.apart;
     only = only_still z call v u works f.only;
     whole = now_rows.1;
@@ -99,7 +99,7 @@ module _ (z : Sizes) (call r : ℕ) (w : RoomCopy) (g : MovingRange) (hs : List 
     words = words;
     range = range;
     front = now_front;
-    origin = λ h e. dropped_origin (dropped (in_use (held_memory v.rooms.held) r)) g ∙ ap first_origin (sym f.moving ∙ e);
+    origin = λ h e. dropped_origin (dropped (linked_in (held_memory v.rooms.held) r)) g ∙ ap first_origin (sym f.moving ∙ e);
     works = works;
     rewritten = now_rewritten z limit r w g hs gs v f slots x read (held_memory u.rooms.held) compacts;
     kept_is = kept_values z limit r w g hs gs v f slots x read (held_memory u.rooms.held) compacts;

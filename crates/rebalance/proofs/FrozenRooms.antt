@@ -33,7 +33,7 @@ use Rattle.rebalance.proofs.LoneChunks.{lone_divides, none_frozen}
 use Rattle.rebalance.proofs.LoneSteps.{StepAt, moment_at, moves_at, step_at}
 use Rattle.rebalance.proofs.RoomExchanges.{beside_since, exchanged_state, freeze_beside, freeze_takes}
 use Rattle.rebalance.specs.Resting.{OnlyRests, only_rests, resting_both}
-use Rattle.chunk_ops.specs.Latching.{Never}
+use Rattle.chunk_ops.specs.AddsAlone.{Never}
 use Rattle.chunk_ops.specs.LoneRooms.{NeverUnfrozen}
 use Rattle.chunk_core.specs.Covers.{span_in}
 use Rattle.chunk_core.specs.KeyWords.{low_number, high_number}

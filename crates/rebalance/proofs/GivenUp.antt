@@ -11,7 +11,7 @@ use Rattle.oak_core.specs.RoomLacks.{ClaimsFull, HeldFull, RoomLackFound}
 use Rattle.oak_core.specs.Step.{on_rooms}
 use Rattle.oak_core.proofs.calls.CallSteps.{met_none, step_since}
 use Rattle.oak_core.proofs.covers.FullClaims.{claims_both, claims_none}
-use Rattle.chunk_ops.specs.Latching.{Never}
+use Rattle.chunk_ops.specs.AddsAlone.{Never}
 use Rattle.chunk_ops.specs.LoneRooms.{HasElsewhere, NeverElsewhere}
 use Rattle.chunk_ops.proofs.LoneRoomLaws.{bare_elsewhere}
 use Rattle.rebalance.specs.Busy.{GivesUpRewriting, GivesUpMerging, IsBusyAbove, IsBusyAt, IsBusyFor, SweepsOff}
@@ -58,7 +58,7 @@ waits_more call u v w x l unclaimed never = record { leaves = leaves_both call u
 
 module _ (z : Sizes) (call : ℕ) (u v w : PassState) (first : Leaves call u v) where
   pub holds_since : (r : ℕ) (copy : RoomCopy) → ComesToHold z call r copy v w → ComesToHold z call r copy u w
-  holds_since r copy c = record { old = c.old; step = step_since z call (on_rooms (hold_room r c.old)) u v w first.met c.step; found_is = c.found_is; copy_is = c.copy_is }
+  holds_since r copy c = record { old = c.old; step = step_since z call (on_rooms (hold_room r c.old)) u v w first.met c.step; found_is = c.found_is; copy_is = c.copy_is; linked = c.linked }
 
   pub opens_since : (r : ℕ) (copy : RoomCopy) → OpensWith z call r copy v w → OpensWith z call r copy u w
   opens_since r copy o = record { step = step_since z call (on_rooms (open_room r)) u v w first.met o.step; copy_is = o.copy_is }
@@ -71,6 +71,7 @@ module _ (z : Sizes) (call : ℕ) (u v w : PassState) (first : Leaves call u v) 
     low = c.low;
     high = c.high;
     kept = c.kept;
+    linked = c.linked;
     base = c.base;
     sorted = c.sorted;
     swept = sweeps_since call key u v w first.swept first.met c.swept;
@@ -129,6 +130,7 @@ module _ (z : Sizes) (call : ℕ) (u v w : PassState) (x : Waits call u v) where
     high = c.high;
     bases = c.bases;
     kept = c.kept;
+    linked = c.linked;
     lower = c.lower;
     higher = c.higher;
     swept = sweeps_since call key u v w x.leaves.swept x.leaves.met c.swept;
@@ -193,6 +195,7 @@ module _ (z : Sizes) (call : ℕ) (u v w : PassState) (x : Waits call u v) where
     high = m.high;
     base = m.base;
     kept = m.kept;
+    linked = m.linked;
     sorted = m.sorted;
     swept = sweeps_since call key u v w x.leaves.swept x.leaves.met m.swept;
     leaves = leaves_both call u v w x.leaves m.leaves;

@@ -1,7 +1,7 @@
 -- A full room whose entries were stored into two, and that both are opened.
 use Rattle.std.proofs.Common.{◌≡◌, ◌≢◌, ℕ, zero, suc, ◌+◌, ◌-◌, ◌/◌, ◌<◌, ◌≤◌, ⊎_elim, List, [], ◌∷◌, ◌++◌, length, map, take, drop, refl, sym, ap, ◌∙◌, subst, arith, Option, Some, append_assoc, length-take-le}
 use Rattle.std.specs.List.{slice_index_or}
-use Rattle.std.proofs.lemmas.List.{length-drop}
+use Rattle.std.proofs.lemmas.List.{get_or-drop, get_or-take, length-drop, length-map, length-take}
 use Rattle.oak_model.specs.Counts.{rows, total}
 use Rattle.oak_model.specs.Limits.{Sizes}
 use Rattle.oak_model.proofs.Counting.{one_at-other, one_at-same}
@@ -14,6 +14,7 @@ use Rattle.chunk_core.specs.declared.holds.RoomHolds.{RoomHolds}
 use Rattle.chunk_core.specs.declared.layout.TheConstants.{BOUND_WORDS}
 use Rattle.chunk_core.specs.declared.states.TheConstants.{HELD}
 use Rattle.chunk_core.specs.KeyWords.{low_bytes, high_bytes, high_number, high_from}
+use Rattle.chunk_core.specs.LinkedEntries.{entries_in}
 use Rattle.chunk_core.specs.MayOnRooms.{MayOpenCopy, MayOpenRoom}
 use Rattle.chunk_core.specs.MovingRanges.{ranges_left, ranges_opened}
 use Rattle.chunk_core.specs.RoomCopies.{copy_of, entries_held, without_room}
@@ -34,6 +35,7 @@ use Rattle.oak_core.proofs.calls.CallSteps.{met_both, step_in, step_since}
 use Rattle.rebalance.specs.declared.reading.Read.{Read}
 use Rattle.rebalance.specs.Calls.{OpensWith, SweepsKey}
 use Rattle.rebalance.specs.Chunks.{WorksBeside, held_row, keys_in}
+use Rattle.rebalance.specs.Copies.{AllLinked, has_key_word, linked_held}
 use Rattle.rebalance.specs.DroppedRange.{sum_of}
 use Rattle.rebalance.specs.Filled.{slots_from}
 use Rattle.rebalance.specs.Halving.{HasWhole, HoldsPair, IsHalved, OpensHalves, StoresHalves, swept_with}
@@ -44,14 +46,16 @@ use Rattle.rebalance.specs.Mirrors.{held_memory}
 use Rattle.rebalance.specs.Slots.{entry_of, key_of}
 use Rattle.rebalance.specs.Split.{Splits}
 use Rattle.rebalance.proofs.ChunkLaws.{without_first, works_both, works_of_rooms, works_of_sweeps}
-use Rattle.rebalance.proofs.FilledCopies.{filled_many, filled_prefix, filled_sum}
+use Rattle.rebalance.proofs.FilledCopies.{filled_linked, filled_many, filled_prefix, filled_sum, length_total}
 use Rattle.rebalance.proofs.FrontLaws.{in_swept, open_longer, opening_longer}
 use Rattle.rebalance.proofs.HeldAlone.{copy_first}
 use Rattle.rebalance.proofs.HeldPairs.{first_held, first_of_two, half_fewer, half_some, half_stored, pair_bounds, pair_free, pair_limit, pair_stands, whole_base, whole_few, whole_long, whole_slots}
 use Rattle.rebalance.proofs.HeldRows.{rows_from}
 use Rattle.rebalance.proofs.LoneHalves.{halves_run, pair_only}
+use Rattle.rebalance.proofs.PassedOnes.{all_pass}
 use Rattle.rebalance.proofs.SplitOpens.{both_opened, lower_high, lower_low, lower_opens, splits_front, swept_halves, upper_high, upper_low, upper_opens}
-use Rattle.rebalance.proofs.SweptRooms.{mirrors_valued, sweep_is}
+use Rattle.rebalance.proofs.SlotKeys.{slot_carried}
+use Rattle.rebalance.proofs.SweptRooms.{none_lacks, sweep_is}
 
 -- ---- sums over a part
 
@@ -124,7 +128,7 @@ module _ (z : Sizes) (call r q : ℕ) (w c : RoomCopy) (g : MovingRange) (v : Pa
   back_few = let l = back_long in omega arith
 
   none_lack : sum_of (λ _ n. 1 - names_header n) (map entry_of xs) ≡ 0
-  none_lack = let s = whole_slots z r q w c g v h slots x all in s.sums (λ _ n. 1 - names_header n) ∙ (sym (h.mirrors.entries (λ _ n. 1 - names_header n)) ∙ mirrors_valued z w g h.mirrors s.valued)
+  none_lack = let s = whole_slots z r q w c g v h slots x all in s.sums (λ _ n. 1 - names_header n) ∙ none_lacks g.carried s.valued
 
   low_valued : valueless low_copy ≡ 0
   low_valued = let f : ℕ → ℕ → ℕ = (λ _ n. 1 - names_header n) in let a = filled_sum z m' r (take half xs) x.base parted.low_filled front_few (pair_limit z r q w c g v h) f in let b = slots_sum f (take half xs) in let d = slots_sum f xs in
@@ -134,11 +138,29 @@ module _ (z : Sizes) (call r q : ℕ) (w c : RoomCopy) (g : MovingRange) (v : Pa
   high_valued = let f : ℕ → ℕ → ℕ = (λ _ n. 1 - names_header n) in let a = filled_sum z m' q (drop half xs) x.base parted.high_filled back_few (pair_limit z r q w c g v h) f in let b = slots_sum f (drop half xs) in let d = slots_sum f xs in
       let t = total_back (λ (s : SortSlot). 1 - names_header s.value) half xs in let n = none_lack in omega arith
 
+  -- each entry of the room was linked
+  all_linked : linked_held w ≡ entries_held w
+  all_linked = let s = whole_slots z r q w c g v h slots x all in let e = h.mirrors.entries (λ _ _. 1) in let t = s.sums (λ _ _. 1) in let n = length_total (linked_held w) in let k = length_total (map entry_of xs) in let l = length-map xs entry_of in
+      let d = length-take (entries_in w.count) w.entries in let many = h.whole.entries in let full = all.full in let long = whole_long z r q w c g v h slots x all in all_pass has_key_word (entries_held w) (omega arith)
+
+  -- so is each of both halves
+
+  named : (i : ℕ) (d : SortSlot) → i < length xs → 0 < (slice_index_or xs i d).key
+  named i d l = let t = slot_carried (keys_in v.rooms.moving) xs g (whole_slots z r q w c g v h slots x all) i d l in let k = t.3.named.some_word in let e = t.2 in omega arith
+
+  low_linked : AllLinked low_copy
+  low_linked = let few = some_high in let n = length-take-le half xs (let q : half ≤ length xs = omega arith in q) in filled_linked z m' r (take half xs) x.base parted.low_filled front_few (pair_limit z r q w c g v h)
+      (λ i d l. subst (λ (s : SortSlot). 0 < s.key) (sym (get_or-take half xs i d (omega arith))) (named i d (omega arith)))
+
+  high_linked : AllLinked high_copy
+  high_linked = let n = length-drop half xs in filled_linked z m' q (drop half xs) x.base parted.high_filled back_few (pair_limit z r q w c g v h)
+      (λ i d l. subst (λ (s : SortSlot). 0 < s.key) (sym (get_or-drop half xs i d)) (named (half + i) d (omega arith)))
+
   -- both halves have what the room had
   halves_sum : (f : ℕ → ℕ → ℕ) → total (λ (e : EntryWords). f e.word e.value) (entries_held low_copy) + total (λ (e : EntryWords). f e.word e.value) (entries_held high_copy) ≡ total (λ (e : EntryWords). f e.word e.value) (entries_held w)
   halves_sum f = let limit = pair_limit z r q w c g v h in let a = filled_sum z m' r (take half xs) x.base parted.low_filled front_few limit f in let b = filled_sum z m' q (drop half xs) x.base parted.high_filled back_few limit f in
       let d = slots_sum f (take half xs) in let e = slots_sum f (drop half xs) in let t = total_parts (λ (s : SortSlot). f s.key s.value) half xs in let k = slots_sum f xs in
-      let has = whole_slots z r q w c g v h slots x all in let s = has.sums f in let y = h.mirrors.entries f in omega arith
+      let has = whole_slots z r q w c g v h slots x all in let s = has.sums f in let y = h.mirrors.entries f in let n = ap (total (λ (e : EntryWords). f e.word e.value)) all_linked in omega arith
 
   base_same : x.base ≡ w.base
   base_same = whole_base z r q w c g v h slots x all ∙ sym h.mirrors.base
@@ -156,6 +178,7 @@ module _ (z : Sizes) (call r q : ℕ) (w c : RoomCopy) (g : MovingRange) (v : Pa
         high = uh ∙ sym h.mirrors.high;
         bases = (parted.low_filled.base_is ∙ base_same, parted.high_filled.base_is ∙ base_same);
         kept = halves_sum;
+        linked = (low_linked, high_linked);
         lower = record { count = filled_many z m' r (take half xs) x.base parted.low_filled front_few limit ∙ front_long; prefix = filled_prefix z m' r (take half xs) x.base parted.low_filled front_few limit ∙ front_long };
         higher = record { count = filled_many z m' q (drop half xs) x.base parted.high_filled back_few limit ∙ back_long; prefix = filled_prefix z m' q (drop half xs) x.base parted.high_filled back_few limit ∙ back_long };
         valued = (low_valued, high_valued);
@@ -222,7 +245,7 @@ module _ (z : Sizes) (call r q : ℕ) (w c : RoomCopy) (g : MovingRange) (v : Pa
 
       -- but for rooms and ranges the pass has what it had
       opened : a.rooms ≡ record v.rooms { held = a.rooms.held; moving = a.rooms.moving }
-      opened = let b = one.rooms in let k = stores.works in λ i. record { pin = (ap (λ (y : RoomHolds). y.pin) b ∙ k.pin) i; latch = (ap (λ (y : RoomHolds). y.latch) b ∙ k.latch) i; claim = (ap (λ (y : RoomHolds). y.claim) b ∙ k.claim) i; held = a.rooms.held; moving = a.rooms.moving }
+      opened = let b = one.rooms in let k = stores.works in λ i. record { pin = (ap (λ (y : RoomHolds). y.pin) b ∙ k.pin) i; claim = (ap (λ (y : RoomHolds). y.claim) b ∙ k.claim) i; held = a.rooms.held; moving = a.rooms.moving }
 
       none_behind : without_room r (held_row r stores.low_copy ∷ []) ≡ []
       unfolding total

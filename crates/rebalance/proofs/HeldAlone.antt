@@ -13,6 +13,7 @@ use Rattle.chunk_core.specs.declared.holds.RoomHeldAs.TheVariants.{Held}
 use Rattle.chunk_core.specs.declared.holds.RoomHolds.{RoomHolds}
 use Rattle.chunk_core.specs.declared.states.TheConstants.{FROZEN, HELD}
 use Rattle.chunk_core.specs.RoomCopies.{copy_of, without_room}
+use Rattle.chunk_core.specs.CoverSums.{weight}
 use Rattle.chunk_core.specs.RoomReads.{copy_at, moving_at}
 use Rattle.chunk_core.specs.RoomRule.{in_room_state, IsWholeCopy}
 use Rattle.chunk_core.specs.RoomStep.{hold_room, thaw_room}
@@ -32,9 +33,9 @@ use Rattle.chunk_ops.proofs.PinSteps.{pin_found}
 use Rattle.rebalance.specs.Holding.{HasHeld, Holds, with_moving, FindsPinned, StandsBeside, Thaws}
 use Rattle.rebalance.specs.Repeating.{Repeats}
 use Rattle.rebalance.specs.LoneWords.{MovesWith}
-use Rattle.rebalance.specs.Mirrors.{Mirrors}
+use Rattle.rebalance.specs.Mirrors.{RangeStands}
 use Rattle.rebalance.proofs.LoneSteps.{room_moves_with, StepAt, moment_at, step_at}
-use Rattle.rebalance.proofs.MirroredRooms.{latch_free, mirrors_at}
+use Rattle.rebalance.proofs.MirroredRooms.{mirrors_at, reach_at}
 use Rattle.rebalance.proofs.RangesStand.{range_stands}
 use Rattle.rebalance.proofs.RoomExchanges.{beside_since, exchanged_state, hold_beside, hold_takes}
 use Rattle.rebalance.specs.Resting.{OnlyRests}
@@ -43,7 +44,7 @@ use native.Mathlib.Decide.{ℕ_discrete}
 use Rattle.oak_model.proofs.Lists.{at_map}
 use Rattle.oak_core.specs.AloneWords.{Runs}
 use Rattle.oak_core.specs.Thawing.{ThawsRoom}
-use Rattle.chunk_ops.specs.Latching.{Never}
+use Rattle.chunk_ops.specs.AddsAlone.{Never}
 use Rattle.rebalance.proofs.LoneChunks.{lone_count}
 use Rattle.rebalance.proofs.NeverRuns.{never_first}
 
@@ -82,12 +83,19 @@ module _ (z : Sizes) (call r old n : ℕ) (u v w : PassState) (only : OnlyRests 
   rooms_are : w.rooms ≡ with_moving r (copy_at z m.rooms r) (moving_at m.rooms (content m.arena.bytes) r) v.rooms
   rooms_are = hold_takes z call r old n v w t e
 
-  mirrored : Mirrors z (copy_at z m.rooms r) (moving_at m.rooms (content m.arena.bytes) r)
-  mirrored = mirrors_at z m.rooms (content m.arena.bytes) (map rooms_held t.table.states) t.rule.rooms r (weight_frozen (m.rooms.pin r) (ap state_of found ∙ t.may.rooms.0.state))
-      (latch_free z m.rooms (content m.arena.bytes) (map rooms_held t.table.states) t.rule.rooms r (ap count_of found ∙ t.may.rooms.0.count))
-
   behind : HadMoment z w
   behind = (_, moment_after z call (on_rooms (hold_room r old)) v n w t)
+
+  stands : RangeStands (moving_at m.rooms (content m.arena.bytes) r)
+  stands = range_stands z w behind 0 (moving_at m.rooms (content m.arena.bytes) r) (ap (λ (a : RoomHolds). get_elem? a.moving 0) rooms_are)
+
+  -- the room was a cover without a pin
+
+  cover : weight (m.rooms.pin r) ≡ 1
+  cover = weight_frozen (m.rooms.pin r) (ap state_of found ∙ t.may.rooms.0.state)
+
+  unpinned : count_of (m.rooms.pin r) ≡ 0
+  unpinned = ap count_of found ∙ t.may.rooms.0.count
 
   pub holds : (c : RoomCopy) × (g : MovingRange) × Holds z call r c g u w
   holds = (
@@ -105,8 +113,9 @@ module _ (z : Sizes) (call r old n : ℕ) (u v w : PassState) (only : OnlyRests 
       beside = beside_since call u v w only (hold_beside z call r old n v w t);
       rooms = rooms_are ∙ ap (with_moving r copy range) only.rooms;
       has = subst (HasHeld z r copy) (sym rooms_are) (has_moving z r copy range v.rooms (whole_copy z m.rooms r));
-      mirrors = mirrored;
-      stands = range_stands z w behind 0 range (ap (λ (a : RoomHolds). get_elem? a.moving 0) rooms_are);
+      mirrors = mirrors_at z m.rooms (content m.arena.bytes) (map rooms_held t.table.states) t.rule.rooms r cover unpinned stands;
+      linked = reach_at z m.rooms (content m.arena.bytes) (map rooms_held t.table.states) t.rule.rooms r cover unpinned stands;
+      stands = stands;
       ended = behind;
       alone = stays_then (MovesWith z r FROZEN HELD copy) u v w only.still (room_moves_with z call r (hold_room r old) refl v n w t t.may.inside.0 FROZEN HELD copy (ap state_of e ∙ t.may.rooms.0.state)
           (exchanged_state n old 1 e (let o = t.may.rooms.0.state in omega arith) ∙ ap (λ (k : ℕ). k + 1) t.may.rooms.0.state) refl);

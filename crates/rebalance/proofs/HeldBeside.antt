@@ -23,6 +23,8 @@ frozen_pin z call r v w p f = subst (RoomPinned z r) (sym f.rooms) (record {
   pin = record { is = p.pin.is; room = p.pin.room; good = p.pin.good };
   bounds = record { fit = p.bounds.fit; low = p.bounds.low; high = p.bounds.high };
   few = p.few;
+  found = p.found;
+  alike = p.alike;
 })
 
 -- once the pin is undone, the room is frozen still

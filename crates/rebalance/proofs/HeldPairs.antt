@@ -1,6 +1,6 @@
 -- Two rooms that a pass holds, of which it claimed the first: their words, and the slots that were read from the second.
 use Rattle.std.proofs.Common.{◌≡◌, ◌≢◌, ℕ, zero, ◌+◌, ◌/◌, ◌<◌, ◌≤◌, List, [], ◌∷◌, length, map, take, refl, sym, ap, ◌∙◌, subst, arith, Option, Some, length-take-le}
-use Rattle.std.specs.List.{slice_index_or}
+use Rattle.std.specs.List.{filter, slice_index_or}
 use Rattle.std.specs.List.Sorted.{IsPermutation}
 use Rattle.std.proofs.lemmas.List.{get_or-take}
 use mathlib.Core.Option.{some}
@@ -25,9 +25,9 @@ use Rattle.rebalance.specs.declared.entries.Entry.{Entry}
 use Rattle.rebalance.specs.declared.reading.Read.{Read}
 use Rattle.rebalance.specs.CarriedKeys.{HaveKeys}
 use Rattle.rebalance.specs.Chunks.{HoldsFront, ReadsFront, held_row, keys_in}
-use Rattle.rebalance.specs.Compacted.{ReadsSorted, in_use}
+use Rattle.rebalance.specs.Compacted.{ReadsSorted, linked_in}
 use Rattle.rebalance.specs.DroppedRange.{WordsDiffer, dropped_range}
-use Rattle.rebalance.specs.Entries.{dropped, greatest, kept}
+use Rattle.rebalance.specs.Entries.{dropped, greatest, has_word, kept}
 use Rattle.rebalance.specs.Halving.{HasWhole, HoldsPair}
 use Rattle.rebalance.specs.HeldRooms.{IsNamed}
 use Rattle.rebalance.specs.HeldTables.{HoldsAlone, key_of_entry}
@@ -121,7 +121,7 @@ module _ (z : Sizes) (r q : ℕ) (w c : RoomCopy) (g : MovingRange) (v : PassSta
   pub pair_bounds : BoundsAre (held_memory v.rooms.held) r g
   pair_bounds = bounds_of z (held_memory v.rooms.held) r g pair_mirrors
 
-  -- the latch of the claimed room is free
+  -- the word of the claimed room that was its latch is 0
   pub pair_free : (held_memory v.rooms.held).latch q ≡ 0
   pair_free = ap (λ (o : Option RoomCopy). (copy_or o).latch) upper_copy ∙ h.free
 
@@ -171,7 +171,7 @@ module _ (z : Sizes) (r q : ℕ) (w c : RoomCopy) (g : MovingRange) (v : PassSta
 
 module _ (r : ℕ) (vs ts : List HeldRoom) (same : copy_of r ts ≡ copy_of r vs) where
   abbrev used : Option RoomCopy → List Entry
-  used o = rows 0 (entries_in (copy_or o).count) (λ (i : ℕ). record { place = entry_words (copy_or o) i (λ e. e.word); value = entry_words (copy_or o) i (λ e. e.value) })
+  used o = filter has_word (rows 0 (entries_in (copy_or o).count) (λ (i : ℕ). record { place = entry_words (copy_or o) i (λ e. e.word); value = entry_words (copy_or o) i (λ e. e.value) }))
 
   -- it was read
   pub read_beside : (keys : ℕ → List ℕ) (slots : List SortSlot) (x : Read) → ReadsSorted keys (held_memory vs) r slots x → ReadsSorted keys (held_memory ts) r slots x
@@ -185,7 +185,7 @@ module _ (r : ℕ) (vs ts : List HeldRoom) (same : copy_of r ts ≡ copy_of r vs
   }
 
   -- nothing was dropped
-  pub none_beside : dropped (in_use (held_memory vs) r) ≡ [] → dropped (in_use (held_memory ts) r) ≡ []
+  pub none_beside : dropped (linked_in (held_memory vs) r) ≡ [] → dropped (linked_in (held_memory ts) r) ≡ []
   none_beside e = subst (λ (o : Option RoomCopy). dropped (used o) ≡ []) (sym same) e
 
 -- ---- the front room with one that was claimed
@@ -209,7 +209,6 @@ module _ (z : Sizes) (call r : ℕ) (w : RoomCopy) (g : MovingRange) (v : PassSt
       blocks = claim.beside.blocks ∙ (blocks ∙ f.only.blocks);
       headers = claim.beside.headers ∙ (headers ∙ f.only.headers);
       pin = ap (λ (b : RoomHolds). b.pin) rooms_now ∙ f.only.pin;
-      latch = ap (λ (b : RoomHolds). b.latch) rooms_now ∙ f.only.latch;
       claim = ap (λ (b : RoomHolds). b.claim) rooms_now ∙ f.only.claim;
     };
     whole = f.whole;

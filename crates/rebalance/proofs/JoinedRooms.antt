@@ -35,7 +35,7 @@ use Rattle.rebalance.specs.Mirrors.{Mirrors, RangeStands, held_memory}
 use Rattle.rebalance.specs.SlotRanges.{BoundsAre}
 use Rattle.rebalance.specs.Slots.{entry_of}
 use Rattle.rebalance.proofs.ChunkLaws.{without_first, works_both, works_of_rooms, works_of_stands}
-use Rattle.rebalance.proofs.CompactedMirrors.{bounds_of}
+use Rattle.rebalance.proofs.CompactedMirrors.{bounds_of, slots_linked}
 use Rattle.rebalance.proofs.FilledChains.{filled_chained}
 use Rattle.rebalance.proofs.FilledCopies.{filled_many, filled_prefix}
 use Rattle.rebalance.proofs.FrontRewrites.{entries_limited, only_still}
@@ -164,7 +164,6 @@ module _ (z : Sizes) (low up : Taken) (slots : List SortSlot) (v : PassState) (p
       blocks = retires.beside.blocks ∙ o.blocks;
       headers = retires.beside.headers ∙ o.headers;
       pin = ap (λ (a : RoomHolds). a.pin) retires.rooms ∙ o.pin;
-      latch = ap (λ (a : RoomHolds). a.latch) retires.rooms ∙ o.latch;
       claim = ap (λ (a : RoomHolds). a.claim) retires.rooms ∙ o.claim;
     }
 
@@ -194,5 +193,6 @@ module _ (z : Sizes) (low up : Taken) (slots : List SortSlot) (v : PassState) (p
         prefix = filled_prefix z (held_memory n.rooms.held) low.room (p.own ++ slots) base joined_filled (omega arith) limit ∙ (omega arith);
       };
       chained = filled_chained z (held_memory n.rooms.held) low.room (p.own ++ slots) base joined_filled (omega arith) limit;
+      linked = slots_linked z (held_memory n.rooms.held) low.room (p.own ++ slots) base (joined_by p.above p.below) (keys_in v.rooms.moving) limit joined_filled (omega arith) (joined_slots (keys_in v.rooms.moving) p.own slots p.above p.below above_stands below_stands p.neighbours p.own_has p.has);
       alone = frees_upper z low.room up.room p.lower p.upper v n u p.front.held works.words retires.alone;
     }

@@ -15,6 +15,8 @@ pub mod DropLaws
 pub mod StoredWords
 pub mod ClearLaws
 pub mod FillLaws
+pub mod LinkedCopies
+pub mod PassedOnes
 pub mod ReadLaws
 pub mod SortLaws
 pub mod CompactedMirrors

@@ -30,13 +30,14 @@ use Rattle.rebalance.specs.declared.chunk_pairs.Taken.{Taken}
 use Rattle.chunk_ops.specs.LoneRooms.{HasElsewhere, HasNoRoom, NeverElsewhere}
 use Rattle.rebalance.specs.Busy.{GivesUpMerging, IsBusyFor}
 use Rattle.rebalance.specs.Calls.{IsSorted, Merges, Rewrites}
-use Rattle.rebalance.specs.Copies.{base_without, copy_span}
+use Rattle.rebalance.specs.Copies.{base_without, copy_span, linked_held}
 use Rattle.rebalance.specs.Chunks.{ComesBack, HoldsFront, OpensFront, WorksBeside}
 use Rattle.rebalance.specs.HeldTables.{WorksOnRooms}
 use Rattle.rebalance.specs.LoneCalls.{JoinsRooms, RewritesBoth}
 use Rattle.rebalance.specs.LoneWords.{MovesWith, TakesRoom}
 use Rattle.rebalance.specs.Merging.{ApartUpTo, JoinsPair, TakesChunk}
 use Rattle.rebalance.specs.Mirrors.{range_span}
+use Rattle.rebalance.proofs.LinkedCopies.{linked_are}
 use Rattle.rebalance.proofs.BusyParts.{chunk_busy}
 use Rattle.rebalance.proofs.ChunkLaws.{works_both, works_none, works_of_rooms}
 use Rattle.rebalance.proofs.JoinedRanges.{spans}
@@ -161,10 +162,11 @@ module _ (z : Sizes) (call : ℕ) (key : List ℕ) (low : Taken) (ys : List Sort
         low = upper.rewritten.low;
         high = upper.rewritten.high;
         kept = upper.rewritten.kept;
+        linked = upper.rewritten.linked;
         base = upper.rewritten.base;
         sorted = upper.rewritten.sorted;
         swept = sweeps_until call h v d u
-            (sweeps_since call h v b d to_both.swept to_both.met (n.sweeps (mirrors_valued z upper.words upper.range upper.front.mirrors upper.has.valued) h (end_is_key z call key low ys v a idle lower h end) (high_are_bytes lower.words.high h end) upper_inside))
+            (sweeps_since call h v b d to_both.swept to_both.met (n.sweeps (mirrors_valued z upper.words upper.range upper.front.mirrors upper.rewritten.linked upper.has.valued) h (end_is_key z call key low ys v a idle lower h end) (high_are_bytes lower.words.high h end) upper_inside))
             o.beside.swept o.beside.met;
       }
 
@@ -219,9 +221,10 @@ module _ (z : Sizes) (call : ℕ) (key : List ℕ) (low : Taken) (ys : List Sort
       base_is = let x = sym upper.front.mirrors.base ∙ upper.rewritten.base in let y = sym lower.front.mirrors.base ∙ lower.rewritten.base in joins.front.mirrors.base ∙ (λ i. greater (x i) (y i))
 
       -- it has the entries of both that had a value
-      both_kept : (f : ℕ → ℕ → ℕ) → total (λ (e : EntryWords). f e.word e.value) (entries_held joins.opened) ≡ total (λ (e : EntryWords). names_header e.value * f e.word e.value) (entries_held lower.held) + total (λ (e : EntryWords). names_header e.value * f e.word e.value) (entries_held upper.held)
+      both_kept : (f : ℕ → ℕ → ℕ) → total (λ (e : EntryWords). f e.word e.value) (entries_held joins.opened) ≡ total (λ (e : EntryWords). names_header e.value * f e.word e.value) (linked_held lower.held) + total (λ (e : EntryWords). names_header e.value * f e.word e.value) (linked_held upper.held)
       both_kept f = let x = joins.front.mirrors.entries f in let t = total_append (λ (c : Carried). f c.word c.value) lower.range.carried upper.range.carried in
-          let m = lower.front.mirrors.entries f in let n = upper.front.mirrors.entries f in let i = lower.rewritten.kept f in let j = upper.rewritten.kept f in omega arith
+          let m = lower.front.mirrors.entries f in let n = upper.front.mirrors.entries f in let i = lower.rewritten.kept f in let j = upper.rewritten.kept f in
+          let F : EntryWords → ℕ = λ e. f e.word e.value in let p = ap (total F) (linked_are joins.opened joins.linked) in let q = ap (total F) (linked_are lower.words lower.rewritten.linked) in let r = ap (total F) (linked_are upper.words upper.rewritten.linked) in omega arith
 
       pub merged_chunks : low.kept + up.kept ≤ z.entries / 2 → Merges z call key v u
       merged_chunks few = let e = lower.kept_is in let f = upper.kept_is in record {
@@ -241,8 +244,9 @@ module _ (z : Sizes) (call : ℕ) (key : List ℕ) (low : Taken) (ys : List Sort
         high = joins.front.mirrors.high ∙ (sym upper.front.mirrors.high ∙ upper.rewritten.high);
         base = base_is;
         kept = both_kept;
+        linked = joins.linked;
         sorted = subst (λ (n : ℕ). IsSorted n joins.opened) (λ i. e i + f i) joins.sorted;
-        swept = sweeps_since call key v d u (works_both call v b d to_both joins.beside).swept (works_both call v b d to_both joins.beside).met (o.sweeps (mirrors_valued z joins.opened (joined_by upper.range lower.range) joins.front.mirrors joins.valued) key is bytes joined_inside);
+        swept = sweeps_since call key v d u (works_both call v b d to_both joins.beside).swept (works_both call v b d to_both joins.beside).met (o.sweeps (mirrors_valued z joins.opened (joined_by upper.range lower.range) joins.front.mirrors joins.linked joins.valued) key is bytes joined_inside);
         leaves = leaves_of call v u all idle_again;
         unclaimed = o.claims ∙ (joins.claims ∙ taken_unclaimed);
         claims = claims_none z v u (o.claims ∙ (joins.claims ∙ taken_unclaimed));

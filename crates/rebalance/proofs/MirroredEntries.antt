@@ -3,7 +3,7 @@ use Rattle.std.proofs.Common.{◌≡◌, ℕ, ◌+◌, ◌<◌, ◌≤◌, ◌==
 use mathlib.Core.Option.{some}
 use lib.ListN.{get_elem?}
 use Rattle.oak_model.specs.Counts.{one_at, one_if, total, Each, Has}
-use Rattle.oak_model.proofs.Counting.{one_at-same, decided, test-cases, both_true, total_at}
+use Rattle.oak_model.proofs.Counting.{one_at-same, decided, test-cases, both_true}
 use Rattle.oak_model.proofs.Lists.{at_map}
 use Rattle.oak_model.proofs.MemberLaws.{each_has, has_some, total_has, filter-cases}
 use Rattle.arena_core.specs.Place.{length_in}
@@ -22,6 +22,7 @@ use Rattle.rebalance.specs.Dropping.{dropped_ranges}
 use Rattle.rebalance.specs.Entries.{greatest, has_value, kept, dropped}
 use Rattle.rebalance.specs.Mirrors.{RangeStands, range_span, carried_key}
 use Rattle.rebalance.proofs.DroppedRange.{drops_all, dropped_sum, parted_sum, named-cases}
+use Rattle.rebalance.proofs.PassedOnes.{has_at}
 
 -- what holds of each member
 pub each_of : {A : Type 0} (P : A → Type 0) (xs : List A) → ((x : A) → Has x xs → P x) → Each P xs
@@ -102,10 +103,10 @@ module _ (es : List Entry) (g : MovingRange) (stands : RangeStands g) (differ : 
       }
 
 -- an entry among them is carried
-pub carried_for : (es : List Entry) (g : MovingRange) → ((f : ℕ → ℕ → ℕ) → sum_of f es ≡ sum_carried f g.carried) → (i : ℕ) (e : Entry) → get_elem? es i ≡ some e → (c : Carried) × Has c g.carried × (c.word ≡ e.place) × (c.value ≡ e.value)
-carried_for es g same i e at = let f : ℕ → ℕ → ℕ = λ w v. one_if ((w == e.place) && (v == e.value)) in
+pub carried_has : (es : List Entry) (g : MovingRange) → ((f : ℕ → ℕ → ℕ) → sum_of f es ≡ sum_carried f g.carried) → (e : Entry) → Has e es → (c : Carried) × Has c g.carried × (c.word ≡ e.place) × (c.value ≡ e.value)
+carried_has es g same e m = let f : ℕ → ℕ → ℕ = λ w v. one_if ((w == e.place) && (v == e.value)) in
     let own : f e.place e.value ≡ 1 = (λ t. one_if (eq-eqb e.place e.place refl t && (e.value == e.value))) ∙ ap one_if (eq-eqb e.value e.value refl) in
-    let a = total_at (λ (x : Entry). f x.place x.value) es i e at in let b = same f in
+    let a = total_has (λ (x : Entry). f x.place x.value) es e m in let b = same f in
     let t = has_some (λ (c : Carried). f c.word c.value) g.carried (omega arith) in
     let p = both_true (t.0.word == e.place) (t.0.value == e.value) (positive ((t.0.word == e.place) && (t.0.value == e.value)) t.2) in
     (t.0, t.1, eqb-true t.0.word e.place p.0, eqb-true t.0.value e.value p.1)
@@ -113,6 +114,10 @@ carried_for es g same i e at = let f : ℕ → ℕ → ℕ = λ w v. one_if ((w 
     positive : (b : Bool) → 0 < one_if b → b ≡ true
     positive true l = refl
     positive false l = absurd (omega arith)
+
+-- so is the one that stands somewhere
+pub carried_for : (es : List Entry) (g : MovingRange) → ((f : ℕ → ℕ → ℕ) → sum_of f es ≡ sum_carried f g.carried) → (i : ℕ) (e : Entry) → get_elem? es i ≡ some e → (c : Carried) × Has c g.carried × (c.word ≡ e.place) × (c.value ≡ e.value)
+carried_for es g same i e at = carried_has es g same e (has_at es i e at)
 
 map_same : (gs : List MovingRange) → map (λ g. g) gs ≡ gs
 map_same [] = refl

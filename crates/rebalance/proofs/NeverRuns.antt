@@ -3,7 +3,7 @@ use Rattle.std.proofs.Common.{ℕ, List}
 use Rattle.oak_core.specs.declared.states.PassState.{PassState}
 use Rattle.oak_core.specs.AloneWords.{Runs}
 use Rattle.oak_core.proofs.seats.AloneRuns.{Then, runs_as, runs_then}
-use Rattle.chunk_ops.specs.Latching.{Never}
+use Rattle.chunk_ops.specs.AddsAlone.{Never}
 
 -- all is so of what never comes
 pub never_so : (Q : List ℕ → List ℕ → Type 0) (v w : PassState) → Runs Never v w → Runs Q v w

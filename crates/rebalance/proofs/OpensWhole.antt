@@ -9,6 +9,7 @@ use Rattle.oak_model.proofs.Counting.{true_both}
 use Rattle.oak_model.proofs.Lists.{each_map}
 use Rattle.oak_model.proofs.MemberLaws.{filter-cases}
 use Rattle.chunk_core.specs.declared.holds.Carried.{Carried}
+use Rattle.chunk_core.specs.declared.holds.EntryWords.{EntryWords}
 use Rattle.chunk_core.specs.declared.holds.MovingRange.{MovingRange}
 use Rattle.chunk_core.specs.declared.holds.RoomCopy.{RoomCopy}
 use Rattle.chunk_core.specs.ChainedRooms.{IsChained}
@@ -17,7 +18,9 @@ use Rattle.chunk_core.specs.MayOnRooms.{MayOpenRoom}
 use Rattle.chunk_core.specs.MovingRanges.{takes, is_upper, upper_of, left_of, ranges_left, ranges_opened}
 use Rattle.chunk_core.specs.Spans.{past_high, within}
 use Rattle.chunk_core.proofs.SpanLaws.{past-cases}
+use Rattle.rebalance.specs.Copies.{AllLinked}
 use Rattle.rebalance.specs.Mirrors.{Mirrors, RangeStands, range_span, carried_key}
+use Rattle.rebalance.proofs.LinkedCopies.{linked_are}
 
 -- what all pass a filter keeps
 all_pass : (p : Carried → Bool) (xs : List Carried) → Each (λ (c : Carried). p c ≡ true) xs → filter p xs ≡ xs
@@ -53,8 +56,8 @@ module _ (z : Sizes) (w : RoomCopy) (g : MovingRange) (mirrors : Mirrors z w g) 
         (λ c i. le-leb (low_number w.low) (carried_key c) (let e = low_same in let l = not_below g (carried_key c) i in omega arith)) stands.inside)
 
     -- It may be opened over the range, where that is the first of the pass's that it is one of.
-    pub opens_whole : (gs : List MovingRange) (i : ℕ) → get_elem? gs i ≡ some g → ((j : ℕ) (h : MovingRange) → get_elem? gs j ≡ some h → j < i → takes w h ≡ false) → IsChained z w → MayOpenRoom z w gs
-    opens_whole gs i there first chained = record {
+    pub opens_whole : (gs : List MovingRange) (i : ℕ) → get_elem? gs i ≡ some g → ((j : ℕ) (h : MovingRange) → get_elem? gs j ≡ some h → j < i → takes w h ≡ false) → IsChained z w → AllLinked w → MayOpenRoom z w gs
+    opens_whole gs i there first chained all = record {
       place = i;
       range = g;
       there = there;
@@ -64,7 +67,7 @@ module _ (z : Sizes) (w : RoomCopy) (g : MovingRange) (mirrors : Mirrors z w g) 
       latch = mirrors.latch;
       few = mirrors.few;
       chained = chained;
-      entries = λ f. mirrors.entries f ∙ ap (total (λ (c : Carried). f c.word c.value)) (sym all_upper);
+      entries = λ f. ap (total (λ (e : EntryWords). f e.word e.value)) (sym (linked_are w all)) ∙ (mirrors.entries f ∙ ap (total (λ (c : Carried). f c.word c.value)) (sym all_upper));
       under = subst (λ (k : ℕ). within (range_span g) k ≡ 1) (sym low_same) stands.begun;
       key = λ other. absurd (other low_same);
       bounds = mirrors.bounds;

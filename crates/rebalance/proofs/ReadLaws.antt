@@ -1,5 +1,5 @@
 -- One entry more was read.
-use Rattle.std.proofs.Common.{◌≡◌, ℕ, zero, suc, ◌+◌, ◌<◌, ◌==◌, ◌/◌, ◌^◌, max, not, Bool, true, false, cond, List, [], ◌∷◌, ◌++◌, map, take, length, get_or, set, sym, ◌∙◌, ap, refl, subst, arith, append-nil, get_or-set_other, get_or-set_same}
+use Rattle.std.proofs.Common.{◌≡◌, ℕ, zero, suc, ◌+◌, ◌<◌, ◌==◌, ◌/◌, ◌^◌, nat_lt, max, not, Bool, true, false, cond, List, [], ◌∷◌, ◌++◌, map, take, length, get_or, set, sym, ◌∙◌, ap, refl, subst, arith, append-nil, get_or-set_other, get_or-set_same, lt-ltb}
 use Rattle.std.proofs.lemmas.List.{take_more_set, map-append}
 use Rattle.std.proofs.lemmas.List.Elements.{filter-append}
 use Rattle.std.proofs.Math.ListN.{length-set}
@@ -15,7 +15,7 @@ use Rattle.oak_core.specs.declared.sorting.SortSlot.{SortSlot}
 use Rattle.rebalance.specs.declared.entries.Entry.{Entry}
 use Rattle.rebalance.specs.declared.reading.Read.{Read}
 use Rattle.rebalance.specs.Dropping.{DropsKeys}
-use Rattle.rebalance.specs.Entries.{entries, kept, dropped, greatest, has_value, lacks_value}
+use Rattle.rebalance.specs.Entries.{entries, kept, dropped, greatest, has_value, has_word, lacks_value, linked_among}
 use Rattle.rebalance.specs.Read.{HasRead}
 use Rattle.rebalance.specs.Slots.{entry_of, key_of}
 
@@ -51,30 +51,42 @@ module _ (m : RoomMemory) (r i : ℕ) (e : Entry) (is : e ≡ record { place = m
   entries_more = rows_snoc 0 i (λ (k : ℕ). let x : Entry = record { place = m.key r k; value = m.value r k } in x)
       ∙ ap (λ (x : Entry). entries m r i ++ x ∷ []) (ap (λ (k : ℕ). let x : Entry = record { place = m.key r k; value = m.value r k } in x) (let f : 0 + i ≡ i = omega arith in f) ∙ sym is)
 
-  -- the entries kept and the entries dropped, with one entry more
+  -- the linked ones, with one entry more
 
-  pub kept_yes : has_value e ≡ true → kept (entries m r (i + 1)) ≡ kept (entries m r i) ++ e ∷ []
-  kept_yes h = ap kept entries_more ∙ (filter-append has_value (entries m r i) (e ∷ []) ∙ ap (λ (xs : List Entry). kept (entries m r i) ++ xs) (filtered has_value e true h))
+  linked_yes : 0 < e.place → linked_among m r (i + 1) ≡ linked_among m r i ++ e ∷ []
+  linked_yes l = ap (filter has_word) entries_more ∙ (filter-append has_word (entries m r i) (e ∷ []) ∙ ap (λ (xs : List Entry). linked_among m r i ++ xs) (filtered has_word e true (lt-ltb 0 e.place l)))
 
-  pub kept_no : has_value e ≡ false → kept (entries m r (i + 1)) ≡ kept (entries m r i)
-  kept_no h = ap kept entries_more ∙ (filter-append has_value (entries m r i) (e ∷ []) ∙ (ap (λ (xs : List Entry). kept (entries m r i) ++ xs) (filtered has_value e false h) ∙ append-nil (kept (entries m r i))))
+  linked_no : e.place ≡ 0 → linked_among m r (i + 1) ≡ linked_among m r i
+  linked_no z = ap (filter has_word) entries_more ∙ (filter-append has_word (entries m r i) (e ∷ []) ∙ (ap (λ (xs : List Entry). linked_among m r i ++ xs) (filtered has_word e false (ap (nat_lt 0) z)) ∙ append-nil (linked_among m r i)))
 
-  pub dropped_yes : has_value e ≡ false → dropped (entries m r (i + 1)) ≡ dropped (entries m r i) ++ e ∷ []
-  dropped_yes h = ap dropped entries_more ∙ (filter-append lacks_value (entries m r i) (e ∷ []) ∙ ap (λ (xs : List Entry). dropped (entries m r i) ++ xs) (filtered lacks_value e true (ap not h)))
+  -- those kept and those dropped
 
-  pub dropped_no : has_value e ≡ true → dropped (entries m r (i + 1)) ≡ dropped (entries m r i)
-  dropped_no h = ap dropped entries_more ∙ (filter-append lacks_value (entries m r i) (e ∷ []) ∙ (ap (λ (xs : List Entry). dropped (entries m r i) ++ xs) (filtered lacks_value e false (ap not h)) ∙ append-nil (dropped (entries m r i))))
+  pub kept_yes : 0 < e.place → has_value e ≡ true → kept (linked_among m r (i + 1)) ≡ kept (linked_among m r i) ++ e ∷ []
+  kept_yes l h = let es : List Entry = linked_among m r i in ap kept (linked_yes l) ∙ (filter-append has_value es (e ∷ []) ∙ ap (λ (xs : List Entry). kept es ++ xs) (filtered has_value e true h))
+
+  pub kept_no : 0 < e.place → has_value e ≡ false → kept (linked_among m r (i + 1)) ≡ kept (linked_among m r i)
+  kept_no l h = let es : List Entry = linked_among m r i in ap kept (linked_yes l) ∙ (filter-append has_value es (e ∷ []) ∙ (ap (λ (xs : List Entry). kept es ++ xs) (filtered has_value e false h) ∙ append-nil (kept es)))
+
+  pub dropped_yes : 0 < e.place → has_value e ≡ false → dropped (linked_among m r (i + 1)) ≡ dropped (linked_among m r i) ++ e ∷ []
+  dropped_yes l h = let es : List Entry = linked_among m r i in ap dropped (linked_yes l) ∙ (filter-append lacks_value es (e ∷ []) ∙ ap (λ (xs : List Entry). dropped es ++ xs) (filtered lacks_value e true (ap not h)))
+
+  pub dropped_no : 0 < e.place → has_value e ≡ true → dropped (linked_among m r (i + 1)) ≡ dropped (linked_among m r i)
+  dropped_no l h = let es : List Entry = linked_among m r i in ap dropped (linked_yes l) ∙ (filter-append lacks_value es (e ∷ []) ∙ (ap (λ (xs : List Entry). dropped es ++ xs) (filtered lacks_value e false (ap not h)) ∙ append-nil (dropped es)))
+
+  -- one that is not linked is neither
+  pub dropped_none : e.place ≡ 0 → dropped (linked_among m r (i + 1)) ≡ dropped (linked_among m r i)
+  dropped_none z = ap dropped (linked_no z)
 
   module _ (keys : ℕ → List ℕ) (b : ℕ) (slots : List SortSlot) (x y : Read) (h : HasRead keys m r b i slots x) where
     -- the entry came to the next slot
-    pub read_kept : (s : SortSlot) → entry_of s ≡ e → 0 < s.key → IsStored (key_of s) (keys s.key) → has_value e ≡ true → x.kept < length slots → y.kept ≡ x.kept + 1 → y.dropped ≡ x.dropped → y.base ≡ x.base → HasRead keys m r b (i + 1) (set slots x.kept s) y
-    read_kept s f pos t v lt k d o = let many = h.many in let n = length-set slots x.kept s in record {
+    pub read_kept : (s : SortSlot) → entry_of s ≡ e → 0 < s.key → 0 < e.place → IsStored (key_of s) (keys s.key) → has_value e ≡ true → x.kept < length slots → y.kept ≡ x.kept + 1 → y.dropped ≡ x.dropped → y.base ≡ x.base → HasRead keys m r b (i + 1) (set slots x.kept s) y
+    read_kept s f pos word t v lt k d o = let many = h.many in let n = length-set slots x.kept s in record {
       many = omega arith;
       fits = omega arith;
-      front = ap (λ (n : ℕ). map entry_of (take n (set slots x.kept s))) k ∙ (ap (map entry_of) (take_more_set slots x.kept s lt) ∙ (map-append entry_of (take x.kept slots) (s ∷ []) ∙ ((λ q. h.front q ++ f q ∷ []) ∙ sym (kept_yes v))));
+      front = ap (λ (n : ℕ). map entry_of (take n (set slots x.kept s))) k ∙ (ap (map entry_of) (take_more_set slots x.kept s lt) ∙ (map-append entry_of (take x.kept slots) (s ∷ []) ∙ ((λ q. h.front q ++ f q ∷ []) ∙ sym (kept_yes word v))));
       named = λ j q l. each (λ (a : SortSlot). 0 < a.key) pos h.named j q (omega arith);
       stored = λ j q l. each (λ (a : SortSlot). IsStored (key_of a) (keys a.key)) t h.stored j q (omega arith);
-      base = o ∙ (h.base ∙ ap (greatest b) (sym (dropped_no v)));
+      base = o ∙ (h.base ∙ ap (greatest b) (sym (dropped_no word v)));
     }
       where
         each : (P : SortSlot → Type 0) → P s → ((j : ℕ) (d : SortSlot) → j < x.kept → P (get_or slots j d)) → (j : ℕ) (d : SortSlot) → j < x.kept + 1 → P (get_or (set slots x.kept s) j d)
@@ -83,14 +95,25 @@ module _ (m : RoomMemory) (r i : ℕ) (e : Entry) (is : e ≡ record { place = m
             (λ z. subst P (sym (get_or-set_other slots x.kept j s q z)) (others j q (omega arith)))
 
     -- the entry was dropped
-    pub read_dropped : has_value e ≡ false → y.kept ≡ x.kept → y.dropped ≡ x.dropped + 1 → y.base ≡ max x.base e.value → HasRead keys m r b (i + 1) slots y
-    read_dropped v k d o = let many = h.many in let sf = h.fits in record {
+    pub read_dropped : 0 < e.place → has_value e ≡ false → y.kept ≡ x.kept → y.dropped ≡ x.dropped + 1 → y.base ≡ max x.base e.value → HasRead keys m r b (i + 1) slots y
+    read_dropped word v k d o = let many = h.many in let sf = h.fits in record {
       many = omega arith;
       fits = omega arith;
-      front = ap (λ (n : ℕ). map entry_of (take n slots)) k ∙ (h.front ∙ sym (kept_no v));
+      front = ap (λ (n : ℕ). map entry_of (take n slots)) k ∙ (h.front ∙ sym (kept_no word v));
       named = λ j q l. h.named j q (omega arith);
       stored = λ j q l. h.stored j q (omega arith);
-      base = o ∙ (ap (λ (n : ℕ). max n e.value) h.base ∙ (sym (greatest_more b (dropped (entries m r i)) e) ∙ ap (greatest b) (sym (dropped_yes v))));
+      base = o ∙ (ap (λ (n : ℕ). max n e.value) h.base ∙ (sym (greatest_more b (dropped (linked_among m r i)) e) ∙ ap (greatest b) (sym (dropped_yes word v))));
+    }
+
+    -- the entry is not linked
+    pub read_skipped : e.place ≡ 0 → y.kept ≡ x.kept → y.dropped ≡ x.dropped + 1 → y.base ≡ x.base → HasRead keys m r b (i + 1) slots y
+    read_skipped z k d o = let many = h.many in let sf = h.fits in record {
+      many = omega arith;
+      fits = omega arith;
+      front = ap (λ (n : ℕ). map entry_of (take n slots)) k ∙ (h.front ∙ ap kept (sym (linked_no z)));
+      named = λ j q l. h.named j q (omega arith);
+      stored = λ j q l. h.stored j q (omega arith);
+      base = o ∙ (h.base ∙ ap (greatest b) (sym (dropped_none z)));
     }
 
 -- before the first entry

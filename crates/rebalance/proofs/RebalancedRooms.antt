@@ -15,7 +15,7 @@ use Rattle.chunk_ops.specs.Stored.{IsStored}
 use Rattle.oak_core.specs.declared.sorting.SortSlot.{SortSlot}
 use Rattle.rebalance.specs.declared.reading.Read.{Read}
 use Rattle.rebalance.specs.CarriedKeys.{HaveKeys}
-use Rattle.rebalance.specs.Compacted.{in_use, ReadsSorted, IsCompacted}
+use Rattle.rebalance.specs.Compacted.{linked_in, ReadsSorted, IsCompacted}
 use Rattle.rebalance.specs.DroppedRange.{dropped_range, WordsDiffer}
 use Rattle.rebalance.specs.Dropping.{DropsKeys}
 use Rattle.rebalance.specs.Entries.{entries, dropped}
@@ -33,17 +33,17 @@ use Rattle.rebalance.proofs.SplitOpens.{splits_front, upper_opens, lower_opens}
 module _ (z : Sizes) (limit : z.entries ≤ GREATEST_ENTRIES) (m : RoomMemory) (r : ℕ) (g : MovingRange) (mirrors : Mirrors z (copy_at z m r) g) (stands : RangeStands g) (differ : WordsDiffer g) (keys : ℕ → List ℕ) (have : HaveKeys keys g.carried) (slots : List SortSlot) (x : Read) (reads : ReadsSorted keys m r slots x) where
   -- what is left of the range
   abbrev left : MovingRange
-  left = dropped_range (dropped (in_use m r)) g
+  left = dropped_range (dropped (linked_in m r)) g
 
   -- the slots have that
-  pub read_slots : SlotsHave keys (take x.kept slots) (dropped_range (dropped (in_use m r)) g)
+  pub read_slots : SlotsHave keys (take x.kept slots) (dropped_range (dropped (linked_in m r)) g)
   read_slots = slots_have z m r g mirrors stands differ keys have (take x.kept slots) reads.same reads.rise
 
-  pub left_stands : RangeStands (dropped_range (dropped (in_use m r)) g)
-  left_stands = dropped_stands (in_use m r) g stands differ (used_sum z m r g mirrors stands differ)
+  pub left_stands : RangeStands (dropped_range (dropped (linked_in m r)) g)
+  left_stands = dropped_stands (linked_in m r) g stands differ (used_sum z m r g mirrors stands differ)
 
   -- once it is filled with them, it mirrors what is left
-  pub compacted : (n : ℕ) (m' : RoomMemory) → IsCompacted z.entries r n (take x.kept slots) x.base m m' → Mirrors z (copy_at z m' r) (dropped_range (dropped (in_use m r)) g)
+  pub compacted : (n : ℕ) (m' : RoomMemory) → IsCompacted z.entries r n (take x.kept slots) x.base m m' → Mirrors z (copy_at z m' r) (dropped_range (dropped (linked_in m r)) g)
   compacted n m' c = compacted_mirrors z m r g mirrors stands differ keys have (take x.kept slots) reads.same x.base n c.between m' limit reads.rise reads.base c.drops c.fills
 
   -- It is split, where `high` is another room that the pass holds.
@@ -58,14 +58,14 @@ module _ (z : Sizes) (limit : z.entries ≤ GREATEST_ENTRIES) (m : RoomMemory) (
     stored : IsStored (key_of (slice_index_or slots h d)) (keys (slice_index_or (take x.kept slots) h d).key)
     stored = subst (λ (s : SortSlot). IsStored (key_of (slice_index_or slots h d)) (keys s.key)) (sym (get_or-take x.kept slots h d some_high)) (reads.stored h d some_high)
 
-    bounds : BoundsAre m2 r (dropped_range (dropped (in_use m r)) g)
+    bounds : BoundsAre m2 r (dropped_range (dropped (linked_in m r)) g)
     bounds = bounds_still m1 m2 r left left (read_bounds z m r g mirrors stands differ keys have (take x.kept slots) reads.same n m1 gone) low_same high_same latch_same refl refl
 
     halves : Splits z.entries r high (take h (take x.kept slots)) (drop h (take x.kept slots)) (key_of (slice_index_or slots h d)) x.base m2 m3
     halves = splits_front z.entries r high slots h x.kept (key_of (slice_index_or slots h d)) x.base m2 m3 (omega arith) splits
 
     -- The upper room may be opened, and then the lower one.
-    pub split_opens : (gs : List MovingRange) (place : ℕ) → get_elem? gs place ≡ some (dropped_range (dropped (in_use m r)) g) → ((j : ℕ) (y : MovingRange) → get_elem? gs j ≡ some y → j < place → takes (copy_at z m3 high) y ≡ false)
+    pub split_opens : (gs : List MovingRange) (place : ℕ) → get_elem? gs place ≡ some (dropped_range (dropped (linked_in m r)) g) → ((j : ℕ) (y : MovingRange) → get_elem? gs j ≡ some y → j < place → takes (copy_at z m3 high) y ≡ false)
         → ((j : ℕ) (y : MovingRange) → get_elem? gs j ≡ some y → j < place → takes (copy_at z m3 r) y ≡ false) → MayOpenRoom z (copy_at z m3 high) gs × MayOpenRoom z (copy_at z m3 r) (ranges_left (copy_at z m3 high) gs)
     split_opens gs place there upper lower = let base = read_base z m r g mirrors stands differ keys have (take x.kept slots) reads.same x.base reads.base in let l = long in (
       upper_opens z limit m2 m3 r high left left_stands keys (take x.kept slots) read_slots bounds free few h some_low (omega arith) d (key_of (slice_index_or slots h d)) stored x.base base halves gs place there upper lower,

@@ -48,7 +48,7 @@ sweeps_since call key u v w b s = let first : List Swept = b.swept.0 in record {
 
 -- so a room came to be held
 pub holds_until : (z : Sizes) (call r : ℕ) (w : RoomCopy) (u v e : PassState) → WorksBeside call v e → ComesToHold z call r w u v → ComesToHold z call r w u e
-holds_until z call r w u v e b c = record { old = c.old; step = step_until z call (on_rooms (hold_room r c.old)) u v e b.met c.step; found_is = c.found_is; copy_is = c.copy_is }
+holds_until z call r w u v e b c = record { old = c.old; step = step_until z call (on_rooms (hold_room r c.old)) u v e b.met c.step; found_is = c.found_is; copy_is = c.copy_is; linked = c.linked }
 
 -- and was opened
 abbrev pub opens_since : (z : Sizes) (call r : ℕ) (w : RoomCopy) (u v e : PassState) → WorksBeside call u v → OpensWith z call r w v e → OpensWith z call r w u e
@@ -71,7 +71,7 @@ leaves_rooms call v e b same = record {
 
 -- what it has of rooms, where that is nothing but rooms that it holds
 pub only_rooms : (v s : PassState) → HoldsOnlyRooms v → HoldsOnlyRooms s → record s.rooms { held = v.rooms.held; moving = v.rooms.moving } ≡ v.rooms
-only_rooms v s a b = λ i. record { pin = (b.pin ∙ sym a.pin) i; latch = (b.latch ∙ sym a.latch) i; claim = (b.claim ∙ sym a.claim) i; held = v.rooms.held; moving = v.rooms.moving }
+only_rooms v s a b = λ i. record { pin = (b.pin ∙ sym a.pin) i; claim = (b.claim ∙ sym a.claim) i; held = v.rooms.held; moving = v.rooms.moving }
 
 -- a range with the same bounds has the same keys
 pub same_keys : (w x : RoomCopy) (k : ℕ) → x.low ≡ w.low → x.high ≡ w.high → within (copy_span x) k ≡ within (copy_span w) k
@@ -109,9 +109,10 @@ module _ (z : Sizes) (call r : ℕ) (key : List ℕ) (w : RoomCopy) (g : MovingR
       low = c.rewritten.low;
       high = c.rewritten.high;
       kept = c.rewritten.kept;
+      linked = c.rewritten.linked;
       base = c.rewritten.base;
       sorted = c.rewritten.sorted;
-      swept = sweeps_since call key v0 s e worked (o.sweeps (mirrors_valued z c.words c.range c.front.mirrors c.has.valued) key is bytes (same_keys w c.words (key_number key) c.rewritten.low c.rewritten.high ∙ p.inside));
+      swept = sweeps_since call key v0 s e worked (o.sweeps (mirrors_valued z c.words c.range c.front.mirrors c.rewritten.linked c.has.valued) key is bytes (same_keys w c.words (key_number key) c.rewritten.low c.rewritten.high ∙ p.inside));
     };
     count_is = let a = c.count_is in let b = c.kept_is in omega arith;
     leaves = leaves_rooms call v0 e (works_both call v0 s e worked o.beside) rooms_back;

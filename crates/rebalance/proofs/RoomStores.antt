@@ -148,7 +148,6 @@ module _ (z : Sizes) (call : ℕ) (p : RoomSpot) (x n : ℕ) (v w : PassState) (
     blocks = blocks;
     headers = headers ∙ ap (λ (y : PassState). y.headers) t.after;
     pin = ap (λ (a : RoomHolds). a.pin) e;
-    latch = ap (λ (a : RoomHolds). a.latch) e;
     claim = ap (λ (a : RoomHolds). a.claim) e;
     states = λ r s. ap (in_room_state r s) e ∙ rows_with p x r s v.rooms.held;
     listed = ap (λ (a : RoomHolds). rows_of a.held) e ∙ listed_stored p x v.rooms.held;

@@ -1,5 +1,5 @@
 -- What the steps of a pass on the words of the rooms that it holds leave.
-use Rattle.std.proofs.Common.{◌≡◌, ℕ, List, [], ◌∷◌, ◌++◌, length, map, sym, refl, ap, ◌∙◌, subst, arith, Option, Some}
+use Rattle.std.proofs.Common.{◌≡◌, ℕ, List, [], ◌∷◌, length, map, sym, refl, ap, ◌∙◌, subst, arith, Option, Some}
 use mathlib.Core.Option.{some}
 use lib.ListN.{get_elem?}
 use Rattle.oak_model.specs.Counts.{Each}
@@ -13,19 +13,20 @@ use Rattle.chunk_core.specs.declared.holds.HeldRoom.{HeldRoom}
 use Rattle.chunk_core.specs.declared.holds.PinnedRoom.{PinnedRoom}
 use Rattle.chunk_core.specs.declared.holds.RoomCopy.{RoomCopy}
 use Rattle.chunk_core.specs.declared.holds.RoomHolds.{RoomHolds}
-use Rattle.chunk_core.specs.KeptRooms.{kept_of_latch, kept_of_claim, kept_of_rooms_held, kept_of_rooms}
+use Rattle.chunk_core.specs.KeptRooms.{kept_of_claim, kept_of_rooms_held, kept_of_rooms}
 use Rattle.chunk_core.specs.RoomCopies.{copy_of}
 use Rattle.chunk_core.specs.RoomReads.{copy_at}
 use Rattle.chunk_core.specs.RoomRule.{in_room_state}
 use Rattle.chunk_core.specs.Rooms.{RoomSpot, at_count, at_value, read_room}
-use Rattle.chunk_core.specs.RoomsAfter.{counted_pin}
+use Rattle.chunk_core.specs.LinkWords.{link_spot}
+use Rattle.chunk_core.specs.RoomsAfter.{counted_pin, walked_pin}
 use Rattle.chunk_core.specs.ValueWord.{names_header}
 use Rattle.chunk_core.proofs.Copies.{held_true}
 use Rattle.oak_core.specs.declared.states.Finding.{Finding}
 use Rattle.oak_core.specs.declared.states.Knowledge.{Knowledge}
 use Rattle.oak_core.specs.declared.states.PassState.{PassState}
 use Rattle.oak_core.specs.AloneWords.{Runs}
-use Rattle.oak_core.specs.CountTeaching.{knows_count, sights_count}
+use Rattle.oak_core.specs.LinkTeaching.{knows_link, sights_link}
 use Rattle.oak_core.specs.Finding.{finding, grown}
 use Rattle.oak_core.specs.FoundKeys.{pinned_key}
 use Rattle.oak_core.specs.Loading.{IsPlain}
@@ -37,7 +38,7 @@ use Rattle.oak_core.specs.Step.{load}
 use Rattle.oak_core.specs.TableState.{TableState}
 use Rattle.oak_core.proofs.seats.AloneRuns.{moment_after}
 use Rattle.oak_core.proofs.memory.MetLists.{at_inside}
-use Rattle.oak_core.proofs.told.PlainLoads.{LoadTeachesNothing, met_at, plain_or_taught, plain_teaches}
+use Rattle.oak_core.proofs.told.PlainLoads.{LoadTeachesNothing, knows_linked, met_at, plain_or_taught, plain_teaches, rooms_linked, sights_linked}
 use Rattle.oak_core.proofs.told.QuietLoads.{met_quiet, unfound_teaches, unpinned_teaches}
 use Rattle.chunk_ops.specs.PinRecords.{WordsStay}
 use Rattle.chunk_ops.specs.RoomPins.{HadMoment}
@@ -58,7 +59,7 @@ pub copy_stands : (z : Sizes) (s : TableState) → Rule z s → (seat : ℕ) (v 
 copy_stands z s rule seat v here r w is = let m = (memory z s.words).rooms in let own : get_elem? (map rooms_held s.states) seat ≡ some v.rooms = at_map rooms_held s.states seat v here in
     let P : KeptWord RoomSpot → Type 0 = (λ (t : KeptWord RoomSpot). read_room m t.spot ≡ t.number) in
     let kept = rule.kept_in_rooms.true_to seat (kept_of_rooms v.rooms) (at_map kept_of_rooms (map rooms_held s.states) seat v.rooms own) in
-    let words : AreTrueTo (read_room m) (kept_of_rooms_held v.rooms.held) = each_rest P (kept_of_claim v.rooms.claim) (kept_of_rooms_held v.rooms.held) (each_rest P (kept_of_latch v.rooms.latch) (kept_of_claim v.rooms.claim ++ kept_of_rooms_held v.rooms.held) kept) in
+    let words : AreTrueTo (read_room m) (kept_of_rooms_held v.rooms.held) = each_rest P (kept_of_claim v.rooms.claim) (kept_of_rooms_held v.rooms.held) kept in
     held_true z m r w v.rooms.held (rule.rooms.passes seat v.rooms own).whole words is
 
 -- a pass without a pin learns nothing by a load
@@ -66,16 +67,23 @@ copy_stands z s rule seat v here r w is = let m = (memory z s.words).rooms in le
 module _ (call : ℕ) (m : Memory) (qs : List Knowledge) (v : PassState) (only : HoldsOnlyRooms v) where
   count_teaches : (r : ℕ) → LoadTeachesNothing call (in_rooms (at_count r)) m qs v
   count_teaches r = record {
-    knowledge = ap (λ (o : Option PinnedRoom). knows_count m.rooms (content m.arena.bytes) r o qs v.knowledge) only.pin;
-    sights = ap (λ (o : Option PinnedRoom). sights_count m.rooms (content m.arena.bytes) r call o v.findings) only.pin;
+    knowledge = refl;
+    sights = refl;
     rooms = ap (λ (o : Option PinnedRoom). record v.rooms { pin = counted_pin m.rooms (content m.arena.bytes) r o }) only.pin ∙ sym (λ i. record v.rooms { pin = only.pin i });
+  }
+
+  link_teaches : (r : ℕ) (from : Option ℕ) → LoadTeachesNothing call (in_rooms (link_spot r from)) m qs v
+  link_teaches r from = record {
+    knowledge = knows_linked call m qs v r from ∙ ap (λ (o : Option PinnedRoom). knows_link m.rooms (content m.arena.bytes) r from o qs v.knowledge) only.pin;
+    sights = sights_linked call m v r from ∙ ap (λ (o : Option PinnedRoom). sights_link m.rooms (content m.arena.bytes) r from call o v.findings) only.pin;
+    rooms = rooms_linked m v r from ∙ (ap (λ (o : Option PinnedRoom). record v.rooms { pin = walked_pin m.rooms (content m.arena.bytes) r from o }) only.pin ∙ sym (λ i. record v.rooms { pin = only.pin i }));
   }
 
   value_teaches : (r i : ℕ) → LoadTeachesNothing call (in_rooms (at_value r i)) m qs v
   value_teaches r i = unfound_teaches call r i m qs v (ap (pinned_key r i) only.pin)
 
   pub nothing_taught : (p : Spot) → LoadTeachesNothing call p m qs v
-  nothing_taught p = plain_or_taught (λ q. LoadTeachesNothing call q m qs v) (plain_teaches call m qs v) count_teaches value_teaches (λ h. unpinned_teaches call h m qs v (ap (pins_on h) only.headers)) p
+  nothing_taught p = plain_or_taught (λ q. LoadTeachesNothing call q m qs v) (plain_teaches call m qs v) count_teaches link_teaches value_teaches (λ h. unpinned_teaches call h m qs v (ap (pins_on h) only.headers)) p
 
 -- the pass only met more
 pub works_still : (z : Sizes) (call : ℕ) (v w : PassState) → Rests call v w → w.blocks ≡ v.blocks → w.headers ≡ v.headers → w.rooms ≡ v.rooms → AwayFromPins z v w → HadMoment z w → Runs WordsStay v w → WorksOnRooms z call v w
@@ -84,7 +92,6 @@ works_still z call v w stands blocks headers rooms away moment stay = record {
   blocks = blocks;
   headers = headers;
   pin = ap (λ (a : RoomHolds). a.pin) rooms;
-  latch = ap (λ (a : RoomHolds). a.latch) rooms;
   claim = ap (λ (a : RoomHolds). a.claim) rooms;
   states = λ r s. ap (in_room_state r s) rooms;
   listed = ap (λ (a : RoomHolds). rows_of a.held) rooms;

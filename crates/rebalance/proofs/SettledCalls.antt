@@ -10,19 +10,18 @@ use Rattle.chunk_core.specs.declared.holds.EntryWords.{EntryWords}
 use Rattle.chunk_core.specs.declared.holds.RoomCopy.{RoomCopy}
 use Rattle.chunk_core.specs.declared.states.TheConstants.{FREE, OPEN}
 use Rattle.chunk_core.specs.KeyWords.{high_number, low_number}
-use Rattle.chunk_core.specs.RoomCopies.{entries_held}
 use Rattle.chunk_core.specs.Spans.{within}
 use Rattle.chunk_core.specs.ValueWord.{names_header}
 use Rattle.oak_core.specs.declared.states.PassState.{PassState}
 use Rattle.oak_core.specs.AloneWords.{Runs}
-use Rattle.oak_core.specs.Sweeping.{valueless}
 use Rattle.oak_core.proofs.seats.AloneRuns.{Then, runs_as, runs_none, runs_then}
 use Rattle.rebalance.specs.Calls.{HasMuchAbove, IsLast, Merges, Rewrites}
-use Rattle.rebalance.specs.Copies.{copy_span, values_in}
+use Rattle.rebalance.specs.Copies.{IsTidy, copy_span, linked_held, values_in}
 use Rattle.rebalance.specs.LoneCalls.{Divided, JoinsRooms, NoneOpened, RewritesBoth, RewritesRoom, SettlesWords}
 use Rattle.rebalance.specs.LoneWords.{IsOpen, room_in, state_in}
 use Rattle.rebalance.specs.Merging.{ApartUpTo}
 use Rattle.rebalance.specs.Settling.{SettledBelow, SettlesBelow}
+use Rattle.rebalance.proofs.LinkedCopies.{linked_are}
 use Rattle.rebalance.proofs.RangeKeys.{high_number-is, number_of}
 use Rattle.rebalance.proofs.SettledWords.{IsStill, names_le, settled_all, settled_joined, settled_least, settled_next, settled_still}
 
@@ -50,15 +49,15 @@ lacks_none (e ∷ es) = let h = times_lack (names_header e.value) (names_le e.va
 
 -- a chunk that was rewritten has its values
 values_kept : (z : Sizes) (call : ℕ) (key : List ℕ) (r : ℕ) (held opened : RoomCopy) (v w : PassState) → Rewrites z call key r held opened v w → values_in opened ≡ values_in held
-values_kept z call key r held opened v w h = h.kept (λ _ n. names_header n) ∙ values_once (entries_held held)
+values_kept z call key r held opened v w h = ap (total (λ (e : EntryWords). names_header e.value)) (linked_are opened h.linked) ∙ (h.kept (λ _ n. names_header n) ∙ values_once (linked_held held))
 
--- and no entry without one
-none_lacks : (z : Sizes) (call : ℕ) (key : List ℕ) (r : ℕ) (held opened : RoomCopy) (v w : PassState) → Rewrites z call key r held opened v w → valueless opened ≡ 0
-none_lacks z call key r held opened v w h = h.kept (λ _ n. 1 - names_header n) ∙ lacks_none (entries_held held)
+-- each entry is linked, and has one
+rewritten_tidy : (z : Sizes) (call : ℕ) (key : List ℕ) (r : ℕ) (held opened : RoomCopy) (v w : PassState) → Rewrites z call key r held opened v w → IsTidy opened
+rewritten_tidy z call key r held opened v w h = record { linked = h.linked; valued = h.kept (λ _ n. 1 - names_header n) ∙ lacks_none (linked_held held) }
 
--- so it has the range that it had, no fewer values, and no more entries without one
+-- so it has the range that it had, and no fewer values
 pub still_kept : (z : Sizes) (call : ℕ) (key : List ℕ) (r : ℕ) (held opened : RoomCopy) (v w : PassState) → Rewrites z call key r held opened v w → IsStill held opened
-still_kept z call key r held opened v w h = let e = values_kept z call key r held opened v w h in let n = none_lacks z call key r held opened v w h in record { low = h.low; high = h.high; values = omega arith; lacks = omega arith }
+still_kept z call key r held opened v w h = let e = values_kept z call key r held opened v w h in record { low = h.low; high = h.high; values = omega arith; tidy = λ _. rewritten_tidy z call key r held opened v w h }
 
 -- it has the key
 still_inside : (z : Sizes) (call : ℕ) (key : List ℕ) (r : ℕ) (held opened : RoomCopy) (v w : PassState) → Rewrites z call key r held opened v w → within (copy_span opened) (key_number key) ≡ 1
@@ -66,11 +65,11 @@ still_inside z call key r held opened v w h = subst (λ (p : List ℕ × List �
 
 -- the same is true of words that stay
 still_same : (w x : RoomCopy) → x ≡ w → IsStill w x
-still_same w x e = subst (IsStill w) (sym e) (record { low = refl; high = refl; values = omega arith; lacks = omega arith })
+still_same w x e = subst (IsStill w) (sym e) (record { low = refl; high = refl; values = omega arith; tidy = λ t. t })
 
 -- so has one that was joined with the next one
 values_joined : (z : Sizes) (call : ℕ) (key : List ℕ) (v w : PassState) → (m : Merges z call key v w) → values_in m.opened ≡ values_in m.held + values_in m.next
-values_joined z call key v w m = let a = m.kept (λ _ n. names_header n) in let b = values_once (entries_held m.held) in let c = values_once (entries_held m.next) in omega arith
+values_joined z call key v w m = let a = m.kept (λ _ n. names_header n) in let b = values_once (linked_held m.held) in let c = values_once (linked_held m.next) in let l = ap (total (λ (e : EntryWords). names_header e.value)) (linked_are m.opened m.linked) in omega arith
 
 -- ---- the settling call
 
@@ -153,7 +152,7 @@ module _ (z : Sizes) (call : ℕ) (key : List ℕ) (u v w : PassState) (first : 
                 (record { inside = j.is_open.inside; state = j.leaves.states s.room (λ n. n) ∙ j.is_open.state })
                 (record { inside = j.upper_is_open.inside; state = j.leaves.states m.other (λ n. n) ∙ j.upper_is_open.state })
                 (subst (λ (k : RoomCopy). within (copy_span k) (key_number key) ≡ 1) (sym j.is) (still_inside z call key s.room s.held s.opened v w s.rewrites))
-                (ap valueless j.is ∙ none_lacks z call key s.room s.held s.opened v w s.rewrites)
+                (subst IsTidy (sym j.is) (rewritten_tidy z call key s.room s.held s.opened v w s.rewrites))
                 (ap (λ (k : RoomCopy). high_number k.high) j.is ∙ (ap high_number low.high ∙ ends))
                 (let e = ap (λ (k : RoomCopy). low_number k.low) j.is_upper in let g = ap low_number up.low in let i = m.above in let k = ends in omega arith)
                 (let e = ap values_in j.is in let g = ap values_in j.is_upper in let i = low.values in let k = up.values in let n = m.many in omega arith);
@@ -179,7 +178,7 @@ module _ (z : Sizes) (call : ℕ) (key : List ℕ) (u v w : PassState) (first : 
                 (f.settled d.divided))
                 (record { inside = j.is_open.inside; state = j.leaves.states s.room (λ n. n) ∙ j.is_open.state })
                 (subst (λ (k : RoomCopy). within (copy_span k) (key_number key) ≡ 1) (sym j.is) (still_inside z call key s.room s.held s.opened v w s.rewrites))
-                (ap valueless j.is ∙ none_lacks z call key s.room s.held s.opened v w s.rewrites)
+                (subst IsTidy (sym j.is) (rewritten_tidy z call key s.room s.held s.opened v w s.rewrites))
                 (ap (λ (k : RoomCopy). high_number k.high) j.is ∙ (ap high_number low.high ∙ l.last));
             opened = opened_then z x t.0 c f.opened (λ y there. was_open z t.0 c y (j.leaves.states y (λ n. n)) there) (λ y there. (rewritten_still z t.0 c s.room s.held s.opened low j y).low);
             headers = j.leaves.headers ∙ f.headers;

@@ -5,15 +5,16 @@ use native.Mathlib.Decide.{ℕ_discrete, dec_le, dec_lt}
 use Rattle.oak_model.specs.Counts.{total}
 use Rattle.oak_model.specs.Limits.{Sizes}
 use Rattle.oak_model.proofs.Counting.{one_at-le}
+use Rattle.oak_model.proofs.MemberLaws.{total_split}
 use Rattle.chunk_core.specs.declared.holds.EntryWords.{EntryWords}
 use Rattle.chunk_core.specs.declared.holds.RoomCopy.{RoomCopy}
 use Rattle.chunk_core.specs.KeyWords.{least_number, low_number, high_number}
 use Rattle.chunk_core.specs.LinkedEntries.{entries_in}
+use Rattle.chunk_core.specs.RoomCopies.{entries_held}
 use Rattle.chunk_core.specs.Spans.{Span, past, past_high, within}
 use Rattle.chunk_core.specs.ValueWord.{names_header}
 use Rattle.chunk_core.proofs.SpanLaws.{past-cases, past-le, high-none, high-some}
-use Rattle.oak_core.specs.Sweeping.{valueless}
-use Rattle.rebalance.specs.Copies.{copy_span, values_in}
+use Rattle.rebalance.specs.Copies.{IsTidy, copy_span, has_key_word, values_in}
 use Rattle.rebalance.specs.LoneCalls.{IsSettled}
 use Rattle.rebalance.specs.LoneWords.{Divides, IsOpen, room_in}
 use Rattle.rebalance.specs.Settling.{SettledBelow}
@@ -61,14 +62,14 @@ total_few (suc n) (e ∷ es) = let h = names_le e.value in let t = total_few n e
 
 -- no more entries have a value than are in use
 values_few : (w : RoomCopy) → values_in w ≤ entries_in w.count
-values_few w = total_few (entries_in w.count) w.entries
+values_few w = let t = total_few (entries_in w.count) w.entries in let s = total_split has_key_word (λ (e : EntryWords). names_header e.value) (entries_held w) in omega arith
 
--- the words of a room have the range that they had, no fewer values, and no more entries without one
+-- the words of a room have the range that they had, and no fewer values, and each entry is linked and has one still
 pub record IsStill (w x : RoomCopy) : Type 0 where
   pub low : x.low ≡ w.low
   pub high : x.high ≡ w.high
   pub values : values_in w ≤ values_in x
-  pub lacks : valueless x ≤ valueless w
+  pub tidy : IsTidy w → IsTidy x
 
 -- ---- the open rooms of words
 
@@ -97,12 +98,12 @@ module _ (z : Sizes) (b : List ℕ) (d : Divides z b) where
   -- up to the least key all is settled
   pub settled_least : SettledBelow z least_number b
   settled_least = record {
-    valued = λ r o e. let k = d.keyed r o in absurd (omega arith);
+    tidy = λ r o e. let k = d.keyed r o in absurd (omega arith);
     many = λ r s o p e l. let k = d.keyed r o in let f = past_when (high_of r) least_number (λ n. absurd (omega arith)) (omega arith) in absurd (omega arith);
   }
 
-  -- so it is up to the end of the range that has the key, where that has no entry without a value, and the next one, which begins there, has many with it
-  module _ (k n r q : ℕ) (s : SettledBelow z k b) (o : IsOpen z b r) (p : IsOpen z b q) (inside : within (copy_span (room_in z b r)) k ≡ 1) (valued : valueless (room_in z b r) ≡ 0) (ends : high_of r ≡ n + 1) (begins : low_of q ≡ n) (many : z.entries / 2 < values_in (room_in z b r) + values_in (room_in z b q)) where
+  -- so it is up to the end of the range that has the key, where each entry of that is linked and has a value, and the next one, which begins there, has many with it
+  module _ (k n r q : ℕ) (s : SettledBelow z k b) (o : IsOpen z b r) (p : IsOpen z b q) (inside : within (copy_span (room_in z b r)) k ≡ 1) (tidy : IsTidy (room_in z b r)) (ends : high_of r ≡ n + 1) (begins : low_of q ≡ n) (many : z.entries / 2 < values_in (room_in z b r) + values_in (room_in z b q)) where
     -- that range begins at or before the key, and ends behind it
     below : low_of r ≤ k
     below = begins_by (copy_span (room_in z b r)) k inside
@@ -117,9 +118,9 @@ module _ (z : Sizes) (b : List ℕ) (d : Divides z b) where
 
     pub settled_next : SettledBelow z n b
     settled_next = record {
-      valued = λ x there e. let ne = past_some (high_of x) n e in let l = past_by (high_of x) n e in dite (dec_lt (k + 1) (high_of x))
-          (λ lt. subst (λ (y : ℕ). valueless (room_in z b y) ≡ 0) (sym (same_end x there ne lt l)) valued)
-          (λ ge. s.valued x there (past_when (high_of x) k ne (omega arith)));
+      tidy = λ x there e. let ne = past_some (high_of x) n e in let l = past_by (high_of x) n e in dite (dec_lt (k + 1) (high_of x))
+          (λ lt. subst (λ (y : ℕ). IsTidy (room_in z b y)) (sym (same_end x there ne lt l)) tidy)
+          (λ ge. s.tidy x there (past_when (high_of x) k ne (omega arith)));
       many = λ x y there also e l. dite (dec_le (low_of y) k)
           (λ le. s.many x y there also e le)
           (λ gt. let same = same_end x there (λ f. absurd (omega arith)) (omega arith) (omega arith) in dite (dec_lt (low_of y) n)
@@ -129,19 +130,23 @@ module _ (z : Sizes) (b : List ℕ) (d : Divides z b) where
     }
 
   -- and where no range is above that one, all is settled
-  module _ (k r : ℕ) (s : SettledBelow z k b) (o : IsOpen z b r) (inside : within (copy_span (room_in z b r)) k ≡ 1) (valued : valueless (room_in z b r) ≡ 0) (last : high_of r ≡ 0) where
+  module _ (k r : ℕ) (s : SettledBelow z k b) (o : IsOpen z b r) (inside : within (copy_span (room_in z b r)) k ≡ 1) (tidy : IsTidy (room_in z b r)) (last : high_of r ≡ 0) where
     -- a room that begins behind k is the last one
     begun_behind : (x : ℕ) → IsOpen z b x → k < low_of x → r ≡ x
     begun_behind x there l = let f = begins_by (copy_span (room_in z b r)) k inside in same_low r x o there (omega arith) (λ ne. absurd (ne last))
 
+    all_tidy : (x : ℕ) → IsOpen z b x → IsTidy (room_in z b x)
+    all_tidy x there = dite (ℕ_discrete (past_high (high_of x) k) 1)
+        (λ e. s.tidy x there e)
+        (λ ne. subst (λ (y : ℕ). IsTidy (room_in z b y)) (dite (dec_le (low_of x) k)
+        (λ le. d.once k r x o there inside (inside_when (copy_span (room_in z b x)) k le (λ some. dite (dec_lt (k + 1) (high_of x)) (λ lt. lt) (λ ge. absurd (ne (past_when (high_of x) k some (omega arith)))))))
+        (λ gt. begun_behind x there (omega arith))) tidy)
+
     pub settled_all : IsSettled z b
     settled_all = record {
       divides = d;
-      valued = λ x there. dite (ℕ_discrete (past_high (high_of x) k) 1)
-          (λ e. s.valued x there e)
-          (λ ne. subst (λ (y : ℕ). valueless (room_in z b y) ≡ 0) (dite (dec_le (low_of x) k)
-          (λ le. d.once k r x o there inside (inside_when (copy_span (room_in z b x)) k le (λ some. dite (dec_lt (k + 1) (high_of x)) (λ lt. lt) (λ ge. absurd (ne (past_when (high_of x) k some (omega arith)))))))
-          (λ gt. begun_behind x there (omega arith))) valued);
+      valued = λ x there. (all_tidy x there).valued;
+      linked = λ x there. (all_tidy x there).linked;
       many = λ x y there also e. dite (dec_le (low_of y) k)
           (λ le. let m = s.many x y there also e le in let i = values_few (room_in z b x) in let j = values_few (room_in z b y) in omega arith)
           (λ gt. let f = begins_by (copy_span (room_in z b r)) k inside in let g = ap low_of (begun_behind y also (omega arith)) in absurd (omega arith));
@@ -150,10 +155,10 @@ module _ (z : Sizes) (b : List ℕ) (d : Divides z b) where
 -- ---- where words change
 
 module _ (z : Sizes) (a b : List ℕ) where
-  -- rooms that have the range that they had, and no fewer values and no more entries without one
+  -- rooms that have the range that they had, and no fewer values, and in which each entry is linked and has a value still
   pub settled_still : (k : ℕ) → ((x : ℕ) → IsOpen z b x → IsOpen z a x) → ((x : ℕ) → IsStill (room_in z a x) (room_in z b x)) → SettledBelow z k a → SettledBelow z k b
   settled_still k opens still s = record {
-    valued = λ x there e. let i = still x in let v = s.valued x (opens x there) (ap (λ (ws : List ℕ). past_high (high_number ws) k) (sym i.high) ∙ e) in let w = i.lacks in omega arith;
+    tidy = λ x there e. let i = still x in i.tidy (s.tidy x (opens x there) (ap (λ (ws : List ℕ). past_high (high_number ws) k) (sym i.high) ∙ e));
     many = λ x y there also e l. let i = still x in let j = still y in let m = s.many x y (opens x there) (opens y also) (ap high_number (sym i.high) ∙ (e ∙ ap (λ (ws : List ℕ). low_number ws + 1) j.low)) (subst (λ (ws : List ℕ). low_number ws ≤ k) j.low l) in
         let f = i.values in let g = j.values in omega arith;
   }
@@ -171,9 +176,9 @@ module _ (z : Sizes) (a b : List ℕ) where
 
     pub settled_joined : SettledBelow z k a → SettledBelow z k b
     settled_joined s = record {
-      valued = λ x there f. let ne = past_some (high_in z b x) k f in let le = past_by (high_in z b x) k f in dite (ℕ_discrete x r)
+      tidy = λ x there f. let ne = past_some (high_in z b x) k f in let le = past_by (high_in z b x) k f in dite (ℕ_discrete x r)
           (λ same. let l = ends_behind_it (λ n. ne (ap (high_in z b) same ∙ n)) in let g = ap (high_in z b) same in absurd (omega arith))
-          (λ other. let i = others x other (not_gone x there) in ap valueless i ∙ s.valued x (opens x there) (ap (λ (w : RoomCopy). past_high (high_number w.high) k) (sym i) ∙ f));
+          (λ other. let i = others x other (not_gone x there) in subst IsTidy (sym i) (s.tidy x (opens x there) (ap (λ (w : RoomCopy). past_high (high_number w.high) k) (sym i) ∙ f)));
       many = λ x y there also f l. dite (ℕ_discrete x r)
           (λ same. let g = ap (high_in z b) same in let h = ends_behind_it (λ n. absurd (omega arith)) in absurd (omega arith))
           (λ other. let i = others x other (not_gone x there) in let m = ap values_in i in let c = ap (λ (w : RoomCopy). high_number w.high) (sym i) in dite (ℕ_discrete y r)

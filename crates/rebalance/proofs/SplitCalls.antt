@@ -89,7 +89,7 @@ module _ (z : Sizes) (call r : ℕ) (key : List ℕ) (w : RoomCopy) (g : MovingR
       still = runs_leave_both z no_room (held_by v) v u t reads.works.words (stay_leaves z no_room (held_by v) u t none.only.still)
 
       -- and opened again
-      pub none_lacks : ClaimsOthers z r u t → ((i : ℕ) → i < entries_in ((held_memory v.rooms.held).count r) → names_header ((held_memory v.rooms.held).value r i) ≡ 1 → SeesValue z r i v u) → (s e : PassState) (c : CompactsFront z call r 0 (take x.kept slots) w v0.rooms.held v0.rooms.moving t s) → OpensFront z call r c.words v0.rooms.held v0.rooms.moving s e → FindsNoRoom z call key v0 e
+      pub none_lacks : ClaimsOthers z r u t → ((i : ℕ) → i < entries_in ((held_memory v.rooms.held).count r) → 0 < (held_memory v.rooms.held).key r i → names_header ((held_memory v.rooms.held).value r i) ≡ 1 → SeesValue z r i v u) → (s e : PassState) (c : CompactsFront z call r 0 (take x.kept slots) w v0.rooms.held v0.rooms.moving t s) → OpensFront z call r c.words v0.rooms.held v0.rooms.moving s e → FindsNoRoom z call key v0 e
       none_lacks others sees s e c o = let later = met_both call t s e c.works.stands.met o.beside.met in
           lacks_room z call r key w g v0 v idle is bytes p t s e since still (take x.kept slots) c o (long ∙ full)
           (found_lacking z call r key w g v0 v p u slots x reads full sees e (met_both call u t e none.only.stands.met later) t none later)
@@ -127,11 +127,12 @@ module _ (z : Sizes) (call r : ℕ) (key : List ℕ) (w : RoomCopy) (g : MovingR
         high = h.high;
         bases = h.bases;
         kept = h.kept;
+        linked = h.linked;
         lower = h.lower;
         higher = h.higher;
         swept = sweeps_since call key v0 t e claimed_since (o.sweeps key is bytes p.inside);
         leaves = leaves_rooms call v0 e (works_both call v0 t e claimed_since o.beside)
-            (o.rooms ∙ ((λ i. record { pin = only.pin i; latch = only.latch i; claim = only.claim i; held = []; moving = [] }) ∙ sym idle.rooms));
+            (o.rooms ∙ ((λ i. record { pin = only.pin i; claim = only.claim i; held = []; moving = [] }) ∙ sym idle.rooms));
         claims = claims_full z call r key w g v0 v p u slots x reads full t others e o.beside.met o.claims;
         alone = halved_runs z v0 r w p.front.inside (bare_of v0 idle) q other c o.low_copy o.high_copy u t e call (on_rooms (open_room q)) (opens_since z call q o.high_copy v0 t e claimed_since o.opens_upper).step (record { held = ap (λ (a : RoomHolds). a.held) o.rooms; moving = ap (λ (a : RoomHolds). a.moving) o.rooms }) o.moment split_taken claim.alone o.alone;
       }

@@ -47,7 +47,7 @@ use Rattle.rebalance.proofs.SweptRooms.{mirrors_valued}
 -- a pass that holds nothing
 pub idle_compacted : (z : Sizes) (v : PassState) → HoldsNothing v → HoldsCompacted z v
 idle_compacted z v idle = let n = idle.rooms in record {
-  only = record { blocks = idle.blocks; headers = idle.headers; pin = ap (λ (a : RoomHolds). a.pin) n; latch = ap (λ (a : RoomHolds). a.latch) n; claim = ap (λ (a : RoomHolds). a.claim) n };
+  only = record { blocks = idle.blocks; headers = idle.headers; pin = ap (λ (a : RoomHolds). a.pin) n; claim = ap (λ (a : RoomHolds). a.claim) n };
   valued = subst (λ (a : RoomHolds). Each AllValued a.moving) (sym n) tt;
   rows = subst (λ (a : RoomHolds). Each (IsHeldRow z) a.held) (sym n) tt;
   apart = subst (λ (a : RoomHolds). Apart a.held) (sym n) tt;
@@ -55,7 +55,7 @@ idle_compacted z v idle = let n = idle.rooms in record {
 
 -- a step by which the call came to hold a room, in a longer part of the call
 pub held_in : (z : Sizes) (call r : ℕ) (w : RoomCopy) (u v t s : PassState) → WorksBeside call u v → WorksBeside call t s → ComesToHold z call r w v t → ComesToHold z call r w u s
-held_in z call r w u v t s a b h = record { old = h.old; step = step_in z call (on_rooms (hold_room r h.old)) u v t s a.met b.met h.step; found_is = h.found_is; copy_is = h.copy_is }
+held_in z call r w u v t s a b h = record { old = h.old; step = step_in z call (on_rooms (hold_room r h.old)) u v t s a.met b.met h.step; found_is = h.found_is; copy_is = h.copy_is; linked = h.linked }
 
 -- and one by which it opened it
 pub opens_since : (z : Sizes) (call r : ℕ) (w : RoomCopy) (u v t : PassState) → WorksBeside call u v → OpensWith z call r w v t → OpensWith z call r w u t
@@ -69,7 +69,7 @@ taken z call r key w g x slots v t u p c many base = record {
   words = c.words;
   range = c.range;
   dropped = x.dropped;
-  came = record { old = p.came.old; step = step_until z call (on_rooms (hold_room r p.came.old)) v t u c.works.stands.met p.came.step; found_is = p.came.found_is; copy_is = p.came.copy_is };
+  came = record { old = p.came.old; step = step_until z call (on_rooms (hold_room r p.came.old)) v t u c.works.stands.met p.came.step; found_is = p.came.found_is; copy_is = p.came.copy_is; linked = p.came.linked };
   inside = p.inside;
   beside = works_both call v t u p.beside (works_of_rooms z call t u c.works);
   claims = c.works.stands.claims ∙ p.claims;
@@ -97,7 +97,6 @@ front_looked z call r w g hs gs v q f works same = record {
     blocks = works.blocks ∙ f.only.blocks;
     headers = works.headers ∙ f.only.headers;
     pin = works.pin ∙ f.only.pin;
-    latch = works.latch ∙ f.only.latch;
     claim = works.claim ∙ f.only.claim;
   };
   whole = f.whole;
@@ -116,7 +115,6 @@ front_kept z call r w g hs gs v q f back = record {
     blocks = back.beside.blocks ∙ f.only.blocks;
     headers = back.beside.headers ∙ f.only.headers;
     pin = ap (λ (a : RoomHolds). a.pin) back.rooms ∙ f.only.pin;
-    latch = ap (λ (a : RoomHolds). a.latch) back.rooms ∙ f.only.latch;
     claim = ap (λ (a : RoomHolds). a.claim) back.rooms ∙ f.only.claim;
   };
   whole = f.whole;
@@ -149,7 +147,6 @@ front_back z call r s w x g h hs gs v b d f n o = record {
     blocks = o.beside.blocks ∙ n.only.blocks;
     headers = o.beside.headers ∙ n.only.headers;
     pin = ap (λ (a : RoomHolds). a.pin) o.rooms ∙ n.only.pin;
-    latch = ap (λ (a : RoomHolds). a.latch) o.rooms ∙ n.only.latch;
     claim = ap (λ (a : RoomHolds). a.claim) o.rooms ∙ n.only.claim;
   };
   whole = f.whole;
@@ -159,7 +156,7 @@ front_back z call r s w x g h hs gs v b d f n o = record {
 
 -- a pass whose last room was opened has no room
 pub none_left : (z : Sizes) (call r : ℕ) (w : RoomCopy) (g : MovingRange) (v d u : PassState) → HoldsNothing v → HoldsFront z r w g [] [] d → OpensFront z call r w [] [] d u → u.rooms ≡ v.rooms
-none_left z call r w g v d u idle f o = o.rooms ∙ ((λ i. record { pin = f.only.pin i; latch = f.only.latch i; claim = f.only.claim i; held = []; moving = [] }) ∙ sym idle.rooms)
+none_left z call r w g v d u idle f o = o.rooms ∙ ((λ i. record { pin = f.only.pin i; claim = f.only.claim i; held = []; moving = [] }) ∙ sym idle.rooms)
 
 -- what a call leaves that came back to the rooms that it began with
 pub leaves_of : (call : ℕ) (v u : PassState) → WorksBeside call v u → u.rooms ≡ v.rooms → Leaves call v u
@@ -201,7 +198,7 @@ module _ (z : Sizes) (call : ℕ) (key : List ℕ) (t : Taken) (slots : List Sor
     all = works_both call v d u before o.beside
 
     pub none_lack : valueless take.words ≡ 0
-    none_lack = mirrors_valued z take.words take.range take.front.mirrors take.has.valued
+    none_lack = mirrors_valued z take.words take.range take.front.mirrors take.rewritten.linked take.has.valued
 
     pub opened_leaves : Leaves call v u
     opened_leaves = leaves_of call v u all (none_left z call t.room take.words take.range v d u idle front o)
@@ -216,6 +213,7 @@ module _ (z : Sizes) (call : ℕ) (key : List ℕ) (t : Taken) (slots : List Sor
         low = take.rewritten.low;
         high = take.rewritten.high;
         kept = take.rewritten.kept;
+        linked = take.rewritten.linked;
         base = take.rewritten.base;
         sorted = take.rewritten.sorted;
         swept = sweeps_since call key v d u before.swept before.met (o.sweeps none_lack key is bytes inside_still);

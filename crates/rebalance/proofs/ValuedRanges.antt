@@ -12,7 +12,7 @@ use Rattle.oak_core.specs.declared.states.PassState.{PassState}
 use Rattle.rebalance.specs.declared.entries.Entry.{Entry}
 use Rattle.rebalance.specs.declared.reading.Read.{Read}
 use Rattle.rebalance.specs.Chunks.{HoldsFront, ReadsFront}
-use Rattle.rebalance.specs.Compacted.{in_use}
+use Rattle.rebalance.specs.Compacted.{linked_in}
 use Rattle.rebalance.specs.DroppedRange.{dropped_range}
 use Rattle.rebalance.specs.Dropping.{dropped_ranges}
 use Rattle.rebalance.specs.Entries.{dropped}
@@ -27,14 +27,14 @@ use Rattle.rebalance.proofs.MirroredEntries.{all_valued, dropped_each, each_of}
 
 module _ (z : Sizes) (r : ℕ) (w : RoomCopy) (g : MovingRange) (hs : List HeldRoom) (gs : List MovingRange) (v : PassState) (f : HoldsFront z r w g hs gs v) (others : Each AllValued gs) where
   abbrev gone : List Entry
-  gone = dropped (in_use (held_memory v.rooms.held) r)
+  gone = dropped (linked_in (held_memory v.rooms.held) r)
 
   front_left : AllValued (dropped_range gone g)
   front_left = let mirrors = front_mirrors z r w g hs gs v f in let stands = front_stands z r w g hs gs v f in let differ = front_differ z r w g hs gs v f in
-      each_of (λ (c : Carried). names_header c.value ≡ 1) (dropped_range gone g).carried (all_valued (in_use (held_memory v.rooms.held) r) g stands differ (used_sum z (held_memory v.rooms.held) r g mirrors stands differ))
+      each_of (λ (c : Carried). names_header c.value ≡ 1) (dropped_range gone g).carried (all_valued (linked_in (held_memory v.rooms.held) r) g stands differ (used_sum z (held_memory v.rooms.held) r g mirrors stands differ))
 
   -- the front room's were dropped
-  pub front_valued : Each AllValued (dropped_ranges (dropped (in_use (held_memory v.rooms.held) r)) v.rooms.moving)
+  pub front_valued : Each AllValued (dropped_ranges (dropped (linked_in (held_memory v.rooms.held) r)) v.rooms.moving)
   front_valued = subst (λ (xs : List MovingRange). Each AllValued xs)
       (sym (dropped_each gone v.rooms.moving ∙ (ap (map (dropped_range gone)) f.moving ∙ ap (λ (l : List MovingRange). dropped_range gone g ∷ l) (all_stay gone gs others))))
       (front_left, others)

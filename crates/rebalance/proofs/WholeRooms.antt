@@ -1,5 +1,5 @@
 -- A call came to hold a chunk, found a value in each of its entries, and each other room not free.
-use Rattle.std.proofs.Common.{◌≡◌, ◌≢◌, ℕ, zero, suc, ◌+◌, ◌-◌, ◌<◌, ◌≤◌, Bool, List, [], ◌∷◌, ◌++◌, length, refl, sym, ap, ◌∙◌, subst, arith, Some, eq-eqb, length-append}
+use Rattle.std.proofs.Common.{◌≡◌, ◌≢◌, ℕ, zero, suc, ◌+◌, ◌-◌, ◌*◌, ◌<◌, ◌≤◌, Bool, List, [], ◌∷◌, ◌++◌, length, map, refl, sym, ap, ◌∙◌, subst, arith, Some, eq-eqb, length-append}
 use prog.Atomic.{either}
 use mathlib.Core.Logic.{dite}
 use mathlib.Core.Option.{some}
@@ -7,18 +7,25 @@ use lib.ListN.{get_elem?}
 use native.Mathlib.Decide.{dec_lt}
 use Rattle.pin_word.specs.PinWord.{STATE, state_of, count_of}
 use Rattle.pin_word.proofs.StepLaws.{state_set}
-use Rattle.oak_model.specs.Counts.{Begins, total}
+use Rattle.arena_core.specs.Place.{content}
+use Rattle.oak_model.specs.Counts.{Begins, Each, one_at, total}
 use Rattle.oak_model.specs.KeyNumber.{key_number}
 use Rattle.oak_model.specs.Limits.{Sizes}
 use Rattle.oak_model.proofs.Lists.{at_last, at_longer, begins_trans, each_map}
 use Rattle.chunk_core.specs.declared.holds.MovingRange.{MovingRange}
 use Rattle.chunk_core.specs.declared.holds.RoomCopy.{RoomCopy}
 use Rattle.chunk_core.specs.declared.states.TheConstants.{HELD}
-use Rattle.chunk_core.specs.LinkedEntries.{entries_in, first_numbers}
+use Rattle.chunk_core.specs.CoverSums.{weight}
+use Rattle.chunk_core.specs.LinkedEntries.{entries_in, first_numbers, linked}
+use Rattle.chunk_core.specs.RoomRule.{RoomsStand}
 use Rattle.chunk_core.specs.RoomStep.{hold_room, room_effect}
 use Rattle.chunk_core.specs.Rooms.{RoomMemory, at_room_pin, at_value}
 use Rattle.chunk_core.specs.Spans.{within}
 use Rattle.chunk_core.specs.ValueWord.{names_header}
+use Rattle.chunk_core.proofs.Chains.{total_spread}
+use Rattle.chunk_core.proofs.UsedEntries.{numbers_same}
+use Rattle.chunk_core.proofs.Weights.{weight_frozen}
+use Rattle.chunk_ops.proofs.PinSteps.{pin_found}
 use Rattle.oak_core.specs.declared.sorting.SortSlot.{SortSlot}
 use Rattle.oak_core.specs.declared.states.Finding.{Finding}
 use Rattle.oak_core.specs.declared.states.PassState.{PassState}
@@ -26,6 +33,7 @@ use Rattle.oak_core.specs.CallSteps.{MetMore}
 use Rattle.oak_core.specs.Finding.{finding}
 use Rattle.oak_core.specs.FoundBehind.{FoundBehind}
 use Rattle.oak_core.specs.Memory.{Memory, in_rooms, index, memory}
+use Rattle.oak_core.specs.PassState.{rooms_held}
 use Rattle.oak_core.specs.QuietSteps.{MetOnly}
 use Rattle.oak_core.specs.RoomLacks.{ClaimedFull, ClaimsFull, FoundWhole, HeldFull, IsFullFor, RoomLackFound}
 use Rattle.oak_core.proofs.calls.CallSteps.{met_both}
@@ -33,7 +41,7 @@ use Rattle.oak_core.proofs.memory.MetLists.{at_shorter, each_at, from_behind}
 use Rattle.oak_core.proofs.calls.QuietCalls.{only_none}
 use Rattle.oak_core.proofs.memory.Words.{memory_set}
 use Rattle.rebalance.specs.declared.reading.Read.{Read}
-use Rattle.rebalance.specs.declared.held_rooms.RoomWord.TheVariants.{Value}
+use Rattle.rebalance.specs.declared.held_rooms.RoomWord.TheVariants.{Key, Value}
 use Rattle.rebalance.specs.Copies.{copy_span}
 use Rattle.rebalance.specs.Chunks.{HoldsFor, ReadsFront}
 use Rattle.rebalance.specs.HeldTables.{AwayFromPins, SeesValue, away_both}
@@ -41,10 +49,11 @@ use Rattle.rebalance.specs.Holding.{ClaimsOthers, FindsNoneFree, IsAtAnother}
 use Rattle.rebalance.specs.Mirrors.{copy_or, held_memory}
 use Rattle.rebalance.proofs.ClaimedRooms.{used_longer, used_since}
 use Rattle.rebalance.proofs.FrontCompacts.{count_is}
-use Rattle.rebalance.proofs.FrontReads.{full_count, full_valued}
+use Rattle.rebalance.proofs.FrontReads.{full_count, full_keyed, full_valued}
 use Rattle.rebalance.proofs.FrontRewrites.{entries_limited}
 use Rattle.rebalance.proofs.FrontRooms.{front_copy}
 use Rattle.rebalance.proofs.HeldMemory.{word_read}
+use Rattle.rebalance.proofs.MirroredRooms.{linked_once}
 use Rattle.rebalance.proofs.OtherClaims.{another_away}
 
 -- what the call met is no less
@@ -56,10 +65,10 @@ unfolding total first_numbers
 first_many zero = refl
 first_many (suc n) = let t = first_many n in omega arith
 
-first_none : (f : ℕ → ℕ) (n : ℕ) → ((i : ℕ) → i < n → f i ≡ 0) → total f (first_numbers n) ≡ 0
-unfolding total first_numbers
-first_none f zero h = refl
-first_none f (suc n) h = let a = h n (omega arith) in let t = first_none f n (λ i l. h i (omega arith)) in omega arith
+none_of : (f : ℕ → ℕ) (xs : List ℕ) → Each (λ i. f i ≡ 0) xs → total f xs ≡ 0
+unfolding total
+none_of f [] h = refl
+none_of f (x ∷ xs) h = let a = h.0 in let t = none_of f xs h.1 in omega arith
 
 module _ (z : Sizes) (call r : ℕ) (key : List ℕ) (w : RoomCopy) (g : MovingRange) (v0 v : PassState) (p : HoldsFor z call key r w g v0 v) (u : PassState) (slots : List SortSlot) (x : Read) (reads : ReadsFront z call r slots x v u) (full : x.kept ≡ z.entries) where
   abbrev from : PassState
@@ -102,11 +111,34 @@ module _ (z : Sizes) (call r : ℕ) (key : List ℕ) (w : RoomCopy) (g : MovingR
   valued i l = let f = p.front in let c = full_count z call r w g v0.rooms.held v0.rooms.moving v f u slots x reads full in
       sym (ap names_header (word_read z m r v.rooms.held (ap copy_or (front_copy z r w g v0.rooms.held v0.rooms.moving v f) ∙ p.copied) (Value i) l)) ∙ full_valued z call r w g v0.rooms.held v0.rooms.moving v f u slots x reads full i (omega arith)
 
+  keyed : (i : ℕ) → i < z.entries → 0 < m.key r i
+  keyed i l = let f = p.front in let c = full_count z call r w g v0.rooms.held v0.rooms.moving v f u slots x reads full in
+      subst (λ (k : ℕ). 0 < k) (word_read z m r v.rooms.held (ap copy_or (front_copy z r w g v0.rooms.held v0.rooms.moving v f) ∙ p.copied) (Key i) l) (full_keyed z call r w g v0.rooms.held v0.rooms.moving v f u slots x reads full i (omega arith))
+
+  -- the rule, where it was frozen without a pin
+
+  abbrev rule : RoomsStand z m (content (memory z words).arena.bytes) (map rooms_held p.came.step.told.table.states)
+  rule = p.came.step.told.rule.rooms
+
+  found : m.pin r ≡ p.came.old
+  found = let t = p.came.step.told in pin_found z call r (hold_room r p.came.old) refl from p.came.step.number p.came.step.to t t.may.inside.0 ∙ p.came.found_is
+
+  cover : weight (m.pin r) ≡ 1
+  cover = weight_frozen (m.pin r) (ap state_of found ∙ p.came.step.told.may.rooms.0.state)
+
+  unpinned : count_of (m.pin r) ≡ 0
+  unpinned = ap count_of found ∙ p.came.step.told.may.rooms.0.count
+
+  -- each of its entries was linked
+  linked_many : total (λ _. 1) (linked m r) ≡ entries_in (m.count r)
+  linked_many = let n : ℕ = entries_in (m.count r) in total_spread (λ _. 1) n (linked m r) (rule.ordered r cover).used
+      ∙ (numbers_same (λ i. total (λ j. one_at j i) (linked m r) * 1) (λ _. 1) n (λ i l. let e = many in let o = linked_once z m (content (memory z words).arena.bytes) (map rooms_held p.came.step.told.table.states) rule r cover unpinned i l (keyed i (omega arith)) in omega arith) ∙ first_many n)
+
   was_full : IsFullFor z (memory z hold.words).rooms r (key_number key)
   was_full = subst (λ (n : Memory). IsFullFor z n.rooms r (key_number key)) (sym (memory_set z words (in_rooms (at_room_pin r)) left p.came.step.told.rule.words.counted p.came.step.told.may.inside)) (record {
     covers = subst (λ (c : RoomCopy). within (copy_span c) (key_number key) ≡ 1) p.copied p.inside;
-    full = first_many (entries_in (m.count r)) ∙ many;
-    values = first_none (λ (i : ℕ). 1 - names_header (m.value r i)) (entries_in (m.count r)) (λ i l. let n = many in let a = valued i (omega arith) in omega arith);
+    full = linked_many ∙ many;
+    values = none_of (λ (i : ℕ). 1 - names_header (m.value r i)) (linked m r) (each_map (λ (i : ℕ). i < entries_in (m.count r)) (λ (i : ℕ). 1 - names_header (m.value r i) ≡ 0) (linked m r) (λ i l. let n = many in let a = valued i (omega arith) in omega arith) (rule.ordered r cover).used);
   })
 
   -- Then it met nothing but pin words of other rooms, up to t, and more behind it.
@@ -154,10 +186,10 @@ module _ (z : Sizes) (call r : ℕ) (key : List ℕ) (w : RoomCopy) (g : MovingR
         (λ n at. let after = at.0 in let before = at.1 in let l = met_length call t e later in (omega arith, r, key_number key, held_full t o.met e (later.more, later.met) n after (omega arith))) o.places;
   }
 
-  module _ (sees : (i : ℕ) → i < entries_in ((held_memory v.rooms.held).count r) → names_header ((held_memory v.rooms.held).value r i) ≡ 1 → SeesValue z r i v u) (e : PassState) (behind : MetMore call u e) where
+  module _ (sees : (i : ℕ) → i < entries_in ((held_memory v.rooms.held).count r) → 0 < (held_memory v.rooms.held).key r i → names_header ((held_memory v.rooms.held).value r i) ≡ 1 → SeesValue z r i v u) (e : PassState) (behind : MetMore call u e) where
     hold_values : (i : ℕ) → i < z.entries → FoundBehind (length from.findings.met) (length u.findings.met) e.findings.met (index z (in_rooms (at_value r i))) (λ n had. names_header n ≡ 1)
     hold_values i l = let f = p.front in let c = full_count z call r w g v0.rooms.held v0.rooms.moving v f u slots x reads full in
-        let s = sees i (omega arith) (full_valued z call r w g v0.rooms.held v0.rooms.moving v f u slots x reads full i (omega arith)) in record {
+        let s = sees i (omega arith) (full_keyed z call r w g v0.rooms.held v0.rooms.moving v f u slots x reads full i (omega arith)) (full_valued z call r w g v0.rooms.held v0.rooms.moving v f u slots x reads full i (omega arith)) in record {
           place = s.place;
           from = let n = hold_length in let k = met_length call p.came.step.to v p.came.step.ended in let q = s.from in omega arith;
           to = s.to;

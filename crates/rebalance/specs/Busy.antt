@@ -10,7 +10,7 @@ use Rattle.oak_core.specs.declared.states.PassState.{PassState}
 use Rattle.oak_core.specs.AloneWords.{Runs}
 use Rattle.oak_core.specs.PassState.{HoldsNothing}
 use Rattle.chunk_ops.specs.AskedRanges.{CoversKey}
-use Rattle.chunk_ops.specs.Latching.{Never}
+use Rattle.chunk_ops.specs.AddsAlone.{Never}
 use Rattle.chunk_ops.specs.RoomPins.{FoundMoved}
 use Rattle.rebalance.specs.Calls.{ComesToHold, Leaves, Rewrites}
 use Rattle.rebalance.specs.Copies.{copy_span}

@@ -23,7 +23,7 @@ use Rattle.oak_core.specs.Lack.{InSwept}
 use Rattle.oak_core.specs.RoomLacks.{ClaimsFull, RoomLackFound}
 use Rattle.oak_core.specs.Step.{on_rooms}
 use Rattle.chunk_ops.specs.RoomPins.{HadMoment}
-use Rattle.rebalance.specs.Copies.{base_without, copy_span, values_in}
+use Rattle.rebalance.specs.Copies.{AllLinked, LinksReach, base_without, copy_span, linked_held, values_in}
 use Rattle.rebalance.specs.LoneCalls.{AllOpen, Divided, HalvesRoom, JoinsRooms, RewritesBoth, RewritesRoom, SettlesWords}
 
 -- The pass met more, all of it in the call, and may have swept ranges. It learned and wrote nothing, noted no call, and holds what it held.
@@ -39,12 +39,13 @@ pub record Leaves (call : ℕ) (v w : PassState) : Type 0 where
   pub headers : w.headers ≡ v.headers
   pub rooms : w.rooms ≡ v.rooms
 
--- the pass came to hold the room in the call: the step found it frozen and without a pin, and `copy` is what its words were
+-- the pass came to hold the room in the call: the step found it frozen and without a pin, and `copy` is what its words were, in which links reach the entries that have a key word
 pub record ComesToHold (z : Sizes) (call r : ℕ) (copy : RoomCopy) (v w : PassState) : Type 0 where
   pub old : ℕ
   pub step : StepOfCall z call (on_rooms (hold_room r old)) v w
   pub found_is : step.number ≡ old
   pub copy_is : copy_of r step.to.rooms.held ≡ Some copy
+  pub linked : LinksReach copy
 
 -- the room was opened in the call, with these words
 pub record OpensWith (z : Sizes) (call r : ℕ) (copy : RoomCopy) (v w : PassState) : Type 0 where
@@ -67,19 +68,20 @@ pub record SweepsKey (key : List ℕ) (v w : PassState) : Type 0 where
   pub to : range.met < length w.findings.met
   pub inside : InSwept range key
 
--- The call held the room of the key, whose words were `held`, and opened it with the words `opened`, over the same range: the entries that had a value are its sorted prefix, nothing is behind it, and the base is the greatest of the old one and the dropped floors.
+-- The call held the room of the key, whose words were `held`, and opened it with the words `opened`, over the same range: the linked entries that had a value are its sorted prefix, nothing is behind it, and the base is the greatest of the old one and the dropped floors.
 pub record Rewrites (z : Sizes) (call : ℕ) (key : List ℕ) (r : ℕ) (held opened : RoomCopy) (v w : PassState) : Type 0 where
   pub holds : ComesToHold z call r held v w
   pub inside : within (copy_span held) (key_number key) ≡ 1
   pub opens : OpensWith z call r opened v w
   pub low : opened.low ≡ held.low
   pub high : opened.high ≡ held.high
-  pub kept : (f : ℕ → ℕ → ℕ) → total (λ (e : EntryWords). f e.word e.value) (entries_held opened) ≡ total (λ (e : EntryWords). names_header e.value * f e.word e.value) (entries_held held)
+  pub kept : (f : ℕ → ℕ → ℕ) → total (λ (e : EntryWords). f e.word e.value) (entries_held opened) ≡ total (λ (e : EntryWords). names_header e.value * f e.word e.value) (linked_held held)
+  pub linked : AllLinked opened
   pub base : opened.base ≡ base_without held
   pub sorted : IsSorted (values_in held) opened
   pub swept : SweepsKey key v w
 
--- compact: so many entries were dropped, those that had no value while the chunk was held
+-- compact: so many entries were dropped, those that had no value or were unlinked while the chunk was held
 pub record Compacts (z : Sizes) (call : ℕ) (key : List ℕ) (dropped : ℕ) (v w : PassState) : Type 0 where
   pub room : ℕ
   pub held : RoomCopy
@@ -100,7 +102,7 @@ pub record Loosens (z : Sizes) (call : ℕ) (key : List ℕ) (v w : PassState) :
   -- it claimed no room, nor tried to
   pub unclaimed : w.findings.rebalances.claims ≡ v.findings.rebalances.claims
 
--- split, where each entry of the chunk had a value and another room was free: its range was opened as two, the upper one in that room, and before the lower one
+-- split, where each entry of the chunk was linked and had a value, and another room was free: its range was opened as two, the upper one in that room, and before the lower one
 pub record Halves (z : Sizes) (call : ℕ) (key : List ℕ) (upper : ℕ) (v w : PassState) : Type 0 where
   pub room : ℕ
   pub held : RoomCopy
@@ -117,6 +119,7 @@ pub record Halves (z : Sizes) (call : ℕ) (key : List ℕ) (upper : ℕ) (v w :
   pub high : high_copy.high ≡ held.high
   pub bases : (low_copy.base ≡ held.base) × (high_copy.base ≡ held.base)
   pub kept : (f : ℕ → ℕ → ℕ) → total (λ (e : EntryWords). f e.word e.value) (entries_held low_copy) + total (λ (e : EntryWords). f e.word e.value) (entries_held high_copy) ≡ total (λ (e : EntryWords). f e.word e.value) (entries_held held)
+  pub linked : AllLinked low_copy × AllLinked high_copy
   pub lower : IsSorted (z.entries / 2) low_copy
   pub higher : IsSorted (z.entries - z.entries / 2) high_copy
   pub swept : SweepsKey key v w
@@ -126,7 +129,7 @@ pub record Halves (z : Sizes) (call : ℕ) (key : List ℕ) (upper : ℕ) (v w :
   -- to a pass that is alone
   pub alone : Runs (Divided z (HalvesRoom z room upper held low_copy high_copy)) v w
 
--- split, where each entry of the chunk had a value and every other room was found not free in the call: the chunk is opened again with its entries, which are its sorted prefix, and its base
+-- split, where each entry of the chunk was linked and had a value, and every other room was found not free in the call: the chunk is opened again with its entries, which are its sorted prefix, and its base
 pub record FindsNoRoom (z : Sizes) (call : ℕ) (key : List ℕ) (v w : PassState) : Type 0 where
   pub compacts : Compacts z call key 0 v w
   pub full : values_in compacts.held ≡ z.entries
@@ -152,7 +155,8 @@ pub record Merges (z : Sizes) (call : ℕ) (key : List ℕ) (v w : PassState) : 
   pub low : opened.low ≡ held.low
   pub high : opened.high ≡ next.high
   pub base : opened.base ≡ greater (base_without next) (base_without held)
-  pub kept : (f : ℕ → ℕ → ℕ) → total (λ (e : EntryWords). f e.word e.value) (entries_held opened) ≡ total (λ (e : EntryWords). names_header e.value * f e.word e.value) (entries_held held) + total (λ (e : EntryWords). names_header e.value * f e.word e.value) (entries_held next)
+  pub kept : (f : ℕ → ℕ → ℕ) → total (λ (e : EntryWords). f e.word e.value) (entries_held opened) ≡ total (λ (e : EntryWords). names_header e.value * f e.word e.value) (linked_held held) + total (λ (e : EntryWords). names_header e.value * f e.word e.value) (linked_held next)
+  pub linked : AllLinked opened
   pub sorted : IsSorted (values_in held + values_in next) opened
   pub swept : SweepsKey key v w
   pub leaves : Leaves call v w

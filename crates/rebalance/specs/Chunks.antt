@@ -27,9 +27,9 @@ use Rattle.chunk_ops.specs.LoneRooms.{NeverUnfrozen}
 use Rattle.chunk_ops.specs.PinRecords.{room_pin}
 use Rattle.chunk_ops.specs.RoomPins.{HadMoment}
 use Rattle.rebalance.specs.Calls.{ComesToHold, IsSorted, OpensWith, SweepsKey}
-use Rattle.rebalance.specs.Copies.{base_without, copy_span, values_in}
+use Rattle.rebalance.specs.Copies.{AllLinked, base_without, copy_span, linked_held, values_in}
 use Rattle.rebalance.specs.declared.reading.Read.{Read}
-use Rattle.rebalance.specs.Compacted.{ReadsSorted, in_use}
+use Rattle.rebalance.specs.Compacted.{ReadsSorted, linked_in}
 use Rattle.rebalance.specs.Dropping.{DropsKeys, dropped_ranges}
 use Rattle.rebalance.specs.Entries.{dropped}
 use Rattle.rebalance.specs.Filled.{IsFilled}
@@ -125,12 +125,13 @@ pub record OpensFront (z : Sizes) (call r : ℕ) (w : RoomCopy) (hs : List HeldR
   -- to a pass that is alone
   pub alone : Runs (MovesWith z r HELD OPEN w) v u
 
--- The words w became w', by which the entries that had a value are the sorted prefix, with nothing behind it, over the same range, with the greatest of the base and the dropped floors.
+-- The words w became w', by which the linked entries that had a value are the sorted prefix, with nothing behind it, over the same range, with the greatest of the base and the dropped floors.
 pub record IsRewritten (w w' : RoomCopy) : Type 0 where
   pub low : w'.low ≡ w.low
   pub high : w'.high ≡ w.high
   pub base : w'.base ≡ base_without w
-  pub kept : (f : ℕ → ℕ → ℕ) → total (λ (e : EntryWords). f e.word e.value) (entries_held w') ≡ total (λ (e : EntryWords). names_header e.value * f e.word e.value) (entries_held w)
+  pub kept : (f : ℕ → ℕ → ℕ) → total (λ (e : EntryWords). f e.word e.value) (entries_held w') ≡ total (λ (e : EntryWords). names_header e.value * f e.word e.value) (linked_held w)
+  pub linked : AllLinked w'
   pub sorted : IsSorted (values_in w) w'
 
 -- the key of the carried entry with a value that has the key word, in these ranges
@@ -151,10 +152,10 @@ pub record CompactsFront (z : Sizes) (call r dropped : ℕ) (slots : List SortSl
   pub filled : IsFilled z.entries r slots words.base (held_memory u.rooms.held)
   pub named : AllNamed slots
 
--- The room was read: its entries with a value are in the first slots, in the order of their keys, and the others were dropped.
+-- The room was read: its linked entries with a value are in the first slots, in the order of their keys, and the others were dropped.
 pub record ReadsFront (z : Sizes) (call r : ℕ) (slots : List SortSlot) (x : Read) (v u : PassState) : Type 0 where
   pub works : WorksOnRooms z call v u
   pub drops : DropsKeys r (entries_in ((held_memory v.rooms.held).count r)) (held_memory v.rooms.held) (held_memory u.rooms.held)
-  pub ranges : u.rooms.moving ≡ dropped_ranges (dropped (in_use (held_memory v.rooms.held) r)) v.rooms.moving
+  pub ranges : u.rooms.moving ≡ dropped_ranges (dropped (linked_in (held_memory v.rooms.held) r)) v.rooms.moving
   pub read : ReadsSorted (keys_in v.rooms.moving) (held_memory v.rooms.held) r slots x
   pub named : AllNamed (take x.kept slots)

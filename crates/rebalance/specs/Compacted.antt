@@ -13,38 +13,38 @@ use Rattle.oak_core.specs.declared.sorting.SortSlot.{SortSlot}
 use Rattle.rebalance.specs.declared.entries.Entry.{Entry}
 use Rattle.rebalance.specs.declared.reading.Read.{Read}
 use Rattle.rebalance.specs.Dropping.{DropsKeys}
-use Rattle.rebalance.specs.Entries.{entries, kept, dropped, greatest}
+use Rattle.rebalance.specs.Entries.{kept, dropped, greatest, linked_among}
 use Rattle.rebalance.specs.Filled.{Fills}
 use Rattle.rebalance.specs.HeldRooms.{IsLoose}
 use Rattle.rebalance.specs.Slots.{entry_of, key_of}
 
--- the entries in use
-abbrev pub in_use : RoomMemory → ℕ → List Entry
-in_use m r = entries m r (entries_in (m.count r))
+-- the linked entries
+abbrev pub linked_in : RoomMemory → ℕ → List Entry
+linked_in m r = linked_among m r (entries_in (m.count r))
 
 -- 1 where the entry is of the key
 abbrev pub is_of : (ℕ → List ℕ) → List ℕ → Entry → ℕ
 is_of keys k e = one_if (same_key k (keys e.place))
 
--- Of the first n entries each with a value names a key, and no two the same; each without a value may be dropped; and no two have one key word.
+-- Of the linked ones of the first n entries each with a value names a key, and no two the same; each without a value may be dropped; and no two have one key word.
 pub record IsHeldRoom (names : ℕ → Type 0) (keys : ℕ → List ℕ) (gs : List MovingRange) (m : RoomMemory) (r n : ℕ) : Type 0 where
-  pub named : (i : ℕ) → i < n → names_header (m.value r i) ≡ 1 → names (m.key r i)
-  pub distinct : (k : List ℕ) → total (is_of keys k) (kept (entries m r n)) ≤ 1
-  pub loose : (i : ℕ) → i < n → names_header (m.value r i) ≡ 0 → IsLoose (m.key r i) gs
-  pub apart : (i j : ℕ) → i < j → j < n → m.key r i ≢ m.key r j
+  pub named : (i : ℕ) → i < n → 0 < m.key r i → names_header (m.value r i) ≡ 1 → names (m.key r i)
+  pub distinct : (k : List ℕ) → total (is_of keys k) (kept (linked_among m r n)) ≤ 1
+  pub loose : (i : ℕ) → i < n → 0 < m.key r i → names_header (m.value r i) ≡ 0 → IsLoose (m.key r i) gs
+  pub apart : (i j : ℕ) → i < j → j < n → 0 < m.key r i → m.key r i ≢ m.key r j
 
 -- the keys of the slots' entries strictly rise
 abbrev pub KeysRise : (ℕ → List ℕ) → List SortSlot → Type 0
 KeysRise keys xs = (i j : ℕ) (d : SortSlot) → i < j → j < length xs → IsKeyBefore (keys (slice_index_or xs i d).key) (keys (slice_index_or xs j d).key)
 
--- The first slots have the entries with a value, in the order of their keys, the others were dropped, and the base is the greatest of the room's and of their floors.
+-- The first slots have the linked entries with a value, in the order of their keys, the others were dropped, and the base is the greatest of the room's and of the floors of the linked ones among these.
 pub record ReadsSorted (keys : ℕ → List ℕ) (m : RoomMemory) (r : ℕ) (slots : List SortSlot) (x : Read) : Type 0 where
   pub many : x.kept + x.dropped ≡ entries_in (m.count r)
   pub fits : x.kept ≤ length slots
-  pub same : IsPermutation (kept (in_use m r)) (map entry_of (take x.kept slots))
+  pub same : IsPermutation (kept (linked_in m r)) (map entry_of (take x.kept slots))
   pub rise : KeysRise keys (take x.kept slots)
   pub stored : (j : ℕ) (d : SortSlot) → j < x.kept → IsStored (key_of (slice_index_or slots j d)) (keys (slice_index_or slots j d).key)
-  pub base : x.base ≡ greatest (m.base r) (dropped (in_use m r))
+  pub base : x.base ≡ greatest (m.base r) (dropped (linked_in m r))
 
 -- Of the first n of the e entries of the room those without a value were dropped, and then it was filled with the slots.
 pub record IsCompacted (e r n : ℕ) (slots : List SortSlot) (base : ℕ) (m m' : RoomMemory) : Type 0 where

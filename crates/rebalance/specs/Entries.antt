@@ -1,5 +1,5 @@
 -- The entries of a room, of which some have a value.
-use Rattle.std.specs.Prelude.{ℕ, ◌==◌, max, not, Bool, List, [], ◌∷◌}
+use Rattle.std.specs.Prelude.{ℕ, ◌==◌, nat_lt, max, not, Bool, List, [], ◌∷◌}
 use Rattle.std.specs.List.{filter}
 use Rattle.oak_model.specs.Counts.{rows}
 use Rattle.chunk_core.specs.Rooms.{RoomMemory}
@@ -9,6 +9,14 @@ use Rattle.rebalance.specs.declared.entries.Entry.{Entry}
 -- its first n entries
 abbrev pub entries : RoomMemory → ℕ → ℕ → List Entry
 entries m r n = rows 0 n (λ i. record { place = m.key r i; value = m.value r i })
+
+-- the entry has a key word
+abbrev pub has_word : Entry → Bool
+has_word e = nat_lt 0 e.place
+
+-- those of its first n entries that have one. Of a room that a pass holds nobody has claimed an entry, so of those in use they are the linked ones
+abbrev pub linked_among : RoomMemory → ℕ → ℕ → List Entry
+linked_among m r n = filter has_word (entries m r n)
 
 -- the value word names a header
 abbrev pub has_value : Entry → Bool

@@ -50,7 +50,7 @@ pub record KeepsEntries (r n : ℕ) (m m' : RoomMemory) : Type 0 where
   pub value : (q j : ℕ) → (q ≡ r → n ≤ j) → m'.value q j ≡ m.value q j
   pub next : (q j : ℕ) → (q ≡ r → n ≤ j) → m'.next q j ≡ m.next q j
 
--- pins, latches and bounds are as before
+-- pins, bounds and the words that were latches are as before
 pub record KeepsBounds (m m' : RoomMemory) : Type 0 where
   pub pin : m'.pin ≡ m.pin
   pub latch : m'.latch ≡ m.latch

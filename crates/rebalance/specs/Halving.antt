@@ -22,9 +22,9 @@ use Rattle.oak_core.specs.Sweeping.{valueless}
 use Rattle.chunk_ops.specs.RoomPins.{HadMoment}
 use Rattle.rebalance.specs.declared.reading.Read.{Read}
 use Rattle.rebalance.specs.Calls.{IsSorted, OpensWith, SweepsKey}
-use Rattle.rebalance.specs.Copies.{copy_span}
+use Rattle.rebalance.specs.Copies.{AllLinked, copy_span}
 use Rattle.rebalance.specs.Chunks.{WorksBeside, held_row, keys_in}
-use Rattle.rebalance.specs.Compacted.{ReadsSorted, in_use}
+use Rattle.rebalance.specs.Compacted.{ReadsSorted, linked_in}
 use Rattle.rebalance.specs.Entries.{dropped}
 use Rattle.rebalance.specs.HeldTables.{HoldsOnlyRooms, WorksOnRooms}
 use Rattle.rebalance.specs.LoneWords.{OpensBoth}
@@ -45,12 +45,12 @@ pub record HoldsPair (z : Sizes) (r q : ℕ) (w c : RoomCopy) (g : MovingRange) 
   pub mirrors : Mirrors z w g
   pub moment : HadMoment z v
 
--- The first slots have all entries of the room, which are as many as a room has, each with a value, in the order of their keys.
+-- The first slots have all entries of the room, which are as many as a room has, each linked and with a value, in the order of their keys.
 pub record HasWhole (z : Sizes) (r : ℕ) (slots : List SortSlot) (x : Read) (v : PassState) : Type 0 where
   pub read : ReadsSorted (keys_in v.rooms.moving) (held_memory v.rooms.held) r slots x
   pub named : AllNamed (take x.kept slots)
   pub full : x.kept ≡ z.entries
-  pub none : dropped (in_use (held_memory v.rooms.held) r) ≡ []
+  pub none : dropped (linked_in (held_memory v.rooms.held) r) ≡ []
 
 -- the range of a room's words, as one that was swept
 abbrev pub swept_with : RoomCopy → ℕ → Swept
@@ -63,6 +63,7 @@ pub record IsHalved (z : Sizes) (w low_copy high_copy : RoomCopy) : Type 0 where
   pub high : high_copy.high ≡ w.high
   pub bases : (low_copy.base ≡ w.base) × (high_copy.base ≡ w.base)
   pub kept : (f : ℕ → ℕ → ℕ) → total (λ (e : EntryWords). f e.word e.value) (entries_held low_copy) + total (λ (e : EntryWords). f e.word e.value) (entries_held high_copy) ≡ total (λ (e : EntryWords). f e.word e.value) (entries_held w)
+  pub linked : AllLinked low_copy × AllLinked high_copy
   pub lower : IsSorted (z.entries / 2) low_copy
   pub higher : IsSorted (z.entries - z.entries / 2) high_copy
   pub valued : (valueless low_copy ≡ 0) × (valueless high_copy ≡ 0)

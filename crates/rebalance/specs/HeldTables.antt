@@ -1,13 +1,15 @@
 -- Rooms of the table that a pass holds, and what its steps on their words leave.
-use Rattle.std.specs.Prelude.{◌≡◌, ◌≢◌, ℕ, zero, suc, ◌<◌, ◌≤◌, ◌==◌, cond, Bool, List, [], ◌∷◌, ◌++◌, filter, length, map, Option, Some, None, refl}
+use Rattle.std.specs.Prelude.{◌≡◌, ◌≢◌, ℕ, zero, suc, ◌*◌, ◌<◌, ◌≤◌, ◌==◌, cond, Bool, List, [], ◌∷◌, ◌++◌, filter, length, map, Option, Some, None, refl}
 use Rattle.std.proofs.Common.{sym, ap, ◌∙◌, subst, append_assoc, append-nil, arith}
 use mathlib.Core.Option.{some}
 use lib.ListN.{get_elem?}
-use Rattle.oak_model.specs.declared.limits.TheConstants.{GREATEST_ENTRIES}
+use Rattle.oak_model.specs.declared.limits.TheConstants.{CLASSES, GREATEST_ENTRIES}
 use Rattle.oak_model.specs.Counts.{Each, one_at, total}
 use Rattle.oak_model.specs.Limits.{Sizes}
 use Rattle.oak_model.proofs.Lists.{at_longer, begins_length, each_append}
+use Rattle.arena_core.specs.Arena.{block_words, blocks}
 use Rattle.arena_core.specs.HeldBlocks.{no_blocks}
+use Rattle.arena_core.specs.Place.{class_in, block_in}
 use Rattle.header_core.specs.HeaderHolds.{no_headers}
 use Rattle.chunk_core.specs.declared.holds.Carried.{Carried}
 use Rattle.chunk_core.specs.declared.holds.HeldRoom.{HeldRoom}
@@ -30,7 +32,6 @@ use Rattle.oak_core.specs.FoundBehind.{FoundBehind}
 use Rattle.oak_core.specs.Memory.{in_rooms, index}
 use Rattle.oak_core.specs.Passes.{IsPassOf, state, slots_of, key as sizes, call_of}
 use Rattle.oak_core.specs.Scratch.{StaysButSlots}
-use Rattle.chunk_ops.specs.RoomLoads.{NamesKey}
 use Rattle.chunk_ops.specs.RoomPins.{HadMoment}
 use Rattle.rebalance.specs.declared.held_table.HeldTable.{HeldTable}
 use Rattle.rebalance.specs.HeldRooms.{IsNamed}
@@ -52,7 +53,6 @@ pub record HoldsOnlyRooms (v : PassState) : Type 0 where
   pub blocks : v.blocks ≡ no_blocks
   pub headers : v.headers ≡ no_headers
   pub pin : v.rooms.pin ≡ None
-  pub latch : v.rooms.latch ≡ None
   pub claim : v.rooms.claim ≡ None
 
 -- so it is with the room, and there was a moment at which the rule held with the pass in this state
@@ -82,6 +82,12 @@ with_word w (c ∷ cs) = cond (c.word == w) (Some c) (with_word w cs)
 abbrev pub key_of_entry : Option Carried → List ℕ
 key_of_entry None = []
 key_of_entry (Some c) = key_bytes c.word c.words
+
+-- the word names a block of the table with room for the key
+pub record NamesKey (z : Sizes) (word : ℕ) (k : List ℕ) : Type 0 where
+  pub class : class_in word < CLASSES
+  pub block : block_in word < blocks z (class_in word)
+  pub room : length k ≤ 8 * block_words (class_in word)
 
 -- one of them has it, which names a block of the table with the entry's key in it
 pub record NamesValued (z : Sizes) (w : ℕ) (cs : List Carried) : Type 0 where
@@ -129,7 +135,6 @@ pub record WorksOnRooms (z : Sizes) (call : ℕ) (v w : PassState) : Type 0 wher
   pub blocks : w.blocks ≡ v.blocks
   pub headers : w.headers ≡ v.headers
   pub pin : w.rooms.pin ≡ v.rooms.pin
-  pub latch : w.rooms.latch ≡ v.rooms.latch
   pub claim : w.rooms.claim ≡ v.rooms.claim
   pub states : (r s : ℕ) → in_room_state r s w.rooms ≡ in_room_state r s v.rooms
   pub listed : rows_of w.rooms.held ≡ rows_of v.rooms.held
@@ -210,7 +215,7 @@ away_both z u v w a b = record {
 
 -- where nothing was done
 pub works_none : (z : Sizes) (call : ℕ) (v : PassState) → WorksOnRooms z call v v
-works_none z call v = record { stands = rests_none call v; blocks = refl; headers = refl; pin = refl; latch = refl; claim = refl; states = λ r s. refl; listed = refl; copies = λ r h. h; rows = record { rooms = refl; held = λ e. e }; away = away_none z v; carried = refl; moment = λ m. m; words = runs_leave_none z no_room (held_by v) v }
+works_none z call v = record { stands = rests_none call v; blocks = refl; headers = refl; pin = refl; claim = refl; states = λ r s. refl; listed = refl; copies = λ r h. h; rows = record { rooms = refl; held = λ e. e }; away = away_none z v; carried = refl; moment = λ m. m; words = runs_leave_none z no_room (held_by v) v }
 
 -- one part behind another
 pub works_both : (z : Sizes) (call : ℕ) (u v w : PassState) → WorksOnRooms z call u v → WorksOnRooms z call v w → WorksOnRooms z call u w
@@ -219,7 +224,6 @@ works_both z call u v w a b = record {
   blocks = b.blocks ∙ a.blocks;
   headers = b.headers ∙ a.headers;
   pin = b.pin ∙ a.pin;
-  latch = b.latch ∙ a.latch;
   claim = b.claim ∙ a.claim;
   states = λ r s. b.states r s ∙ a.states r s;
   listed = b.listed ∙ a.listed;
@@ -257,7 +261,7 @@ holds_still s t r a h = let w = a.works in let o = h.alone.only in record {
   own = own_stays s t a h.own;
   alone = subst (λ (z : Sizes). HoldsAlone z r (state t.pass.now)) (sym (ap (λ x. sizes x.now) a.table)) (record {
     room = w.copies r h.alone.room;
-    only = record { blocks = w.blocks ∙ o.blocks; headers = w.headers ∙ o.headers; pin = w.pin ∙ o.pin; latch = w.latch ∙ o.latch; claim = w.claim ∙ o.claim };
+    only = record { blocks = w.blocks ∙ o.blocks; headers = w.headers ∙ o.headers; pin = w.pin ∙ o.pin; claim = w.claim ∙ o.claim };
     begun = w.moment h.alone.begun;
   });
 }

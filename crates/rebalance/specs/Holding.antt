@@ -25,9 +25,10 @@ use Rattle.oak_core.specs.QuietSteps.{MetOnly}
 use Rattle.oak_core.specs.RoomLacks.{FoundUsed}
 use Rattle.oak_core.specs.Step.{load, on_rooms}
 use Rattle.oak_core.specs.Sweeping.{swept_by}
-use Rattle.chunk_ops.specs.Latching.{Never}
+use Rattle.chunk_ops.specs.AddsAlone.{Never}
 use Rattle.chunk_ops.specs.LoneRooms.{NeverUnfrozen}
 use Rattle.chunk_ops.specs.RoomPins.{HadMoment}
+use Rattle.rebalance.specs.Copies.{LinksReach}
 use Rattle.rebalance.specs.LoneWords.{FreezesWords, MovesRoom, MovesWith, NoneFree}
 use Rattle.rebalance.specs.Mirrors.{Mirrors, RangeStands}
 use Rattle.rebalance.specs.Repeating.{RepeatsIn}
@@ -121,6 +122,7 @@ pub record Holds (z : Sizes) (call r : ℕ) (copy : RoomCopy) (range : MovingRan
   pub rooms : w.rooms ≡ with_moving r copy range v.rooms
   pub has : HasHeld z r copy w.rooms
   pub mirrors : Mirrors z copy range
+  pub linked : LinksReach copy
   pub stands : RangeStands range
   pub ended : HadMoment z w
   -- to a pass that is alone

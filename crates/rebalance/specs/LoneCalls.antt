@@ -7,6 +7,7 @@ use Rattle.chunk_core.specs.KeyWords.{low_number, high_number}
 use Rattle.chunk_core.specs.LinkedEntries.{entries_in}
 use Rattle.oak_core.specs.Memory.{memory}
 use Rattle.oak_core.specs.Sweeping.{valueless}
+use Rattle.rebalance.specs.Copies.{AllLinked}
 use Rattle.rebalance.specs.LoneWords.{Divides, IsOpen, LeavesBut, these_two, no_room, this_room, room_in, state_in}
 
 -- P holds of the words before and behind, in both of which the open rooms divide the keys among them, and each other one is free
@@ -56,10 +57,11 @@ pub record JoinsRooms (z : Sizes) (r q : ℕ) (held next opened : RoomCopy) (bef
 abbrev pub AllOpen : Sizes → List ℕ → List ℕ → Type 0
 AllOpen z before after = (r : ℕ) → r < z.chunks → state_in z before r ≡ OPEN
 
--- The open rooms divide the keys among them, and each other one is free; each entry has a value; and any two neighbours have more than half as many entries together as a room has.
+-- The open rooms divide the keys among them, and each other one is free; each entry is linked and has a value; and any two neighbours have more than half as many entries together as a room has.
 pub record IsSettled (z : Sizes) (words : List ℕ) : Type 0 where
   pub divides : Divides z words
   pub valued : (r : ℕ) → IsOpen z words r → valueless (room_in z words r) ≡ 0
+  pub linked : (r : ℕ) → IsOpen z words r → AllLinked (room_in z words r)
   pub many : (r s : ℕ) → IsOpen z words r → IsOpen z words s → high_number (room_in z words r).high ≡ low_number (room_in z words s).low + 1 → z.entries / 2 < entries_in (room_in z words r).count + entries_in (room_in z words s).count
 
 -- each room that is open behind was open before, and its range begins where it did

@@ -24,7 +24,7 @@ use Rattle.oak_core.specs.Lack.{IsBelow}
 use Rattle.oak_core.specs.Step.{on_rooms}
 use Rattle.rebalance.specs.declared.chunk_pairs.Taken.{Taken}
 use Rattle.rebalance.specs.Calls.{ComesToHold, IsSorted, StaysApart, SweepsKey}
-use Rattle.rebalance.specs.Copies.{copy_span, values_in}
+use Rattle.rebalance.specs.Copies.{AllLinked, copy_span, values_in}
 use Rattle.rebalance.specs.Chunks.{HoldsFront, IsRewritten, WorksBeside, held_row, keys_in}
 use Rattle.rebalance.specs.Filled.{IsFilled}
 use Rattle.rebalance.specs.HeldRooms.{AllValued}
@@ -98,6 +98,7 @@ pub record JoinsPair (z : Sizes) (call : ℕ) (low up : Taken) (below above : Mo
   pub claims : u.findings.rebalances.claims ≡ v.findings.rebalances.claims
   pub sorted : IsSorted (low.kept + up.kept) opened
   pub chained : IsChained z opened
+  pub linked : AllLinked opened
   -- to a pass that is alone
   pub alone : Runs (FreesUpper z low.room up.room) v u
 

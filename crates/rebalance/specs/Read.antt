@@ -5,14 +5,14 @@ use Rattle.chunk_core.specs.Rooms.{RoomMemory}
 use Rattle.chunk_ops.specs.Stored.{IsStored}
 use Rattle.oak_core.specs.declared.sorting.SortSlot.{SortSlot}
 use Rattle.rebalance.specs.declared.reading.Read.{Read}
-use Rattle.rebalance.specs.Entries.{entries, kept, dropped, greatest}
+use Rattle.rebalance.specs.Entries.{kept, dropped, greatest, linked_among}
 use Rattle.rebalance.specs.Slots.{entry_of, key_of}
 
--- Of the first n entries the first slots have those with a value, each with its key, and the others were dropped; the base is the greatest of b and of their floors.
+-- Of the first n entries the first slots have the linked ones with a value, each with its key, and the others were dropped; the base is the greatest of b and of the floors of the linked ones among these.
 pub record HasRead (keys : ℕ → List ℕ) (m : RoomMemory) (r b n : ℕ) (slots : List SortSlot) (x : Read) : Type 0 where
   pub many : x.kept + x.dropped ≡ n
   pub fits : x.kept ≤ length slots
-  pub front : map entry_of (take x.kept slots) ≡ kept (entries m r n)
+  pub front : map entry_of (take x.kept slots) ≡ kept (linked_among m r n)
   pub named : (j : ℕ) (d : SortSlot) → j < x.kept → 0 < (slice_index_or slots j d).key
   pub stored : (j : ℕ) (d : SortSlot) → j < x.kept → IsStored (key_of (slice_index_or slots j d)) (keys (slice_index_or slots j d).key)
-  pub base : x.base ≡ greatest b (dropped (entries m r n))
+  pub base : x.base ≡ greatest b (dropped (linked_among m r n))

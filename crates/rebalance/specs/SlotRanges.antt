@@ -20,7 +20,7 @@ pub record SlotsHave (keys : ℕ → List ℕ) (xs : List SortSlot) (g : MovingR
   pub have : HaveKeys keys g.carried
   pub valued : (c : Carried) → Has c g.carried → names_header c.value ≡ 1
 
--- The room has the range's bounds, and its latch is free.
+-- The room has the range's bounds, and the word that was its latch is 0.
 pub record BoundsAre (m : RoomMemory) (r : ℕ) (g : MovingRange) : Type 0 where
   pub low : rows 0 BOUND_WORDS (m.low r) ≡ g.low
   pub high : rows 0 BOUND_WORDS (m.high r) ≡ g.high

@@ -16,7 +16,7 @@ ghost use Rattle.chunk_ops.specs.PinRecords.{HasRoomPin, OnlyMeets};
 ghost use Rattle.chunk_ops.specs.RoomPins.{FoundMoved, HadMoment, PinsOpen};
 ghost use Rattle.chunk_ops.specs.Stored.{IsStored};
 ghost use Rattle.rebalance.specs.Busy.{IsBusyFor, SweepsOff};
-ghost use Rattle.rebalance.specs.Copies.{copy_span};
+ghost use Rattle.rebalance.specs.Copies.{AllLinked, copy_span};
 ghost use Rattle.rebalance.specs.Chunks.{ComesBack, HoldsFor, HoldsFront, HoldsPinned, LosesPinned, OpensFront};
 ghost use Rattle.rebalance.specs.HeldTables.{WorksOnRooms};
 ghost use Rattle.rebalance.specs.Merging.{HoldsCompacted};
@@ -36,7 +36,6 @@ use oak_model::GREATEST_ENTRIES;
 fn hold_pinned(table: &OakTable, pass: &mut Pass, pin: RoomPin, looks: u32) -> bool
     requires own { IsPassOf table.now pass.old }
     requires pinned { HasRoomPin (sizes table.now) pin.room (state pass.old) }
-    requires latch { (state pass.old).rooms.latch ≡ None }
     requires claim { (state pass.old).rooms.claim ≡ None }
     requires some { 0 < looks }
     ensures own { Stays pass.old pass.new }
@@ -72,11 +71,12 @@ fn front_has(table: &OakTable, pass: &mut Pass, room: u32, key: &StoredKey) -> b
     has
 }
 
-/// Opens the front room, whose entries links name in turn, over all of its range.
+/// Opens the front room, whose entries are linked in turn, over all of its range.
 pub(crate) fn open_front(table: &OakTable, pass: &mut Pass, room: u32)
     requires own { IsPassOf table.now pass.old }
     requires front { (w : RoomCopy) × (g : MovingRange) × (hs : List HeldRoom) × (gs : List MovingRange)
-        × HoldsFront (sizes table.now) room w g hs gs (state pass.old) × IsChained (sizes table.now) w }
+        × HoldsFront (sizes table.now) room w g hs gs (state pass.old) × IsChained (sizes table.now) w
+        × AllLinked w }
     ensures own { Stays pass.old pass.new }
     ensures opens { (w : RoomCopy) (g : MovingRange) (hs : List HeldRoom) (gs : List MovingRange)
         → HoldsFront (sizes table.now) room w g hs gs (state pass.old) → OpensFront (sizes table.now)

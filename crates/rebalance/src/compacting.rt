@@ -14,11 +14,11 @@ use oak_core::{OakTable, Pass};
 use std::sync::Wait;
 use std::thread;
 
-/// Drops the entries without a value of the chunk that covers the key, and makes the others its sorted
-/// prefix, with nothing behind it. The answer is how many were dropped, exactly those that had no value
-/// while the chunk was held. It claims no room, nor tries to. It waits for nobody: `Busy` comes only where
-/// another pass had moved or frozen the chunk, or at each of so many looks at its pin word other passes had
-/// pinned it; to a pass that is alone it never comes.
+/// Drops the entries of the chunk that covers the key that are not linked or have no value, and makes the
+/// others its sorted prefix, with nothing behind it. The answer is how many were dropped, exactly those that
+/// had no value or were unlinked while the chunk was held. It claims no room, nor tries to. It waits for
+/// nobody: `Busy` comes only where another pass had moved or frozen the chunk, or at each of so many looks at
+/// its pin word other passes had pinned it; to a pass that is alone it never comes.
 pub fn try_compact(table: &OakTable, pass: &mut Pass, key: &[u8], looks: u32) -> Result<u32, Busy>
     requires own { IsPassOf table.now pass.old }
     requires key { IsKey key.now }

@@ -22,8 +22,8 @@ use crate::rewriting::{compact_held, read_sorted};
 use oak_core::{OakTable, Pass};
 use oak_model::GREATEST_ENTRIES;
 
-/// Compacts the front room: its entries with a value are its sorted prefix then, in the first slots too,
-/// and nothing is behind it.
+/// Compacts the front room: its linked entries with a value are its sorted prefix then, in the first slots
+/// too, and nothing is behind it.
 pub(crate) fn compact_front(table: &OakTable, pass: &mut Pass, room: u32) -> Read
     requires own { IsPassOf table.now pass.old }
     requires front { (w : RoomCopy) × (g : MovingRange) × (hs : List HeldRoom) × (gs : List MovingRange)
@@ -43,8 +43,8 @@ pub(crate) fn compact_front(table: &OakTable, pass: &mut Pass, room: u32) -> Rea
     read
 }
 
-/// Reads the front room: its entries with a value are in the first slots then, in the order of their keys,
-/// and the others are dropped.
+/// Reads the front room: its linked entries with a value are in the first slots then, in the order of their
+/// keys, and the others are dropped.
 pub(crate) fn read_front(table: &OakTable, pass: &mut Pass, room: u32) -> Read
     requires own { IsPassOf table.now pass.old }
     requires front { (w : RoomCopy) × (g : MovingRange) × (hs : List HeldRoom) × (gs : List MovingRange)
@@ -52,7 +52,7 @@ pub(crate) fn read_front(table: &OakTable, pass: &mut Pass, room: u32) -> Read
     ensures own { StaysButSlots pass.old pass.new }
     ensures reads { ReadsFront (sizes table.now) (call_of pass.old) room (slots_of pass.new) result (state pass.old) (state pass.new) }
     ensures sees { let m = held_memory (state pass.old).rooms.held in (i : ℕ) → i < entries_in (m.count room)
-        → names_header (m.value room i) ≡ 1 → SeesValue (sizes table.now) room i (state pass.old) (state pass.new) }
+        → 0 < m.key room i → names_header (m.value room i) ≡ 1 → SeesValue (sizes table.now) room i (state pass.old) (state pass.new) }
 {
     let read = read_sorted(&mut HeldTable { table, pass }, room);
     // Reading the slots shows how many there are.

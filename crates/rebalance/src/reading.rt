@@ -1,4 +1,4 @@
-//! Reads the entries of a held room, and drops those without a value.
+//! Reads the entries of a held room, and drops those that are not linked or have no value.
 ghost use Rattle.std.specs.Prelude.{◌≡◌, ◌≢◌, ℕ, ◌+◌, ◌<◌, ◌≤◌, List};
 ghost use Rattle.oak_model.specs.declared.limits.TheConstants.{GREATEST_ENTRIES};
 ghost use Rattle.chunk_core.specs.declared.holds.MovingRange.{MovingRange};
@@ -6,7 +6,7 @@ ghost use Rattle.chunk_core.specs.Rooms.{RoomMemory};
 ghost use Rattle.chunk_core.specs.ValueWord.{names_header};
 ghost use Rattle.chunk_ops.specs.Stored.{IsStored};
 ghost use Rattle.rebalance.specs.Dropping.{DropsKeys, dropped_ranges};
-ghost use Rattle.rebalance.specs.Entries.{entries, dropped};
+ghost use Rattle.rebalance.specs.Entries.{dropped, linked_among};
 ghost use Rattle.rebalance.specs.HeldRooms.{IsLoose};
 ghost use Rattle.rebalance.specs.Read.{HasRead};
 
@@ -17,7 +17,7 @@ use arena_core::words::{WORD, first_bytes};
 use chunk_ops::{KEY_WORDS, StoredKey};
 use oak_core::SortSlot;
 
-/// How many entries were kept and how many dropped, and the base for the keys that have no entry.
+/// How many entries were kept and how many dropped, and the base for the keys that have no linked entry.
 #[derive(Clone, Copy, Debug)]
 pub(crate) struct Read {
     pub(crate) kept: usize,
@@ -42,28 +42,34 @@ pub(crate) fn load_key<H: HeldRooms>(rooms: &mut H, place: u64) -> StoredKey
     StoredKey::from_words(words, length)
 }
 
-/// Reads one entry: to the next slot where it has a value; else it is dropped.
+/// Reads one entry: to the next slot where it is linked and has a value; else it is dropped. One that was
+/// claimed and never linked has no key word, and its value word says nothing.
 fn read_entry<H: HeldRooms>(rooms: &mut H, room: u32, i: u32, read: &mut Read)
     requires held { H.held rooms.old room }
     requires within { i < H.entries rooms.old }
-    requires named { names_header ((H.rooms rooms.old).value room i) ≡ 1 → H.names rooms.old ((H.rooms rooms.old).key room i) }
-    requires loose { names_header ((H.rooms rooms.old).value room i) ≡ 0 → IsLoose ((H.rooms rooms.old).key room i) (H.ranges rooms.old) }
+    requires named { let now = H.rooms rooms.old in 0 < now.key room i → names_header (now.value room i) ≡ 1 → H.names rooms.old (now.key room i) }
+    requires loose { let now = H.rooms rooms.old in 0 < now.key room i → names_header (now.value room i) ≡ 0
+        → IsLoose (now.key room i) (H.ranges rooms.old) }
     requires few { read.old.kept + read.old.dropped < GREATEST_ENTRIES }
     ensures stays { H.stays rooms.old rooms.new }
-    ensures sees { names_header ((H.rooms rooms.old).value room i) ≡ 1 → H.sees rooms.old rooms.new room i }
+    ensures sees { let now = H.rooms rooms.old in 0 < now.key room i → names_header (now.value room i) ≡ 1 → H.sees rooms.old rooms.new room i }
     ensures many { read.new.kept + read.new.dropped ≡ read.old.kept + read.old.dropped + 1 }
     ensures rooms { (m : RoomMemory) → DropsKeys room i m (H.rooms rooms.old) → DropsKeys room (i + 1) m (H.rooms rooms.new) }
     ensures ranges { (m : RoomMemory) (gs : List MovingRange) → DropsKeys room i m (H.rooms rooms.old)
-        → H.ranges rooms.old ≡ dropped_ranges (dropped (entries m room i)) gs → H.ranges rooms.new ≡ dropped_ranges
-        (dropped (entries m room (i + 1))) gs }
-    ensures loose { (w : ℕ) → (names_header ((H.rooms rooms.old).value room i) ≡ 0
-        → w ≢ (H.rooms rooms.old).key room i) → IsLoose w (H.ranges rooms.old) → IsLoose w (H.ranges rooms.new) }
+        → H.ranges rooms.old ≡ dropped_ranges (dropped (linked_among m room i)) gs → H.ranges rooms.new ≡ dropped_ranges
+        (dropped (linked_among m room (i + 1))) gs }
+    ensures loose { (w : ℕ) → let now = H.rooms rooms.old in (0 < now.key room i → names_header (now.value room i) ≡ 0
+        → w ≢ now.key room i) → IsLoose w (H.ranges rooms.old) → IsLoose w (H.ranges rooms.new) }
     ensures read { (keys : ℕ → List ℕ) (m : RoomMemory) (b : ℕ) → let now = H.rooms rooms.old in
-        (names_header (now.value room i) ≡ 1 → keys (now.key room i) ≡ H.keys rooms.old (now.key room i))
+        (0 < now.key room i → names_header (now.value room i) ≡ 1 → keys (now.key room i) ≡ H.keys rooms.old (now.key room i))
         → DropsKeys room i m now → HasRead keys m room b i (H.slots rooms.old) read.old
         → HasRead keys m room b (i + 1) (H.slots rooms.new) read.new }
 {
     let place = rooms.load(room, RoomWord::Key(i));
+    if place == 0 {
+        read.dropped += 1;
+        return;
+    }
     let value = rooms.load(room, RoomWord::Value(i));
     let entry = Entry { place, value };
     if entry.has_value() {
@@ -83,22 +89,24 @@ fn read_entry<H: HeldRooms>(rooms: &mut H, room: u32, i: u32, read: &mut Read)
     read.base = read.base.max(value);
 }
 
-/// Reads the first `count` entries of a held room: those with a value to the first slots, in their order;
-/// the others are dropped.
+/// Reads the first `count` entries of a held room: the linked ones with a value to the first slots, in their
+/// order; the others are dropped.
 pub(crate) fn read_entries<H: HeldRooms>(rooms: &mut H, room: u32, count: u32) -> Read
     requires held { H.held rooms.old room }
     requires within { count ≤ H.entries rooms.old }
-    requires named { let m = H.rooms rooms.old in (i : ℕ) → i < count → names_header (m.value room i) ≡ 1 → H.names rooms.old (m.key room i) }
-    requires loose { let m = H.rooms rooms.old in (i : ℕ) → i < count → names_header (m.value room i) ≡ 0
+    requires named { let m = H.rooms rooms.old in (i : ℕ) → i < count → 0 < m.key room i → names_header (m.value room i) ≡ 1
+        → H.names rooms.old (m.key room i) }
+    requires loose { let m = H.rooms rooms.old in (i : ℕ) → i < count → 0 < m.key room i → names_header (m.value room i) ≡ 0
         → IsLoose (m.key room i) (H.ranges rooms.old) }
-    requires apart { let m = H.rooms rooms.old in (i j : ℕ) → i < j → j < count → m.key room i ≢ m.key room j }
+    requires apart { let m = H.rooms rooms.old in (i j : ℕ) → i < j → j < count → 0 < m.key room i → m.key room i ≢ m.key room j }
     ensures stays { H.stays rooms.old rooms.new }
-    ensures sees { let m = H.rooms rooms.old in (i : ℕ) → i < count → names_header (m.value room i) ≡ 1 → H.sees rooms.old rooms.new room i }
+    ensures sees { let m = H.rooms rooms.old in (i : ℕ) → i < count → 0 < m.key room i → names_header (m.value room i) ≡ 1
+        → H.sees rooms.old rooms.new room i }
     ensures rooms { DropsKeys room count (H.rooms rooms.old) (H.rooms rooms.new) }
-    ensures ranges { H.ranges rooms.new ≡ dropped_ranges (dropped (entries (H.rooms rooms.old) room count)) (H.ranges rooms.old) }
+    ensures ranges { H.ranges rooms.new ≡ dropped_ranges (dropped (linked_among (H.rooms rooms.old) room count)) (H.ranges rooms.old) }
     ensures many { result.kept + result.dropped ≡ count }
     ensures read { (keys : ℕ → List ℕ) → let m = H.rooms rooms.old in
-        ((i : ℕ) → i < count → names_header (m.value room i) ≡ 1 → keys (m.key room i) ≡ H.keys rooms.old
+        ((i : ℕ) → i < count → 0 < m.key room i → names_header (m.value room i) ≡ 1 → keys (m.key room i) ≡ H.keys rooms.old
         (m.key room i)) → HasRead keys m room (m.base room) count (H.slots rooms.new) result }
 {
     let mut read = Read {

@@ -3,7 +3,7 @@ ghost use Rattle.std.specs.Prelude.{◌≡◌, ℕ, ◌<◌, ◌≤◌, take};
 ghost use Rattle.oak_model.specs.Counts.{Each};
 ghost use Rattle.chunk_core.specs.LinkedEntries.{entries_in};
 ghost use Rattle.chunk_core.specs.ValueWord.{names_header};
-ghost use Rattle.rebalance.specs.Compacted.{IsHeldRoom, ReadsSorted, IsCompacted, in_use};
+ghost use Rattle.rebalance.specs.Compacted.{IsHeldRoom, ReadsSorted, IsCompacted, linked_in};
 ghost use Rattle.rebalance.specs.Dropping.{DropsKeys, dropped_ranges};
 ghost use Rattle.rebalance.specs.Entries.{dropped};
 ghost use Rattle.rebalance.specs.HeldRooms.{AllValued};
@@ -15,8 +15,8 @@ use crate::held_rooms::{HeldRooms, RoomWord};
 use crate::reading::{Read, read_entries};
 use chunk_core::count_word::entries_in;
 
-/// Reads the entries in use of a held room: those with a value to the first slots, in their order; the
-/// others are dropped.
+/// Reads the entries in use of a held room: the linked ones with a value to the first slots, in their order;
+/// the others are dropped.
 fn read_room<H: HeldRooms>(rooms: &mut H, room: u32) -> Read
     requires held { H.held rooms.old room }
     requires within { entries_in ((H.rooms rooms.old).count room) ≤ H.entries rooms.old }
@@ -24,9 +24,9 @@ fn read_room<H: HeldRooms>(rooms: &mut H, room: u32) -> Read
         (H.ranges rooms.old) m room (entries_in (m.count room)) }
     ensures stays { H.stays rooms.old rooms.new }
     ensures sees { let m = H.rooms rooms.old in (i : ℕ) → i < entries_in (m.count room)
-        → names_header (m.value room i) ≡ 1 → H.sees rooms.old rooms.new room i }
+        → 0 < m.key room i → names_header (m.value room i) ≡ 1 → H.sees rooms.old rooms.new room i }
     ensures rooms { DropsKeys room (entries_in ((H.rooms rooms.old).count room)) (H.rooms rooms.old) (H.rooms rooms.new) }
-    ensures ranges { H.ranges rooms.new ≡ dropped_ranges (dropped (in_use (H.rooms rooms.old) room)) (H.ranges rooms.old) }
+    ensures ranges { H.ranges rooms.new ≡ dropped_ranges (dropped (linked_in (H.rooms rooms.old) room)) (H.ranges rooms.old) }
     ensures few { result.kept ≤ H.entries rooms.old }
     ensures read { let m = H.rooms rooms.old in HasRead (H.keys rooms.old) m room (m.base room)
         (entries_in (m.count room)) (H.slots rooms.new) result }
@@ -35,8 +35,8 @@ fn read_room<H: HeldRooms>(rooms: &mut H, room: u32) -> Read
     read_entries(rooms, room, count)
 }
 
-/// Reads the entries of a held room: those with a value, in the order of their keys, to the first slots;
-/// the others are dropped.
+/// Reads the entries of a held room: the linked ones with a value, in the order of their keys, to the first
+/// slots; the others are dropped.
 pub(crate) fn read_sorted<H: HeldRooms>(rooms: &mut H, room: u32) -> Read
     requires held { H.held rooms.old room }
     requires within { entries_in ((H.rooms rooms.old).count room) ≤ H.entries rooms.old }
@@ -44,9 +44,9 @@ pub(crate) fn read_sorted<H: HeldRooms>(rooms: &mut H, room: u32) -> Read
         (H.ranges rooms.old) m room (entries_in (m.count room)) }
     ensures stays { H.stays rooms.old rooms.new }
     ensures sees { let m = H.rooms rooms.old in (i : ℕ) → i < entries_in (m.count room)
-        → names_header (m.value room i) ≡ 1 → H.sees rooms.old rooms.new room i }
+        → 0 < m.key room i → names_header (m.value room i) ≡ 1 → H.sees rooms.old rooms.new room i }
     ensures rooms { DropsKeys room (entries_in ((H.rooms rooms.old).count room)) (H.rooms rooms.old) (H.rooms rooms.new) }
-    ensures ranges { H.ranges rooms.new ≡ dropped_ranges (dropped (in_use (H.rooms rooms.old) room)) (H.ranges rooms.old) }
+    ensures ranges { H.ranges rooms.new ≡ dropped_ranges (dropped (linked_in (H.rooms rooms.old) room)) (H.ranges rooms.old) }
     ensures read { ReadsSorted (H.keys rooms.old) (H.rooms rooms.old) room (H.slots rooms.new) result }
     ensures named { AllNamed (take result.kept (H.slots rooms.new)) }
 {
@@ -55,20 +55,20 @@ pub(crate) fn read_sorted<H: HeldRooms>(rooms: &mut H, room: u32) -> Read
     read
 }
 
-/// Compacts a held room: its entries are then those that had a value, in the order of their keys, with
-/// nothing behind them. No other entry that the ranges carry lacks a value.
+/// Compacts a held room: its entries are then the linked ones that had a value, in the order of their keys,
+/// with nothing behind them. No other entry that the ranges carry lacks a value.
 pub(crate) fn compact_held<H: HeldRooms>(rooms: &mut H, room: u32) -> Read
     requires held { H.held rooms.old room }
     requires within { entries_in ((H.rooms rooms.old).count room) ≤ H.entries rooms.old }
     requires room { let m = H.rooms rooms.old in IsHeldRoom (H.names rooms.old) (H.keys rooms.old)
         (H.ranges rooms.old) m room (entries_in (m.count room)) }
-    requires valued { Each AllValued (dropped_ranges (dropped (in_use (H.rooms rooms.old) room)) (H.ranges rooms.old)) }
+    requires valued { Each AllValued (dropped_ranges (dropped (linked_in (H.rooms rooms.old) room)) (H.ranges rooms.old)) }
     ensures stays { H.stays rooms.old rooms.new }
     ensures sees { let m = H.rooms rooms.old in (i : ℕ) → i < entries_in (m.count room)
-        → names_header (m.value room i) ≡ 1 → H.sees rooms.old rooms.new room i }
+        → 0 < m.key room i → names_header (m.value room i) ≡ 1 → H.sees rooms.old rooms.new room i }
     ensures rooms { IsCompacted (H.entries rooms.old) room (entries_in ((H.rooms rooms.old).count room))
         (take result.kept (H.slots rooms.new)) result.base (H.rooms rooms.old) (H.rooms rooms.new) }
-    ensures ranges { H.ranges rooms.new ≡ dropped_ranges (dropped (in_use (H.rooms rooms.old) room)) (H.ranges rooms.old) }
+    ensures ranges { H.ranges rooms.new ≡ dropped_ranges (dropped (linked_in (H.rooms rooms.old) room)) (H.ranges rooms.old) }
     ensures read { ReadsSorted (H.keys rooms.old) (H.rooms rooms.old) room (H.slots rooms.new) result }
     ensures named { AllNamed (take result.kept (H.slots rooms.new)) }
 {

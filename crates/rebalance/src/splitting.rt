@@ -16,8 +16,8 @@ use oak_core::{OakTable, Pass};
 use std::sync::Wait;
 use std::thread;
 
-/// Compacts the chunk that covers the key, and where each of its entries had a value, so that none was
-/// dropped, opens its range as two, the upper half in a room that was free. `NoRoom` comes only where
+/// Compacts the chunk that covers the key, and where each of its entries was linked and had a value, so that
+/// none was dropped, opens its range as two, the upper half in a room that was free. `NoRoom` comes only where
 /// every other room was found not free in this call; the chunk is opened again with the same range, base
 /// and entries, which are its sorted prefix. Each room that it claims, or tries to claim, it claims while it
 /// holds the chunk, which was full when it came to hold it. It waits for nobody: `Busy` comes only where

@@ -1,5 +1,5 @@
 -- What the rebalancing calls leave of the tests' pass.
-use Rattle.std.proofs.Common.{◌≡◌, ℕ, ◌≤◌, List, Result, Ok, Err, refl, sym, ap, ◌∙◌, subst}
+use Rattle.std.proofs.Common.{◌≡◌, ℕ, ◌≤◌, List, None, Result, Ok, Err, refl, sym, ap, ◌∙◌, subst}
 use Rattle.std.specs.Prelude.{IfErr}
 use Rattle.oak_model.specs.Counts.{Begins, Each}
 use Rattle.oak_model.specs.Limits.{Sizes}
@@ -9,6 +9,9 @@ use Rattle.oak_core.specs.declared.states.Knowledge.{Knowledge}
 use Rattle.oak_core.specs.declared.states.Numbers.{Numbers}
 use Rattle.oak_core.specs.declared.states.PassState.{PassState}
 use Rattle.oak_core.specs.PassState.{HoldsNothing}
+use Rattle.chunk_core.specs.Spans.{Span}
+use Rattle.chunk_ops.specs.PinRecords.{UnderPin, with_room_pin}
+use Rattle.chunk_ops.specs.RoomPins.{PinsOpen, Unpins}
 use Rattle.chunk_ops.specs.TestStates.{IsIdleAgain}
 use Rattle.point_ops.specs.TestStates.{IsReady, IsReadyAgain}
 use Rattle.rebalance.specs.Calls.{Leaves, Loosens, Halves, FindsNoRoom}
@@ -39,3 +42,20 @@ pub split_leaves : (o : Result Split NoRoom) (z : Sizes) (call : ℕ) (key : Lis
 split_leaves (Ok Loosened) z call key v w l h n = (l refl).compacts.leaves
 split_leaves (Ok (Halved room)) z call key v w l h n = (h room refl).leaves
 split_leaves (Err e) z call key v w l h n = n.compacts.leaves
+
+-- so is one that pinned a room, learned under the pin and undid it
+pub pinned_ready : (z : Sizes) (call now later r : ℕ) (P : Span → Type 0) (u v w x : PassState) → PinsOpen z call r P u v → UnderPin z now r v w → Unpins z later r w x → IsReady call u → IsReadyAgain call u x
+pinned_ready z call now later r P u v w x p n d y = let numbers : x.numbers ≡ u.numbers = d.stands.numbers ∙ (n.learns.all.numbers ∙ p.stands.numbers) in record {
+  numbers = numbers;
+  loaded = subst (λ (q : Knowledge). Begins u.knowledge.loaded q.loaded) (sym d.stands.knowledge) (subst (λ (q : Knowledge). Begins q.loaded w.knowledge.loaded) p.stands.knowledge n.learns.all.loaded);
+  ready = record {
+    idle = record {
+      hand = ap (λ (m : Numbers). m.hand) numbers ∙ y.idle.hand;
+      blocks = d.blocks ∙ (n.blocks ∙ (p.blocks ∙ y.idle.blocks));
+      headers = d.headers ∙ (n.headers ∙ (p.headers ∙ y.idle.headers));
+      rooms = d.rooms ∙ (ap (with_room_pin None) n.pin.rooms ∙ (ap (with_room_pin None) p.rooms ∙ ap (with_room_pin None) y.idle.rooms));
+    };
+    wrote = subst (λ (q : Knowledge). Each (λ (x : KeyedWrite). x.write.call ≤ call) q.mine) (sym d.stands.knowledge)
+        (subst (λ (m : List KeyedWrite). Each (λ (x : KeyedWrite). x.write.call ≤ call) m) (sym n.learns.all.mine) (subst (λ (q : Knowledge). Each (λ (x : KeyedWrite). x.write.call ≤ call) q.mine) (sym p.stands.knowledge) y.wrote));
+  };
+}

@@ -4,6 +4,8 @@
 #[cfg(test)]
 mod busy_tests;
 #[cfg(test)]
+mod linked_tests;
+#[cfg(test)]
 mod random_tests;
 #[cfg(test)]
 mod test_calls;

@@ -16,7 +16,7 @@ use Rattle.oak_core.specs.PassState.{HoldsNothing}
 use Rattle.oak_core.specs.Passes.{Stays, call_of, key as sizes, slots_of, state}
 use Rattle.oak_core.proofs.calls.CallSteps.{stands_learns}
 use Rattle.oak_core.proofs.calls.QuietCalls.{quiet_loads}
-use Rattle.chunk_ops.specs.Latching.{Never}
+use Rattle.chunk_ops.specs.AddsAlone.{Never}
 use Rattle.chunk_ops.proofs.MeetingCalls.{stays_then, then_stays}
 use Rattle.value_ops.specs.declared.pinned_value.PinnedValue.{PinnedValue}
 use Rattle.value_ops.specs.Pinning.{EndsPin}

@@ -1,12 +1,10 @@
--- A pass that has loaded one entry more, with or without a slot for it.
-use Rattle.std.proofs.Common.{◌≡◌, ℕ, ◌+◌, ◌<◌, ◌++◌, ◌∷◌, [], List, length, set, take, refl, sym, ap, ◌∙◌, subst}
+-- A pass that has put one slot more behind the others, or none.
+use Rattle.std.proofs.Common.{◌≡◌, ℕ, ◌+◌, ◌<◌, ◌++◌, ◌∷◌, [], List, length, set, take, refl, ap, ◌∙◌}
 use Rattle.std.proofs.lemmas.List.{take_more_set}
 use Rattle.oak_core.specs.declared.sorting.SortSlot.{SortSlot}
 use Rattle.oak_core.specs.declared.table.Pass.{Pass}
-use Rattle.oak_core.specs.Passes.{Stays, call_of, state}
+use Rattle.oak_core.specs.Passes.{Stays}
 use Rattle.oak_core.specs.Scratch.{StaysButSlots, with_slots}
-use Rattle.chunk_ops.specs.PinRecords.{OnlyLearns}
-use Rattle.scan_cursor.proofs.GatherViews.{learned_both, learned_in}
 
 -- o is the pass before the entries, p the one before the entry, q the one behind it
 module _ (o p q : Pass) (own : StaysButSlots o p) (stays : Stays p q) where
@@ -22,9 +20,6 @@ module _ (o p q : Pass) (own : StaysButSlots o p) (stays : Stays p q) where
 
   pub slots_kept : (y : Pass) → y ≡ q → StaysButSlots o y
   slots_kept y e = slots_put y q.sorting e
-
-  pub learned_more : (call : ℕ) (y : Pass) → call_of p ≡ call → OnlyLearns call (state o) (state p) → OnlyLearns (call_of p) (state p) (state q) → state y ≡ state q → OnlyLearns call (state o) (state y)
-  learned_more call y c a b e = subst (OnlyLearns call (state o)) (sym e) (learned_both call (state o) (state p) (state q) a (learned_in call (call_of p) (state p) (state q) c b))
 
 -- the slots up to one that was put behind the others
 pub slots_more : (xs zs : List SortSlot) (n m : ℕ) (s : SortSlot) → zs ≡ set xs n s → m ≡ n + 1 → n < length xs → take m zs ≡ take n xs ++ s ∷ []

@@ -17,7 +17,7 @@ use Rattle.chunk_ops.specs.declared.entries.Content.TheVariants.{Value}
 use Rattle.chunk_ops.specs.Contents.{FindsContent, FindsLife}
 use Rattle.chunk_ops.specs.Finds.{FoundAbsent}
 use Rattle.chunk_ops.specs.PinRecords.{HasEntry, OnlyLearns, OnlyMeets, pin_or}
-use Rattle.chunk_ops.proofs.MeetingCalls.{both_stay, only_none}
+use Rattle.chunk_ops.proofs.MeetingCalls.{both_stay}
 use Rattle.value_ops.proofs.LoadedViews.{known_loaded, names_home}
 use Rattle.scan_cursor.specs.Gathered.{KnewLast, Loaded}
 use Rattle.scan_cursor.specs.Views.{KnowsLast, Later, ReadsKey, view_of}
@@ -73,9 +73,6 @@ learned_both call u v w a b = record {
   rooms = b.rooms ∙ a.rooms;
   still = both_stay u v w a.still b.still;
 }
-
-pub learned_none : (call : ℕ) (v : PassState) → OnlyLearns call v v
-learned_none call v = learns_only call v v (only_none call v)
 
 pub learned_in : (first now : ℕ) (v w : PassState) → now ≡ first → OnlyLearns now v w → OnlyLearns first v w
 learned_in first now v w e o = subst (λ (k : ℕ). OnlyLearns k v w) e o

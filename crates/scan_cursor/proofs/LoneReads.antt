@@ -2,6 +2,7 @@
 use Rattle.std.proofs.Common.{◌≡◌, ℕ, ◌+◌, ◌*◌, ◌<◌, false, List, map, refl, sym, ap, ◌∙◌, subst, arith}
 use Rattle.pin_word.specs.PinWord.{count_of, generation_of, state_of}
 use Rattle.oak_model.specs.Limits.{Sizes}
+use Rattle.oak_model.specs.Counts.{one_at, total}
 use Rattle.oak_model.proofs.Counting.{one_at-same, one_at-true}
 use Rattle.arena_core.specs.Place.{content}
 use Rattle.header_core.specs.declared.states.TheConstants.{LIVE}
@@ -9,11 +10,11 @@ use Rattle.header_core.specs.HeaderRule.{stocked}
 use Rattle.chunk_core.specs.declared.states.TheConstants.{OPEN}
 use Rattle.chunk_core.specs.Covers.{key_at}
 use Rattle.chunk_core.specs.CoverSums.{naming, names, weight}
-use Rattle.chunk_core.specs.LinkedEntries.{entries_in}
-use Rattle.chunk_core.specs.Rooms.{RoomSpot, at_count, at_room_pin, at_value}
+use Rattle.chunk_core.specs.LinkedEntries.{linked}
+use Rattle.chunk_core.specs.Rooms.{RoomSpot, at_first, at_next, at_room_pin, at_value}
 use Rattle.chunk_core.specs.ValueWord.{header_in}
 use Rattle.chunk_core.proofs.CoverFacts.{entry_adds, entry_word}
-use Rattle.chunk_core.proofs.EntryNumbers.{numbers_once}
+use Rattle.chunk_core.proofs.RoomLinks.{linked_same}
 use Rattle.oak_core.specs.declared.states.PassState.{PassState}
 use Rattle.oak_core.specs.AloneWords.{Moment, Runs}
 use Rattle.oak_core.specs.KeyReads.{history_now, shown_by, word_now}
@@ -24,7 +25,7 @@ use Rattle.oak_core.proofs.seats.AloneRuns.{Then, runs_as, runs_then}
 use Rattle.chunk_ops.specs.declared.entries.Content.TheVariants.{Value}
 use Rattle.chunk_ops.specs.declared.entries.EntryNo.{EntryNo}
 use Rattle.chunk_ops.specs.Contents.{Says}
-use Rattle.chunk_ops.specs.Latching.{Never}
+use Rattle.chunk_ops.specs.AddsAlone.{Never}
 use Rattle.chunk_ops.specs.RoomPins.{AddsRoomPin, DropsRoomPin}
 use Rattle.chunk_ops.proofs.KeptKeys.{number_other}
 use Rattle.chunk_ops.proofs.PinSteps.{undone}
@@ -35,8 +36,8 @@ use Rattle.lone_counts.specs.LoneTable.{LoneTable}
 use Rattle.lone_counts.proofs.LoneHeaders.{still_at}
 use Rattle.lone_counts.proofs.ValuedRooms.{open_weight}
 
--- an entry in use of an open room names a header, while the pass holds nothing
-module _ (z : Sizes) (words : List ℕ) (v : PassState) (l : LoneTable z words v) (r i h g : ℕ) (inside : r < z.chunks) (opened : state_of ((memory z words).rooms.pin r) ≡ OPEN) (used : i < entries_in ((memory z words).rooms.count r)) (says : Says (Value h g) ((memory z words).rooms.value r i)) where
+-- a linked entry of an open room names a header, while the pass holds nothing
+module _ (z : Sizes) (words : List ℕ) (v : PassState) (l : LoneTable z words v) (r i h g : ℕ) (inside : r < z.chunks) (opened : state_of ((memory z words).rooms.pin r) ≡ OPEN) (once : total (λ j. one_at j i) (linked (memory z words).rooms r) ≡ 1) (says : Says (Value h g) ((memory z words).rooms.value r i)) where
   abbrev m : Memory
   m = memory z words
 
@@ -50,7 +51,7 @@ module _ (z : Sizes) (words : List ℕ) (v : PassState) (l : LoneTable z words v
   weighs = open_weight z words v l r opened
 
   word : word_now z m l.moment.states k ≡ m.rooms.value r i + 1
-  word = entry_word z m.rooms bytes (map rooms_held l.moment.states) l.moment.rule.covers.once r i k inside weighs (numbers_once (entries_in (m.rooms.count r)) i used) refl
+  word = entry_word z m.rooms bytes (map rooms_held l.moment.states) l.moment.rule.covers.once r i k inside weighs once refl
 
   home : IsHome z m.headers (shown_by m) (m.rooms.value r i) (history_now l.moment.states k)
   home = (l.moment.rule.keys.states k).named (m.rooms.value r i) word says.0
@@ -64,7 +65,7 @@ module _ (z : Sizes) (words : List ℕ) (v : PassState) (l : LoneTable z words v
 
   -- has a block
   has_block : 0 < stocked (state_of (pin_in z h words))
-  has_block = let a = entry_adds z m.rooms bytes (map rooms_held l.moment.states) (naming h) r i inside weighs (numbers_once (entries_in (m.rooms.count r)) i used) in let o = one_name in let q = l.moment.rule.keys.named h in omega arith
+  has_block = let a = entry_adds z m.rooms bytes (map rooms_held l.moment.states) (naming h) r i inside weighs once in let o = one_name in let q = l.moment.rule.keys.named h in omega arith
 
   -- and is live
   pub entry_live : IsLiveAt g (pin_in z h words)
@@ -88,9 +89,10 @@ module _ (z : Sizes) (r h g : ℕ) (i : EntryNo) (key : List ℕ) (v u w x y : P
       let look = s.2.2.2 in
       let back : s.2.2.0 ≡ a = undone z r inside a b s.2.2.0 (λ n. state_of n ≡ OPEN) (λ n. 0 < count_of n) up (subst (λ (ws : List ℕ). DropsRoomPin z r ws s.2.2.0) found.0.0 down) in
       let l : LoneTable z a x = record { moment = subst (λ (ws : List ℕ). Moment z ws x) back look.moment; alone = look.alone; idle = idle } in
-      let used : i.0 < entries_in ((memory z a).rooms.count r) = subst (λ (n : ℕ). i.0 < entries_in n) (same a b up (at_count r) refl) found.0.1.0 in
+      let links = linked_same (memory z a).rooms (memory z b).rooms r (same a b up (at_first r) refl) (λ t j. same a b up (at_next r j) refl t) in
+      let once : total (λ j. one_at j i.0) (linked (memory z a).rooms r) ≡ 1 = subst (λ (is : List ℕ). total (λ j. one_at j i.0) is ≡ 1) links found.0.1.0 in
       let says : Says (Value h g) ((memory z a).rooms.value r i.0) = subst (Says (Value h g)) (same a b up (at_value r i.0) refl) found.1 in
-      look.says (subst (λ (ws : List ℕ). IsLiveAt g (pin_in z h ws)) (sym back) (entry_live z a x l r i.0 h g inside up.0 used says))
+      look.says (subst (λ (ws : List ℕ). IsLiveAt g (pin_in z h ws)) (sym back) (entry_live z a x l r i.0 h g inside up.0 once says))
 
   pub read_never : Runs (AddsRoomPin z r) v u → Runs (EntrySays i (Value h g) z r key) u w → Runs (DropsRoomPin z r) w x → Runs (RefusesLook z h g x) x y → Runs Never v y
   read_never up found down look = let Says' : List ℕ → List ℕ → Type 0 = EntrySays i (Value h g) z r key in

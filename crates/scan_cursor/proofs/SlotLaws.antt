@@ -1,5 +1,5 @@
 -- The slots of a pass in which a scan has the entries of a room: their keys, and what one of them being taken leaves.
-use Rattle.std.proofs.Common.{◌≡◌, ℕ, zero, suc, ◌+◌, ◌-◌, ◌*◌, ◌<◌, ◌≤◌, List, [], ◌∷◌, ◌++◌, drop, get_or, length, map, min, reverse, take, refl, sym, ap, ◌∙◌, arith}
+use Rattle.std.proofs.Common.{◌≡◌, ℕ, zero, suc, ◌+◌, ◌-◌, ◌<◌, ◌≤◌, List, [], ◌∷◌, ◌++◌, drop, get_or, length, map, min, reverse, take, refl, sym, ap, ◌∙◌, arith}
 use Rattle.std.proofs.Math.Nat.{min-eq_left, min-eq_right}
 use Rattle.std.proofs.Math.Seq.{drop-cons}
 use Rattle.std.proofs.lemmas.List.{get_or-drop, length-drop, reverse-append, take_all}
@@ -19,7 +19,7 @@ take_one zero (x ∷ xs) d lt = refl
 take_one (suc n) [] d lt = absurd (omega arith)
 take_one (suc n) (x ∷ xs) d lt = ap (λ (l : List _). x ∷ l) (take_one n xs d (omega arith))
 
-map_end : (l : List SortSlot) (s : SortSlot) → map in_slot (l ++ s ∷ []) ≡ map in_slot l ++ in_slot s ∷ []
+pub map_end : (l : List SortSlot) (s : SortSlot) → map in_slot (l ++ s ∷ []) ≡ map in_slot l ++ in_slot s ∷ []
 map_end [] s = refl
 map_end (x ∷ xs) s = ap (λ (l : List Loaded). in_slot x ∷ l) (map_end xs s)
 

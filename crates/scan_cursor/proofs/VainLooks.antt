@@ -7,7 +7,7 @@ use Rattle.oak_core.specs.AloneWords.{Runs}
 use Rattle.oak_core.specs.PassState.{HoldsNothing}
 use Rattle.oak_core.proofs.seats.AloneRuns.{runs_as}
 use Rattle.chunk_ops.specs.AskedRanges.{CoversKey, EndsUnder}
-use Rattle.chunk_ops.specs.Latching.{Never}
+use Rattle.chunk_ops.specs.AddsAlone.{Never}
 use Rattle.chunk_ops.specs.LoneRooms.{NeverAlone}
 use Rattle.oak_core.specs.QuietSteps.{Quiet}
 use Rattle.chunk_ops.specs.PinRecords.{UnderPin, WordsStay}

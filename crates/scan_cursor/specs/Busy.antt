@@ -4,7 +4,7 @@ use Rattle.oak_model.specs.Limits.{Sizes}
 use Rattle.oak_core.specs.declared.states.PassState.{PassState}
 use Rattle.oak_core.specs.AloneWords.{Runs}
 use Rattle.chunk_ops.specs.AskedRanges.{CoversKey, EndsUnder}
-use Rattle.chunk_ops.specs.Latching.{Never}
+use Rattle.chunk_ops.specs.AddsAlone.{Never}
 use Rattle.chunk_ops.specs.RoomPins.{FoundMoved}
 use Rattle.value_ops.specs.declared.pinning.BadPin.TheVariants.{Locked, Other}
 use Rattle.value_ops.specs.Pinning.{KnowsLife, PinsDud}

@@ -9,7 +9,7 @@ use Rattle.oak_core.specs.AloneWords.{Runs}
 use Rattle.oak_core.specs.PassState.{HoldsNothing}
 use Rattle.oak_core.specs.Passes.{IsPassOf, Stays, call_of, key as sizes, state}
 use Rattle.oak_core.specs.QuietSteps.{Quiet}
-use Rattle.chunk_ops.specs.Latching.{Never}
+use Rattle.chunk_ops.specs.AddsAlone.{Never}
 use Rattle.value_ops.specs.declared.pinned_value.PinnedValue.{PinnedValue}
 use Rattle.value_ops.specs.PinnedValues.{OnlyLoads, stamp_under, value_under}
 use Rattle.scan_cursor.specs.declared.cursor.Cursor.{Cursor}

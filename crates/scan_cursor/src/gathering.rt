@@ -1,6 +1,5 @@
-//! The entries of a pinned room, loaded once into the slots of the pass.
-ghost use Rattle.std.specs.Prelude.{◌≡◌, ◌≤◌, ℕ, List, true, false, take};
-ghost use Rattle.std.specs.List.Sorted.{IsPermutation};
+//! The entries of a pinned room, loaded once into the slots of the pass, along the room's links.
+ghost use Rattle.std.specs.Prelude.{◌≡◌, ◌≤◌, ℕ, List, true, false};
 ghost use Rattle.oak_model.specs.declared.limits.TheConstants.{GREATEST_ENTRIES};
 ghost use Rattle.oak_model.specs.Key.{IsKey, is_key};
 ghost use Rattle.oak_core.specs.AloneWords.{Runs};
@@ -10,12 +9,12 @@ ghost use Rattle.chunk_ops.specs.PinRecords.{HasEntry, HasRoomPin, OnlyLearns, W
 ghost use Rattle.chunk_ops.specs.Stored.{IsStored};
 ghost use Rattle.scan_cursor.specs.Gathered.{IsGathered, slots_ahead};
 ghost use Rattle.scan_cursor.specs.Holding.{HasRoom, IsAhead, ahead_from, ahead_past, bound_in, room_at};
-ghost use Rattle.scan_cursor.specs.Loading.{AreSorted, HasLoaded, IsBehind, LoadsSlot};
+ghost use Rattle.scan_cursor.specs.Loading.{IsBehind, LoadsSlot};
 ghost use Rattle.scan_cursor.specs.Views.{Later, view_of};
 
 use crate::ways::Way;
 use chunk_ops::{
-    Content, EntryNo, RoomPin, StoredKey, content_of, count_entries, entry_key, value_word,
+    Content, EntryNo, RoomPin, StoredKey, content_of, entry_key, next_entry, value_word,
 };
 use oak_core::{OakTable, Pass, SortSlot};
 
@@ -71,48 +70,9 @@ fn load_slot(
     }
 }
 
-/// Loads each entry of the pinned room whose key lies behind this one, those with a value into the first slots. The
-/// answer is how many there are.
-fn fill_slots(table: &OakTable, pass: &mut Pass, pin: &RoomPin, key: &[u8], way: Way) -> usize
-    requires own { IsPassOf table.now pass.old }
-    requires key { is_key key.now ≡ true }
-    requires ahead { IsAhead (sizes table.now) pin.now.room way true key.now (state pass.old) }
-    ensures own { StaysButSlots pass.old pass.new }
-    ensures few { result ≤ GREATEST_ENTRIES }
-    ensures has { HasRoom (sizes table.now) pin.now.room (state pass.new) }
-    ensures room { room_at (state pass.new) ≡ room_at (state pass.old) }
-    ensures later { let z = sizes table.now in let call = call_of pass.old in Later (view_of z call (state pass.old))
-        (view_of z call (state pass.new)) }
-    ensures loaded { let z = sizes table.now in let call = call_of pass.old in let bound = bound_in way
-        (room_at (state pass.old)) in HasLoaded (view_of z call (state pass.old)) (view_of z call (state pass.new))
-        (ahead_from way key.now bound) (ahead_past way key.now bound) (take result (slots_of pass.new)) }
-    ensures still { Runs WordsStay (state pass.old) (state pass.new) }
-{
-    // Reading the slots shows how many there are.
-    let _slots = pass.sorting().slots();
-    let from = StoredKey::of(key);
-    let many = count_entries(table, pass, pin);
-    let mut n = 0;
-    for i in 0..many {
-        if let Some(slot) = load_slot(table, pass, pin, EntryNo(i), &from, way) {
-            pass.sorting_mut().set(n, slot);
-            n += 1;
-        }
-    }
-    n
-}
-
-/// Sorts slots by their keys, in place.
-fn sort_slots(slots: &mut [SortSlot])
-    ensures permutation { IsPermutation slots.old slots.new }
-    ensures sorted { AreSorted slots.new }
-{
-    slots.sort_unstable();
-}
-
 /// Loads the entries of the pinned room whose keys lie behind this one in the direction of the scan, each with its key
-/// and its value word once, into the first slots, those with a value alone, and sorts them by their keys. The answer
-/// is how many there are.
+/// and its value word once, into the first slots, those with a value alone. It goes along the room's links, so the keys
+/// of the slots rise. The answer is how many there are.
 pub(crate) fn gather(
     table: &OakTable,
     pass: &mut Pass,
@@ -135,7 +95,21 @@ pub(crate) fn gather(
         (slots_ahead way 0 result (slots_of pass.new)) }
     ensures still { Runs WordsStay (state pass.old) (state pass.new) }
 {
-    let n = fill_slots(table, pass, pin, key, way);
-    sort_slots(pass.sorting_mut().front_mut(n));
-    n
+    // Reading the slots shows how many there are.
+    let _slots = pass.sorting().slots();
+    let from = StoredKey::of(key);
+    let mut at = None;
+    let mut passed = 0u32;
+    let mut n = 0;
+    loop {
+        let Some(entry) = next_entry(table, pass, pin, at) else {
+            return n;
+        };
+        if let Some(slot) = load_slot(table, pass, pin, entry, &from, way) {
+            pass.sorting_mut().set(n, slot);
+            n += 1;
+        }
+        at = Some(entry);
+        passed += 1;
+    }
 }

@@ -7,7 +7,7 @@ ghost use Rattle.oak_core.specs.AloneWords.{Runs};
 ghost use Rattle.oak_core.specs.PassState.{HoldsNothing};
 ghost use Rattle.oak_core.specs.Passes.{IsPassOf, state, key as sizes, slots_of};
 ghost use Rattle.oak_core.specs.Scratch.{StaysButSlots};
-ghost use Rattle.chunk_ops.specs.Latching.{Never};
+ghost use Rattle.chunk_ops.specs.AddsAlone.{Never};
 ghost use Rattle.scan_cursor.specs.Busy.{AreInVain, IsInVain, LooksInVain};
 ghost use Rattle.scan_cursor.specs.Gathered.{in_slot};
 ghost use Rattle.scan_cursor.specs.Holding.{IsBound};

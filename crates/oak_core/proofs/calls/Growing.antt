@@ -19,7 +19,7 @@ use Rattle.oak_core.specs.Sweeping.{sweep, swept_by}
 use Rattle.oak_core.specs.RebalanceSteps.{is_claim, is_rebalance}
 use Rattle.oak_core.specs.TableState.{TableState}
 use Rattle.chunk_core.specs.RoomCopies.{copy_of}
-use Rattle.chunk_core.specs.RoomStep.{RoomStep, pin_room, unpin_room, latch_room, store_entry, publish_entry, unlatch_room, set_value, unlink_entry, freeze_room, thaw_room, hold_room, claim_room, store_room, open_room, retire_room}
+use Rattle.chunk_core.specs.RoomStep.{RoomStep, pin_room, unpin_room, claim_entry, own_entry, link_entry, set_value, unlink_entry, freeze_room, thaw_room, hold_room, claim_room, store_room, open_room, retire_room}
 use Rattle.oak_core.specs.Memory.{Memory, memory}
 use Rattle.oak_core.proofs.told.PlainLoads.{gones_with_grow, sights_grow, sights_with_grow}
 
@@ -66,10 +66,9 @@ header_gones_grow call (take_back h x) m v = begins_self v.findings.gones
 pub swept_grows : (x : RoomStep) (v : PassState) → Begins v.findings.swept (swept_by x v)
 swept_grows (pin_room r) v = begins_self v.findings.swept
 swept_grows (unpin_room r) v = begins_self v.findings.swept
-swept_grows (latch_room r) v = begins_self v.findings.swept
-swept_grows (store_entry f r i x) v = begins_self v.findings.swept
-swept_grows (publish_entry r x) v = begins_self v.findings.swept
-swept_grows (unlatch_room r) v = begins_self v.findings.swept
+swept_grows (claim_entry r old) v = begins_self v.findings.swept
+swept_grows (own_entry f r i x) v = begins_self v.findings.swept
+swept_grows (link_entry r from i old) v = begins_self v.findings.swept
 swept_grows (set_value r i old new kind) v = begins_self v.findings.swept
 swept_grows (unlink_entry r i x) v = begins_self v.findings.swept
 swept_grows (freeze_room r old) v = begins_self v.findings.swept

@@ -13,7 +13,7 @@ use Rattle.chunk_core.specs.Covers.{cover_at}
 use Rattle.chunk_core.specs.CoverSums.{base_for, base_of}
 use Rattle.chunk_core.specs.RoomHolds.{no_rooms}
 use Rattle.chunk_core.specs.RoomsAfter.{rooms_after}
-use Rattle.chunk_core.specs.RoomStep.{RoomStep, pin_room, unpin_room, latch_room, store_entry, publish_entry, unlatch_room, set_value, unlink_entry, freeze_room, thaw_room, hold_room, claim_room, store_room, open_room, retire_room, put_room, room_effect, room_spot}
+use Rattle.chunk_core.specs.RoomStep.{RoomStep, pin_room, unpin_room, claim_entry, own_entry, link_entry, set_value, unlink_entry, freeze_room, thaw_room, hold_room, claim_room, store_room, open_room, retire_room, put_room, room_effect, room_spot}
 use Rattle.chunk_core.specs.Rooms.{IsInRooms}
 use Rattle.chunk_core.proofs.CoverLaws.{all_still, covers_still, moves}
 use Rattle.oak_core.specs.declared.states.PassState.{PassState}
@@ -28,13 +28,13 @@ use Rattle.oak_core.specs.Step.{Step, load, give_number, on_arena, on_headers, o
 use Rattle.oak_core.specs.TableState.{TableState}
 use Rattle.oak_core.proofs.kinds.KeepsArena.{arena_inside}
 use Rattle.oak_core.proofs.kinds.KeepsLocked.{inside_it}
-use Rattle.oak_core.proofs.told.PlainLoads.{plain_or_taught, plain_teaches}
+use Rattle.oak_core.proofs.told.PlainLoads.{plain_or_taught, plain_teaches, rooms_linked}
 use Rattle.oak_core.proofs.covers.RoomBases.{room_rises}
 use Rattle.oak_core.proofs.memory.Words.{memory_read, memory_set}
 
 -- a load leaves the moving ranges of its pass
 moving_by_load : (m : Memory) (v : PassState) (p : Spot) → (rooms_by_load p m v).moving ≡ v.rooms.moving
-moving_by_load m v = plain_or_taught (λ p. (rooms_by_load p m v).moving ≡ v.rooms.moving) (λ p plain. ap (λ (a : RoomHolds). a.moving) (plain_teaches 0 m [] v p plain).rooms) (λ k. refl) (λ k i. refl) (λ h. refl)
+moving_by_load m v = plain_or_taught (λ p. (rooms_by_load p m v).moving ≡ v.rooms.moving) (λ p plain. ap (λ (a : RoomHolds). a.moving) (plain_teaches 0 m [] v p plain).rooms) (λ k. refl) (λ k from. ap (λ (a : RoomHolds). a.moving) (rooms_linked m v k from)) (λ k i. refl) (λ h. refl)
 
 -- no base is lower at t than at s
 abbrev AllRise : Sizes → TableState → TableState → Type 0
@@ -71,10 +71,9 @@ module _ (z : Sizes) (s : TableState) (seat : ℕ) (v : PassState) (r : Rule z s
     pub room_inside : (x : RoomStep) → MayOnRooms z call x v → IsInRooms z (room_spot x)
     room_inside (pin_room j) may = may.inside
     room_inside (unpin_room j) may = may.inside
-    room_inside (latch_room j) may = may.inside
-    room_inside (store_entry f j i x) may = may.inside
-    room_inside (publish_entry j x) may = may.inside
-    room_inside (unlatch_room j) may = may.inside
+    room_inside (claim_entry j old) may = may.inside
+    room_inside (own_entry f j i x) may = may.inside
+    room_inside (link_entry j from i old) may = may.inside
     room_inside (set_value j i old new kind) may = may.inside
     room_inside (unlink_entry j i x) may = may.inside
     room_inside (freeze_room j old) may = may.inside

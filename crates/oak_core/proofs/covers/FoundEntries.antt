@@ -2,7 +2,7 @@
 use Rattle.std.proofs.Common.{◌≡◌, ℕ, ◌+◌, ◌<◌, List, map, sym, subst, ap, ◌∙◌, Some}
 use mathlib.Core.Option.{some}
 use lib.ListN.{get_elem?}
-use Rattle.oak_model.specs.Counts.{one_at, total, Has}
+use Rattle.oak_model.specs.Counts.{one_at, total}
 use Rattle.oak_model.specs.KeyNumber.{key_number}
 use Rattle.oak_model.specs.Limits.{Sizes}
 use Rattle.arena_core.specs.Place.{content}
@@ -16,7 +16,6 @@ use Rattle.chunk_core.specs.LinkedEntries.{linked}
 use Rattle.chunk_core.specs.MayOnRooms.{FindsEntry}
 use Rattle.chunk_core.specs.PinnedRooms.{RoomPinHolds, found_in}
 use Rattle.chunk_core.specs.RoomRule.{RoomsStand}
-use Rattle.chunk_core.proofs.RoomLinks.{found_place}
 use Rattle.oak_core.specs.declared.states.PassState.{PassState}
 use Rattle.oak_core.specs.EntryOwners.{is_key_word}
 use Rattle.oak_core.specs.FoundKeys.{entry_key, pinned_key}
@@ -34,12 +33,8 @@ module _ (z : Sizes) (m : Memory) (vs : List PassState) (rooms : RoomsStand z m.
   holds : RoomPinHolds z m.rooms (content m.arena.bytes) p
   holds = pin_holds z m vs rooms parts seat v here p finds.pin.is finds.pin.good
 
-  -- it is one of those found, by its number
-  there : Has e (found_in p) × (e.number ≡ i)
-  there = found_place p.count p.entries i e holds.counted finds.there
-
   entry : entry_key i (found_in p) ≡ Some key
-  entry = entry_key_is z m.rooms (content m.arena.bytes) p holds i e there.0 there.1
+  entry = entry_key_is z m.rooms (content m.arena.bytes) p holds i e finds.there finds.number
 
   -- its room
   pub room_inside : r < z.chunks

@@ -10,7 +10,7 @@ use Rattle.oak_model.specs.Counts.{one_at, total, Each, Has}
 use Rattle.oak_model.specs.KeyNumber.{key_number}
 use Rattle.oak_model.specs.Limits.{Sizes}
 use Rattle.oak_model.proofs.Counting.{test-cases, true_both}
-use Rattle.oak_model.proofs.Lists.{at_map, rows_length}
+use Rattle.oak_model.proofs.Lists.{at_map, each_append, rows_length}
 use Rattle.arena_core.specs.Arena.{block_words}
 use Rattle.arena_core.specs.Place.{class_in, block_in, content}
 use Rattle.chunk_core.specs.CoverRule.{CoversPartition}
@@ -52,7 +52,7 @@ key_from links word content i e stands is (x ∷ xs) all has = dite (ℕ_discret
     ∙ key_from links word content i e stands is xs all.1 (⊎_elim (λ (q : e ≡ x). absurd (ne (sym (ap (λ (y : FoundEntry). y.number) q) ∙ is))) (λ (q : Has e xs). q) has))
 
 pub entry_key_is : (z : Sizes) (m : RoomMemory) (content : ℕ → List ℕ) (p : PinnedRoom) → RoomPinHolds z m content p → (i : ℕ) (e : FoundEntry) → Has e (found_in p) → e.number ≡ i → entry_key i (found_in p) ≡ Some (key_bytes e.word e.words)
-entry_key_is z m content p holds i e has is = key_from (linked m p.room) (m.key p.room) content i e (found_stands z m content p holds e has) is (found_in p) holds.entries has
+entry_key_is z m content p holds i e has is = key_from (linked m p.room) (m.key p.room) content i e (found_stands z m content p holds e has) is (found_in p) (each_append (EntryStands (linked m p.room) (m.key p.room) content) p.entries p.walked holds.entries holds.walked) has
 
 -- the key of an entry of the pinned room
 pub found_key_is : (r i : ℕ) (o : Option PinnedRoom) (p : PinnedRoom) (key : List ℕ) → o ≡ Some p → p.room ≡ r → IsGoodRoom p → entry_key i (found_in p) ≡ Some key → pinned_key r i o ≡ Some key

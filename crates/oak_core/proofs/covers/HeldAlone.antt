@@ -16,7 +16,7 @@ use Rattle.chunk_core.specs.RoomCopies.{without_room}
 use Rattle.chunk_core.specs.RoomReads.{copy_at}
 use Rattle.chunk_core.specs.RoomRule.{in_room_state}
 use Rattle.chunk_core.specs.RoomsAfter.{rooms_after}
-use Rattle.chunk_core.specs.RoomStep.{RoomStep, pin_room, unpin_room, latch_room, store_entry, publish_entry, unlatch_room, set_value, unlink_entry, freeze_room, thaw_room, hold_room, claim_room, store_room, open_room, retire_room}
+use Rattle.chunk_core.specs.RoomStep.{RoomStep, pin_room, unpin_room, claim_entry, own_entry, link_entry, set_value, unlink_entry, freeze_room, thaw_room, hold_room, claim_room, store_room, open_room, retire_room}
 use Rattle.chunk_core.proofs.HeldRooms.{room_rows, row_else, without_else, without_here}
 use Rattle.chunk_core.proofs.StoredRooms.{rows_with}
 use Rattle.oak_core.specs.declared.states.PassState.{PassState}
@@ -29,11 +29,11 @@ use Rattle.oak_core.specs.Schedule.{Event, Goes, joins, splits, steps}
 use Rattle.oak_core.specs.Step.{Step, load, give_number, on_arena, on_headers, on_rooms, store_locked, note_full, May, MayOnRooms, state_after}
 use Rattle.oak_core.specs.TableState.{TableState}
 use Rattle.oak_core.proofs.kinds.EachEvent.{event_keeps}
-use Rattle.oak_core.proofs.told.PlainLoads.{plain_or_taught, plain_teaches}
+use Rattle.oak_core.proofs.told.PlainLoads.{plain_or_taught, plain_teaches, rooms_linked}
 
 -- a load leaves the rooms that its pass holds
 held_by_load : (m : Memory) (v : PassState) (p : Spot) → (rooms_by_load p m v).held ≡ v.rooms.held
-held_by_load m v = plain_or_taught (λ p. (rooms_by_load p m v).held ≡ v.rooms.held) (λ p plain. ap (λ (a : RoomHolds). a.held) (plain_teaches 0 m [] v p plain).rooms) (λ k. refl) (λ k i. refl) (λ h. refl)
+held_by_load m v = plain_or_taught (λ p. (rooms_by_load p m v).held ≡ v.rooms.held) (λ p plain. ap (λ (a : RoomHolds). a.held) (plain_teaches 0 m [] v p plain).rooms) (λ k. refl) (λ k from. ap (λ (a : RoomHolds). a.held) (rooms_linked m v k from)) (λ k i. refl) (λ h. refl)
 
 -- the rooms that a pass holds, before and after it lost one, or froze one
 
@@ -66,10 +66,9 @@ module _ (z : Sizes) (s : TableState) (v : PassState) (r : ℕ) where
   room_more : (call : ℕ) (x : RoomStep) → MayOnRooms z call x v → NoMore (rooms_after z m.rooms (content m.arena.bytes) x v.rooms).held
   room_more call (pin_room k) may = still v.rooms.held refl
   room_more call (unpin_room k) may = still v.rooms.held refl
-  room_more call (latch_room k) may = still v.rooms.held refl
-  room_more call (store_entry f k i x) may = still v.rooms.held refl
-  room_more call (publish_entry k x) may = still v.rooms.held refl
-  room_more call (unlatch_room k) may = still v.rooms.held refl
+  room_more call (claim_entry k old) may = still v.rooms.held refl
+  room_more call (own_entry f k i x) may = still v.rooms.held refl
+  room_more call (link_entry k from i old) may = still v.rooms.held refl
   room_more call (set_value k i old new kind) may = still v.rooms.held refl
   room_more call (unlink_entry k i x) may = still v.rooms.held refl
   room_more call (freeze_room k old) may = decided (m.rooms.pin k) old (λ t. NoMore (cond t (record { room = k; held_as = Frozen } ∷ v.rooms.held) v.rooms.held)) (λ _. let e = frozen_more k r v.rooms.held in inl (omega arith)) (λ _. still v.rooms.held refl)

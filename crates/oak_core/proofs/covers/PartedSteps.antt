@@ -1,5 +1,5 @@
 -- A pass gives up a room that it holds, and the ranges and entries are cut otherwise: what stands behind the step.
-use Rattle.std.proofs.Common.{◌≡◌, ℕ, ◌+◌, ◌^◌, ◌<◌, List, map, set, sym, ap, ◌∙◌, subst, arith, false}
+use Rattle.std.proofs.Common.{◌≡◌, ℕ, ◌+◌, ◌^◌, ◌<◌, List, map, set, sym, ap, ◌∙◌, subst, arith, false, Option}
 use mathlib.Core.Option.{some}
 use lib.ListN.{get_elem?}
 use Rattle.oak_model.specs.Counts.{total}
@@ -10,6 +10,7 @@ use Rattle.oak_model.proofs.Lists.{at_map, map_set, map_set_same}
 use Rattle.arena_core.specs.Blocks.{BlocksAreOwned}
 use Rattle.arena_core.specs.Place.{content, names_block}
 use Rattle.header_core.specs.declared.holds.HeaderHolds.{HeaderHolds}
+use Rattle.chunk_core.specs.declared.holds.Claim.{Claim}
 use Rattle.chunk_core.specs.declared.holds.MovingRange.{MovingRange}
 use Rattle.chunk_core.specs.declared.holds.RoomHolds.{RoomHolds}
 use Rattle.chunk_core.specs.CoverRule.{CoversPartition}
@@ -109,5 +110,5 @@ module _ (z : Sizes) (s : TableState) (seat : ℕ) (v : PassState) (r : Rule z s
       keys = parted_bundles z m m'.rooms is_key_word s.states (keys_now z s r) seat v w here (ap (λ (a : RoomHolds). a.pin) u.rooms) u.headers u.knowledge (ap without_hand u.numbers) c.gone c.come c.parted step_then c.low;
       kept = subst (KeptNumbersStand same_spot (read m')) (sym (map_set_same kept_of s.states seat v w here (λ i. kept_with (u.blocks i) (u.headers i))))
           (kept_unkept same_spot (read m) (read m') (in_rooms (at_room_pin k)) x (λ q. read-write m (in_rooms (at_room_pin k)) q x) (map kept_of s.states) (unkept_by_all (in_rooms (at_room_pin k)) (times_in_rooms (at_room_pin k)) s.states) r.kept);
-      pin = subst (λ (p : Knowledge × HeaderHolds). HoldsKnown p.0 p.1) (λ i. (sym u.knowledge i, sym u.headers i)) (r.passes seat v here);
+      pin = subst (λ (p : Knowledge × HeaderHolds × Option Claim). HoldsKnown p.0 p.1 p.2) (λ i. (sym u.knowledge i, sym u.headers i, sym (ap (λ (a : RoomHolds). a.claim) u.rooms) i)) (r.passes seat v here);
     }

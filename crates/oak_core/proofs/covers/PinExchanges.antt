@@ -1,14 +1,13 @@
--- A step that exchanges the pin word of a room where it is a certain number, with what its pass has of rooms then, and else changes nothing.
-use Rattle.std.proofs.Common.{◌≡◌, ℕ, ◌+◌, ◌^◌, ◌<◌, ◌==◌, Bool, true, false, List, map, set, get_or, sym, refl, subst, arith}
+-- A step that exchanges a word of a room where it is a certain number, with what its pass has of rooms then, and else changes nothing.
+use Rattle.std.proofs.Common.{◌≡◌, ℕ, ◌+◌, ◌^◌, ◌<◌, ◌==◌, cond, ap, Bool, true, false, List, map, set, get_or, sym, refl, subst, arith}
 use prog.Atomic.{either}
 use mathlib.Core.Option.{some}
 use lib.ListN.{get_elem?}
 use Rattle.pin_word.specs.PinWord.{STATE, state_of}
 use Rattle.oak_model.specs.Kept.{KeptNumbersStand}
 use Rattle.oak_model.specs.Limits.{Sizes}
-use Rattle.oak_model.proofs.Counting.{decided}
+use Rattle.oak_model.proofs.Counting.{decided, test-cases}
 use Rattle.oak_model.proofs.Lists.{set_again}
-use Rattle.oak_model.proofs.PutLaws.{put-again}
 use Rattle.arena_core.specs.Blocks.{BlocksAreOwned}
 use Rattle.arena_core.specs.Place.{names_block, content}
 use Rattle.chunk_core.specs.declared.holds.RoomHolds.{RoomHolds}
@@ -17,7 +16,8 @@ use Rattle.chunk_core.specs.Covers.{Cover}
 use Rattle.chunk_core.specs.KeptRooms.{kept_of_rooms}
 use Rattle.chunk_core.specs.RoomRule.{RoomsStand}
 use Rattle.chunk_core.specs.RoomStep.{put_room}
-use Rattle.chunk_core.specs.Rooms.{RoomMemory, IsInRooms, at_room_pin, read_room, same_room_spot}
+use Rattle.chunk_core.specs.Rooms.{RoomMemory, RoomSpot, IsInRooms, at_room_pin, at_base, at_count, at_latch, at_first, at_low, at_high, at_key, at_value, at_next, read_room, same_room_spot}
+use Rattle.chunk_core.proofs.RoomWords.{same_room_spot-is}
 use Rattle.chunk_core.proofs.CoverFrames.{partition_same}
 use Rattle.oak_core.specs.declared.states.PassState.{PassState}
 use Rattle.oak_core.specs.EntryOwners.{entry_owners, is_key_word}
@@ -61,29 +61,55 @@ module _ (z : Sizes) (s : TableState) (seat : ℕ) (v : PassState) (r : Rule z s
     covers = same;
   }
 
-  -- the pin word of a room becomes what it was
-  still : (k : ℕ) → RoomsBehind (put_room (memory z s.words).rooms (at_room_pin k) ((memory z s.words).rooms.pin k)) (set (map rooms_held s.states) seat v.rooms)
-  still k = subst (λ (p : RoomMemory × List RoomHolds). RoomsBehind p.0 p.1) (sym (λ j. (words_still j, set_again hs seat v.rooms (at_rooms z s seat v r here) j))) (rooms_behind m.rooms hs r.rooms (λ F. refl) (λ _. refl) r.kept_in_rooms)
+  -- a word of a room becomes what it was
+  pub still : (p : RoomSpot) → RoomsBehind (put_room (memory z s.words).rooms p (read_room (memory z s.words).rooms p)) (set (map rooms_held s.states) seat v.rooms)
+  still p = subst (λ (t : RoomMemory × List RoomHolds). RoomsBehind t.0 t.1) (sym (λ j. (words_still j, set_again hs seat v.rooms (at_rooms z s seat v r here) j))) (rooms_behind m.rooms hs r.rooms (λ F. refl) (λ _. refl) r.kept_in_rooms)
     where
-      words_still : put_room m.rooms (at_room_pin k) (m.rooms.pin k) ≡ m.rooms
-      words_still = λ j. record { pin = put-again m.rooms.pin k j; base = m.rooms.base; count = m.rooms.count; latch = m.rooms.latch; first = m.rooms.first; low = m.rooms.low; high = m.rooms.high; key = m.rooms.key; value = m.rooms.value; next = m.rooms.next }
+      again : (q : RoomSpot) → cond (same_room_spot q p) (read_room m.rooms p) (read_room m.rooms q) ≡ read_room m.rooms q
+      again q = test-cases (same_room_spot q p) (λ t. cond t (read_room m.rooms p) (read_room m.rooms q) ≡ read_room m.rooms q) (λ e. ap (read_room m.rooms) (sym (same_room_spot-is q p e))) (λ _. refl)
 
-  module _ (k old new : ℕ) (inside : IsInRooms z (at_room_pin k)) where
-    read_is : (memory z s.words).rooms.pin k ≡ get_or s.words (index z (in_rooms (at_room_pin k))) 0
-    read_is = memory_read z s.words (in_rooms (at_room_pin k)) inside
+      words_still : put_room m.rooms p (read_room m.rooms p) ≡ m.rooms
+      words_still = λ j. record {
+        pin = λ k. again (at_room_pin k) j;
+        base = λ k. again (at_base k) j;
+        count = λ k. again (at_count k) j;
+        latch = λ k. again (at_latch k) j;
+        first = λ k. again (at_first k) j;
+        low = λ k n. again (at_low k n) j;
+        high = λ k n. again (at_high k n) j;
+        key = λ k n. again (at_key k n) j;
+        value = λ k n. again (at_value k n) j;
+        next = λ k n. again (at_next k n) j;
+      }
+
+  module _ (p : RoomSpot) (old new : ℕ) (inside : IsInRooms z p) where
+    word_is : read_room (memory z s.words).rooms p ≡ get_or s.words (index z (in_rooms p)) 0
+    word_is = memory_read z s.words (in_rooms p) inside
 
     -- where the word is `old` it becomes `new`, and else it stays; `holds` says what the pass has of rooms in each case
-    pub exchanged : (holds : Bool → RoomHolds) → holds false ≡ v.rooms → ((memory z s.words).rooms.pin k ≡ old → RoomsBehind (put_room (memory z s.words).rooms (at_room_pin k) new) (set (map rooms_held s.states) seat (holds true)))
-        → let n = get_or s.words (index z (in_rooms (at_room_pin k))) 0 in RoomsBehind (put_room (memory z s.words).rooms (at_room_pin k) (either (n == old) new n)) (set (map rooms_held s.states) seat (holds ((memory z s.words).rooms.pin k == old)))
-    exchanged holds as_it_was hit = subst (λ (i : ℕ). RoomsBehind (put_room m.rooms (at_room_pin k) (either (i == old) new i)) (set hs seat (holds (m.rooms.pin k == old)))) read_is
-        (decided (m.rooms.pin k) old (λ t. RoomsBehind (put_room m.rooms (at_room_pin k) (either t new (m.rooms.pin k))) (set hs seat (holds t))) hit
-        (λ _. subst (λ (b : RoomHolds). RoomsBehind (put_room m.rooms (at_room_pin k) (m.rooms.pin k)) (set hs seat b)) (sym as_it_was) (still k)))
+    pub word_exchanged : (holds : Bool → RoomHolds) → holds false ≡ v.rooms → (read_room (memory z s.words).rooms p ≡ old → RoomsBehind (put_room (memory z s.words).rooms p new) (set (map rooms_held s.states) seat (holds true)))
+        → let n = get_or s.words (index z (in_rooms p)) 0 in RoomsBehind (put_room (memory z s.words).rooms p (either (n == old) new n)) (set (map rooms_held s.states) seat (holds (read_room (memory z s.words).rooms p == old)))
+    word_exchanged holds as_it_was hit = subst (λ (i : ℕ). RoomsBehind (put_room m.rooms p (either (i == old) new i)) (set hs seat (holds (read_room m.rooms p == old)))) word_is
+        (decided (read_room m.rooms p) old (λ t. RoomsBehind (put_room m.rooms p (either t new (read_room m.rooms p))) (set hs seat (holds t))) hit
+        (λ _. subst (λ (b : RoomHolds). RoomsBehind (put_room m.rooms p (read_room m.rooms p)) (set hs seat b)) (sym as_it_was) (still p)))
 
     -- the number that was found is one of 64 bits
-    pub old_small : (memory z s.words).rooms.pin k ≡ old → old < 2 ^ 64
-    old_small e = let w = r.words.small (index z (in_rooms (at_room_pin k))) in let i = read_is in omega arith
+    pub word_small : read_room (memory z s.words).rooms p ≡ old → old < 2 ^ 64
+    word_small e = let w = r.words.small (index z (in_rooms p)) in let i = word_is in omega arith
 
     -- so is the word afterwards
+    pub word_exchange_small : (read_room (memory z s.words).rooms p ≡ old → new < 2 ^ 64) → let n = get_or s.words (index z (in_rooms p)) 0 in either (n == old) new n < 2 ^ 64
+    word_exchange_small hit = let n : ℕ = get_or s.words (index z (in_rooms p)) 0 in
+        decided n old (λ t. either t new n < 2 ^ 64) (λ e. hit (let i = word_is in omega arith)) (λ _. r.words.small (index z (in_rooms p)))
+
+  -- so it is of a pin word
+  module _ (k old new : ℕ) (inside : IsInRooms z (at_room_pin k)) where
+    pub exchanged : (holds : Bool → RoomHolds) → holds false ≡ v.rooms → ((memory z s.words).rooms.pin k ≡ old → RoomsBehind (put_room (memory z s.words).rooms (at_room_pin k) new) (set (map rooms_held s.states) seat (holds true)))
+        → let n = get_or s.words (index z (in_rooms (at_room_pin k))) 0 in RoomsBehind (put_room (memory z s.words).rooms (at_room_pin k) (either (n == old) new n)) (set (map rooms_held s.states) seat (holds ((memory z s.words).rooms.pin k == old)))
+    exchanged = word_exchanged (at_room_pin k) old new inside
+
+    pub old_small : (memory z s.words).rooms.pin k ≡ old → old < 2 ^ 64
+    old_small = word_small (at_room_pin k) old new inside
+
     pub exchange_small : ((memory z s.words).rooms.pin k ≡ old → new < 2 ^ 64) → let n = get_or s.words (index z (in_rooms (at_room_pin k))) 0 in either (n == old) new n < 2 ^ 64
-    exchange_small hit = let n : ℕ = get_or s.words (index z (in_rooms (at_room_pin k))) 0 in
-        decided n old (λ t. either t new n < 2 ^ 64) (λ e. hit (let i = read_is in omega arith)) (λ _. r.words.small (index z (in_rooms (at_room_pin k))))
+    exchange_small = word_exchange_small (at_room_pin k) old new inside

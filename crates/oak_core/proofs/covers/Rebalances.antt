@@ -7,7 +7,7 @@ use Rattle.oak_model.specs.Limits.{Sizes}
 use Rattle.oak_model.proofs.Lists.{map_set_same, set_there}
 use Rattle.chunk_core.specs.declared.states.TheConstants.{HELD}
 use Rattle.chunk_core.specs.RoomReads.{pinned_at}
-use Rattle.chunk_core.specs.RoomStep.{RoomStep, pin_room, unpin_room, latch_room, store_entry, publish_entry, unlatch_room, set_value, unlink_entry, freeze_room, thaw_room, hold_room, claim_room, store_room, open_room, retire_room}
+use Rattle.chunk_core.specs.RoomStep.{RoomStep, pin_room, unpin_room, claim_entry, own_entry, link_entry, set_value, unlink_entry, freeze_room, thaw_room, hold_room, claim_room, store_room, open_room, retire_room}
 use Rattle.oak_core.specs.declared.states.Knowledge.{Knowledge}
 use Rattle.oak_core.specs.declared.states.PassState.{PassState}
 use Rattle.oak_core.specs.KeyHistories.{state_behind}
@@ -30,10 +30,9 @@ knows_same call (open_room k) is m qs v = refl
 knows_same call (retire_room k) is m qs v = refl
 knows_same call (pin_room k) is m qs v = absurd is
 knows_same call (unpin_room k) is m qs v = absurd is
-knows_same call (latch_room k) is m qs v = absurd is
-knows_same call (store_entry f k i x) is m qs v = absurd is
-knows_same call (publish_entry k x) is m qs v = absurd is
-knows_same call (unlatch_room k) is m qs v = absurd is
+knows_same call (claim_entry k old) is m qs v = absurd is
+knows_same call (own_entry f k i x) is m qs v = absurd is
+knows_same call (link_entry k from i old) is m qs v = absurd is
 knows_same call (set_value k i old new kind) is m qs v = absurd is
 knows_same call (unlink_entry k i x) is m qs v = absurd is
 

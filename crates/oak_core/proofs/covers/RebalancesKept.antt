@@ -9,7 +9,7 @@ use lib.ListN.{get_elem?}
 use Rattle.oak_model.specs.Counts.{Each}
 use Rattle.oak_model.specs.Limits.{Sizes}
 use Rattle.oak_model.proofs.Lists.{at_longer, set_else, set_there}
-use Rattle.chunk_core.specs.RoomStep.{RoomStep, pin_room, unpin_room, latch_room, store_entry, publish_entry, unlatch_room, set_value, unlink_entry, freeze_room, thaw_room, hold_room, claim_room, store_room, open_room, retire_room}
+use Rattle.chunk_core.specs.RoomStep.{RoomStep, pin_room, unpin_room, claim_entry, own_entry, link_entry, set_value, unlink_entry, freeze_room, thaw_room, hold_room, claim_room, store_room, open_room, retire_room}
 use Rattle.oak_core.specs.declared.states.PassState.{PassState}
 use Rattle.oak_core.specs.declared.states.Rebalanced.{Rebalanced}
 use Rattle.oak_core.specs.PassState.{both_state, left_state, right_state, spent_state}
@@ -43,10 +43,9 @@ room_kept_by (open_room r) v is = refl
 room_kept_by (retire_room r) v is = refl
 room_kept_by (pin_room r) v is = absurd is
 room_kept_by (unpin_room r) v is = absurd is
-room_kept_by (latch_room r) v is = absurd is
-room_kept_by (store_entry f r i x) v is = absurd is
-room_kept_by (publish_entry r x) v is = absurd is
-room_kept_by (unlatch_room r) v is = absurd is
+room_kept_by (claim_entry r old) v is = absurd is
+room_kept_by (own_entry f r i x) v is = absurd is
+room_kept_by (link_entry r from i old) v is = absurd is
 room_kept_by (set_value r i old new kind) v is = absurd is
 room_kept_by (unlink_entry r i x) v is = absurd is
 

@@ -1,5 +1,5 @@
 -- No base falls by a step on a word of a room.
-use Rattle.std.proofs.Common.{◌≡◌, ℕ, ◌+◌, ◌-◌, ◌*◌, ◌%◌, ◌^◌, ◌<◌, ◌≤◌, ◌==◌, cond, false, List, [], ◌∷◌, map, set, refl, sym, ap, ◌∙◌, subst, inl, inr, arith}
+use Rattle.std.proofs.Common.{◌≡◌, ℕ, ◌+◌, ◌-◌, ◌*◌, ◌%◌, ◌^◌, ◌<◌, ◌≤◌, ◌==◌, cond, false, List, [], ◌∷◌, map, set, refl, sym, ap, ◌∙◌, subst, inl, inr, arith, Option, Some, None}
 use prog.Atomic.{either}
 use mathlib.Core.Option.{some}
 use lib.ListN.{get_elem?}
@@ -21,8 +21,9 @@ use Rattle.chunk_core.specs.RoomCopies.{without_room}
 use Rattle.chunk_core.specs.RoomReads.{copy_at, moving_at}
 use Rattle.chunk_core.specs.RoomRule.{room_pins}
 use Rattle.chunk_core.specs.RoomsAfter.{rooms_after}
-use Rattle.chunk_core.specs.RoomStep.{EntryField, of_key, of_value, of_next, RoomStep, pin_room, unpin_room, latch_room, store_entry, publish_entry, unlatch_room, set_value, unlink_entry, freeze_room, thaw_room, hold_room, claim_room, store_room, open_room, retire_room, put_room, room_effect, room_spot}
-use Rattle.chunk_core.specs.Rooms.{RoomMemory, RoomSpot, at_room_pin, at_count, at_latch, at_key, at_value, at_next, read_room, room_at}
+use Rattle.chunk_core.specs.RoomStep.{EntryField, of_key, of_value, of_next, entry_spot, RoomStep, pin_room, unpin_room, claim_entry, own_entry, link_entry, set_value, unlink_entry, freeze_room, thaw_room, hold_room, claim_room, store_room, open_room, retire_room, put_room, room_effect, room_spot}
+use Rattle.chunk_core.specs.LinkWords.{link_spot, link_word}
+use Rattle.chunk_core.specs.Rooms.{RoomMemory, RoomSpot, at_room_pin, at_count, at_first, at_key, at_value, at_next, read_room, room_at}
 use Rattle.chunk_core.proofs.CoverLaws.{all_still}
 use Rattle.chunk_core.proofs.DroppedEntries.{ranges_base}
 use Rattle.chunk_core.proofs.Ranges.{base_more}
@@ -84,10 +85,15 @@ module _ (z : Sizes) (s : TableState) (seat : ℕ) (v : PassState) (r : Rule z s
   unpin_rises j a moving one = let c = r.rooms.counted j in let t = total_at (room_pins j) hs seat v.rooms own in weighed j ((m.pin j + (2 ^ 64 - 1)) % 2 ^ 64) a moving (weight_is ((m.pin j + (2 ^ 64 - 1)) % 2 ^ 64) (m.pin j) (pin_down (m.pin j) (omega arith) (small_pin j)).1)
 
   -- a word of an entry is none of the range
-  entry_rises : (f : EntryField) (j i x : ℕ) (a : RoomHolds) → a.moving ≡ v.rooms.moving → Rises (put_room m (room_spot (store_entry f j i x)) x) a
+  entry_rises : (f : EntryField) (j i x : ℕ) (a : RoomHolds) → a.moving ≡ v.rooms.moving → Rises (put_room m (entry_spot f j i) x) a
   entry_rises of_key j i x a moving = quiet (at_key j i) x a moving (λ k n. refl)
   entry_rises of_value j i x a moving = quiet (at_value j i) x a moving (λ k n. refl)
   entry_rises of_next j i x a moving = quiet (at_next j i) x a moving (λ k n. refl)
+
+  -- nor is a link
+  link_rises : (from : Option ℕ) (j x : ℕ) (a : RoomHolds) → a.moving ≡ v.rooms.moving → Rises (put_room m (link_spot j from) x) a
+  link_rises None j x a moving = quiet (at_first j) x a moving (λ k n. refl)
+  link_rises (Some q) j x a moving = quiet (at_next j q) x a moving (λ k n. refl)
 
   freeze_rises : (j old : ℕ) → state_of old ≡ OPEN → Rises (put_room m (at_room_pin j) (room_effect (freeze_room j old) (m.pin j))) (rooms_after z m bytes (freeze_room j old) v.rooms)
   freeze_rises j old opened = decided (m.pin j) old (λ t. Rises (put_room m (at_room_pin j) (either t (old + STATE) (m.pin j))) (record v.rooms { held = cond t (record { room = j; held_as = Frozen } ∷ v.rooms.held) v.rooms.held }))
@@ -134,10 +140,9 @@ module _ (z : Sizes) (s : TableState) (seat : ℕ) (v : PassState) (r : Rule z s
     pub room_rises : (x : RoomStep) → MayOnRooms z call x v → Rises (put_room m (room_spot x) (room_effect x (read_room m (room_spot x)))) (rooms_after z m bytes x v.rooms)
     room_rises (pin_room j) may = pin_rises j (rooms_after z m bytes (pin_room j) v.rooms) refl
     room_rises (unpin_room j) may = unpin_rises j (rooms_after z m bytes (unpin_room j) v.rooms) refl may.rooms.0
-    room_rises (latch_room j) may = quiet (at_latch j) (room_effect (latch_room j) (m.latch j)) (rooms_after z m bytes (latch_room j) v.rooms) refl (λ k n. refl)
-    room_rises (store_entry f j i x) may = entry_rises f j i x (rooms_after z m bytes (store_entry f j i x) v.rooms) refl
-    room_rises (publish_entry j x) may = quiet (at_count j) x (rooms_after z m bytes (publish_entry j x) v.rooms) refl (λ k n. refl)
-    room_rises (unlatch_room j) may = quiet (at_latch j) 0 (rooms_after z m bytes (unlatch_room j) v.rooms) refl (λ k n. refl)
+    room_rises (claim_entry j old) may = quiet (at_count j) (room_effect (claim_entry j old) (m.count j)) (rooms_after z m bytes (claim_entry j old) v.rooms) refl (λ k n. refl)
+    room_rises (own_entry f j i x) may = entry_rises f j i x (rooms_after z m bytes (own_entry f j i x) v.rooms) refl
+    room_rises (link_entry j from i old) may = link_rises from j (room_effect (link_entry j from i old) (link_word m j from)) (rooms_after z m bytes (link_entry j from i old) v.rooms) refl
     room_rises (set_value j i old new kind) may = quiet (at_value j i) (room_effect (set_value j i old new kind) (m.value j i)) v.rooms refl (λ k n. refl)
     room_rises (unlink_entry j i x) may = quiet (at_value j i) x v.rooms refl (λ k n. refl)
     room_rises (freeze_room j old) may = freeze_rises j old may.rooms

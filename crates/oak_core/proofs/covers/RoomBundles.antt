@@ -13,8 +13,8 @@ use Rattle.chunk_core.specs.CoverSums.{covers}
 use Rattle.chunk_core.specs.Covers.{Cover, cover_at, moving_of}
 use Rattle.chunk_core.specs.KeptRooms.{kept_of_rooms, kept_of_rooms_held}
 use Rattle.chunk_core.specs.PinnedRooms.{OnRoomPin, IsGoodRoom, RoomPinHolds}
-use Rattle.chunk_core.specs.RoomHolds.{no_rooms}
-use Rattle.chunk_core.specs.RoomRule.{room_pins, latches_on, in_room_state, AreTrueRanges, RoomHoldsStand, RoomsStand}
+use Rattle.chunk_core.specs.RoomHolds.{claims_on, no_rooms}
+use Rattle.chunk_core.specs.RoomRule.{ClaimStands, OnClaim, room_pins, in_room_state, AreTrueRanges, RoomHoldsStand, RoomsStand}
 use Rattle.chunk_core.specs.Rooms.{RoomMemory, RoomSpot, read_room, same_room_spot}
 use Rattle.chunk_core.proofs.CoverFrames.{partition_same}
 use Rattle.chunk_core.proofs.CoverLaws.{moves, covers_still}
@@ -65,13 +65,16 @@ module _ (z : Sizes) (m : RoomMemory) (bytes : ℕ → ℕ → ℕ → ℕ) (hs 
       held = λ j s is. let l = level (in_room_state j s) (no_state j s) in omega arith;
       states = b.rooms.states;
       generations = λ j. refl;
-      latch = λ j. let l = level (latches_on j) refl in omega arith;
       latches = b.rooms.latches;
       ordered = b.rooms.ordered;
+      either = λ j i n w e. let l = level (claims_on j i) refl in let q = b.rooms.either j i w in omega arith;
+      keyed = λ j i n w low e. let l = level (claims_on j i) refl in let q = b.rooms.keyed j i w low in omega arith;
+      claims = λ j u c stays at is h. h;
+      own_claims = all (λ (u : RoomHolds). OnClaim (ClaimStands m (content bytes)) u.claim) b.rooms.claimed tt;
       others = λ j u p stays at is h. h;
       own = all (λ (u : RoomHolds). OnRoomPin (λ p. IsGoodRoom p → RoomPinHolds z m (content bytes) p) u.pin) b.rooms.good tt;
       carried = all (λ (u : RoomHolds). AreTrueRanges (content bytes) u.moving) b.rooms.carried tt;
-      stands = all (RoomHoldsStand z) b.rooms.passes record { latch = tt; claim = refl; whole = tt };
+      stands = all (RoomHoldsStand z) b.rooms.passes record { claim = tt; whole = tt };
     } b.rooms;
     covers = partition_same z m m (content bytes) (content bytes) is_key_word hs hs' (sums_moved (cover_at m (content bytes))) b.covers;
     kept = record {

@@ -113,7 +113,7 @@ module _ (z : Sizes) (s : TableState) (seat : ℕ) (v : PassState) (r : Rule z s
   kept_then moving = subst (KeptNumbersStand same_room_spot (read_room (put_room m.rooms p x))) (sym (map_set kept_of_rooms hs seat (held moving))) (store_kept z m.rooms bytes hs r.rooms r.kept_in_rooms seat v.rooms own p x may.rooms.1 may.rooms.0 moving)
 
   pins_known : (u : PassState) (moving : List MovingRange) → u.rooms ≡ held moving → u.headers ≡ v.headers → u.knowledge ≡ v.knowledge → PinsKnow u
-  pins_known u moving rooms headers knowledge = pins_same v u (ap (λ (a : RoomHolds). a.pin) rooms) (ap (λ (a : HeaderHolds). a.pin) headers) knowledge (r.heard.pins seat v here)
+  pins_known u moving rooms headers knowledge = pins_same v u (ap (λ (a : HeaderHolds). a.pin) headers) knowledge (r.heard.pins seat v here)
 
   -- the ranges stay
   still_sums : (F : Cover → ℕ) → all_of z m'.rooms bytes (set hs seat (held v.rooms.moving)) F ≡ all_of z m.rooms bytes hs F

@@ -1,5 +1,5 @@
 -- No event takes back a write that a pass made.
-use Rattle.std.proofs.Common.{◌≡◌, ◌≢◌, ℕ, ◌≤◌, Bool, true, false, cond, Option, Some, None, List, [], ◌∷◌, ◌++◌, map, set, refl, ap, arith}
+use Rattle.std.proofs.Common.{◌≡◌, ◌≢◌, ℕ, ◌≤◌, Bool, true, false, cond, Option, Some, None, List, [], ◌∷◌, ◌++◌, map, set, refl, ap, ◌∙◌, arith}
 use mathlib.Core.Option.{some}
 use lib.ListN.{get_elem?}
 use Rattle.oak_model.specs.Counts.{total}
@@ -11,14 +11,14 @@ use Rattle.oak_model.proofs.Counting.{total_append, total_set, total_snoc}
 use Rattle.header_core.specs.HeaderStep.{HeaderStep, claim_header, store_place, store_stamp, change_place, open_header, pin_header, unpin_header, release_header, lock_header, unlock_header, mark_dead, take_back}
 use Rattle.header_core.specs.declared.holds.HeldHeader.{HeldHeader}
 use Rattle.chunk_core.specs.declared.holds.PinnedRoom.{PinnedRoom}
-use Rattle.chunk_core.specs.RoomStep.{RoomStep, pin_room, unpin_room, latch_room, store_entry, publish_entry, unlatch_room, set_value, unlink_entry, freeze_room, thaw_room, hold_room, claim_room, store_room, open_room, retire_room}
+use Rattle.chunk_core.specs.RoomStep.{RoomStep, pin_room, unpin_room, claim_entry, own_entry, link_entry, set_value, unlink_entry, freeze_room, thaw_room, hold_room, claim_room, store_room, open_room, retire_room}
 use Rattle.arena_core.specs.Place.{content}
 use Rattle.oak_core.specs.declared.states.Joined.{Joined}
 use Rattle.oak_core.specs.declared.states.KeyedWrite.{KeyedWrite}
 use Rattle.oak_core.specs.declared.states.Knowledge.{Knowledge}
 use Rattle.oak_core.specs.declared.states.PassState.{PassState}
 use Rattle.oak_core.specs.Callers.{made_of}
-use Rattle.oak_core.specs.CountTeaching.{knows_count}
+use Rattle.oak_core.specs.LinkTeaching.{knows_link}
 use Rattle.oak_core.specs.FoundKeys.{pinned_key}
 use Rattle.oak_core.specs.HeaderTeaching.{knows_by_header}
 use Rattle.oak_core.specs.Learning.{wrote}
@@ -29,7 +29,7 @@ use Rattle.oak_core.specs.PassState.{both_state, knowledge_of, left_state, right
 use Rattle.oak_core.specs.RoomTeaching.{knows_by_room}
 use Rattle.oak_core.specs.Step.{Step, load, give_number, on_arena, on_headers, on_rooms, store_locked, note_full, state_after}
 use Rattle.oak_core.specs.TableState.{TableState}
-use Rattle.oak_core.proofs.told.PlainLoads.{plain_or_taught, plain_teaches}
+use Rattle.oak_core.proofs.told.PlainLoads.{knows_linked, plain_or_taught, plain_teaches}
 
 -- a pass that knows the second made all writes of the first, and perhaps one more
 abbrev HasMade : Knowledge → Knowledge → Type 0
@@ -63,12 +63,12 @@ value_made : (t : Bool) (caller call : ℕ) (kind : Kind) (key : Option (List �
 value_made true caller call kind key o qs q = insertion_made caller call kind key o qs q
 value_made false caller call kind key o qs q = made_no_more q q refl
 
-count_made : (m : Memory) (k : ℕ) (o : Option PinnedRoom) (qs : List Knowledge) (q : Knowledge) → (knows_count m.rooms (content m.arena.bytes) k o qs q).mine ≡ q.mine
-count_made m k None qs q = refl
-count_made m k (Some p) qs q = refl
+link_made : (m : Memory) (k : ℕ) (from : Option ℕ) (o : Option PinnedRoom) (qs : List Knowledge) (q : Knowledge) → (knows_link m.rooms (content m.arena.bytes) k from o qs q).mine ≡ q.mine
+link_made m k from None qs q = refl
+link_made m k from (Some p) qs q = refl
 
 load_made : (call : ℕ) (m : Memory) (qs : List Knowledge) (v : PassState) (p : Spot) → (knows_by_load call p m qs v).mine ≡ v.knowledge.mine
-load_made call m qs v = plain_or_taught (λ p. (knows_by_load call p m qs v).mine ≡ v.knowledge.mine) (λ p plain. ap (λ (q : Knowledge). q.mine) (plain_teaches call m qs v p plain).knowledge) (λ k. count_made m k v.rooms.pin qs v.knowledge) (λ k i. refl) (λ h. refl)
+load_made call m qs v = plain_or_taught (λ p. (knows_by_load call p m qs v).mine ≡ v.knowledge.mine) (λ p plain. ap (λ (q : Knowledge). q.mine) (plain_teaches call m qs v p plain).knowledge) (λ k. refl) (λ k from. ap (λ (q : Knowledge). q.mine) (knows_linked call m qs v k from) ∙ link_made m k from v.rooms.pin qs v.knowledge) (λ k i. refl) (λ h. refl)
 
 header_made : (call : ℕ) (m : Memory) (qs : List Knowledge) (v : PassState) (x : HeaderStep) → HasMade v.knowledge (knows_by_header call x m qs v)
 header_made call m qs v (claim_header h old) f = omega arith
@@ -87,10 +87,9 @@ header_made call m qs v (take_back h x) f = omega arith
 room_made : (call : ℕ) (m : Memory) (qs : List Knowledge) (v : PassState) (x : RoomStep) → HasMade v.knowledge (knows_by_room call x m qs v)
 room_made call m qs v (pin_room k) f = omega arith
 room_made call m qs v (unpin_room k) f = omega arith
-room_made call m qs v (latch_room k) f = omega arith
-room_made call m qs v (store_entry g k i x) f = omega arith
-room_made call m qs v (publish_entry k x) f = omega arith
-room_made call m qs v (unlatch_room k) f = omega arith
+room_made call m qs v (claim_entry k old) f = omega arith
+room_made call m qs v (own_entry g k i x) f = omega arith
+room_made call m qs v (link_entry k from i old) f = omega arith
 room_made call m qs v (set_value k i old new kind) f = value_made _ v.numbers.number call kind (pinned_key k i v.rooms.pin) (held_header _ v.headers.held) qs v.knowledge f
 room_made call m qs v (unlink_entry k i x) f = omega arith
 room_made call m qs v (freeze_room k old) f = omega arith

@@ -5,7 +5,8 @@ use native.Mathlib.Decide.{dec_lt}
 use Rattle.oak_model.specs.Limits.{Sizes}
 use Rattle.arena_core.specs.Place.{content}
 use Rattle.chunk_core.specs.declared.holds.PinnedRoom.{PinnedRoom}
-use Rattle.chunk_core.specs.ReachedEntries.{LinksReachAll}
+use Rattle.chunk_core.specs.LinkedEntries.{linked}
+use Rattle.chunk_core.specs.RoomRule.{IsInOrder}
 use Rattle.chunk_core.specs.CoverRule.{CoversPartition}
 use Rattle.chunk_core.specs.FoundLinks.{leads, found_from, found_by, LiesBetween}
 use Rattle.chunk_core.specs.LinkWords.{link_word}
@@ -26,13 +27,13 @@ use Rattle.oak_core.proofs.keyed.Levels.{level-none}
 use Rattle.oak_core.proofs.histories.WritesBelow.{before_whole}
 
 module _ (z : Sizes) (m : Memory) (is_key_word : ℕ → ℕ) (vs : List PassState) (parts : CoversPartition z m.rooms (content m.arena.bytes) is_key_word (map rooms_held vs)) (states : StatesAgree z m vs) (legal : HistoriesAreLegal vs)
-    (p : PinnedRoom) (holds : RoomPinHolds z m.rooms (content m.arena.bytes) p) (good : IsGoodRoom p) (all : LinksReachAll (content m.arena.bytes) m.rooms p.room) (from : Option ℕ) (lead : leads from p ≡ true) where
+    (p : PinnedRoom) (holds : RoomPinHolds z m.rooms (content m.arena.bytes) p) (good : IsGoodRoom p) (order : IsInOrder z (content m.arena.bytes) (m.rooms.count p.room) (m.rooms.key p.room) (m.rooms.value p.room) (linked m.rooms p.room) (m.rooms.low p.room 0) (m.rooms.high p.room 0)) (from : Option ℕ) (lead : leads from p ≡ true) where
   abbrev gap : Gap
   gap = gap_at m.rooms (content m.arena.bytes) from p
 
   -- it has no entry, under the base found
   words : (k : ℕ) → LiesBetween p (found_from from p) (found_by m.rooms (content m.arena.bytes) p.room (link_word m.rooms p.room from)) k → (word_now z m vs k ≡ 0) × (base_now z m vs k ≡ p.base)
-  words k b = between_word z m.rooms (content m.arena.bytes) p holds all from lead is_key_word (map rooms_held vs) parts k b
+  words k b = between_word z m.rooms (content m.arena.bytes) p holds order from lead is_key_word (map rooms_held vs) parts k b
 
   -- it is absent behind all of its writes, which are at most the base
   pub gap_state : (k : ℕ) → LiesBetween p (found_from from p) (found_by m.rooms (content m.arena.bytes) p.room (link_word m.rooms p.room from)) k → (state_behind (history_now vs k) ≡ None) × (stamp_behind (history_now vs k) ≤ p.base)

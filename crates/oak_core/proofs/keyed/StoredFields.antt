@@ -74,18 +74,18 @@ module _ (z : Sizes) (s : TableState) (seat : ℕ) (v : PassState) (r : Rule z s
         keys_framed z m (write m (in_headers (at_place h)) x) s.states seat v w here (keys_now z s r) (rooms_still z m s.states seat v w here refl) refl refl (λ _. refl) (λ _ _. refl)
         (λ j l. ap (λ (p : ℕ). Some (value_in p (content m.arena.bytes p))) (put-else m.headers.place h x j (apart h (omega arith) j (inl l))))
         (λ j. rows_placed h x j LIVE v.headers.held) (unnamed_stored h (omega arith) place (λ q. q.stamp) (λ q. q.words)) (holds_stored h (omega arith) place (λ q. q.stamp) (λ q. q.words) (λ _ _ _. refl))
-        (pins_same v w refl refl refl (r.heard.pins seat v here))
+        (pins_same v w refl refl (r.heard.pins seat v here))
 
     pub stamp_fields : (h x : ℕ) → 0 < in_state h OWNED v.headers + in_state h LOCKED v.headers → FieldBundles z s call seat v (store_stamp h x)
     stamp_fields h x own = let w : PassState = state_after z call (on_headers (store_stamp h x)) s v in let stamp : HeldHeader → ℕ = λ q. cond (q.header == h) x q.stamp in
         keys_framed z m (write m (in_headers (at_stamp h)) x) s.states seat v w here (keys_now z s r) (rooms_still z m s.states seat v w here refl) refl refl (λ _. refl)
         (λ j o. put-else m.headers.stamp h x j (apart h own j o)) (λ _ _. refl)
         (λ j. rows_stamped h x j LIVE v.headers.held) (unnamed_stored h own (λ q. q.place) stamp (λ q. q.words)) (holds_stored h own (λ q. q.place) stamp (λ q. q.words) (stamp_left h own x))
-        (pins_same v w refl refl refl (r.heard.pins seat v here))
+        (pins_same v w refl refl (r.heard.pins seat v here))
 
     pub change_fields : (h x : ℕ) → 0 < in_state h LOCKED v.headers → FieldBundles z s call seat v (change_place h x)
     change_fields h x own = let w : PassState = state_after z call (on_headers (change_place h x)) s v in let place : HeldHeader → ℕ = λ q. cond (q.header == h) x q.place in let words : HeldHeader → List ℕ = λ q. cond (q.header == h) (content m.arena.bytes x) q.words in
         keys_framed z m (write m (in_headers (at_place h)) x) s.states seat v w here (keys_now z s r) (rooms_still z m s.states seat v w here refl) refl refl (λ _. refl) (λ _ _. refl)
         (λ j l. ap (λ (p : ℕ). Some (value_in p (content m.arena.bytes p))) (put-else m.headers.place h x j (apart h (omega arith) j (inl l))))
         (λ j. rows_changed h x (content m.arena.bytes x) j LIVE v.headers.held) (unnamed_stored h (omega arith) place (λ q. q.stamp) words) (holds_stored h (omega arith) place (λ q. q.stamp) words (λ _ _ _. refl))
-        (pins_same v w refl refl refl (r.heard.pins seat v here))
+        (pins_same v w refl refl (r.heard.pins seat v here))

@@ -18,7 +18,6 @@ use Rattle.header_core.specs.HeaderRule.{stocked}
 use Rattle.header_core.specs.HeaderStep.{put_header}
 use Rattle.header_core.proofs.HeldHeaders.{rows_have}
 use Rattle.chunk_core.specs.CoverSums.{each, naming}
-use Rattle.chunk_core.specs.declared.holds.RoomHolds.{RoomHolds}
 use Rattle.oak_core.specs.declared.states.KeyedWrite.{KeyedWrite}
 use Rattle.oak_core.specs.declared.states.Knowledge.{Knowledge}
 use Rattle.oak_core.specs.declared.states.PassState.{PassState}
@@ -75,4 +74,4 @@ module _ (z : Sizes) (s : TableState) (seat : ℕ) (v : PassState) (r : Rule z s
     pub unnamed_bundles : KeyBundles z (write (memory z s.words) (in_headers (at_pin h)) x) (set s.states seat w)
     unnamed_bundles = bundles_kept z m (write m (in_headers (at_pin h)) x) s.states seat v w here (keys_now z s r) stay numbers (ap (λ (q : Knowledge). q.mine) knowledge) same (pin_still m.headers h x (λ d. absurd (alive d)) generation)
         (keys_unnamed z m is_key_word s.states r.covers r.keys seat v w here rooms knowledge h unnamed_now (put_header m.headers (at_pin h) x) (λ j ne. put-else m.headers.pin h x j ne) (λ j _. refl) (λ j _. refl) (ap generation_of (put-here m.headers.pin h x h refl) ∙ generation) counts holds)
-        (heard_covers z m (write m (in_headers (at_pin h)) x) s.states seat v w here r.heard knowledge (pins_same v w (ap (λ (a : RoomHolds). a.pin) rooms) pin knowledge (r.heard.pins seat v here)) stay)
+        (heard_covers z m (write m (in_headers (at_pin h)) x) s.states seat v w here r.heard knowledge (pins_same v w pin knowledge (r.heard.pins seat v here)) stay)

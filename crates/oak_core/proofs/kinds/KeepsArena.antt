@@ -93,4 +93,4 @@ module _ (z : Sizes) (s : TableState) (call seat : ℕ) (v : PassState) (r : Rul
 
   pub arena_keeps : Rule z (table_after z call (on_arena x) seat v s)
   arena_keeps = elsewhere_rule z s call seat v r here going (on_arena x) (arena_finding z call x n s.words v) inside (arena_small z x v.blocks n may (r.words.small (index z p))) refl refl (met_only _ _) refl refl owned_after headers_after_it (of_rooms z s call seat v r here going w refl (RoomBundles z m.rooms (write m p y).arena.bytes) (rooms_on_arena z s seat v r here x y may))
-      (keys_idle z m (write m p y) s.states seat v w here (keys_now z s r) (λ F. rooms_still z (write m p y) s.states seat v w here refl F ∙ sums_on_arena z s seat v r here x y may F) refl refl refl refl (shown_on_arena z m s.states seat v here r.blocks knows r.headers (live_inside z s.words) x y may) (pins_same v w refl refl refl (r.heard.pins seat v here))) kept_after (r.passes seat v here)
+      (keys_idle z m (write m p y) s.states seat v w here (keys_now z s r) (λ F. rooms_still z (write m p y) s.states seat v w here refl F ∙ sums_on_arena z s seat v r here x y may F) refl refl refl refl (shown_on_arena z m s.states seat v here r.blocks knows r.headers (live_inside z s.words) x y may) (pins_same v w refl refl (r.heard.pins seat v here))) kept_after (r.passes seat v here)

@@ -1,4 +1,4 @@
--- The load of the count of a room keeps the rule: under a good pin of the room it teaches its pass.
+-- The load of the count of a room keeps the rule: under a good pin of the room its pass has found the entries of the prefix.
 use Rattle.std.proofs.Common.{◌≡◌, ℕ, List, map, set, sym, refl, ap, ◌∙◌, subst, arith, Some, false, true, Bool, cond, ◌&&◌, ◌==◌, Option, None, eq-eqb, eqb-true}
 use mathlib.Core.Option.{some}
 use lib.ListN.{get_elem?}
@@ -12,13 +12,13 @@ use Rattle.chunk_core.specs.Rooms.{at_count, read_room, same_room_spot}
 use Rattle.oak_core.specs.declared.states.Knowledge.{Knowledge}
 use Rattle.oak_core.specs.declared.states.PassState.{PassState}
 use Rattle.oak_core.specs.EntryOwners.{all_others, is_key_word}
-use Rattle.oak_core.specs.CountTeaching.{is_pinned, count_taught, knows_count, sights_count}
+use Rattle.oak_core.specs.LinkTeaching.{is_pinned}
 use Rattle.oak_core.specs.Memory.{Memory, in_rooms, memory, IsInside}
 use Rattle.oak_core.specs.PassState.{blocks_of, rooms_held, knowledge_of}
 use Rattle.oak_core.specs.Rule.{Rule}
 use Rattle.oak_core.specs.Step.{load, state_after, table_after}
 use Rattle.oak_core.specs.TableState.{TableState}
-use Rattle.oak_core.proofs.keyed.KeyBundles.{CoversStay}
+use Rattle.oak_core.proofs.keyed.KeyBundles.{CoversStay, keys_idle, keys_now}
 use Rattle.oak_core.proofs.covers.RoomBundles.{RoomBundles}
 use Rattle.pin_word.specs.PinWord.{state_of}
 use Rattle.oak_model.proofs.Counting.{both_true, test-cases}
@@ -26,14 +26,12 @@ use Rattle.chunk_core.specs.declared.states.TheConstants.{OPEN}
 use Rattle.chunk_core.specs.KeptRooms.{kept_of_rooms}
 use Rattle.chunk_core.specs.PinnedRooms.{IsGoodRoom}
 use Rattle.chunk_core.specs.RoomsAfter.{pin_with, counted_pin}
-use Rattle.chunk_core.proofs.CountLoads.{count_rooms, count_partition}
-use Rattle.oak_core.specs.declared.states.Taught.TheVariants.{OfRoom}
-use Rattle.oak_core.specs.Learning.{taught_by, taught_where}
-use Rattle.oak_core.specs.Sights.{sights_with}
-use Rattle.oak_core.proofs.lessons.CountLessons.{sums_counted, count_heard}
+use Rattle.chunk_core.proofs.CountLoads.{count_covers, count_rooms, count_partition}
 use Rattle.oak_core.proofs.told.PlainLoads.{LoadTeachesNothing}
-use Rattle.oak_core.proofs.kinds.KeepsLoads.{load_rule, load_taught, quiet_keeps}
-use Rattle.chunk_core.specs.CoverSums.{owners_in_rooms}
+use Rattle.oak_core.proofs.kinds.KeepsLoads.{load_rule, quiet_keeps}
+use Rattle.oak_core.proofs.keyed.KeysAfter.{after_idle}
+use Rattle.oak_core.proofs.known.PinsKnown.{pins_same}
+use Rattle.chunk_core.specs.CoverSums.{all_of, owners_in_rooms}
 use Rattle.chunk_core.proofs.RoomOwners.{owners_idle}
 use Rattle.chunk_core.specs.declared.holds.RoomHolds.{RoomHolds}
 
@@ -61,17 +59,10 @@ module _ (z : Sizes) (s : TableState) (call seat : ℕ) (v : PassState) (r : Rul
     rooms_are : w.rooms ≡ record v.rooms { pin = Some p' }
     rooms_are = ap (λ (o : Option PinnedRoom). record v.rooms { pin = counted_pin m.rooms bytes p.room o }) is ∙ ap (λ (b : Bool). record v.rooms { pin = Some (cond b p' p) }) pinned_there
 
-    taught_now : w.knowledge ≡ taught_by (OfRoom p') qs v.knowledge
-    taught_now = ap (λ (o : Option PinnedRoom). knows_count m.rooms bytes p.room o qs v.knowledge) is ∙ ap (λ (b : Bool). taught_where b (OfRoom p') qs v.knowledge) pinned_there
-
-    abbrev seen_now : w.knowledge.seen ≡ (taught_by (OfRoom p') qs v.knowledge).seen
-    seen_now = ap (λ (q : Knowledge). q.seen) taught_now
-
-    abbrev heard_now : w.knowledge.heard ≡ (taught_by (OfRoom p') qs v.knowledge).heard
-    heard_now = ap (λ (q : Knowledge). q.heard) taught_now
-
+    -- nothing changes that is added up over covers
     sums : CoversStay z m m s.states (set s.states seat w)
-    sums = sums_counted z m is_key_word s.states r.rooms r.covers r.keys.states r.keys.legal r.histories seat v here p is good w rooms_are refl seen_now heard_now
+    sums F = ap (λ (l : List RoomHolds). all_of z m.rooms bytes l F) (map_set rooms_held s.states seat w ∙ ap (set (map rooms_held s.states) seat) rooms_are)
+        ∙ count_covers z m.rooms bytes is_key_word (map rooms_held s.states) r.rooms r.covers seat v.rooms (at_map rooms_held s.states seat v here) p is good F
 
     rooms_then : RoomBundles z m.rooms m.arena.bytes (map rooms_held (set s.states seat w))
     rooms_then = subst (RoomBundles z m.rooms m.arena.bytes) (sym (map_set rooms_held s.states seat w ∙ ap (set (map rooms_held s.states) seat) rooms_are)) record {
@@ -86,7 +77,7 @@ module _ (z : Sizes) (s : TableState) (call seat : ℕ) (v : PassState) (r : Rul
 
     pub counted_keeps : Rule z (table_after z call (load (in_rooms (at_count p.room))) seat v s)
     counted_keeps = load_rule z s call seat v r here going (in_rooms (at_count p.room)) inside
-        (load_taught z s call seat v r here going (in_rooms (at_count p.room)) (OfRoom p') taught_now sums (count_heard z m is_key_word s.states r.rooms r.covers r.keys.states r.keys.legal r.histories seat v here p is good w rooms_are refl seen_now heard_now r.heard))
+        (after_idle z s seat v r here m w refl (keys_idle z m m s.states seat v w here (keys_now z s r) sums refl refl refl refl (λ h _. refl) (pins_same v w refl refl (r.heard.pins seat v here))))
         (subst (BlocksAreOwned z m.arena.bits (all_others z m (map rooms_held (set s.states seat w)))) (sym (map_set_same blocks_of s.states seat v w here refl)) record {
           owned = λ c b. let e = owners c b in let o = r.blocks.owned c b in omega arith;
           inside = λ c b le. let e = owners c b in let o = r.blocks.inside c b le in omega arith;
@@ -94,17 +85,18 @@ module _ (z : Sizes) (s : TableState) (call seat : ℕ) (v : PassState) (r : Rul
         })
         rooms_then
 
-  -- without a good pin of the room it teaches nothing
+  -- without a good pin of the room it finds nothing
   idle_count : (k : ℕ) (o : Option PinnedRoom) → v.rooms.pin ≡ o → ((p : PinnedRoom) → o ≡ Some p → is_pinned k p ≡ false) → LoadTeachesNothing call (in_rooms (at_count k)) m (map knowledge_of s.states) v
   idle_count k None is other = record {
-    knowledge = ap (λ (o : Option PinnedRoom). knows_count m.rooms (content m.arena.bytes) k o (map knowledge_of s.states) v.knowledge) is;
-    sights = ap (λ (o : Option PinnedRoom). sights_count m.rooms (content m.arena.bytes) k call o v.findings) is;
+    knowledge = refl;
+    sights = refl;
     rooms = ap (λ (o : Option PinnedRoom). record v.rooms { pin = counted_pin m.rooms (content m.arena.bytes) k o }) is ∙ ap (λ (o : Option PinnedRoom). record v.rooms { pin = o }) (sym is);
   }
-  idle_count k (Some p) is other = let b = other p refl in record {
-    knowledge = ap (λ (o : Option PinnedRoom). knows_count m.rooms (content m.arena.bytes) k o (map knowledge_of s.states) v.knowledge) is ∙ ap (λ (t : Bool). taught_where t (count_taught m.rooms (content m.arena.bytes) k p) (map knowledge_of s.states) v.knowledge) b;
-    sights = ap (λ (o : Option PinnedRoom). sights_count m.rooms (content m.arena.bytes) k call o v.findings) is ∙ ap (λ (t : Bool). sights_with t call (count_taught m.rooms (content m.arena.bytes) k p) v.findings) b;
-    rooms = ap (λ (o : Option PinnedRoom). record v.rooms { pin = counted_pin m.rooms (content m.arena.bytes) k o }) is ∙ (ap (λ (t : Bool). record v.rooms { pin = Some (cond t (pin_with m.rooms (content m.arena.bytes) (m.rooms.count k) p) p) }) b ∙ ap (λ (o : Option PinnedRoom). record v.rooms { pin = o }) (sym is));
+  idle_count k (Some p) is other = record {
+    knowledge = refl;
+    sights = refl;
+    rooms = ap (λ (o : Option PinnedRoom). record v.rooms { pin = counted_pin m.rooms (content m.arena.bytes) k o }) is
+        ∙ (ap (λ (t : Bool). record v.rooms { pin = Some (cond t (pin_with m.rooms (content m.arena.bytes) (m.rooms.count k) p) p) }) (other p refl) ∙ ap (λ (o : Option PinnedRoom). record v.rooms { pin = o }) (sym is));
   }
 
   pub count_keeps : (k : ℕ) → IsInside z (in_rooms (at_count k)) → (o : Option PinnedRoom) → v.rooms.pin ≡ o → Rule z (table_after z call (load (in_rooms (at_count k))) seat v s)

@@ -87,7 +87,7 @@ module _ (z : Sizes) (s : TableState) (seat : ℕ) (v : PassState) (r : Rule z s
         (λ j _. let f = owned_not_fresh m.headers h j v.headers.held in let d = owned_not_buried m.headers h j v.headers.held in omega arith)
         (λ _ _ p. (refl, p)))
         (λ _. keys_framed z m (write m (in_headers (at_pin h)) (m.headers.pin h)) s.states seat v (record (state_after z call (on_headers (claim_header h old)) s v) { headers = v.headers }) here (keys_now z s r) (rooms_still z m s.states seat v (record (state_after z call (on_headers (claim_header h old)) s v) { headers = v.headers }) here refl) refl refl
-        (λ j. put-same m.headers.pin h (m.headers.pin h) (λ y. y) refl j) (λ _ _. refl) (λ _ _. refl) (λ _. refl) (λ _. refl) (λ _ _ p. p) (pins_same v (record (state_after z call (on_headers (claim_header h old)) s v) { headers = v.headers }) refl refl refl (r.heard.pins seat v here)))
+        (λ j. put-same m.headers.pin h (m.headers.pin h) (λ y. y) refl j) (λ _ _. refl) (λ _ _. refl) (λ _. refl) (λ _. refl) (λ _ _ p. p) (pins_same v (record (state_after z call (on_headers (claim_header h old)) s v) { headers = v.headers }) refl refl (r.heard.pins seat v here)))
 
     open_fields : (h : ℕ) → 0 < in_state h OWNED v.headers → FieldBundles z s call seat v (open_header h)
     open_fields h own = let w : PassState = state_after z call (on_headers (open_header h)) s v in let words : List ℕ = content m.arena.bytes (m.headers.place h) in let was = state_is z s seat v r here h OWNED (omega arith) (omega arith) own in
@@ -124,7 +124,7 @@ module _ (z : Sizes) (s : TableState) (seat : ℕ) (v : PassState) (r : Rule z s
         bundles_kept z m (write m (in_headers (at_pin h)) x) s.states seat v w here (keys_now z s r) (rooms_still z m s.states seat v w here refl) refl refl (λ k. ap (history k) (map_set_same knowledge_of s.states seat v w here refl)) (pin_still m.headers h x (λ d. sym down.1 ∙ d) down.2)
         (keys_counted z m s.states r.keys seat v w here refl (rooms_still z m s.states seat v w here refl) (λ k. ap (history k) (map_set_same knowledge_of s.states seat v w here refl)) (r.keys.loaded seat v.knowledge (at_map knowledge_of s.states seat v here)) (put m.headers.pin h x)
         (put-same m.headers.pin h x state_of down.1) (put-same m.headers.pin h x generation_of down.2))
-        (heard_covers z m (write m (in_headers (at_pin h)) x) s.states seat v w here r.heard refl record { counted = (r.heard.pins seat v here).counted; removed = tt } (rooms_still z m s.states seat v w here refl))
+        (heard_covers z m (write m (in_headers (at_pin h)) x) s.states seat v w here r.heard refl record { removed = tt } (rooms_still z m s.states seat v w here refl))
 
     -- one clause for each kind
     pub quiet_fields : (x : HeaderStep) → IsQuiet x → MayOnHeaders z x v → FieldBundles z s call seat v x

@@ -44,7 +44,7 @@ module _ (z : Sizes) (s : TableState) (seat : ℕ) (v : PassState) (r : Rule z s
   pub freeze_keeps : (k old : ℕ) → MayOnRoom z (freeze_room k old) v → Rule z (table_after z call (on_rooms (freeze_room k old)) seat v s)
   freeze_keeps k old may = let u = exchanged z s seat v r here k old (old + STATE) may.inside (λ t. record v.rooms { held = cond t (record { room = k; held_as = Frozen } ∷ v.rooms.held) v.rooms.held }) refl frozen in
       step_rule z s seat v r here call going (freeze_room k old) may.inside refl refl refl (exchange_small z s seat v r here k old (old + STATE) may.inside (λ e. next_small old (let o = may.rooms in omega arith) (old_small z s seat v r here k old (old + STATE) may.inside e)))
-      u.bundles u.blocks u.covers (pins_same v _ refl refl refl (r.heard.pins seat v here))
+      u.bundles u.blocks u.covers (pins_same v _ refl refl (r.heard.pins seat v here)) (r.passes seat v here).claim
     where
       frozen : m.rooms.pin k ≡ old → RoomsBehind z s seat v r here (put_room m.rooms (at_room_pin k) (old + STATE)) (set hs seat (record v.rooms { held = record { room = k; held_as = Frozen } ∷ v.rooms.held }))
       frozen e = let open_is = may.rooms in let u = state_set old (omega arith) in let g = ap generation_of e in let c = ap count_of e in let was = ap state_of e ∙ open_is in
@@ -58,7 +58,7 @@ module _ (z : Sizes) (s : TableState) (seat : ℕ) (v : PassState) (r : Rule z s
   pub claim_keeps : (k old : ℕ) → MayOnRoom z (claim_room k old) v → Rule z (table_after z call (on_rooms (claim_room k old)) seat v s)
   claim_keeps k old may = let x : ℕ = old + HELD * STATE in let u = exchanged z s seat v r here k old x may.inside (λ t. record v.rooms { held = cond t (record { room = k; held_as = Held (copy_at z m.rooms k) } ∷ v.rooms.held) v.rooms.held }) refl held in
       step_rule z s seat v r here call going (claim_room k old) may.inside refl refl refl (exchange_small z s seat v r here k old x may.inside (λ e. (claimed old may.rooms.state (old_small z s seat v r here k old x may.inside e)).3))
-      u.bundles u.blocks u.covers (pins_same v _ refl refl refl (r.heard.pins seat v here))
+      u.bundles u.blocks u.covers (pins_same v _ refl refl (r.heard.pins seat v here)) (r.passes seat v here).claim
     where
       held : m.rooms.pin k ≡ old → RoomsBehind z s seat v r here (put_room m.rooms (at_room_pin k) (old + HELD * STATE)) (set hs seat (record v.rooms { held = record { room = k; held_as = Held (copy_at z m.rooms k) } ∷ v.rooms.held }))
       held e = let x : ℕ = old + HELD * STATE in let u = claimed old may.rooms.state (old_small z s seat v r here k old x may.inside e) in let g = ap generation_of e in let c = ap count_of e in let was = ap state_of e ∙ may.rooms.state in

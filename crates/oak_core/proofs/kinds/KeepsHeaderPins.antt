@@ -19,7 +19,6 @@ use Rattle.header_core.specs.Headers.{at_pin}
 use Rattle.header_core.specs.declared.holds.PinnedHeader.{PinnedHeader}
 use Rattle.header_core.specs.declared.states.TheConstants.{DEAD}
 use Rattle.header_core.proofs.HeaderFacts.{fresh_at_is}
-use Rattle.chunk_core.specs.PinnedRooms.{OnRoomPin}
 use Rattle.oak_core.specs.declared.states.Findings.{Findings}
 use Rattle.oak_core.specs.declared.states.Knowledge.{Knowledge}
 use Rattle.oak_core.specs.declared.states.PassState.{PassState}
@@ -48,7 +47,6 @@ use Rattle.oak_core.proofs.known.KnownHeaders.{life_key}
 use Rattle.oak_core.proofs.known.KnownLives.{named_at, over_gone, dead_gone}
 use Rattle.oak_core.proofs.lessons.LessonRanges.{history_left, heard_covers}
 use Rattle.oak_core.proofs.told.PinTold.{dead_over}
-use Rattle.oak_core.proofs.known.PinsKnown.{KnowsMissed}
 use Rattle.oak_core.proofs.lessons.TaughtStates.{history_taught}
 
 module _ (z : Sizes) (s : TableState) (seat : ℕ) (v : PassState) (r : Rule z s) (here : get_elem? s.states seat ≡ some v) (call : ℕ) (fs : Findings) (h g : ℕ) (may : MayOnHeaders z (pin_header h g) v) where
@@ -105,7 +103,7 @@ module _ (z : Sizes) (s : TableState) (seat : ℕ) (v : PassState) (r : Rule z s
         apart e = cc
 
     pins : PinsKnow w
-    pins = record { counted = subst (λ (q : Knowledge). OnRoomPin (KnowsMissed q) v.rooms.pin) (sym same_knowledge) (r.heard.pins seat v here).counted; removed = λ d e. absurd (none_dead d e) }
+    pins = record { removed = λ d e. absurd (none_dead d e) }
 
     idle_after : KeysAfter z s seat v r here m' w
     idle_after = let stay = rooms_still z m s.states seat v w here refl in let same = history_left z m m' s.states seat v w here r.heard same_knowledge in

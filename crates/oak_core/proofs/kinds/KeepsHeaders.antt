@@ -175,7 +175,7 @@ module _ (z : Sizes) (s : TableState) (seat : ℕ) (v : PassState) (r : Rule z s
           (subst (λ (p : (ℕ → ℕ → ℕ) × List HeaderHolds). HeadersAreHeld (put_header m.headers (header_spot x) (y x)) m.arena.bytes p.0 p.1) (λ i. ((λ h g. sym (after.known_same h g) i), sym (map_set headers_held s.states seat (w x)) i)) stands)
           (rooms_stay z s call seat v r here going (w x) refl) after.keys
           (subst (KeptNumbersStand same_spot (read (write m (in_headers (header_spot x)) (y x)))) (sym (map_set kept_of s.states seat (w x))) holds.kept)
-          record { pin = pin_known; whole = keyed_whole m.headers x v.knowledge held (headers_whole z s seat v r here (r.passes seat v here).whole x may.0) }
+          record { pin = pin_known; whole = keyed_whole m.headers x v.knowledge held (headers_whole z s seat v r here (r.passes seat v here).whole x may.0); claim = (r.passes seat v here).claim }
 
 pub header_keeps : (z : Sizes) (s : TableState) (call seat : ℕ) (v : PassState) → Rule z s → get_elem? s.states seat ≡ some v → v.numbers.spent ≡ false → (x : HeaderStep) → MayOnHeaders z x v × MayEnd call x v → Rule z (table_after z call (on_headers x) seat v s)
 header_keeps z s call seat v r here going x may = header_keeps_it z s seat v r here call going x may

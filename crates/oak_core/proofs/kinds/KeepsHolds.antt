@@ -46,7 +46,7 @@ module _ (z : Sizes) (s : TableState) (seat : ℕ) (v : PassState) (r : Rule z s
   pub hold_keeps : (k old : ℕ) → MayOnRoom z (hold_room k old) v → Rule z (table_after z call (on_rooms (hold_room k old)) seat v s)
   hold_keeps k old may = let u = exchanged z s seat v r here k old (old + STATE) may.inside (holding k) refl held in
       step_rule z s seat v r here call going (hold_room k old) may.inside refl refl refl (exchange_small z s seat v r here k old (old + STATE) may.inside (λ e. next_small old (let o = may.rooms.0.state in omega arith) (old_small z s seat v r here k old (old + STATE) may.inside e)))
-      u.bundles u.blocks u.covers (pins_same v _ refl refl refl (r.heard.pins seat v here))
+      u.bundles u.blocks u.covers (pins_same v _ refl refl (r.heard.pins seat v here)) (r.passes seat v here).claim
     where
       held : m.rooms.pin k ≡ old → RoomsBehind z s seat v r here (put_room m.rooms (at_room_pin k) (old + STATE)) (set hs seat (record v.rooms { held = record { room = k; held_as = Held (copy_at z m.rooms k) } ∷ without_room k v.rooms.held; moving = moving_at m.rooms (content m.arena.bytes) k ∷ v.rooms.moving }))
       held e = let frozen_is = may.rooms.0.state in let u = state_set old (omega arith) in let c = ap count_of e ∙ may.rooms.0.count in let generation = u.2 ∙ sym (ap generation_of e) in let count = u.0 ∙ may.rooms.0.count in

@@ -147,7 +147,7 @@ module _ (z : Sizes) (s : TableState) (seat : ℕ) (v : PassState) (r : Rule z s
     keys_then : KeyBundles z (write m p x) (set s.states seat w)
     keys_then = keys_framed z m (write m p x) s.states seat v w here_is (keys_now z s r) (λ F. rooms_still z (write m p x) s.states seat v w here_is refl F ∙ sums_stored z s r n b k x no_entry F) refl refl (λ i. refl) (λ i _. refl)
         (λ i live. shown_still m n b k x i (λ same. let e = ap (λ (j : ℕ). state_of (m.headers.pin j)) (only_header i (live_stocked (state_of (m.headers.pin i)) live) same.0 same.1) in let l = state_locked z s r seat v here_is h c b locks in absurd (omega arith)))
-        (λ i. rows_reworded h k x i LIVE v.headers.held) (λ i. unnamed_reworded h k x i v.headers) (λ word hist q. holds_reworded h k x word hist v.headers.held q) (pins_same v w refl refl refl (r.heard.pins seat v here_is))
+        (λ i. rows_reworded h k x i LIVE v.headers.held) (λ i. unnamed_reworded h k x i v.headers) (λ word hist q. holds_reworded h k x word hist v.headers.held q) (pins_same v w refl refl (r.heard.pins seat v here_is))
 
     pub locked_keeps_it : Rule z (table_after z call (store_locked h c b k x) seat v s)
     locked_keeps_it = elsewhere_rule z s call seat v r here_is going (store_locked h c b k x) (finding z call p None x s.words v) inside_it may.small refl refl (met_only _ _) refl refl
@@ -158,7 +158,7 @@ module _ (z : Sizes) (s : TableState) (seat : ℕ) (v : PassState) (r : Rule z s
         keys_then
         (subst (KeptNumbersStand same_spot (read (write m p x))) (sym (map_set kept_of s.states seat w))
         (locked_kept m s.states seat v here_is r.kept h n b k x (each_all (Agrees n b h) v.headers.held agrees) whole (unkept k) (keeps_some n b k (header_blocks v.headers.held) in_blocks may.word)))
-        record { pin = pin_known; whole = whole_reworded h v.headers.held (r.passes seat v here_is).whole k x }
+        record { pin = pin_known; whole = whole_reworded h v.headers.held (r.passes seat v here_is).whole k x; claim = (r.passes seat v here_is).claim }
 
 pub locked_keeps : (z : Sizes) (s : TableState) (call seat : ℕ) (v : PassState) → Rule z s → get_elem? s.states seat ≡ some v → v.numbers.spent ≡ false → (h : ℕ) (c : Class) (b k x : ℕ) → MayStoreLocked h c b k x v.headers → Rule z (table_after z call (store_locked h c b k x) seat v s)
 locked_keeps z s call seat v r here going h c b k x may = locked_keeps_it z s seat v r here h c b may.block call going k x may

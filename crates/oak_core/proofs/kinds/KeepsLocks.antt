@@ -50,7 +50,7 @@ module _ (z : Sizes) (s : TableState) (seat : ℕ) (v : PassState) (r : Rule z s
   pub pin_again : (h : ℕ) → KeysAfter z s seat v r here (write m (in_headers (at_pin h)) (m.headers.pin h)) (record v { findings = fs })
   pin_again h = let w : PassState = record v { findings = fs } in let m' : Memory = write m (in_headers (at_pin h)) (m.headers.pin h) in
       after_idle z s seat v r here m' w refl (keys_framed z m m' s.states seat v w here (keys_now z s r) (rooms_still z m s.states seat v w here refl) refl refl (put-same m.headers.pin h (m.headers.pin h) (λ y. y) refl) (λ _ _. refl) (λ _ _. refl) (λ _. refl) (λ _. refl) (λ word hist p. p)
-      (pins_same v w refl refl refl (r.heard.pins seat v here)))
+      (pins_same v w refl refl (r.heard.pins seat v here)))
 
   module _ (h old : ℕ) (may : MayOnHeaders z (lock_header h old) v) where
     -- where the pass knows q and holds rs, and the pin word is n

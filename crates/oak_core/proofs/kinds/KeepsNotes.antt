@@ -45,6 +45,6 @@ module _ (z : Sizes) (s : TableState) (call seat : ℕ) (v : PassState) (r : Rul
       (blocks_stay z s call seat v r here going w refl refl)
       (headers_stay z s call seat v r here going w refl refl)
       (rooms_stay z s call seat v r here going w refl)
-      (keys_idle z m (write m at_given n) s.states seat v w here (keys_now z s r) (rooms_still z m s.states seat v w here refl) refl refl refl refl (λ h _. refl) (pins_same v w refl refl refl (r.heard.pins seat v here)))
+      (keys_idle z m (write m at_given n) s.states seat v w here (keys_now z s r) (rooms_still z m s.states seat v w here refl) refl refl refl refl (λ h _. refl) (pins_same v w refl refl (r.heard.pins seat v here)))
       (subst (KeptNumbersStand same_spot (read (write m at_given n))) (sym (map_set_same kept_of s.states seat v w here refl))
       (kept_unkept same_spot (read m) (read (write m at_given n)) at_given n (λ q. read-write m at_given q n) (map kept_of s.states) (given_unkept s.states) r.kept)) (r.passes seat v here)

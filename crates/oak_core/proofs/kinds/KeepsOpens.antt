@@ -1,5 +1,5 @@
 -- A pass that opens a held room over a moving range, or its upper part, keeps the rule.
-use Rattle.std.proofs.Common.{◌≡◌, ℕ, ◌+◌, ◌-◌, ◌*◌, ◌%◌, ◌^◌, List, [], ◌∷◌, ◌++◌, map, false, inr, sym, refl, ap, ◌∙◌, subst, arith, Option, Some, None}
+use Rattle.std.proofs.Common.{◌≡◌, ℕ, ◌+◌, ◌-◌, ◌*◌, ◌%◌, ◌^◌, List, [], ◌∷◌, map, false, inr, sym, refl, ap, ◌∙◌, subst, arith, Option, Some, None}
 use mathlib.Core.Option.{some}
 use lib.ListN.{get_elem?}
 use Rattle.pin_word.specs.PinWord.{STATE, state_of}
@@ -15,7 +15,7 @@ use Rattle.chunk_core.specs.declared.holds.RoomCopy.{RoomCopy}
 use Rattle.chunk_core.specs.declared.holds.RoomHolds.{RoomHolds}
 use Rattle.chunk_core.specs.declared.states.TheConstants.{HELD, OPEN}
 use Rattle.chunk_core.specs.Covers.{cover_at, cover_from}
-use Rattle.chunk_core.specs.KeptRooms.{kept_of_claim, kept_of_latch, kept_of_rooms, kept_of_rooms_held}
+use Rattle.chunk_core.specs.KeptRooms.{kept_of_claim, kept_of_rooms, kept_of_rooms_held}
 use Rattle.chunk_core.specs.MayOnRooms.{MayOpenCopy, MayOpenRoom}
 use Rattle.chunk_core.specs.MovingRanges.{left_of, ranges_left, ranges_opened}
 use Rattle.chunk_core.specs.RoomCopies.{copy_of, without_room}
@@ -52,7 +52,7 @@ module _ (z : Sizes) (s : TableState) (seat : ℕ) (v : PassState) (r : Rule z s
   -- the numbers that the pass keeps of the rooms that it holds are true
   held_words : AreTrueTo (read_room m.rooms) (kept_of_rooms_held v.rooms.held)
   held_words = let P : KeptWord RoomSpot → Type 0 = (λ (w : KeptWord RoomSpot). read_room m.rooms w.spot ≡ w.number) in let e = r.kept_in_rooms.true_to seat (kept_of_rooms v.rooms) (at_map kept_of_rooms hs seat v.rooms own) in
-      each_rest P (kept_of_claim v.rooms.claim) (kept_of_rooms_held v.rooms.held) (each_rest P (kept_of_latch v.rooms.latch) (kept_of_claim v.rooms.claim ++ kept_of_rooms_held v.rooms.held) e)
+      each_rest P (kept_of_claim v.rooms.claim) (kept_of_rooms_held v.rooms.held) e
 
   -- so the copy that it opens the room by is that of the memory
   may_open : (k : ℕ) (o : Option RoomCopy) → copy_of k v.rooms.held ≡ o → MayOpenCopy z o v.rooms.moving → (copy_of k v.rooms.held ≡ Some (copy_at z m.rooms k)) × MayOpenRoom z (copy_at z m.rooms k) v.rooms.moving

@@ -1,5 +1,5 @@
 -- A step on a word of a room that leaves all but the rooms keeps the rule, and so do a pin of a room, and its end.
-use Rattle.std.proofs.Common.{◌≡◌, ℕ, ◌+◌, ◌-◌, ◌%◌, ◌^◌, ◌<◌, false, List, map, set, get_or, sym, refl, ap, ◌∙◌, subst, arith, Option, Some, None, IsSome, true≢false}
+use Rattle.std.proofs.Common.{◌≡◌, ℕ, ◌+◌, ◌-◌, ◌%◌, ◌^◌, ◌<◌, false, List, map, set, get_or, sym, refl, ap, ◌∙◌, subst, arith, Option, Some, None}
 use mathlib.Core.Option.{some}
 use lib.ListN.{get_elem?}
 use Rattle.pin_word.specs.PinWord.{state_of, count_of}
@@ -35,7 +35,7 @@ use Rattle.oak_core.specs.Memory.{Memory, in_rooms, same_spot, read, write, memo
 use Rattle.oak_core.specs.PassState.{blocks_of, headers_held, rooms_held, knowledge_of, kept_of}
 use Rattle.oak_core.specs.Known.{known}
 use Rattle.oak_core.specs.Owners.{HeadersAreHeld}
-use Rattle.oak_core.specs.Rule.{HoldsKnown, Rule}
+use Rattle.oak_core.specs.Rule.{ClaimHasKey, HoldsKnown, Rule}
 use Rattle.oak_core.specs.Step.{on_rooms, MayOnRoom, state_after, table_after}
 use Rattle.oak_core.specs.TableState.{TableState}
 use Rattle.oak_core.proofs.held.FewPins.{few_room_pins}
@@ -46,7 +46,6 @@ use Rattle.oak_core.proofs.owners.KeptWords.{times_in_rooms, unkept_by_all, kept
 use Rattle.oak_core.proofs.covers.RoomBundles.{RoomBundles}
 use Rattle.oak_core.proofs.memory.Words.{memory_read, read-write}
 use Rattle.oak_core.proofs.keyed.KeyBundles.{keys_now, keys_idle}
-use Rattle.oak_core.proofs.known.PinsKnown.{KnowsMissed}
 use Rattle.oak_core.specs.Lessons.{PinsKnow}
 use Rattle.chunk_core.specs.Covers.{Cover}
 use Rattle.oak_core.specs.declared.states.Knowledge.{Knowledge}
@@ -103,8 +102,8 @@ module _ (z : Sizes) (s : TableState) (seat : ℕ) (v : PassState) (r : Rule z s
     -- a step that leaves all but the rooms, teaches nothing, and leaves whatever is added up over covers
     pub step_rule : (x : RoomStep) → IsInRooms z (room_spot x) → let n = get_or s.words (index z (in_rooms (room_spot x))) 0 in let w = state_after z call (on_rooms x) s v in let m' = write m (in_rooms (room_spot x)) (room_effect x n) in
         w.blocks ≡ v.blocks → w.knowledge ≡ v.knowledge → w.headers ≡ v.headers → room_effect x n < 2 ^ 64 → RoomBundles z m'.rooms m.arena.bytes (set hs seat w.rooms) → BlocksAreOwned z m.arena.bits (all_others z m' (set hs seat w.rooms)) (map blocks_of s.states)
-        → ((F : Cover → ℕ) → all_of z m'.rooms (content m.arena.bytes) (set hs seat w.rooms) F ≡ all_of z m.rooms (content m.arena.bytes) hs F) → PinsKnow w → Rule z (table_after z call (on_rooms x) seat v s)
-    step_rule x inside same knowledge headers small bundles blocks stay pins = let n : ℕ = get_or s.words (index z (in_rooms (room_spot x))) 0 in let w : PassState = state_after z call (on_rooms x) s v in let y : ℕ = room_effect x n in let m' : Memory = write m (in_rooms (room_spot x)) y in
+        → ((F : Cover → ℕ) → all_of z m'.rooms (content m.arena.bytes) (set hs seat w.rooms) F ≡ all_of z m.rooms (content m.arena.bytes) hs F) → PinsKnow w → ClaimHasKey w.rooms.claim → Rule z (table_after z call (on_rooms x) seat v s)
+    step_rule x inside same knowledge headers small bundles blocks stay pins claim = let n : ℕ = get_or s.words (index z (in_rooms (room_spot x))) 0 in let w : PassState = state_after z call (on_rooms x) s v in let y : ℕ = room_effect x n in let m' : Memory = write m (in_rooms (room_spot x)) y in
         elsewhere_rule z s call seat v r here going (on_rooms x) (finding z call (in_rooms (room_spot x)) (room_found x n) y s.words v) inside small refl refl (record { met = refl; swept = swept_grows x v; fulls = refl }) refl knowledge
         (subst (λ (bs : List HeldBlocks). BlocksAreOwned z m.arena.bits (all_others z m' (map rooms_held (set s.states seat w))) bs) (sym (map_set_same blocks_of s.states seat v w here same))
         (subst (λ (rs : List RoomHolds). BlocksAreOwned z m.arena.bits (all_others z m' rs) (map blocks_of s.states)) (sym (map_set rooms_held s.states seat w)) blocks))
@@ -113,11 +112,7 @@ module _ (z : Sizes) (s : TableState) (seat : ℕ) (v : PassState) (r : Rule z s
         (keys_idle z m m' s.states seat v w here (keys_now z s r) (λ F. ap (λ (rs : List RoomHolds). all_of z m'.rooms (content m.arena.bytes) rs F) (map_set rooms_held s.states seat w) ∙ stay F) refl knowledge refl headers (λ h _. refl) pins)
         (subst (KeptNumbersStand same_spot (read m')) (sym (map_set_same kept_of s.states seat v w here (λ i. kept_with (same i) (headers i))))
         (kept_unkept same_spot (read m) (read m') (in_rooms (room_spot x)) y (λ q. read-write m (in_rooms (room_spot x)) q y) (map kept_of s.states) (unkept_by_all (in_rooms (room_spot x)) (times_in_rooms (room_spot x)) s.states) r.kept))
-        (subst (λ (p : Knowledge × HeaderHolds). HoldsKnown p.0 p.1) (λ i. (sym knowledge i, sym headers i)) (r.passes seat v here))
-
-    -- a pin that has found no entries misses no key
-    none_missed : (q : Knowledge) (p : PinnedRoom) → p.count ≡ None → KnowsMissed q p
-    none_missed q p none k missed = absurd (true≢false (sym (subst IsSome none missed.counted)))
+        (subst (λ (p : Knowledge × HeaderHolds). HoldsKnown p.0 p.1 w.rooms.claim) (λ i. (sym knowledge i, sym headers i)) (record { pin = (r.passes seat v here).pin; whole = (r.passes seat v here).whole; claim = claim }))
 
     pub pin_keeps : (k : ℕ) → MayOnRoom z (pin_room k) v → Rule z (table_after z call (on_rooms (pin_room k)) seat v s)
     pin_keeps k may = let p = small_pin k in let f : count_of (m.rooms.pin k) + 1 < 2 ^ 28 = let t = few_room_pins z s r k in let c = r.rooms.counted k in omega arith in let u = pin_up (m.rooms.pin k) f p in
@@ -127,7 +122,7 @@ module _ (z : Sizes) (s : TableState) (seat : ℕ) (v : PassState) (r : Rule z s
         (subst (λ (i : ℕ). RoomBundles z (write m (in_rooms (at_room_pin k)) ((i + 1) % 2 ^ 64)).rooms m.arena.bytes (set hs seat (record v.rooms { pin = o }))) read_is (pin_bundles k ((m.rooms.pin k + 1) % 2 ^ 64) o u.1 stands))
         (subst (λ (i : ℕ). BlocksAreOwned z m.arena.bits (all_others z (write m (in_rooms (at_room_pin k)) ((i + 1) % 2 ^ 64)) (set hs seat (record v.rooms { pin = o }))) (map blocks_of s.states)) read_is (pin_blocks k ((m.rooms.pin k + 1) % 2 ^ 64) o u.1 stands))
         (λ F. subst (λ (i : ℕ). all_of z (write m (in_rooms (at_room_pin k)) ((i + 1) % 2 ^ 64)).rooms (content m.arena.bytes) (set hs seat (record v.rooms { pin = o })) F ≡ all_of z m.rooms (content m.arena.bytes) hs F) read_is (pin_covers k ((m.rooms.pin k + 1) % 2 ^ 64) o u.1 stands F))
-        (record { counted = none_missed v.knowledge (pinned_at m.rooms k) refl; removed = (r.heard.pins seat v here).removed })
+        (record { removed = (r.heard.pins seat v here).removed }) (r.passes seat v here).claim
 
     pub unpin_keeps : (k : ℕ) → MayOnRoom z (unpin_room k) v → Rule z (table_after z call (on_rooms (unpin_room k)) seat v s)
     unpin_keeps k may = let p = small_pin k in let some : 0 < count_of (m.rooms.pin k) = let t = total_at (room_pins k) hs seat v.rooms at_rooms in let c = r.rooms.counted k in let one = may.rooms.0 in omega arith in let d = pin_down (m.rooms.pin k) some p in
@@ -137,4 +132,4 @@ module _ (z : Sizes) (s : TableState) (seat : ℕ) (v : PassState) (r : Rule z s
         (subst (λ (i : ℕ). RoomBundles z (write m (in_rooms (at_room_pin k)) ((i + (2 ^ 64 - 1)) % 2 ^ 64)).rooms m.arena.bytes (set hs seat (record v.rooms { pin = None }))) read_is (pin_bundles k ((m.rooms.pin k + (2 ^ 64 - 1)) % 2 ^ 64) None d.1 stands))
         (subst (λ (i : ℕ). BlocksAreOwned z m.arena.bits (all_others z (write m (in_rooms (at_room_pin k)) ((i + (2 ^ 64 - 1)) % 2 ^ 64)) (set hs seat (record v.rooms { pin = None }))) (map blocks_of s.states)) read_is (pin_blocks k ((m.rooms.pin k + (2 ^ 64 - 1)) % 2 ^ 64) None d.1 stands))
         (λ F. subst (λ (i : ℕ). all_of z (write m (in_rooms (at_room_pin k)) ((i + (2 ^ 64 - 1)) % 2 ^ 64)).rooms (content m.arena.bytes) (set hs seat (record v.rooms { pin = None })) F ≡ all_of z m.rooms (content m.arena.bytes) hs F) read_is (pin_covers k ((m.rooms.pin k + (2 ^ 64 - 1)) % 2 ^ 64) None d.1 stands F))
-        (record { counted = tt; removed = (r.heard.pins seat v here).removed })
+        (record { removed = (r.heard.pins seat v here).removed }) (r.passes seat v here).claim

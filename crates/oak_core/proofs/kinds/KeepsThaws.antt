@@ -66,4 +66,4 @@ module _ (z : Sizes) (s : TableState) (seat : ℕ) (v : PassState) (r : Rule z s
   thaw_keeps call going k may = let f : ℕ → ℕ = (λ n. (n + (2 ^ 64 - (FROZEN - OPEN) * STATE)) % 2 ^ 64) in
       let u = subst (λ (n : ℕ). RoomsBehind z s seat v r here (put_room m.rooms (at_room_pin k) (f n)) (set hs seat (b k may))) (memory_read z s.words (in_rooms (at_room_pin k)) may.inside) (behind k may) in
       step_rule z s seat v r here call going (thaw_room k) may.inside refl refl refl (omega arith)
-      u.bundles u.blocks u.covers (pins_same v _ refl refl refl (r.heard.pins seat v here))
+      u.bundles u.blocks u.covers (pins_same v _ refl refl (r.heard.pins seat v here)) (r.passes seat v here).claim

@@ -16,7 +16,7 @@ use Rattle.chunk_core.specs.ValueWord.{names_header}
 use Rattle.oak_core.specs.declared.states.Knowledge.{Knowledge}
 use Rattle.oak_core.specs.declared.states.KnownLife.{KnownLife}
 use Rattle.oak_core.specs.declared.states.PassState.{PassState}
-use Rattle.oak_core.specs.CountTeaching.{is_pinned}
+use Rattle.oak_core.specs.LinkTeaching.{is_pinned}
 use Rattle.oak_core.specs.FoundKeys.{entry_key, pinned_key}
 use Rattle.oak_core.specs.KeyHistories.{homes_in}
 use Rattle.oak_core.specs.KeyReads.{history_now}
@@ -78,7 +78,7 @@ module _ (z : Sizes) (s : TableState) (call seat : ℕ) (v : PassState) (r : Rul
       known_same = λ h g. ap (λ (ks : List Knowledge). known ks h g) (map_set knowledge_of s.states seat w) ∙ known_loaded qs seat v.knowledge (at_map knowledge_of s.states seat v here) life (key_number key) there w.knowledge seen loaded h g;
       more = λ h g. let a = ap (knows_life h g) knows in let c = total_snoc (is_life h g) v.knowledge.loaded life in omega arith;
       keys = bundles_kept z m m s.states seat v w here (keys_now z s r) stay refl (ap (λ (q : Knowledge). q.mine) knows) same record { dead = λ h e. e; generations = λ h. refl } (keys_learned z m s.states r.keys seat v w here refl stay same stands)
-          (lessons_seen s.states seat v w here r.histories seen z m stay told (pins_stay v w refl refl [] (told ∙ sym (append-nil v.knowledge.heard)) (r.heard.pins seat v here)) r.heard);
+          (lessons_seen s.states seat v w here r.histories seen z m stay told (pins_stay v w refl [] (told ∙ sym (append-nil v.knowledge.heard)) (r.heard.pins seat v here)) r.heard);
     }
       where
         life : KnownLife

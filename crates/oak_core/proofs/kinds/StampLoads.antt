@@ -1,6 +1,6 @@
 -- The load of the stamp word of a pinned header, whose life the pin found, live or dead: the pass learns all that was written of the life's key up to the stamp.
 use Rattle.std.specs.Prelude.{not}
-use Rattle.std.proofs.Common.{◌≡◌, ℕ, ◌+◌, ◌⊎◌, ◌==◌, ◌&&◌, Bool, true, false, List, [], ◌∷◌, ◌++◌, length, map, set, sym, refl, ap, ◌∙◌, subst, inl, inr, ⊎_elim, Option, Some, eq-eqb}
+use Rattle.std.proofs.Common.{◌≡◌, ℕ, ◌+◌, ◌⊎◌, ◌==◌, ◌&&◌, Bool, true, false, List, [], ◌∷◌, ◌++◌, map, set, sym, refl, ap, ◌∙◌, subst, inl, inr, ⊎_elim, Option, Some, eq-eqb}
 use mathlib.Core.Option.{some}
 use lib.ListN.{get_elem?}
 use Rattle.pin_word.specs.PinWord.{generation_of, state_of}
@@ -14,7 +14,6 @@ use Rattle.header_core.specs.declared.holds.PinnedHeader.{PinnedHeader}
 use Rattle.header_core.specs.declared.states.TheConstants.{LIVE, DEAD}
 use Rattle.chunk_core.specs.CoverRule.{CoversPartition}
 use Rattle.chunk_core.specs.CoverSums.{word_of}
-use Rattle.chunk_core.specs.declared.holds.RoomHolds.{RoomHolds}
 use Rattle.oak_core.specs.declared.states.Knowledge.{Knowledge}
 use Rattle.oak_core.specs.declared.states.PassState.{PassState}
 use Rattle.oak_core.specs.Callers.{CallersAgree}
@@ -90,7 +89,7 @@ module _ (z : Sizes) (m : Memory) (is_key_word : ℕ → ℕ) (vs : List PassSta
 
   module _ (u : PassState) (knowledge : u.knowledge ≡ taught_by (of_key_to key n) (map knowledge_of vs) v.knowledge) (rooms : u.rooms ≡ v.rooms) (pin : u.headers.pin ≡ v.headers.pin) where
     pins : PinsKnow u
-    pins = pins_stay v u (ap (λ (a : RoomHolds). a.pin) rooms) pin (lesson_by (of_key_to key n) (map knowledge_of vs) ∷ []) (ap (λ (q : Knowledge). q.heard) knowledge) (heard.pins seat v here)
+    pins = pins_stay v u pin (lesson_by (of_key_to key n) (map knowledge_of vs) ∷ []) (ap (λ (q : Knowledge). q.heard) knowledge) (heard.pins seat v here)
 
     -- a good pin
     pub good_stamp_heard : state_of p.found ≡ LIVE → HeardStands z m (set vs seat u)

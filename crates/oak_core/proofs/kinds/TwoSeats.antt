@@ -134,7 +134,7 @@ module _ (z : Sizes) (s : TableState) (seat : ℕ) (v : PassState) (r : Rule z s
       headers = headers_divided m.headers (content m.arena.bytes) IsPlace (known (map knowledge_of s.states)) (known (map knowledge_of (set s.states seat left ++ right ∷ []))) (known_split s.states seat v here)
           r.headers v.headers (change_parts headers_held apart) (seat, at_map headers_held s.states seat v here);
       alone = apart.every (AloneStands s.words) ((λ met f e a. let h = r.alone seat v here met f e a in (h.0, record { first = h.1.first; others = h.1.others })), (alone_fresh s.words right refl, tt)) (λ j u _ at. r.alone j u at);
-      passes = apart.every PassStands (r.passes seat v here, (record { pin = tt; whole = tt }, tt)) (λ j u _ at. r.passes j u at);
+      passes = apart.every PassStands (r.passes seat v here, (record { pin = tt; whole = tt; claim = tt }, tt)) (λ j u _ at. r.passes j u at);
       spent = apart.every SpentIsSpent ((λ e. absurd (true≢false (sym e ∙ may.going))), ((λ e. absurd (true≢false (sym e))), tt)) (λ j u _ at. r.spent j u at);
       kept = subst (KeptNumbersStand same_spot (read m)) (sym same_kept) (kept_idle same_spot (read m) (map kept_of s.states) r.kept);
       kept_in_rooms = rooms_then.kept;
@@ -199,7 +199,7 @@ module _ (z : Sizes) (s : TableState) (seat : ℕ) (v : PassState) (r : Rule z s
       headers = headers_joined m.headers (content m.arena.bytes) IsPlace (known (map knowledge_of s.states)) (known (map knowledge_of (set (set s.states seat both) other spent_state))) (known_join s.states seat v here other w there ne)
           r.headers v.headers w.headers (change_parts headers_held together) (seat, at_map headers_held s.states seat v here) may.idle.headers;
       alone = together.every (AloneStands s.words) (alone_joins z s r seat v here going other w both there ne may.going refl, (alone_fresh s.words spent_state refl, tt)) (λ j u _ at. r.alone j u at);
-      passes = together.every PassStands (record { pin = pin_both v w (r.passes seat v here).pin; whole = (r.passes seat v here).whole }, (record { pin = tt; whole = tt }, tt)) (λ j u _ at. r.passes j u at);
+      passes = together.every PassStands (record { pin = pin_both v w (r.passes seat v here).pin; whole = (r.passes seat v here).whole; claim = (r.passes seat v here).claim }, (record { pin = tt; whole = tt; claim = tt }, tt)) (λ j u _ at. r.passes j u at);
       spent = together.every SpentIsSpent ((λ e. absurd (true≢false (sym e ∙ going))), ((λ _. refl), tt)) (λ j u _ at. r.spent j u at);
       kept = subst (KeptNumbersStand same_spot (read m)) (sym same_words) r.kept;
       kept_in_rooms = rooms_joined.kept;

@@ -1,5 +1,5 @@
 -- The load of the value word of an entry that was found under a good pin: where it is a floor, the pass learns all that was written of the key up to it, and where it names a header, that life of the key.
-use Rattle.std.proofs.Common.{◌≡◌, ℕ, ◌+◌, ◌<◌, ◌==◌, cond, Bool, true, false, List, [], ◌∷◌, ◌++◌, map, length, set, refl, ap, ◌∙◌, arith, Some, eq-eqb, ne_eqb}
+use Rattle.std.proofs.Common.{◌≡◌, ℕ, ◌+◌, ◌<◌, ◌==◌, cond, Bool, true, false, List, [], ◌∷◌, ◌++◌, map, set, refl, ap, ◌∙◌, arith, Some, eq-eqb, ne_eqb}
 use Rattle.std.proofs.lemmas.Bool.{and_right}
 use mathlib.Core.Option.{some}
 use lib.ListN.{get_elem?}
@@ -13,7 +13,6 @@ use Rattle.chunk_core.specs.PinnedRooms.{IsGoodRoom, found_in}
 use Rattle.chunk_core.specs.RoomRule.{RoomsStand}
 use Rattle.chunk_core.specs.ValueWord.{names_header}
 use Rattle.chunk_core.specs.declared.holds.PinnedRoom.{PinnedRoom}
-use Rattle.chunk_core.specs.declared.holds.RoomHolds.{RoomHolds}
 use Rattle.chunk_core.proofs.ValueWords.{none_named}
 use Rattle.oak_core.specs.declared.states.Knowledge.{Knowledge}
 use Rattle.oak_core.specs.declared.states.KnownLife.{KnownLife}
@@ -60,7 +59,7 @@ module _ (z : Sizes) (m : Memory) (vs : List PassState) (rooms : RoomsStand z m.
 
     pub floor_step_heard : (u : PassState) → HistoriesStand (map knowledge_of vs) → HeardStands z m vs → u.knowledge ≡ taught_by (of_key_to key n) (map knowledge_of vs) v.knowledge → u.rooms ≡ v.rooms → u.headers.pin ≡ v.headers.pin → HeardStands z m (set vs seat u)
     floor_step_heard u histories heard knowledge same pin = floor_heard z m m refl refl vs keys histories heard seat v u here key n same
-        (pins_stay v u (ap (λ (a : RoomHolds). a.pin) same) pin (lesson_by (of_key_to key n) (map knowledge_of vs) ∷ []) (ap (λ (q : Knowledge). q.heard) knowledge) (heard.pins seat v here))
+        (pins_stay v u pin (lesson_by (of_key_to key n) (map knowledge_of vs) ∷ []) (ap (λ (q : Knowledge). q.heard) knowledge) (heard.pins seat v here))
         (ap (λ (q : Knowledge). q.seen) knowledge) (ap (λ (q : Knowledge). q.heard) knowledge) word floor
 
   -- a header

@@ -18,6 +18,7 @@ use Rattle.chunk_core.specs.RoomRule.{RoomsStand}
 use Rattle.chunk_core.specs.RoomStep.{RoomStep, put_room, room_effect, room_found, room_spot}
 use Rattle.chunk_core.specs.Rooms.{IsInRooms, RoomSpot, at_value, read_room, same_room_spot}
 use Rattle.chunk_core.proofs.KeptValues.{value_kept, value_owners, value_rooms}
+use Rattle.chunk_core.proofs.RoomLinks.{linked_below}
 use Rattle.oak_core.specs.declared.states.PassState.{PassState}
 use Rattle.oak_core.specs.EntryOwners.{all_others, is_key_word}
 use Rattle.oak_core.specs.Finding.{finding}
@@ -89,9 +90,9 @@ module _ (z : Sizes) (s : TableState) (seat : ℕ) (v : PassState) (r : Rule z s
           }));
       headers = o.headers;
       rooms = record {
-        rooms = of_rooms z s call seat v r here going w o.rooms_same (RoomsStand z (put_room m.rooms (at_value k i) x) bytes) (value_rooms z m.rooms bytes hs k i x r.rooms);
+        rooms = of_rooms z s call seat v r here going w o.rooms_same (RoomsStand z (put_room m.rooms (at_value k i) x) bytes) (value_rooms z m.rooms bytes hs k i x (linked_below z m.rooms bytes k (r.rooms.ordered k (room_covers z m s.states r.rooms r.covers seat v here k i p e finds)) i (let o = entry_once z m s.states r.rooms r.covers seat v here k i p e finds in omega arith)) r.rooms);
         covers = o.covers;
-        kept = of_rooms z s call seat v r here going w o.rooms_same (λ (rs : List RoomHolds). KeptNumbersStand same_room_spot (read_room (put_room m.rooms (at_value k i) x)) (map kept_of_rooms rs)) (value_kept z m.rooms bytes hs r.rooms r.kept_in_rooms k i (room_covers z m s.states r.rooms r.covers seat v here k i p e finds) (entry_once z m s.states r.rooms r.covers seat v here k i p e finds) x);
+        kept = of_rooms z s call seat v r here going w o.rooms_same (λ (rs : List RoomHolds). KeptNumbersStand same_room_spot (read_room (put_room m.rooms (at_value k i) x)) (map kept_of_rooms rs)) (value_kept z m.rooms bytes hs r.rooms r.kept_in_rooms seat v.rooms own k i (room_covers z m s.states r.rooms r.covers seat v here k i p e finds) (entry_once z m s.states r.rooms r.covers seat v here k i p e finds) x);
       };
       keys = o.keys;
       kept = kept_unkept same_spot (read m) (read m') (in_rooms (at_value k i)) x (λ q. read-write m (in_rooms (at_value k i)) q x) (map kept_of (set s.states seat w)) (unkept_by_all (in_rooms (at_value k i)) (times_in_rooms (at_value k i)) (set s.states seat w)) o.kept;

@@ -1,5 +1,5 @@
--- What a pass knows at one moment, by the points that stand then: the places that it knows, what it has read, and what its pin misses are so in the histories of that moment.
-use Rattle.std.proofs.Common.{◌≡◌, ℕ, suc, ◌≤◌, List, map, length, subst, Some, None, cond, Bool, true, [], ap, ◌∙◌}
+-- What a pass knows at one moment, by the points that stand then: the places that it knows, and what it has read, are so in the histories of that moment.
+use Rattle.std.proofs.Common.{◌≡◌, ℕ, List, map, cond, Bool, true, [], ap, ◌∙◌}
 use mathlib.Core.Option.{some}
 use lib.ListN.{get_elem?}
 use Rattle.oak_model.specs.Counts.{Begins}
@@ -7,10 +7,8 @@ use Rattle.oak_model.specs.History.{StampsRise, place_of, state_at}
 use Rattle.oak_model.specs.Limits.{Sizes}
 use Rattle.oak_model.specs.State.{State}
 use Rattle.oak_model.proofs.Lists.{at_map}
-use Rattle.chunk_core.specs.declared.holds.PinnedRoom.{PinnedRoom}
-use Rattle.chunk_core.specs.PinnedRooms.{OnRoomPin, Misses}
 use Rattle.oak_core.specs.declared.states.PassState.{PassState}
-use Rattle.oak_core.specs.KeyHistories.{writes_of, state_behind, before}
+use Rattle.oak_core.specs.KeyHistories.{writes_of}
 use Rattle.oak_core.specs.KeyReads.{history_now, level_now}
 use Rattle.oak_core.specs.KeyRule.{HistoriesAreLegal}
 use Rattle.oak_core.specs.KnownPlaces.{KnowsPlace, ReadAt}
@@ -20,8 +18,7 @@ use Rattle.oak_core.specs.PassState.{seen_of, knowledge_of}
 use Rattle.oak_core.specs.Rule.{HistoriesStand}
 use Rattle.oak_core.proofs.histories.Histories.{seen_stands}
 use Rattle.oak_core.proofs.known.KnownPlaces.{known_place}
-use Rattle.oak_core.proofs.known.KnownReads.{read_now, missed_now}
-use Rattle.oak_core.proofs.known.PinsKnown.{KnowsMissed}
+use Rattle.oak_core.proofs.known.KnownReads.{read_now}
 use Rattle.oak_core.specs.Splitting.{Ends}
 use Rattle.oak_model.specs.Key.{is_key}
 use Rattle.oak_model.specs.KeyNumber.{key_number}
@@ -41,10 +38,6 @@ module _ (z : Sizes) (m : Memory) (vs : List PassState) (legal : HistoriesAreLeg
 
   pub read_here : (k at : ℕ) (s : State) (u : PassState) (r : ReadAt k at s u v) → (place_of (writes_of (history_now vs k)) at ≡ r.place) × (state_at (writes_of (history_now vs k)) r.place ≡ s)
   read_here k at s u = read_now (level_now z m vs) (history_now vs) k at s u v lessons (rise k) (begins k)
-
-  -- a key that its pin misses was absent at the place of the base, which is not above what the pass has seen of it, and the base is at most its level
-  pub missed_here : (p : PinnedRoom) → v.rooms.pin ≡ Some p → (k : ℕ) → Misses p k → (state_behind (before (suc p.base) (history_now vs k)) ≡ None) × (length (before (suc p.base) (history_now vs k)) ≤ length (seen_of k v.knowledge)) × (p.base ≤ level_now z m vs k)
-  missed_here p is k misses = missed_now (level_now z m vs) (history_now vs) k p.base v.knowledge lessons (subst (OnRoomPin (KnowsMissed v.knowledge)) is (heard.pins seat v here).counted k misses)
 
 -- each place that the pass knows is that in the history of a table that it closes
 abbrev pub PlacesKnown : PassState → Type 0

@@ -1,20 +1,19 @@
 -- Reads of keys: what a lesson just heard tells of a key is one, and a read stays one in each later state.
-use Rattle.std.proofs.Common.{◌≡◌, ℕ, suc, ◌<◌, ◌≤◌, List, [], ◌∷◌, ◌++◌, length, sym, refl, ap, ◌∙◌, arith, None}
+use Rattle.std.proofs.Common.{◌≡◌, ℕ, suc, ◌<◌, ◌≤◌, List, [], ◌∷◌, ◌++◌, length, sym, refl, ap, ◌∙◌, arith}
 use Rattle.oak_model.specs.Counts.{Has, Begins}
 use Rattle.oak_model.specs.History.{History, StampsRise, place_of, state_at}
 use Rattle.oak_model.specs.State.{State}
 use Rattle.oak_model.proofs.HistoryLaws.{Extends as Longer, state_at-extends, state_at-end, Extends-self}
 use Rattle.oak_model.proofs.Lists.{begins_length, begins_whole}
 use Rattle.oak_core.specs.declared.states.KeyedWrite.{KeyedWrite}
-use Rattle.oak_core.specs.declared.states.Knowledge.{Knowledge}
 use Rattle.oak_core.specs.declared.states.Lesson.{Lesson}
 use Rattle.oak_core.specs.declared.states.PassState.{PassState}
-use Rattle.oak_core.specs.KeyHistories.{writes_of, state_behind, stamp_behind, before}
+use Rattle.oak_core.specs.KeyHistories.{writes_of, state_behind, stamp_behind}
 use Rattle.oak_core.specs.KnownPlaces.{Remembers, ReadAt}
 use Rattle.oak_core.specs.Learning.{reach_of}
-use Rattle.oak_core.specs.Lessons.{LessonStands, LessonsStand, KnowsAbsent}
+use Rattle.oak_core.specs.Lessons.{LessonStands, LessonsStand}
 use Rattle.oak_core.specs.PassState.{Extends, seen_of}
-use Rattle.oak_core.proofs.known.KnownPlaces.{each_is, heard_place, known_place, place_end}
+use Rattle.oak_core.proofs.known.KnownPlaces.{heard_place, known_place, place_end}
 
 -- a longer history of one key, by its writes alone
 
@@ -75,8 +74,3 @@ read_heard level hist k at v w l there covers stands rise last begins long from 
 pub read_now : (level : ℕ → ℕ) (hist : ℕ → List KeyedWrite) (k at : ℕ) (s : State) (v w : PassState) → LessonsStand level hist w.knowledge → StampsRise 0 (writes_of (hist k)) → Begins (seen_of k w.knowledge) (hist k) → (r : ReadAt k at s v w)
     → (place_of (writes_of (hist k)) at ≡ r.place) × (state_at (writes_of (hist k)) r.place ≡ s)
 read_now level hist k at s v w all rise begins r = ((known_place level hist w.knowledge k rise begins all at r.place r.known).1, same_state (seen_of k w.knowledge) (hist k) r.place begins r.to ∙ r.state)
-
--- a key that a counted pin misses: absent at the place of the base, which is not above what the pass has seen of it
-pub missed_now : (level : ℕ → ℕ) (hist : ℕ → List KeyedWrite) (k at : ℕ) (q : Knowledge) → LessonsStand level hist q → KnowsAbsent k at q → (state_behind (before (suc at) (hist k)) ≡ None) × (length (before (suc at) (hist k)) ≤ length (seen_of k q)) × (at ≤ level k)
-missed_now level hist k at q all x = let s = each_is level hist q q.heard x.lesson all x.there in let e = s.writes k ∙ ap (λ (n : ℕ). before n (hist k)) x.covers in
-    (ap state_behind (sym e) ∙ x.absent, (let n = ap length e in let l = s.seen k in omega arith), (let u = s.upto k in let c = x.covers in omega arith))

@@ -5,13 +5,11 @@ use Rattle.oak_model.specs.Counts.{Has}
 use Rattle.header_core.specs.declared.holds.PinnedHeader.{PinnedHeader}
 use Rattle.header_core.specs.declared.states.TheConstants.{DEAD}
 use Rattle.header_core.specs.HeaderRule.{OnPin}
-use Rattle.chunk_core.specs.declared.holds.PinnedRoom.{PinnedRoom}
-use Rattle.chunk_core.specs.PinnedRooms.{OnRoomPin, Misses}
 use Rattle.oak_core.specs.declared.states.Knowledge.{Knowledge}
 use Rattle.oak_core.specs.declared.states.Lesson.{Lesson}
 use Rattle.oak_core.specs.declared.states.PassState.{PassState}
 use Rattle.oak_core.specs.KeyReads.{home_of}
-use Rattle.oak_core.specs.Lessons.{KnowsAbsent, KnowsRemoval, PinsKnow}
+use Rattle.oak_core.specs.Lessons.{KnowsRemoval, PinsKnow}
 
 -- what is added to a list: none is lost
 
@@ -24,25 +22,17 @@ pub has_later : {A : Type 0} (xs ys : List A) (l : A) → Has l ys → Has l (xs
 has_later [] ys l h = h
 has_later (x ∷ xs) ys l h = inr (has_later xs ys l h)
 
--- what a room pin misses, and what a header pin found dead
-abbrev pub KnowsMissed : Knowledge → PinnedRoom → Type 0
-KnowsMissed q p = (k : ℕ) → Misses p k → KnowsAbsent k p.base q
-
+-- what a header pin found dead
 abbrev pub KnowsDead : Knowledge → PinnedHeader → Type 0
 KnowsDead q p = state_of p.found ≡ DEAD → generation_of p.found ≡ p.wanted → (k : ℕ) × KnowsRemoval k (home_of p.header p.wanted) p.stamp q
-
-pub counted_on : (q q' : Knowledge) (o : Option PinnedRoom) → ((l : Lesson) → Has l q.heard → Has l q'.heard) → OnRoomPin (KnowsMissed q) o → OnRoomPin (KnowsMissed q') o
-counted_on q q' None keeps h = tt
-counted_on q q' (Some p) keeps h = λ k m. let x = h k m in record { lesson = x.lesson; there = keeps x.lesson x.there; covers = x.covers; absent = x.absent }
 
 pub removed_on : (q q' : Knowledge) (o : Option PinnedHeader) → ((l : Lesson) → Has l q.heard → Has l q'.heard) → OnPin (KnowsDead q) o → OnPin (KnowsDead q') o
 removed_on q q' None keeps h = tt
 removed_on q q' (Some p) keeps h = λ d g. let t = h d g in let x = t.1 in (t.0, record { lesson = x.lesson; there = keeps x.lesson x.there; covers = x.covers; removed = x.removed })
 
--- a pass whose pins stay, and that may have learned
-pub pins_stay : (v u : PassState) → u.rooms.pin ≡ v.rooms.pin → u.headers.pin ≡ v.headers.pin → (ls : List Lesson) → u.knowledge.heard ≡ v.knowledge.heard ++ ls → PinsKnow v → PinsKnow u
-pins_stay v u rooms headers ls is h = record {
-  counted = subst (OnRoomPin (KnowsMissed u.knowledge)) (sym rooms) (counted_on v.knowledge u.knowledge v.rooms.pin more h.counted);
+-- a pass whose pin on a header stays, and that may have learned
+pub pins_stay : (v u : PassState) → u.headers.pin ≡ v.headers.pin → (ls : List Lesson) → u.knowledge.heard ≡ v.knowledge.heard ++ ls → PinsKnow v → PinsKnow u
+pins_stay v u headers ls is h = record {
   removed = subst (OnPin (KnowsDead u.knowledge)) (sym headers) (removed_on v.knowledge u.knowledge v.headers.pin more h.removed);
 }
   where
@@ -50,9 +40,9 @@ pins_stay v u rooms headers ls is h = record {
     more l x = subst (λ (t : List Lesson). Has l t) (sym is) (has_first v.knowledge.heard ls l x)
 
 -- and that has learned nothing
-pub pins_same : (v u : PassState) → u.rooms.pin ≡ v.rooms.pin → u.headers.pin ≡ v.headers.pin → u.knowledge ≡ v.knowledge → PinsKnow v → PinsKnow u
-pins_same v u rooms headers knowledge h = pins_stay v u rooms headers [] (ap (λ (q : Knowledge). q.heard) knowledge ∙ sym (append-nil v.knowledge.heard)) h
+pub pins_same : (v u : PassState) → u.headers.pin ≡ v.headers.pin → u.knowledge ≡ v.knowledge → PinsKnow v → PinsKnow u
+pins_same v u headers knowledge h = pins_stay v u headers [] (ap (λ (q : Knowledge). q.heard) knowledge ∙ sym (append-nil v.knowledge.heard)) h
 
--- a pass without pins knows nothing by them
-pub pins_none : (v : PassState) → v.rooms.pin ≡ None → v.headers.pin ≡ None → PinsKnow v
-pins_none v rooms headers = record { counted = subst (OnRoomPin (KnowsMissed v.knowledge)) (sym rooms) tt; removed = subst (OnPin (KnowsDead v.knowledge)) (sym headers) tt }
+-- a pass without one knows nothing by it
+pub pins_none : (v : PassState) → v.headers.pin ≡ None → PinsKnow v
+pins_none v headers = record { removed = subst (OnPin (KnowsDead v.knowledge)) (sym headers) tt }

@@ -1,5 +1,5 @@
 -- The steps on headers that teach: a lock, and a pin that finds a life over.
-use Rattle.std.proofs.Common.{◌≡◌, ◌≢◌, ℕ, ◌-◌, List, [], ◌∷◌, ◌++◌, map, set, sym, refl, ap, ◌∙◌, subst, inl, Option, Some}
+use Rattle.std.proofs.Common.{◌≡◌, ◌≢◌, ℕ, ◌-◌, List, [], ◌∷◌, ◌++◌, map, set, sym, refl, ap, ◌∙◌, subst, inl, Some}
 use mathlib.Core.Option.{some}
 use lib.ListN.{get_elem?}
 use Rattle.pin_word.specs.PinWord.{generation_of, state_of}
@@ -14,10 +14,7 @@ use Rattle.header_core.specs.HeaderRule.{OnPin}
 use Rattle.header_core.specs.declared.holds.PinnedHeader.{PinnedHeader}
 use Rattle.header_core.specs.declared.states.TheConstants.{LIVE, DEAD, LOCKED}
 use Rattle.chunk_core.specs.CoverRule.{CoversPartition}
-use Rattle.chunk_core.specs.PinnedRooms.{OnRoomPin, Misses}
 use Rattle.chunk_core.specs.ValueWord.{names_header}
-use Rattle.chunk_core.specs.declared.holds.PinnedRoom.{PinnedRoom}
-use Rattle.chunk_core.specs.declared.holds.RoomHolds.{RoomHolds}
 use Rattle.oak_core.specs.declared.states.Findings.{Findings}
 use Rattle.oak_core.specs.declared.states.KeyedWrite.{KeyedWrite}
 use Rattle.oak_core.specs.declared.states.Knowledge.{Knowledge}
@@ -29,7 +26,7 @@ use Rattle.oak_core.specs.KeyReads.{home_of}
 use Rattle.oak_core.specs.KeyRule.{KeysStand}
 use Rattle.oak_core.specs.Known.{known}
 use Rattle.oak_core.specs.Learning.{taught_by, lesson_by, of_key_to}
-use Rattle.oak_core.specs.Lessons.{KnowsAbsent, KnowsRemoval, PinsKnow, HeardStands}
+use Rattle.oak_core.specs.Lessons.{KnowsRemoval, PinsKnow, HeardStands}
 use Rattle.oak_core.specs.LifeKeys.{key_known}
 use Rattle.oak_core.specs.Memory.{Memory}
 use Rattle.oak_core.specs.Owners.{HeadersAreHeld}
@@ -38,7 +35,7 @@ use Rattle.oak_core.specs.Rule.{HistoriesStand}
 use Rattle.oak_core.proofs.memory.HomeWords.{NamesAt}
 use Rattle.oak_core.proofs.keyed.KeyLoads.{live_heard, removed_heard}
 use Rattle.oak_core.proofs.histories.LivesOnce.{begins_once}
-use Rattle.oak_core.proofs.known.PinsKnown.{counted_on, pins_stay, has_first, has_later}
+use Rattle.oak_core.proofs.known.PinsKnown.{pins_stay, has_later}
 use Rattle.oak_core.proofs.histories.Removals.{removed_at_is, removed_at_some}
 use Rattle.oak_core.proofs.known.RemovalsKnown.{pin_removal, removed_at_once}
 use Rattle.oak_core.proofs.held.LockKeys as locks
@@ -53,7 +50,7 @@ module _ (z : Sizes) (m : Memory) (is_key_word : ℕ → ℕ) (vs : List PassSta
 
   pub lock_step_heard : HeardStands z (locks.m' z m is_key_word vs parts keys callers histories heads seat v here fs h x live now generation named_at no_fresh key knows) (set vs seat u)
   lock_step_heard = live_heard z m (locks.m' z m is_key_word vs parts keys callers histories heads seat v here fs h x live now generation named_at no_fresh key knows) refl refl vs keys histories heard seat v u here key (m.headers.stamp h) refl
-      (pins_stay v u refl refl (lesson_by (of_key_to key (m.headers.stamp h)) (map knowledge_of vs) ∷ []) refl (heard.pins seat v here)) refl refl (home_of h (generation_of (m.headers.pin h)))
+      (pins_stay v u refl (lesson_by (of_key_to key (m.headers.stamp h)) (map knowledge_of vs) ∷ []) refl (heard.pins seat v here)) refl refl (home_of h (generation_of (m.headers.pin h)))
       (locks.lock_named z m is_key_word vs parts keys callers histories heads seat v here fs h x live now generation named_at no_fresh key knows) named_at.names
       (ap (λ (t : ℕ). state_of (m.headers.pin t)) named_at.header ∙ live) (ap m.headers.stamp (sym named_at.header))
 
@@ -80,8 +77,6 @@ module _ (z : Sizes) (m m' : Memory) (words : m'.rooms ≡ m.rooms) (bytes : m'.
 
   pins : PinsKnow u
   pins = record {
-    counted = subst (λ (o : Option PinnedRoom). OnRoomPin (λ q. (k : ℕ) → Misses q k → KnowsAbsent k q.base u.knowledge) o) (sym (ap (λ (a : RoomHolds). a.pin) rooms))
-        (counted_on v.knowledge u.knowledge v.rooms.pin (λ l x. subst (λ (ls : List Lesson). Has l ls) (sym heard_is) (has_first v.knowledge.heard (lesson ∷ []) l x)) (heard.pins seat v here).counted);
     removed = subst (OnPin (λ q. state_of q.found ≡ DEAD → generation_of q.found ≡ q.wanted → (k : ℕ) × KnowsRemoval k (home_of q.header q.wanted) q.stamp u.knowledge)) (sym is) (λ d e. (key_number key, knows_it d e));
   }
     where

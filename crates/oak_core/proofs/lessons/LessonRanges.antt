@@ -33,7 +33,7 @@ module _ (z : Sizes) (m m' : Memory) (vs : List PassState) (seat : ℕ) (v u : P
   -- as it does where it has the pins that it had
   module _ (room : u.rooms.pin ≡ v.rooms.pin) (header : u.headers.pin ≡ v.headers.pin) where
     pins_left : PinsKnow u
-    pins_left = pins_same v u room header knowledge (heard.pins seat v here)
+    pins_left = pins_same v u header knowledge (heard.pins seat v here)
 
     pub heard_left : ((k : ℕ) → word_now z m' (set vs seat u) k ≡ word_now z m vs k) → ((k : ℕ) → base_now z m vs k ≤ base_now z m' (set vs seat u) k) → HeardStands z m' (set vs seat u)
     heard_left = heard_framed pins_left

@@ -69,7 +69,7 @@ module _ (z : Sizes) (m : Memory) (vs : List PassState) (histories : HistoriesSt
   heard_split heard = let vs' : List PassState = set vs seat left ++ right ∷ [] in let up = levels_same z m vs vs' sums_divided history_divided in let mine = heard.lessons seat v.knowledge q_here in record {
     lessons = heard_change (level_now z m vs) (level_now z m vs') (history_now vs) (history_now vs') up (change_parts knowledge_of apart) heard.lessons
         (moved v.knowledge left.knowledge vs' up (λ k. omega arith) mine, (moved v.knowledge right.knowledge vs' up (λ k. omega arith) mine, tt));
-    pins = apart.every PinsKnow (pins_stay v left refl refl [] (sym (append-nil v.knowledge.heard)) (heard.pins seat v here), (pins_none right refl refl, tt)) (λ j t _ at. heard.pins j t at);
+    pins = apart.every PinsKnow (pins_stay v left refl [] (sym (append-nil v.knowledge.heard)) (heard.pins seat v here), (pins_none right refl, tt)) (λ j t _ at. heard.pins j t at);
   }
 
   -- a join
@@ -109,12 +109,12 @@ module _ (z : Sizes) (m : Memory) (vs : List PassState) (histories : HistoriesSt
             (moved w.knowledge both.knowledge vs' up (λ k. (more k).1) (heard.lessons other w.knowledge w_there)),
         (tt, tt),
       );
-      pins = together.every PinsKnow (pins_stay v both refl refl w.knowledge.heard refl (heard.pins seat v here), (pins_none spent_state refl refl, tt)) (λ j t _ at. heard.pins j t at);
+      pins = together.every PinsKnow (pins_stay v both refl w.knowledge.heard refl (heard.pins seat v here), (pins_none spent_state refl, tt)) (λ j t _ at. heard.pins j t at);
     }
 
 -- a pass alone, without lessons and pins
 pub heard_first : (z : Sizes) (m : Memory) (v : PassState) → v.knowledge.heard ≡ [] → v.rooms.pin ≡ None → v.headers.pin ≡ None → HeardStands z m (v ∷ [])
 heard_first z m v none room header = record {
   lessons = every_one (LessonsStand (level_now z m (v ∷ [])) (history_now (v ∷ []))) v.knowledge (subst (Each (LessonStands (level_now z m (v ∷ [])) (history_now (v ∷ [])) v.knowledge)) (sym none) tt);
-  pins = every_one PinsKnow v (pins_none v room header);
+  pins = every_one PinsKnow v (pins_none v header);
 }

@@ -1,4 +1,4 @@
--- The lesson of a gap: a pass that loads a link of a room whose links reach all linked entries, under a good pin, and learns of each key that the link steps over all up to the base, keeps the points on lessons. So it reads each such key: it is absent at the place of the base, which is the end of what the pass has seen of it then.
+-- The lesson of a gap: a pass that loads a link of a room under a good pin, and learns of each key that the link steps over all up to the base, keeps the points on lessons. So it reads each such key: it is absent at the place of the base, which is the end of what the pass has seen of it then.
 use Rattle.std.proofs.Common.{◌≡◌, ℕ, suc, ◌≤◌, List, [], ◌∷◌, map, length, set, sym, refl, ap, ◌∙◌, subst, inl, arith, Option, None, true}
 use mathlib.Core.Option.{some}
 use lib.ListN.{get_elem?}
@@ -10,7 +10,8 @@ use Rattle.oak_model.proofs.Lists.{at_map, begins_length, map_set}
 use Rattle.arena_core.specs.Place.{content}
 use Rattle.chunk_core.specs.declared.holds.PinnedRoom.{PinnedRoom}
 use Rattle.chunk_core.specs.declared.holds.RoomHolds.{RoomHolds}
-use Rattle.chunk_core.specs.ReachedEntries.{LinksReachAll}
+use Rattle.chunk_core.specs.LinkedEntries.{linked}
+use Rattle.chunk_core.specs.RoomRule.{IsInOrder}
 use Rattle.chunk_core.specs.CoverRule.{CoversPartition}
 use Rattle.chunk_core.specs.CoverSums.{all_of, each, word_for, base_for}
 use Rattle.chunk_core.specs.Covers.{Cover}
@@ -43,7 +44,7 @@ use Rattle.oak_core.proofs.lessons.TaughtStates.{history_taught, histories_taugh
 
 module _ (z : Sizes) (m : Memory) (is_key_word : ℕ → ℕ) (vs : List PassState) (parts : CoversPartition z m.rooms (content m.arena.bytes) is_key_word (map rooms_held vs))
     (states : StatesAgree z m vs) (legal : HistoriesAreLegal vs) (histories : HistoriesStand (map knowledge_of vs)) (seat : ℕ) (v : PassState) (here : get_elem? vs seat ≡ some v)
-    (p : PinnedRoom) (holds : RoomPinHolds z m.rooms (content m.arena.bytes) p) (good : IsGoodRoom p) (all : LinksReachAll (content m.arena.bytes) m.rooms p.room) (from : Option ℕ) (lead : leads from p ≡ true) where
+    (p : PinnedRoom) (holds : RoomPinHolds z m.rooms (content m.arena.bytes) p) (good : IsGoodRoom p) (order : IsInOrder z (content m.arena.bytes) (m.rooms.count p.room) (m.rooms.key p.room) (m.rooms.value p.room) (linked m.rooms p.room) (m.rooms.low p.room 0) (m.rooms.high p.room 0)) (from : Option ℕ) (lead : leads from p ≡ true) where
   abbrev bytes : ℕ → List ℕ
   bytes = content m.arena.bytes
 
@@ -64,10 +65,10 @@ module _ (z : Sizes) (m : Memory) (is_key_word : ℕ → ℕ) (vs : List PassSta
 
   -- the lesson goes to each key's level at most, behind which a key of it is absent
   upto : (k : ℕ) → reach_of (OfGap (gap_at m.rooms (content m.arena.bytes) from p)) k ≤ suc (level_now z m vs k)
-  upto = gap_upto z m is_key_word vs parts states legal p holds good all from lead
+  upto = gap_upto z m is_key_word vs parts states legal p holds good order from lead
 
   absent : (k : ℕ) → IsAbsentBehind (OfGap (gap_at m.rooms (content m.arena.bytes) from p)) k (before (reach_of (OfGap (gap_at m.rooms (content m.arena.bytes) from p)) k) (history_now vs k))
-  absent k there = gap_absent z m is_key_word vs parts states legal p holds good all from lead k (reached_between (gap_at m.rooms (content m.arena.bytes) from p) k good there)
+  absent k there = gap_absent z m is_key_word vs parts states legal p holds good order from lead k (reached_between (gap_at m.rooms (content m.arena.bytes) from p) k good there)
 
   -- the pass after the load: it carries the same ranges, and has learned
   module _ (u : PassState) (moving : u.rooms.moving ≡ v.rooms.moving) (seen : u.knowledge.seen ≡ (taught_by (OfGap (gap_at m.rooms (content m.arena.bytes) from p)) (map knowledge_of vs) v.knowledge).seen)
@@ -92,7 +93,7 @@ module _ (z : Sizes) (m : Memory) (is_key_word : ℕ → ℕ) (vs : List PassSta
       lesson = lesson;
       there = lesson_there;
       covers = reach_between (gap_at m.rooms (content m.arena.bytes) from p) k b;
-      absent = ap state_behind (heard_taught (OfGap (gap_at m.rooms (content m.arena.bytes) from p)) qs histories rise seat v.knowledge q_here k) ∙ gap_absent z m is_key_word vs parts states legal p holds good all from lead k b;
+      absent = ap state_behind (heard_taught (OfGap (gap_at m.rooms (content m.arena.bytes) from p)) qs histories rise seat v.knowledge q_here k) ∙ gap_absent z m is_key_word vs parts states legal p holds good order from lead k b;
     }
 
     pub link_heard : HeardStands z m vs → PinsKnow u → HeardStands z m (set vs seat u)
@@ -102,13 +103,13 @@ module _ (z : Sizes) (m : Memory) (is_key_word : ℕ → ℕ) (vs : List PassSta
     module _ (k : ℕ) (b : LiesBetween p (found_from from p) (found_by m.rooms (content m.arena.bytes) p.room (link_word m.rooms p.room from)) k) where
       -- the pass has seen all that was written of it, behind which it is absent
       pub linked_whole : seen_of k u.knowledge ≡ history_now vs k
-      linked_whole = taught_whole (OfGap (gap_at m.rooms (content m.arena.bytes) from p)) qs histories rise seat v.knowledge q_here u seen k (let r = reach_between (gap_at m.rooms (content m.arena.bytes) from p) k b in let l = (gap_state z m is_key_word vs parts states legal p holds good all from lead k b).1 in omega arith)
+      linked_whole = taught_whole (OfGap (gap_at m.rooms (content m.arena.bytes) from p)) qs histories rise seat v.knowledge q_here u seen k (let r = reach_between (gap_at m.rooms (content m.arena.bytes) from p) k b in let l = (gap_state z m is_key_word vs parts states legal p holds good order from lead k b).1 in omega arith)
 
       pub linked_none : state_behind (seen_of k u.knowledge) ≡ None
-      linked_none = ap state_behind linked_whole ∙ (gap_state z m is_key_word vs parts states legal p holds good all from lead k b).0
+      linked_none = ap state_behind linked_whole ∙ (gap_state z m is_key_word vs parts states legal p holds good order from lead k b).0
 
       read_there : (r : ReadAt k p.base None v u) × (r.place ≡ length (seen_of k u.knowledge))
-      read_there = let s = gap_state z m is_key_word vs parts states legal p holds good all from lead k b in subst (λ (t : State). (r : ReadAt k p.base t v u) × (r.place ≡ length (seen_of k u.knowledge))) s.0
+      read_there = let s = gap_state z m is_key_word vs parts states legal p holds good order from lead k b in subst (λ (t : State). (r : ReadAt k p.base t v u) × (r.place ≡ length (seen_of k u.knowledge))) s.0
           (read_taught (OfGap (gap_at m.rooms (content m.arena.bytes) from p)) qs histories rise seat v.knowledge q_here u seen (level_now z m vs) upto absent lesson_there k p.base (reach_between (gap_at m.rooms (content m.arena.bytes) from p) k b) s.1 v (begins_length (seen_of k v.knowledge) (history_now vs k) (seen_stands qs histories k seat v.knowledge q_here)))
 
       -- it was read absent at the place of the base

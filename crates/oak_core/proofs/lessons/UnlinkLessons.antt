@@ -46,4 +46,4 @@ module _ (z : Sizes) (m : Memory) (is_key_word : ℕ → ℕ) (vs : List PassSta
       (values.word_valued z m.rooms (content m.arena.bytes) is_key_word (map rooms_held vs) (map rooms_held (set vs seat u)) (v.rooms ∷ []) (u.rooms ∷ []) parts c moving r i x lr cover once) floor last (unlink_same its_key))
       (values.word_others z m.rooms (content m.arena.bytes) is_key_word (map rooms_held vs) (map rooms_held (set vs seat u)) (v.rooms ∷ []) (u.rooms ∷ []) parts c moving r i x lr cover once)
       (values.base_valued z m.rooms (content m.arena.bytes) is_key_word (map rooms_held vs) (map rooms_held (set vs seat u)) (v.rooms ∷ []) (u.rooms ∷ []) parts c moving r i x lr cover once) (λ k _. unlink_same k))
-      knowledge (pins_stay v u pin header_pin [] (ap (λ (q : Knowledge). q.heard) knowledge ∙ sym (append-nil v.knowledge.heard)) (heard.pins seat v here))
+      knowledge (pins_stay v u header_pin [] (ap (λ (q : Knowledge). q.heard) knowledge ∙ sym (append-nil v.knowledge.heard)) (heard.pins seat v here))

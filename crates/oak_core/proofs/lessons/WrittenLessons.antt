@@ -16,7 +16,6 @@ use Rattle.chunk_core.specs.CoverSums.{weight, each, word_for, base_for, word_of
 use Rattle.chunk_core.specs.Covers.{Cover, key_at}
 use Rattle.chunk_core.specs.LinkedEntries.{linked}
 use Rattle.chunk_core.specs.ValueWord.{names_header}
-use Rattle.chunk_core.specs.declared.holds.RoomHolds.{RoomHolds}
 use Rattle.oak_core.specs.declared.states.Findings.{Findings}
 use Rattle.oak_core.specs.declared.states.KeyedWrite.{KeyedWrite}
 use Rattle.oak_core.specs.declared.states.Knowledge.{Knowledge}
@@ -66,7 +65,7 @@ module _ (z : Sizes) (m : Memory) (is_key_word : ℕ → ℕ) (vs : List PassSta
       named_at.names
       (sets.else_same z m is_key_word vs parts keys histories heads seat v here fs r i old lr cover once found floor small own has fresh inside named_at next stamp_is w home inserts stamp after key is_key writes)
       (sets.base_more z m is_key_word vs parts keys histories heads seat v here fs r i old lr cover once found floor small own has fresh inside named_at next stamp_is w home inserts stamp after key is_key writes)
-      (pins_stay v u refl refl (write_lesson w (history k (map knowledge_of vs)) ∷ []) refl (heard.pins seat v here))
+      (pins_stay v u refl (write_lesson w (history k (map knowledge_of vs)) ∷ []) refl (heard.pins seat v here))
 
 -- The writes of a lock's holder, by an unlock or a mark: the rooms' words and what passes hold of rooms stay.
 module _ (z : Sizes) (m m' : Memory) (words : m'.rooms ≡ m.rooms) (bytes : m'.arena ≡ m.arena) (vs : List PassState) (histories : HistoriesStand (map knowledge_of vs)) (heard : HeardStands z m vs)
@@ -85,4 +84,4 @@ module _ (z : Sizes) (m m' : Memory) (words : m'.rooms ≡ m.rooms) (bytes : m'.
       (let n = level-named (base_of z m.rooms (content m.arena.bytes) (map rooms_held vs) (key_number own.key)) (stamp_behind (history (key_number own.key) (map knowledge_of vs))) (word_of z m.rooms (content m.arena.bytes) (map rooms_held vs) (key_number own.key)) (home_of own.header own.generation) lock.named names in
       let s = lock.stamp in omega arith)
       (covers_same (each (word_for (key_number own.key))) ∙ lock.named) names (λ j _. covers_same (each (word_for j))) (λ j. let e = covers_same (base_for j) in omega arith)
-      (pins_stay v u (ap (λ (a : RoomHolds). a.pin) rooms) pin (write_lesson w (history (key_number own.key) (map knowledge_of vs)) ∷ []) (ap (λ (q : Knowledge). q.heard) knowledge) (heard.pins seat v here))
+      (pins_stay v u pin (write_lesson w (history (key_number own.key) (map knowledge_of vs)) ∷ []) (ap (λ (q : Knowledge). q.heard) knowledge) (heard.pins seat v here))

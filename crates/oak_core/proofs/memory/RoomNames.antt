@@ -1,14 +1,15 @@
 -- A word names at most one room, and one word of it, so a step that may be taken is told of whatever it names.
-use Rattle.std.proofs.Common.{◌≡◌, ℕ, ◌+◌, ◌-◌, ◌%◌, ◌^◌, ◌<◌, ◌==◌, false, sym, refl, ap, ◌∙◌, subst, arith}
+use Rattle.std.proofs.Common.{◌≡◌, ℕ, Option, Some, None, ◌+◌, ◌-◌, ◌%◌, ◌^◌, ◌<◌, ◌==◌, false, sym, refl, ap, ◌∙◌, subst, arith}
 use prog.Atomic.{either}
 use Rattle.atomic_table.specs.Table.{Me, Allows}
 use Rattle.oak_model.specs.declared.writes.Kind.{Kind}
 use Rattle.oak_model.specs.Limits.{Sizes}
-use Rattle.chunk_core.specs.RoomStep.{EntryField, of_key, of_value, of_next, entry_spot, pin_room, unpin_room, latch_room, store_entry, publish_entry, unlatch_room, set_value, unlink_entry}
-use Rattle.chunk_core.specs.Rooms.{RoomSpot, at_room_pin, at_latch, at_value, at_next, room_at, part_at, IsInRooms, at_count}
+use Rattle.chunk_core.specs.RoomStep.{EntryField, of_key, of_value, of_next, entry_spot, pin_room, unpin_room, claim_entry, own_entry, link_entry, set_value, unlink_entry}
+use Rattle.chunk_core.specs.LinkWords.{link_spot}
+use Rattle.chunk_core.specs.Rooms.{RoomSpot, at_room_pin, at_value, at_next, room_at, part_at, IsInRooms, at_count}
 use Rattle.oak_core.specs.declared.states.PassState.{PassState}
 use Rattle.oak_core.specs.Memory.{Spot, in_rooms, word_count}
-use Rattle.oak_core.specs.RoomCalls.{NamesRoomPin, NamesLatch, NamesEntryWord, PinsRoomWord, UnpinsRoomWord, TakesLatch, StoresEntry, GivesLatch, NamesCount, PublishesEntry, SetsValueWord, UnlinksEntryWord}
+use Rattle.oak_core.specs.RoomCalls.{NamesRoomPin, NamesEntryWord, NamesCount, NamesLink, PinsRoomWord, UnpinsRoomWord, ClaimsEntry, OwnsEntry, LinksEntry, SetsValueWord, UnlinksEntryWord}
 use Rattle.oak_core.specs.Running.{Holds, KeepsSeat}
 use Rattle.oak_core.specs.Step.{on_rooms, MayOnRooms}
 use Rattle.oak_core.proofs.seats.Allowed.{allows_at}
@@ -31,19 +32,37 @@ one_room z r k word n m = let s = index_apart z (in_rooms (at_room_pin r)) (in_r
 pub room_pin_below : (z : Sizes) (r word : ℕ) → NamesRoomPin z r word → word < word_count z
 room_pin_below z r word n = let e = n.word_is in let b = index_below z (in_rooms (at_room_pin r)) (n.inside, (omega arith)) in omega arith
 
-pub one_latch : (z : Sizes) (r k word : ℕ) → NamesLatch z r word → NamesLatch z k word → r ≡ k
-one_latch z r k word n m = let s = index_apart z (in_rooms (at_latch r)) (in_rooms (at_latch k)) (n.inside, (omega arith)) (m.inside, (omega arith)) (sym n.word_is ∙ m.word_is) in
-    sym (room_of_spot-is (at_latch r)) ∙ (ap room_of_spot s ∙ room_of_spot-is (at_latch k))
-
-pub latch_below : (z : Sizes) (r word : ℕ) → NamesLatch z r word → word < word_count z
-latch_below z r word n = let e = n.word_is in let b = index_below z (in_rooms (at_latch r)) (n.inside, (omega arith)) in omega arith
-
 pub one_count : (z : Sizes) (r k word : ℕ) → NamesCount z r word → NamesCount z k word → r ≡ k
 one_count z r k word n m = let s = index_apart z (in_rooms (at_count r)) (in_rooms (at_count k)) (n.inside, (omega arith)) (m.inside, (omega arith)) (sym n.word_is ∙ m.word_is) in
     sym (room_of_spot-is (at_count r)) ∙ (ap room_of_spot s ∙ room_of_spot-is (at_count k))
 
 pub count_below : (z : Sizes) (r word : ℕ) → NamesCount z r word → word < word_count z
 count_below z r word n = let e = n.word_is in let b = index_below z (in_rooms (at_count r)) (n.inside, (omega arith)) in omega arith
+
+-- the entry that the link in a spot is of, where it is not a first one
+from_of_spot : Spot → Option ℕ
+from_of_spot (in_rooms (at_next r i)) = Some i
+from_of_spot _ = None
+
+room_of_link : (r : ℕ) (from : Option ℕ) → room_of_spot (in_rooms (link_spot r from)) ≡ r
+unfolding room_of_spot
+room_of_link r None = refl
+room_of_link r (Some q) = refl
+
+from_of_link : (r : ℕ) (from : Option ℕ) → from_of_spot (in_rooms (link_spot r from)) ≡ from
+unfolding from_of_spot
+from_of_link r None = refl
+from_of_link r (Some q) = refl
+
+-- a word is one link at most
+pub one_link : (z : Sizes) (r k : ℕ) (from other : Option ℕ) (word : ℕ) → NamesLink z r from word → NamesLink z k other word → (r ≡ k) × (from ≡ other)
+one_link z r k from other word n m = let s = index_apart z (in_rooms (link_spot r from)) (in_rooms (link_spot k other)) n.inside m.inside (sym n.word_is ∙ m.word_is) in (
+  sym (room_of_link r from) ∙ (ap room_of_spot s ∙ room_of_link k other),
+  sym (from_of_link r from) ∙ (ap from_of_spot s ∙ from_of_link k other),
+)
+
+pub link_below : (z : Sizes) (r : ℕ) (from : Option ℕ) (word : ℕ) → NamesLink z r from word → word < word_count z
+link_below z r from word n = let e = n.word_is in let b = index_below z (in_rooms (link_spot r from)) n.inside in omega arith
 
 -- the number of the entry in a spot, and which of its words it is
 
@@ -103,29 +122,23 @@ module _ (z : Sizes) (start call : ℕ) (slots id : ℕ) (me : Me (Unit {0}) Pas
       (sym names.word_is) (λ i n. (n + (2 ^ 64 - sym e i)) % 2 ^ 64) may
       (λ n w told k named. subst (λ (j : ℕ). UnpinsRoomWord z call j me.0 n w) (one_room z r k word names named) told)
 
-  pub allows_latch : (word old new r : ℕ) → NamesLatch z r word → old ≡ 0 → new ≡ 1 → MayOnRooms z call (latch_room r) me.0
-      → Allows (Holds z start) slots id me word (λ n. either (n == old) new n) (λ n m. ((k : ℕ) → NamesLatch z k word → TakesLatch z call k me.0 n m.0) × KeepsSeat me m)
-  allows_latch word old new r names o e may = allows_at z start call slots id me going (on_rooms (latch_room r)) (λ n w. (k : ℕ) → NamesLatch z k word → TakesLatch z call k me.0 n w) word (λ n. either (n == old) new n)
-      (sym names.word_is) (λ i n. either (n == sym o i) (sym e i) n) may
-      (λ n w told k named. subst (λ (j : ℕ). TakesLatch z call j me.0 n w) (one_latch z r k word names named) told)
+  pub allows_claim : (word old new r : ℕ) → NamesCount z r word → new ≡ old + 1 → MayOnRooms z call (claim_entry r old) me.0
+      → Allows (Holds z start) slots id me word (λ n. either (n == old) new n) (λ n m. ((k : ℕ) → NamesCount z k word → ClaimsEntry z call k old me.0 n m.0) × KeepsSeat me m)
+  allows_claim word old new r names e may = allows_at z start call slots id me going (on_rooms (claim_entry r old)) (λ n w. (k : ℕ) → NamesCount z k word → ClaimsEntry z call k old me.0 n w) word (λ n. either (n == old) new n)
+      (sym names.word_is) (λ i n. either (n == old) (sym e i) n) may
+      (λ n w told k named. subst (λ (j : ℕ). ClaimsEntry z call j old me.0 n w) (one_count z r k word names named) told)
 
-  pub allows_publish : (word value r : ℕ) → NamesCount z r word → MayOnRooms z call (publish_entry r value) me.0
-      → Allows (Holds z start) slots id me word (λ _. value) (λ n m. ((k : ℕ) → NamesCount z k word → PublishesEntry z call k value me.0 m.0) × KeepsSeat me m)
-  allows_publish word value r names may = allows_at z start call slots id me going (on_rooms (publish_entry r value)) (λ _ w. (k : ℕ) → NamesCount z k word → PublishesEntry z call k value me.0 w) word (λ _. value)
+  pub allows_own : (word x : ℕ) (f : EntryField) (r i : ℕ) → NamesEntryWord z f r i word → MayOnRooms z call (own_entry f r i x) me.0
+      → Allows (Holds z start) slots id me word (λ _. x) (λ _ m. ((g : EntryField) (k j : ℕ) → NamesEntryWord z g k j word → OwnsEntry z call g k j x me.0 m.0) × KeepsSeat me m)
+  allows_own word x f r i names may = allows_at z start call slots id me going (on_rooms (own_entry f r i x)) (λ _ w. (g : EntryField) (k j : ℕ) → NamesEntryWord z g k j word → OwnsEntry z call g k j x me.0 w) word (λ _. x)
       (sym names.word_is) refl may
-      (λ n w told k named. subst (λ (j : ℕ). PublishesEntry z call j value me.0 w) (one_count z r k word names named) (n, told))
+      (λ n w told g k j named. let o = one_entry z f g r i k j word names named in subst (λ (t : EntryField × (ℕ × ℕ)). OwnsEntry z call t.0 t.1.0 t.1.1 x me.0 w) (λ q. (o.0 q, (o.1 q, o.2 q))) (n, told))
 
-  pub allows_unlatch : (word value r : ℕ) → NamesLatch z r word → value ≡ 0 → MayOnRooms z call (unlatch_room r) me.0
-      → Allows (Holds z start) slots id me word (λ _. value) (λ _ m. ((k : ℕ) → NamesLatch z k word → GivesLatch z call k me.0 m.0) × KeepsSeat me m)
-  allows_unlatch word value r names e may = allows_at z start call slots id me going (on_rooms (unlatch_room r)) (λ _ w. (k : ℕ) → NamesLatch z k word → GivesLatch z call k me.0 w) word (λ _. value)
-      (sym names.word_is) (λ i _. sym e i) may
-      (λ n w told k named. subst (λ (j : ℕ). GivesLatch z call j me.0 w) (one_latch z r k word names named) (n, told))
-
-  pub allows_entry : (word x : ℕ) (f : EntryField) (r i : ℕ) → NamesEntryWord z f r i word → MayOnRooms z call (store_entry f r i x) me.0
-      → Allows (Holds z start) slots id me word (λ _. x) (λ _ m. ((g : EntryField) (k j : ℕ) → NamesEntryWord z g k j word → StoresEntry z call g k j x me.0 m.0) × KeepsSeat me m)
-  allows_entry word x f r i names may = allows_at z start call slots id me going (on_rooms (store_entry f r i x)) (λ _ w. (g : EntryField) (k j : ℕ) → NamesEntryWord z g k j word → StoresEntry z call g k j x me.0 w) word (λ _. x)
-      (sym names.word_is) refl may
-      (λ n w told g k j named. let o = one_entry z f g r i k j word names named in subst (λ (t : EntryField × (ℕ × ℕ)). StoresEntry z call t.0 t.1.0 t.1.1 x me.0 w) (λ q. (o.0 q, (o.1 q, o.2 q))) (n, told))
+  pub allows_link : (word old new r : ℕ) (from : Option ℕ) (i : ℕ) → NamesLink z r from word → new ≡ i + 1 → MayOnRooms z call (link_entry r from i old) me.0
+      → Allows (Holds z start) slots id me word (λ n. either (n == old) new n) (λ n m. ((k : ℕ) (other : Option ℕ) (j : ℕ) → NamesLink z k other word → new ≡ j + 1 → LinksEntry z call k other j old me.0 n m.0) × KeepsSeat me m)
+  allows_link word old new r from i names e may = allows_at z start call slots id me going (on_rooms (link_entry r from i old)) (λ n w. (k : ℕ) (other : Option ℕ) (j : ℕ) → NamesLink z k other word → new ≡ j + 1 → LinksEntry z call k other j old me.0 n w) word (λ n. either (n == old) new n)
+      (sym names.word_is) (λ q n. either (n == old) (sym e q) n) may
+      (λ n w told k other j named g. let o = one_link z r k from other word names named in let same : i ≡ j = omega arith in subst (λ (t : ℕ × (Option ℕ × ℕ)). LinksEntry z call t.0 t.1.0 t.1.1 old me.0 n w) (λ q. (o.0 q, (o.1 q, same q))) told)
 
   pub allows_set : (word old new r i : ℕ) (kind : Kind) → NamesEntryWord z of_value r i word → MayOnRooms z call (set_value r i old new kind) me.0
       → Allows (Holds z start) slots id me word (λ n. either (n == old) new n) (λ n m. ((k j : ℕ) → NamesEntryWord z of_value k j word → SetsValueWord z call k j old new kind me.0 n m.0) × KeepsSeat me m)

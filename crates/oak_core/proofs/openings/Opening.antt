@@ -184,7 +184,7 @@ module _ (z : Sizes) (g : ℕ) (is : IsInLimits z) (lt : g < LAST_GENERATION) wh
     spent = every_one SpentIsSpent first (λ e. absurd (true≢false (sym e)));
     blocks = opening_blocks z g lt (no_owners z (memory z (opening z g).words).rooms (content (memory z (opening z g).words).arena.bytes) is.chunks_least open_words.room open_words.others);
     headers = opening_headers z g lt;
-    passes = every_one PassStands first record { pin = tt; whole = tt };
+    passes = every_one PassStands first record { pin = tt; whole = tt; claim = tt };
     alone = every_one (AloneStands (opening z g).words) first (alone_last (opening z g).words bare_state first record { finding = making z g; met = refl; says = λ _. (refl, is_alone-true first (first_alone z g)) });
     rooms = rooms_open.rooms;
     covers = rooms_open.covers;

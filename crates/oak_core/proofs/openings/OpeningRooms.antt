@@ -5,7 +5,7 @@ use mathlib.Core.Logic.{dite}
 use native.Mathlib.Decide.{ℕ_discrete}
 use Rattle.pin_word.specs.PinWord.{packed, state_of, count_of, generation_of}
 use Rattle.pin_word.proofs.Laws.{count_of-packed, state_of-packed, generation_of-packed}
-use Rattle.oak_model.specs.Counts.{one_at, total, rows}
+use Rattle.oak_model.specs.Counts.{Each, one_at, total, rows}
 use Rattle.oak_model.specs.KeyNumber.{key_number, digits_number}
 use Rattle.oak_model.specs.Limits.{Sizes}
 use Rattle.oak_model.specs.WordBytes.{bytes_of}
@@ -16,13 +16,13 @@ use Rattle.chunk_core.specs.declared.layout.TheConstants.{BOUND_WORDS}
 use Rattle.chunk_core.specs.declared.states.TheConstants.{OPEN, FROZEN, HELD}
 use Rattle.chunk_core.specs.CoverRule.{CoversPartition}
 use Rattle.chunk_core.specs.CoverSums.{covers, weight, each, is_in, keyless, owning, owners_in_rooms, all_of}
-use Rattle.chunk_core.specs.Covers.{Entry, Cover, cover_at, used_at, span_in, entry_at, moving_of}
+use Rattle.chunk_core.specs.Covers.{Entry, Cover, cover_at, used_at, span_in, entry_at, key_at, moving_of}
 use Rattle.chunk_core.specs.KeyWords.{least_number, low_number, high_number}
-use Rattle.chunk_core.specs.LinkedEntries.{entries_in, prefix_in, first_numbers, linked}
+use Rattle.chunk_core.specs.LinkedEntries.{chain, entries_in, farthest, prefix_in, first_numbers, linked, Rises}
 use Rattle.chunk_core.specs.PinnedRooms.{OnRoomPin, IsGoodRoom, RoomPinHolds}
 use Rattle.chunk_core.specs.RoomHolds.{no_rooms}
-use Rattle.chunk_core.specs.RoomRule.{AreTrueRanges, RoomHoldsStand, IsInOrder, RoomsStand}
-use Rattle.chunk_core.specs.Rooms.{RoomMemory, RoomSpot, at_room_pin, at_base, at_count, at_latch, at_low, at_high, read_room, kind_at, room_at}
+use Rattle.chunk_core.specs.RoomRule.{AreTrueRanges, ClaimStands, OnClaim, RoomHoldsStand, IsInOrder, RoomsStand}
+use Rattle.chunk_core.specs.Rooms.{RoomMemory, RoomSpot, at_room_pin, at_base, at_count, at_latch, at_first, at_low, at_high, at_key, at_value, read_room, kind_at, room_at}
 use Rattle.chunk_core.specs.Spans.{Span, past, past_high, within}
 use Rattle.chunk_core.specs.ValueWord.{names_header}
 use Rattle.chunk_core.proofs.CoverLaws.{covers_parts}
@@ -30,8 +30,7 @@ use Rattle.chunk_core.proofs.SpanLaws.{past-cases, high-none}
 use Rattle.chunk_core.proofs.Weights.{weight_open, open_none}
 use Rattle.oak_core.proofs.owners.EntryBlocks.{no_weight}
 use Rattle.oak_core.proofs.owners.OwnerLaws.{below_zero}
-use Rattle.chunk_core.proofs.RoomLinks.{total_linked}
-use Rattle.oak_model.proofs.Counting.{total_map}
+use Rattle.chunk_core.proofs.Chains.{chain-none}
 
 low_zero : (ws : List ℕ) → slice_index ws 0 ≡ 0 → low_number ws ≡ 0
 unfolding low_number key_number digits_number
@@ -97,8 +96,12 @@ module _ (z : Sizes) (m : RoomMemory) (content : ℕ → List ℕ) (some_room : 
   empty f = ap (λ (n : ℕ). total f (map (entry_at m content 0) (first_numbers n))) none_in_use
 
   -- nor is one linked
+  no_links : (r : ℕ) → linked m r ≡ []
+  no_links r = ap (chain farthest (m.next r)) (behind (at_first r) (omega arith)) ∙ chain-none farthest (m.next r)
+
   none_linked : (f : Entry → ℕ) → total f (map (entry_at m content 0) (linked m 0)) ≡ 0
-  none_linked f = total_map (entry_at m content 0) f (linked m 0) ∙ (total_linked (λ i. f (entry_at m content 0 i)) m 0 ∙ (sym (total_map (entry_at m content 0) f (first_numbers (entries_in (m.count 0)))) ∙ empty f))
+  unfolding total
+  none_linked f = ap (λ (l : List ℕ). total f (map (entry_at m content 0) l)) (no_links 0)
 
   -- room 0 has all keys
   low_is : low_number (rows 0 BOUND_WORDS (m.low 0)) ≡ 0
@@ -133,12 +136,16 @@ module _ (z : Sizes) (m : RoomMemory) (content : ℕ → List ℕ) (some_room : 
   pub no_owners : (names_it : ℕ → ℕ) → owners_in_rooms z m content hs names_it ≡ 0
   no_owners names_it = one_cover (used_at m content) (each (owning names_it)) ∙ empty (owning names_it (span_in m 0))
 
-  in_order : (r : ℕ) → IsInOrder z content (m.count r) (m.key r) (m.low r 0) (m.high r 0)
+  in_order : (r : ℕ) → IsInOrder z content (m.count r) (m.key r) (m.value r) (linked m r) (m.low r 0) (m.high r 0)
   in_order r = let c = behind (at_count r) (omega arith) in let n : entries_in (m.count r) ≡ 0 = ap entries_in c ∙ no_entries in let p : prefix_in (m.count r) ≡ 0 = ap prefix_in c ∙ no_prefix in
       let l = behind (at_low r 0) (omega arith) in let h = behind (at_high r 0) (omega arith) in record {
         few = omega arith;
         prefix = omega arith;
         sorted = λ i j lt k. absurd (omega arith);
+        used = subst (Each (λ i. i < entries_in (m.count r))) (sym (no_links r)) tt;
+        rises = subst (Rises (λ i. key_at content (m.key r i))) (sym (no_links r)) tt;
+        front = λ i lt. absurd (omega arith);
+        zeros = λ i _ _. (behind (at_key r i) (omega arith), behind (at_value r i) (omega arith));
         bounds = record { low_fits = omega arith; high_fits = omega arith };
       }
 
@@ -149,10 +156,12 @@ module _ (z : Sizes) (m : RoomMemory) (content : ℕ → List ℕ) (some_room : 
     held = λ r s is. by_pin (λ (w : ℕ). 0 ≡ one_at (state_of w) s) (sym (open_none (packed 0 OPEN 0) s is_open is)) (sym (free_state s is)) r;
     states = by_pin (λ (w : ℕ). state_of w ≤ HELD) (let e = is_open in omega arith) (let e = zero_word.1 in omega arith);
     generations = by_pin (λ (w : ℕ). generation_of w ≡ 0) (generation_of-packed 0 OPEN 0 (omega arith) (omega arith)) zero_word.2;
-    latched = λ r. sym (behind (at_latch r) (omega arith));
-    latches = λ r. let e = behind (at_latch r) (omega arith) in omega arith;
+    latches = λ r. behind (at_latch r) (omega arith);
     ordered = λ r w. in_order r;
+    either = λ r i w. let e = ap (total (λ j. one_at j i)) (no_links r) in omega arith;
+    keyed = λ r i w l. absurd (let n = ap entries_in (behind (at_count r) (omega arith)) in let q = no_entries in omega arith);
+    claimed = every_one (λ (a : RoomHolds). OnClaim (ClaimStands m content) a.claim) no_rooms tt;
     good = every_one (λ (a : RoomHolds). OnRoomPin (λ p. IsGoodRoom p → RoomPinHolds z m content p) a.pin) no_rooms tt;
     carried = every_one (λ (a : RoomHolds). AreTrueRanges content a.moving) no_rooms tt;
-    passes = every_one (RoomHoldsStand z) no_rooms record { latch = tt; claim = refl; whole = tt };
+    passes = every_one (RoomHoldsStand z) no_rooms record { claim = tt; whole = tt };
   }

@@ -16,7 +16,8 @@ use Rattle.chunk_core.specs.declared.holds.RoomHeldAs.TheVariants.{Frozen, Held}
 use Rattle.chunk_core.specs.declared.holds.RoomHolds.{RoomHolds}
 use Rattle.chunk_core.specs.ChainedRooms.{IsChained}
 use Rattle.chunk_core.specs.KeyWords.{low_number, high_number}
-use Rattle.chunk_core.specs.LinkedEntries.{entries_in, prefix_in, first_numbers}
+use Rattle.chunk_core.specs.LinkedEntries.{chain, entries_in, farthest, linked, prefix_in}
+use Rattle.chunk_core.proofs.Chains.{chain-none}
 use Rattle.chunk_core.specs.MayOnRooms.{MayOpenRoom}
 use Rattle.chunk_core.specs.MovingRanges.{takes, left_of, is_upper}
 use Rattle.chunk_core.specs.RoomHolds.{no_rooms}
@@ -44,9 +45,9 @@ abbrev pub freezing : RoomHolds
 freezing = record no_rooms { held = record { room = 0; held_as = Frozen } ∷ [] }
 
 -- nothing is added up over no entries
-none_held : (f : EntryWords → ℕ) (g : Carried → ℕ) (p : Carried → Bool) (ws : List EntryWords) (at : ℕ → Carried) (n : ℕ) → n ≡ 0 → total f (take n ws) ≡ total g (filter p (map at (first_numbers n)))
-unfolding total first_numbers
-none_held f g p ws at n e = subst (λ (k : ℕ). total f (take k ws) ≡ total g (filter p (map at (first_numbers k)))) (sym e) refl
+none_held : (f : EntryWords → ℕ) (g : Carried → ℕ) (p : Carried → Bool) (ws : List EntryWords) (at : ℕ → Carried) (n : ℕ) (ns : List ℕ) → n ≡ 0 → ns ≡ [] → total f (take n ws) ≡ total g (filter p (map at ns))
+unfolding total
+none_held f g p ws at n ns e none = subst (λ (t : ℕ × List ℕ). total f (take t.0 ws) ≡ total g (filter p (map at t.1))) (λ i. (sym e i, sym none i)) refl
 
 -- the copy's bounds are those of the range that came with it
 pub takes_whole : (z : Sizes) (m : RoomMemory) (content : ℕ → List ℕ) (b : ℕ) → takes (copy_with_base z m b) (moving_at m content 0) ≡ true
@@ -78,6 +79,9 @@ module _ (z : Sizes) (m : RoomMemory) (content : ℕ → List ℕ) (bare : IsBar
   none_sorted : prefix_in (m.count 0) ≡ 0
   none_sorted = ap prefix_in (zero_at (at_count 0) (omega arith)) ∙ no_prefix
 
+  none_linked : linked m 0 ≡ []
+  none_linked = ap (chain farthest (m.next 0)) (zero_at (at_first 0) (omega arith)) ∙ chain-none farthest (m.next 0)
+
   low_inside : (a : ℕ) → within (record { low = a; high = high_number (rows 0 BOUND_WORDS (m.high 0)); base = 0 }) a ≡ 1
   low_inside a = ap (λ (h : ℕ). past a a - past_high h a) no_high ∙ (let p = past-cases a a (λ (n : ℕ). n ≡ 1) (λ _. refl) (λ l. absurd (omega arith)) in let h = high-none a in omega arith)
 
@@ -103,7 +107,7 @@ module _ (z : Sizes) (m : RoomMemory) (content : ℕ → List ℕ) (bare : IsBar
     latch = zero_at (at_latch 0) (omega arith);
     few = omega arith;
     chained = bare_chained;
-    entries = λ f. none_held (λ (e : EntryWords). f e.word e.value) (λ (c : Carried). f c.word c.value) (is_upper (copy_with_base z m 0)) (rows 0 z.entries (words_at m 0)) (carried_at m content 0) (entries_in (m.count 0)) none_counted;
+    entries = λ f. none_held (λ (e : EntryWords). f e.word e.value) (λ (c : Carried). f c.word c.value) (is_upper (copy_with_base z m 0)) (rows 0 z.entries (words_at m 0)) (carried_at m content 0) (entries_in (m.count 0)) (linked m 0) none_counted none_linked;
     under = low_inside low;
     key = λ other. absurd (other refl);
     bounds = record { low_fits = omega arith; high_fits = omega arith };

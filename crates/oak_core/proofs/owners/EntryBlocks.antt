@@ -30,6 +30,7 @@ use Rattle.oak_core.specs.PassState.{blocks_of, rooms_held}
 use Rattle.oak_core.specs.Rule.{Rule}
 use Rattle.oak_core.specs.TableState.{TableState}
 use Rattle.oak_core.proofs.owners.HeadersInArena.{other_content, names_named}
+use Rattle.oak_core.proofs.covers.ClaimedEntries.{claimed_key}
 use Rattle.oak_core.proofs.covers.RoomBundles.{RoomBundles, rooms_now}
 use Rattle.oak_model.specs.declared.classes.Class.{Class}
 
@@ -71,7 +72,7 @@ module _ (z : Sizes) (s : TableState) (r : Rule z s) (c b k x : ℕ) (none : ent
   -- the points on rooms stand
   pub bytes_stored : RoomBundles z m.rooms m'.arena.bytes hs
   bytes_stored = record {
-    rooms = bytes_rooms z m.rooms (content m.arena.bytes) (content m'.arena.bytes) hs (names_block c b) is_key_word apart key_some (cover_inside z s.words) none r.covers r.rooms;
+    rooms = bytes_rooms z m.rooms (content m.arena.bytes) (content m'.arena.bytes) hs (names_block c b) is_key_word apart key_some (cover_inside z s.words) none r.covers r.rooms (claimed_key z s r);
     covers = bytes_partition z m.rooms (content m.arena.bytes) (content m'.arena.bytes) hs (names_block c b) is_key_word apart key_some (cover_inside z s.words) none r.covers r.rooms;
     kept = r.kept_in_rooms;
   }

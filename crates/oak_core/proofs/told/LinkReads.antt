@@ -1,5 +1,5 @@
--- What a pass reads that loads a link of a room under a good pin, where links reach all linked entries of the room and this one leads on from what was found: each key that the link steps over was absent at the place of the base, which was found for it in the call.
-use Rattle.std.proofs.Common.{◌≡◌, ℕ, List, [], ◌∷◌, ◌++◌, map, length, set, refl, ap, ◌∙◌, inl, Option, Some, true, eq-eqb}
+-- What a pass reads that loads a link of a room under a good pin, where the link leads on from what was found: each key that the link steps over was absent at the place of the base, which was found for it in the call.
+use Rattle.std.proofs.Common.{◌≡◌, ℕ, List, [], ◌∷◌, ◌++◌, map, set, refl, ap, ◌∙◌, inl, Option, Some, true, eq-eqb}
 use Rattle.std.specs.Prelude.{◌&&◌, Bool}
 use mathlib.Core.Option.{some}
 use lib.ListN.{get_elem?}
@@ -12,7 +12,8 @@ use Rattle.chunk_core.specs.CoverRule.{CoversPartition}
 use Rattle.chunk_core.specs.FoundLinks.{leads, found_from, found_by, LiesBetween}
 use Rattle.chunk_core.specs.LinkWords.{link_word}
 use Rattle.chunk_core.specs.PinnedRooms.{IsGoodRoom, RoomPinHolds}
-use Rattle.chunk_core.specs.ReachedEntries.{LinksReachAll}
+use Rattle.chunk_core.specs.LinkedEntries.{linked}
+use Rattle.chunk_core.specs.RoomRule.{IsInOrder}
 use Rattle.oak_core.specs.declared.states.Gap.{Gap}
 use Rattle.oak_core.specs.declared.states.Knowledge.{Knowledge}
 use Rattle.oak_core.specs.declared.states.PassState.{PassState}
@@ -33,7 +34,7 @@ use Rattle.oak_core.proofs.lessons.LinkLessons.{link_heard, link_known, link_rea
 -- The pass is u after the load, by what the link would teach.
 module _ (z : Sizes) (m : Memory) (is_key_word : ℕ → ℕ) (vs : List PassState) (parts : CoversPartition z m.rooms (content m.arena.bytes) is_key_word (map rooms_held vs))
     (states : StatesAgree z m vs) (legal : HistoriesAreLegal vs) (histories : HistoriesStand (map knowledge_of vs)) (seat : ℕ) (v u : PassState) (here : get_elem? vs seat ≡ some v)
-    (p : PinnedRoom) (is : v.rooms.pin ≡ Some p) (holds : RoomPinHolds z m.rooms (content m.arena.bytes) p) (good : IsGoodRoom p) (all : LinksReachAll (content m.arena.bytes) m.rooms p.room) (from : Option ℕ) (lead : leads from p ≡ true) (call : ℕ)
+    (p : PinnedRoom) (is : v.rooms.pin ≡ Some p) (holds : RoomPinHolds z m.rooms (content m.arena.bytes) p) (good : IsGoodRoom p) (order : IsInOrder z (content m.arena.bytes) (m.rooms.count p.room) (m.rooms.key p.room) (m.rooms.value p.room) (linked m.rooms p.room) (m.rooms.low p.room 0) (m.rooms.high p.room 0)) (from : Option ℕ) (lead : leads from p ≡ true) (call : ℕ)
     (moving : u.rooms.moving ≡ v.rooms.moving) (knowledge : u.knowledge ≡ knows_link m.rooms (content m.arena.bytes) p.room from v.rooms.pin (map knowledge_of vs) v.knowledge) (sights : u.findings.sights ≡ sights_link m.rooms (content m.arena.bytes) p.room from call v.rooms.pin v.findings) where
   abbrev bytes : ℕ → List ℕ
   bytes = content m.arena.bytes
@@ -64,13 +65,13 @@ module _ (z : Sizes) (m : Memory) (is_key_word : ℕ → ℕ) (vs : List PassSta
 
   -- the points on lessons stand behind it
   pub link_keeps : HeardStands z m vs → PinsKnow u → HeardStands z m (set vs seat u)
-  link_keeps = link_heard z m is_key_word vs parts states legal histories seat v here p holds good all from lead u moving seen_now heard_now
+  link_keeps = link_heard z m is_key_word vs parts states legal histories seat v here p holds good order from lead u moving seen_now heard_now
 
   -- a key that the link steps over
   module _ (k : ℕ) (b : LiesBetween p (found_from from p) (found_by m.rooms (content m.arena.bytes) p.room (link_word m.rooms p.room from)) k) where
     pub link_absence : ReadAbsent call k p.base v u
     link_absence = record {
-      read = link_read z m is_key_word vs parts states legal histories seat v here p holds good all from lead u moving seen_now heard_now k b;
+      read = link_read z m is_key_word vs parts states legal histories seat v here p holds good order from lead u moving seen_now heard_now k b;
       sighted = record {
         more = sight ∷ [];
         sights = linked_sights;
@@ -81,6 +82,6 @@ module _ (z : Sizes) (m : Memory) (is_key_word : ℕ → ℕ) (vs : List PassSta
 
     pub link_ends : EndsAbsent k p.base u.knowledge
     link_ends = record {
-      known = link_known z m is_key_word vs parts states legal histories seat v here p holds good all from lead u moving seen_now heard_now k b;
-      state = linked_none z m is_key_word vs parts states legal histories seat v here p holds good all from lead u moving seen_now heard_now k b;
+      known = link_known z m is_key_word vs parts states legal histories seat v here p holds good order from lead u moving seen_now heard_now k b;
+      state = linked_none z m is_key_word vs parts states legal histories seat v here p holds good order from lead u moving seen_now heard_now k b;
     }

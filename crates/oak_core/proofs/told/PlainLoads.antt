@@ -1,5 +1,5 @@
--- The load of a word other than a room's count, an entry's value word or a header's stamp word teaches nothing.
-use Rattle.std.proofs.Common.{◌≡◌, ℕ, ◌++◌, ◌∷◌, [], List, map, sym, refl, subst, Some, Option, None, ◌<◌, ◌∙◌, Bool, true, false}
+-- The load of a word other than a room's count, a link, an entry's value word or a header's stamp word teaches nothing.
+use Rattle.std.proofs.Common.{◌≡◌, ℕ, ap, ◌++◌, ◌∷◌, [], List, map, sym, refl, subst, Some, Option, None, ◌<◌, ◌∙◌, Bool, true, false}
 use Rattle.oak_model.specs.Counts.{Begins}
 use Rattle.oak_model.specs.Limits.{Sizes}
 use Rattle.oak_model.proofs.Lists.{begins_self}
@@ -7,14 +7,18 @@ use Rattle.arena_core.specs.Arena.{ArenaSpot, IsInArena}
 use Rattle.arena_core.specs.Place.{content}
 use Rattle.header_core.specs.Headers.{HeaderSpot, at_pin, at_place, at_stamp, IsInHeaders}
 use Rattle.chunk_core.specs.declared.holds.PinnedRoom.{PinnedRoom}
+use Rattle.chunk_core.specs.declared.holds.RoomHolds.{RoomHolds}
+use Rattle.chunk_core.specs.LinkWords.{link_spot}
+use Rattle.chunk_core.specs.RoomsAfter.{walked_pin}
 use Rattle.chunk_core.specs.Rooms.{at_room_pin, at_base, at_count, at_latch, at_first, at_low, at_high, at_key, at_value, at_next}
 use Rattle.oak_core.specs.declared.states.Findings.{Findings}
 use Rattle.oak_core.specs.declared.states.Knowledge.{Knowledge}
 use Rattle.oak_core.specs.declared.states.PassState.{PassState}
 use Rattle.oak_core.specs.declared.states.Taught.{Taught}
+use Rattle.oak_core.specs.declared.states.Taught.TheVariants.{OfGap}
 use Rattle.oak_core.specs.Finding.{finding, grown}
 use Rattle.oak_core.specs.Loading.{IsPlain, knows_by_load, sights_by_load, rooms_by_load}
-use Rattle.oak_core.specs.CountTeaching.{is_pinned, count_taught, sights_count}
+use Rattle.oak_core.specs.LinkTeaching.{gap_at, knows_link, shows_link, sights_link}
 use Rattle.oak_core.specs.Memory.{Memory, Spot, at_given, in_arena, in_headers, in_rooms, memory, rooms_at, index, IsInside}
 use Rattle.oak_core.specs.PassState.{knowledge_of}
 use Rattle.oak_core.specs.Step.{load, state_after, found}
@@ -25,23 +29,23 @@ use Rattle.oak_core.specs.StampLoads.{counts_stamp, stamp_taught}
 use Rattle.oak_core.specs.ValueLoads.{shows_floor, value_taught}
 use Rattle.oak_core.proofs.memory.Words.{index_apart, given_before, arena_before, header_before}
 
--- a load is plain, or of the count of a room, the value word of an entry or the stamp word of a header
-pub plain_or_taught : (P : Spot → Type 0) → ((p : Spot) → IsPlain p → P p) → ((k : ℕ) → P (in_rooms (at_count k))) → ((k i : ℕ) → P (in_rooms (at_value k i))) → ((h : ℕ) → P (in_headers (at_stamp h))) → (p : Spot) → P p
-plain_or_taught P plain counts values stamps at_given = plain at_given tt
-plain_or_taught P plain counts values stamps (in_arena q) = plain (in_arena q) tt
-plain_or_taught P plain counts values stamps (in_headers (at_pin h)) = plain (in_headers (at_pin h)) tt
-plain_or_taught P plain counts values stamps (in_headers (at_place h)) = plain (in_headers (at_place h)) tt
-plain_or_taught P plain counts values stamps (in_headers (at_stamp h)) = stamps h
-plain_or_taught P plain counts values stamps (in_rooms (at_room_pin k)) = plain (in_rooms (at_room_pin k)) tt
-plain_or_taught P plain counts values stamps (in_rooms (at_base k)) = plain (in_rooms (at_base k)) tt
-plain_or_taught P plain counts values stamps (in_rooms (at_count k)) = counts k
-plain_or_taught P plain counts values stamps (in_rooms (at_latch k)) = plain (in_rooms (at_latch k)) tt
-plain_or_taught P plain counts values stamps (in_rooms (at_first k)) = plain (in_rooms (at_first k)) tt
-plain_or_taught P plain counts values stamps (in_rooms (at_low k j)) = plain (in_rooms (at_low k j)) tt
-plain_or_taught P plain counts values stamps (in_rooms (at_high k j)) = plain (in_rooms (at_high k j)) tt
-plain_or_taught P plain counts values stamps (in_rooms (at_key k i)) = plain (in_rooms (at_key k i)) tt
-plain_or_taught P plain counts values stamps (in_rooms (at_value k i)) = values k i
-plain_or_taught P plain counts values stamps (in_rooms (at_next k i)) = plain (in_rooms (at_next k i)) tt
+-- a load is plain, or of the count of a room, a link, the value word of an entry or the stamp word of a header
+pub plain_or_taught : (P : Spot → Type 0) → ((p : Spot) → IsPlain p → P p) → ((k : ℕ) → P (in_rooms (at_count k))) → ((k : ℕ) (from : Option ℕ) → P (in_rooms (link_spot k from))) → ((k i : ℕ) → P (in_rooms (at_value k i))) → ((h : ℕ) → P (in_headers (at_stamp h))) → (p : Spot) → P p
+plain_or_taught P plain counts links values stamps at_given = plain at_given tt
+plain_or_taught P plain counts links values stamps (in_arena q) = plain (in_arena q) tt
+plain_or_taught P plain counts links values stamps (in_headers (at_pin h)) = plain (in_headers (at_pin h)) tt
+plain_or_taught P plain counts links values stamps (in_headers (at_place h)) = plain (in_headers (at_place h)) tt
+plain_or_taught P plain counts links values stamps (in_headers (at_stamp h)) = stamps h
+plain_or_taught P plain counts links values stamps (in_rooms (at_room_pin k)) = plain (in_rooms (at_room_pin k)) tt
+plain_or_taught P plain counts links values stamps (in_rooms (at_base k)) = plain (in_rooms (at_base k)) tt
+plain_or_taught P plain counts links values stamps (in_rooms (at_count k)) = counts k
+plain_or_taught P plain counts links values stamps (in_rooms (at_latch k)) = plain (in_rooms (at_latch k)) tt
+plain_or_taught P plain counts links values stamps (in_rooms (at_first k)) = links k None
+plain_or_taught P plain counts links values stamps (in_rooms (at_low k j)) = plain (in_rooms (at_low k j)) tt
+plain_or_taught P plain counts links values stamps (in_rooms (at_high k j)) = plain (in_rooms (at_high k j)) tt
+plain_or_taught P plain counts links values stamps (in_rooms (at_key k i)) = plain (in_rooms (at_key k i)) tt
+plain_or_taught P plain counts links values stamps (in_rooms (at_value k i)) = values k i
+plain_or_taught P plain counts links values stamps (in_rooms (at_next k i)) = links k (Some i)
 
 -- behind a load the pass knows, and has of rooms, what it did
 pub record LoadTeachesNothing (call : ℕ) (p : Spot) (m : Memory) (qs : List Knowledge) (v : PassState) : Type 0 where
@@ -59,12 +63,30 @@ plain_teaches call m qs v (in_rooms (at_room_pin k)) is = record { knowledge = r
 plain_teaches call m qs v (in_rooms (at_base k)) is = record { knowledge = refl; sights = refl; rooms = refl }
 plain_teaches call m qs v (in_rooms (at_count k)) is = absurd is
 plain_teaches call m qs v (in_rooms (at_latch k)) is = record { knowledge = refl; sights = refl; rooms = refl }
-plain_teaches call m qs v (in_rooms (at_first k)) is = record { knowledge = refl; sights = refl; rooms = refl }
+plain_teaches call m qs v (in_rooms (at_first k)) is = absurd is
 plain_teaches call m qs v (in_rooms (at_low k j)) is = record { knowledge = refl; sights = refl; rooms = refl }
 plain_teaches call m qs v (in_rooms (at_high k j)) is = record { knowledge = refl; sights = refl; rooms = refl }
 plain_teaches call m qs v (in_rooms (at_key k i)) is = record { knowledge = refl; sights = refl; rooms = refl }
 plain_teaches call m qs v (in_rooms (at_value k i)) is = absurd is
-plain_teaches call m qs v (in_rooms (at_next k i)) is = record { knowledge = refl; sights = refl; rooms = refl }
+plain_teaches call m qs v (in_rooms (at_next k i)) is = absurd is
+
+-- behind the load of a link it knows, and has of rooms, what the link teaches
+
+pub knows_linked : (call : ℕ) (m : Memory) (qs : List Knowledge) (v : PassState) (k : ℕ) (from : Option ℕ) → knows_by_load call (in_rooms (link_spot k from)) m qs v ≡ knows_link m.rooms (content m.arena.bytes) k from v.rooms.pin qs v.knowledge
+knows_linked call m qs v k None = refl
+knows_linked call m qs v k (Some i) = refl
+
+pub sights_linked : (call : ℕ) (m : Memory) (v : PassState) (k : ℕ) (from : Option ℕ) → sights_by_load (in_rooms (link_spot k from)) call m v ≡ sights_link m.rooms (content m.arena.bytes) k from call v.rooms.pin v.findings
+sights_linked call m v k None = refl
+sights_linked call m v k (Some i) = refl
+
+pub rooms_linked : (m : Memory) (v : PassState) (k : ℕ) (from : Option ℕ) → rooms_by_load (in_rooms (link_spot k from)) m v ≡ record v.rooms { pin = walked_pin m.rooms (content m.arena.bytes) k from v.rooms.pin }
+rooms_linked m v k None = refl
+rooms_linked m v k (Some i) = refl
+
+-- a load leaves what is claimed
+pub claim_by_load : (m : Memory) (v : PassState) (p : Spot) → (rooms_by_load p m v).claim ≡ v.rooms.claim
+claim_by_load m v = plain_or_taught (λ p. (rooms_by_load p m v).claim ≡ v.rooms.claim) (λ p plain. ap (λ (a : RoomHolds). a.claim) (plain_teaches 0 m [] v p plain).rooms) (λ k. refl) (λ k from. ap (λ (a : RoomHolds). a.claim) (rooms_linked m v k from)) (λ k i. refl) (λ h. refl)
 
 -- behind one that teaches nothing the pass only has its finding more
 pub quiet_state : (z : Sizes) (call : ℕ) (s : TableState) (v : PassState) (p : Spot) → LoadTeachesNothing call p (memory z s.words) (map knowledge_of s.states) v → state_after z call (load p) s v ≡ grown (finding z call p (Some (found z (load p) s)) (found z (load p) s) s.words v ∷ []) v
@@ -90,15 +112,15 @@ gones_with_grow call fs false key home = begins_self fs.gones
 
 -- so it is by a load
 pub sights_grow : (p : Spot) (call : ℕ) (m : Memory) (v : PassState) → Begins v.findings.sights (sights_by_load p call m v)
-sights_grow p call m v = plain_or_taught (λ q. Begins v.findings.sights (sights_by_load q call m v)) (λ q is. subst (Begins v.findings.sights) (sym (still q is)) (begins_self v.findings.sights)) (λ k. counted k v.rooms.pin)
+sights_grow p call m v = plain_or_taught (λ q. Begins v.findings.sights (sights_by_load q call m v)) (λ q is. subst (Begins v.findings.sights) (sym (still q is)) (begins_self v.findings.sights)) (λ k. begins_self v.findings.sights) (λ k from. subst (Begins v.findings.sights) (sym (sights_linked call m v k from)) (linked k from v.rooms.pin))
     (λ k i. sights_with_grow call v.findings (shows_floor k i (m.rooms.value k i) v.rooms.pin) (value_taught k i (m.rooms.value k i) v.rooms.pin)) (λ h. sights_with_grow call v.findings (counts_stamp call h v.headers.pin v.knowledge) (stamp_taught h (m.headers.stamp h) v.headers.pin v.knowledge)) p
   where
     still : (q : Spot) → IsPlain q → sights_by_load q call m v ≡ v.findings.sights
     still q is = (plain_teaches call m [] v q is).sights
 
-    counted : (k : ℕ) (o : Option PinnedRoom) → Begins v.findings.sights (sights_count m.rooms (content m.arena.bytes) k call o v.findings)
-    counted k None = begins_self v.findings.sights
-    counted k (Some o) = sights_with_grow call v.findings (is_pinned k o) (count_taught m.rooms (content m.arena.bytes) k o)
+    linked : (k : ℕ) (from : Option ℕ) (o : Option PinnedRoom) → Begins v.findings.sights (sights_link m.rooms (content m.arena.bytes) k from call o v.findings)
+    linked k from None = begins_self v.findings.sights
+    linked k from (Some o) = sights_with_grow call v.findings (shows_link k from o) (OfGap (gap_at m.rooms (content m.arena.bytes) from o))
 
 -- what a load behind which the pass only met more is of
 

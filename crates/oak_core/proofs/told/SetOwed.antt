@@ -165,7 +165,7 @@ module _ (z : Sizes) (s : TableState) (seat : ℕ) (v : PassState) (r : Rule z s
       };
       kept = subst (KeptNumbersStand same_spot (read m)) (sym (map_set kept_of s.states seat u))
           (subst (λ (a : Memory). KeptNumbersStand same_spot (read a) (set (map kept_of s.states) seat (kept_with v.blocks b))) (write_same m (in_headers (at_pin own.header))) (without_kept z s seat v r here own.header (m.headers.pin own.header) (few z s seat v r here own.header)));
-      pin = record { pin = pin_known; whole = whole_without own.header v.headers.held whole };
+      pin = record { pin = pin_known; whole = whole_without own.header v.headers.held whole; claim = (r.passes seat v here).claim };
       blocks_same = refl;
       rooms_same = refl;
     }

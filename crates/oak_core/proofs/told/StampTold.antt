@@ -1,5 +1,5 @@
 -- What the load of the stamp word of a header tells its pass, under a good pin that found the life of a key that it knows: the key had the value found, at the place of the stamp.
-use Rattle.std.proofs.Common.{◌≡◌, ℕ, ◌<◌, ◌≤◌, ◌++◌, ◌∷◌, ◌⊎◌, [], List, map, length, true, sym, refl, ap, ◌∙◌, subst, inl, arith, Some}
+use Rattle.std.proofs.Common.{◌≡◌, ℕ, ◌<◌, ◌≤◌, ◌++◌, ◌∷◌, ◌⊎◌, [], List, map, true, sym, refl, ap, ◌∙◌, subst, inl, arith, Some}
 use Rattle.oak_model.specs.KeyNumber.{key_number}
 use Rattle.oak_model.specs.Limits.{Sizes}
 use Rattle.arena_core.specs.Place.{content}

@@ -97,7 +97,7 @@ module _ (z : Sizes) (s : TableState) (seat : ℕ) (v : PassState) (r : Rule z s
       heard = heard_unlinked z m s.states r.rooms r.covers r.keys r.callers r.headers r.heard r.bounds few_made seat v here k i x may.unlink lows (small_pin z s seat v r here) true_numbers fs;
     };
     kept = subst (KeptNumbersStand same_spot (read m)) (sym (map_set_same kept_of s.states seat v u here (relabelled_kept renamed_one same v.blocks v.headers))) r.kept;
-    pin = record { pin = relabelled_pins renamed_one same (λ h g. knows_life h g v.knowledge) v.headers (r.passes seat v here).pin; whole = relabelled_whole renamed_one same v.headers (r.passes seat v here).whole };
+    pin = record { pin = relabelled_pins renamed_one same (λ h g. knows_life h g v.knowledge) v.headers (r.passes seat v here).pin; whole = relabelled_whole renamed_one same v.headers (r.passes seat v here).whole; claim = (r.passes seat v here).claim };
     blocks_same = refl;
     rooms_same = refl;
   }

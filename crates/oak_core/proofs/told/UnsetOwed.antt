@@ -49,7 +49,7 @@ module _ (z : Sizes) (s : TableState) (seat : ℕ) (v : PassState) (r : Rule z s
         histories = subst HistoriesStand (sym (map_set_same knowledge_of s.states seat v only_met here refl)) r.histories;
         headers = headers_stay z s call seat v r here going only_met refl refl;
         covers = of_rooms z s call seat v r here going only_met refl (CoversPartition z (put_room m.rooms (at_value k i) (m.rooms.value k i)) (content m.arena.bytes) is_key_word) (subst (λ (a : Memory). CoversPartition z a.rooms (content m.arena.bytes) is_key_word (map rooms_held s.states)) (sym still) r.covers);
-        keys = subst (λ (a : Memory). KeyBundles z a (set s.states seat only_met)) (sym still) (keys_idle z m m s.states seat v only_met here (keys_now z s r) (rooms_still z m s.states seat v only_met here refl) refl refl refl refl (λ h _. refl) (pins_same v only_met refl refl refl (r.heard.pins seat v here)));
+        keys = subst (λ (a : Memory). KeyBundles z a (set s.states seat only_met)) (sym still) (keys_idle z m m s.states seat v only_met here (keys_now z s r) (rooms_still z m s.states seat v only_met here refl) refl refl refl refl (λ h _. refl) (pins_same v only_met refl refl (r.heard.pins seat v here)));
         kept = subst (KeptNumbersStand same_spot (read m)) (sym (map_set_same kept_of s.states seat v only_met here refl)) r.kept;
         pin = r.passes seat v here;
         blocks_same = refl;

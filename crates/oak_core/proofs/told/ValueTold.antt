@@ -1,5 +1,5 @@
 -- What the load of the value word of an entry tells its pass, of an entry that it found under a good pin: a floor, that its key was absent up to it, and a header, that life of the key.
-use Rattle.std.proofs.Common.{◌≡◌, ℕ, ◌+◌, ◌*◌, ◌^◌, ◌<◌, ◌++◌, ◌∷◌, [], List, map, length, true, sym, refl, ap, ◌∙◌, subst, inl, arith, append-nil, Some, None}
+use Rattle.std.proofs.Common.{◌≡◌, ℕ, ◌+◌, ◌*◌, ◌^◌, ◌<◌, ◌++◌, ◌∷◌, [], List, map, true, sym, refl, ap, ◌∙◌, subst, inl, arith, append-nil, Some, None}
 use Rattle.oak_model.specs.Counts.{Has, Begins}
 use Rattle.oak_model.specs.KeyNumber.{key_number}
 use Rattle.oak_model.specs.Limits.{Sizes}

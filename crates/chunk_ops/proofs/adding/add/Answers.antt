@@ -1,117 +1,155 @@
-use Rattle.std.proofs.Common.{◌≡◌, ℕ, List, length, take, sym, ap, subst, ◌∙◌}
+use Rattle.std.proofs.Common.{rules, subst, sym, arith}
+use Rattle.oak_model.specs.Class.{class_number}
 use Rattle.oak_model.specs.Limits.{Sizes}
-use Rattle.oak_core.specs.AloneWords.{Runs}
-use Rattle.oak_core.specs.Passes.{state, key as sizes, call_of}
+use Rattle.arena_core.specs.Blocks.{HoldsBlock, words_held}
 use Rattle.arena_ops.specs.Taking.{Gives}
-use Rattle.chunk_ops.specs.Adds.{AddsEntry, FoundCrowded, FoundLatched}
-use Rattle.chunk_ops.specs.AddsAlone.{AddsIn, CrowdedIn}
-use Rattle.chunk_ops.specs.Latching.{Never, AddsUnder, GivesRoomLatch, TakesRoomLatch}
-use Rattle.chunk_ops.specs.PinRecords.{HasEntry, UnderPin}
-use Rattle.chunk_ops.proofs.AddedEntries.{latched_since, under_around, entry_around, adds_around, crowded_around, given_back, key_looked, took_around, took_back, took_latched}
-use Rattle.chunk_ops.proofs.PinsKept.{under_only}
-use Rattle.chunk_ops.proofs.LoneAdds.{crowded_alone, adds_alone, found_alone}
+use Rattle.oak_core.specs.declared.table.Pass.{Pass}
+use Rattle.oak_core.specs.AloneWords.{Runs}
+use Rattle.oak_core.specs.Passes.{Stays, state, key as sizes, call_of}
+use Rattle.oak_core.proofs.seats.SamePass.{stays_both}
+use Rattle.oak_core.specs.QuietSteps.{MetOnly, TookNone}
+use Rattle.chunk_ops.specs.declared.entries.AddHalt.TheVariants.{Crowded, Busy}
+use Rattle.chunk_ops.specs.Adds.{AddsEntry, KeepsBlock, NotAddedBy}
+use Rattle.chunk_ops.specs.AddsAlone.{AddsIn, NotAddedIn}
+use Rattle.chunk_ops.proofs.AddCalls.{calls_add, call_added_lone, call_adds, call_changed, call_crowded, call_crowded_lone, call_found, call_found_lone, call_keeps, call_holds, call_took, looked_small}
+use Rattle.chunk_ops.proofs.AddedKeys.{took_back}
+use Rattle.chunk_ops.proofs.FoundEntries.{pin_still}
+use Rattle.chunk_ops.proofs.LoneAdds.{never_lone, where_lone}
 use Rattle.chunk_ops.proofs.adding.add.Goals as goal
-use Rattle.chunk_ops.proofs.MeetingCalls.{only_both, only_in, stays_then}
 
--- the latch was found taken
+pub base_of-base-requires-clause-pinned : goal.base_of-base-requires-clause-pinned
+base_of-base-requires-clause-pinned c = pin_still (sizes c.args.table.now) (call_of c.args.pass.now) c.args.pin.now.room (state c.args.pass.now) (state c.held_bytes-bytes.new.pass) c.held_bytes-bytes.ensures.only c.requires.pinned
 
-pub returns-then-not-take_latch-clause-under : goal.returns-then-not-take_latch-clause-under
-returns-then-not-take_latch-clause-under c = let z : Sizes = sizes c.args.table.now in let call = call_of c.args.pass.now in let r = c.args.pin.now.room in let t = state c.args.pass.now in let u = state c.held_bytes-bytes.new.pass in let v = state c.take_latch.new.pass in
-    let h = c.held_bytes-bytes.ensures in let f = c.take_latch.ensures.found c.if-not-take_latch.true in
-    under_only z call r t v c.requires.pinned (only_both call t u v h.only (only_in call (call_of c.held_bytes-bytes.new.pass) u v h.own.call f.1))
+pub add-requires-clause-pinned : goal.add-requires-clause-pinned
+add-requires-clause-pinned c = let z : Sizes = sizes c.args.table.now in let call = call_of c.args.pass.now in let r = c.args.pin.now.room in let b = c.args.key in let len = c.args.len in let u = state c.args.pass.now in let h = c.held_bytes-bytes in let g = c.base_of-base in let x = state h.new.pass in let v = state g.new.pass in
+    record { own = (search rules); pin = pin_still z (call_of h.new.pass) r x v g.ensures.only (pin_still z call r u x h.ensures.only c.requires.pinned) }
 
-pub returns-then-not-take_latch-clause-not_added : goal.returns-then-not-take_latch-clause-not_added
-returns-then-not-take_latch-clause-not_added c k m = let z : Sizes = sizes c.args.table.now in let call = call_of c.args.pass.now in let r = c.args.pin.now.room in let t = state c.args.pass.now in let u = state c.held_bytes-bytes.new.pass in let v = state c.take_latch.new.pass in
-    let h = c.held_bytes-bytes.ensures in let f = c.take_latch.ensures.found c.if-not-take_latch.true in
-    latched_since z call r t u v h.only (subst (λ (n : ℕ). FoundLatched z n r u v) h.own.call f.0)
+pub add-requires-clause-holds : goal.add-requires-clause-holds
+add-requires-clause-holds c = let z : Sizes = sizes c.args.table.now in let call = call_of c.args.pass.now in let r = c.args.pin.now.room in let b = c.args.key in let len = c.args.len in let u = state c.args.pass.now in let h = c.held_bytes-bytes in let g = c.base_of-base in let x = state h.new.pass in let v = state g.new.pass in
+    let a = calls_add z r g.result c.place_word.result (call_of g.new.pass) b.class b.number len call (call_of h.new.pass) h.result u x v h.ensures.own.call g.ensures.own.call h.ensures.only g.ensures.only c.requires.claim c.requires.pinned g.ensures.base c.place_word.ensures h.ensures.bytes in
+    call_holds z r g.result c.place_word.result (call_of g.new.pass) b.class b.number len call h.result u v a c.requires.key.0 c.requires.key.1
 
--- it was taken
+pub add-requires-clause-most : goal.add-requires-clause-most
+add-requires-clause-most c = c.entries.ensures.is
+
+-- an entry of the key was there
+
+pub give-requires-clause-held : goal.give-requires-clause-held
+give-requires-clause-held c = let z : Sizes = sizes c.args.table.now in let call = call_of c.args.pass.now in let r = c.args.pin.now.room in let b = c.args.key in let len = c.args.len in let u = state c.args.pass.now in let h = c.held_bytes-bytes in let g = c.base_of-base in let x = state h.new.pass in let v = state g.new.pass in
+    let a = calls_add z r g.result c.place_word.result (call_of g.new.pass) b.class b.number len call (call_of h.new.pass) h.result u x v h.ensures.own.call g.ensures.own.call h.ensures.only g.ensures.only c.requires.claim c.requires.pinned g.ensures.base c.place_word.ensures h.ensures.bytes in
+    let e = c.in-Found.ensures in let t = c.add.new.room in let there = c.pass-1.given.1 (sym e.whole.1.same.same_reference) in
+    subst (λ (p : Pass). HoldsBlock z (class_number b.class) b.number (state p).blocks) (sym there)
+    ((call_keeps _ b.class b.number len call h.result u a c.requires.key.0 c.requires.key.1 t e.whole.0 e.whole.1 e.added.1).has.block)
+
+pub returns-in-Found-clause-own : goal.returns-in-Found-clause-own
+returns-in-Found-clause-own c = let e = c.in-Found.ensures in stays_both (stays_both (stays_both c.held_bytes-bytes.ensures.own c.base_of-base.ensures.own) e.whole.1.same.own) (subst (λ (p : Pass). Stays p c.give.new.pass) (c.pass-1.given.1 (sym e.whole.1.same.same_reference)) c.give.ensures.own)
 
 pub returns-in-Found-clause-added : goal.returns-in-Found-clause-added
-returns-in-Found-clause-added c k m = let z : Sizes = sizes c.args.table.now in let call = call_of c.args.pass.now in let r = c.args.pin.now.room in let b = c.args.key in let i = c.in-Found.entry in
-    let t = state c.args.pass.now in let u = state c.held_bytes-bytes.new.pass in let v = state c.take_latch.new.pass in let w = state c.add_latched-outcome.new.pass in let x = state c.give_latch.new.pass in let y = state c.give.new.pass in
-    let h = c.held_bytes-bytes.ensures in let e = c.take_latch.ensures.own.call ∙ h.own.call in let f = c.in-Found.ensures.own.call ∙ e in let g = c.give_latch.ensures.own.call ∙ f in
-    let l : TakesRoomLatch call r u v = subst (λ (n : ℕ). TakesRoomLatch n r u v) h.own.call (c.take_latch.ensures.taken c.if-not-take_latch.false) in
-    let up : GivesRoomLatch call w x = subst (λ (n : ℕ). GivesRoomLatch n w x) f c.give_latch.ensures.given in
-    let under : UnderPin z call r v w = subst (λ (n : ℕ). UnderPin z n r v w) e c.in-Found.ensures.does.0 in
-    let entry : HasEntry r i k w = subst (λ (q : List ℕ). HasEntry r i q w) (sym (key_looked z b.class b.number c.args.len k c.held_bytes-bytes.result t m h.bytes)) c.in-Found.ensures.does.1 in
-    given_back z call r i b.class b.number k t x y (under_around z call r t u v w x h.only l c.requires.latch up under) (entry_around z call r t u v w x h.only l c.requires.latch up i k entry)
-    (subst (λ (n : ℕ). Gives z n b.class b.number x y) g c.give.ensures.given)
-
-pub returns-in-Added-clause-added : goal.returns-in-Added-clause-added
-returns-in-Added-clause-added c k m = let z : Sizes = sizes c.args.table.now in let call = call_of c.args.pass.now in let r = c.args.pin.now.room in let b = c.args.key in let i = c.in-Added.entry in
-    let t = state c.args.pass.now in let u = state c.held_bytes-bytes.new.pass in let v = state c.take_latch.new.pass in let w = state c.add_latched-outcome.new.pass in let x = state c.give_latch.new.pass in
-    let h = c.held_bytes-bytes.ensures in let e = c.take_latch.ensures.own.call ∙ h.own.call in let f = c.in-Added.ensures.own.call ∙ e in
-    let l : TakesRoomLatch call r u v = subst (λ (n : ℕ). TakesRoomLatch n r u v) h.own.call (c.take_latch.ensures.taken c.if-not-take_latch.false) in
-    let up : GivesRoomLatch call w x = subst (λ (n : ℕ). GivesRoomLatch n w x) f c.give_latch.ensures.given in
-    let adds : AddsUnder z call r i b.class b.number (take c.args.len c.held_bytes-bytes.result) v w = subst (λ (n : ℕ). AddsUnder z n r i b.class b.number (take c.args.len c.held_bytes-bytes.result) v w) e c.in-Added.ensures.does in
-    subst (λ (q : List ℕ). AddsEntry z call r i b.class b.number q t x) (sym (key_looked z b.class b.number c.args.len k c.held_bytes-bytes.result t m h.bytes))
-    (adds_around z call r t u v w x h.only l c.requires.latch up i b.class b.number (take c.args.len c.held_bytes-bytes.result) adds)
-
-pub returns-in-Full-clause-under : goal.returns-in-Full-clause-under
-returns-in-Full-clause-under c = let z : Sizes = sizes c.args.table.now in let call = call_of c.args.pass.now in let r = c.args.pin.now.room in
-    let t = state c.args.pass.now in let u = state c.held_bytes-bytes.new.pass in let v = state c.take_latch.new.pass in let w = state c.add_latched-outcome.new.pass in let x = state c.give_latch.new.pass in
-    let h = c.held_bytes-bytes.ensures in let e = c.take_latch.ensures.own.call ∙ h.own.call in let f = c.in-Full.ensures.own.call ∙ e in
-    let l : TakesRoomLatch call r u v = subst (λ (n : ℕ). TakesRoomLatch n r u v) h.own.call (c.take_latch.ensures.taken c.if-not-take_latch.false) in
-    let up : GivesRoomLatch call w x = subst (λ (n : ℕ). GivesRoomLatch n w x) f c.give_latch.ensures.given in
-    under_around z call r t u v w x h.only l c.requires.latch up (subst (λ (n : ℕ). UnderPin z n r v w) e c.in-Full.ensures.does.0)
-
-pub returns-in-Full-clause-not_added : goal.returns-in-Full-clause-not_added
-returns-in-Full-clause-not_added c k m = let z : Sizes = sizes c.args.table.now in let call = call_of c.args.pass.now in let r = c.args.pin.now.room in let b = c.args.key in
-    let t = state c.args.pass.now in let u = state c.held_bytes-bytes.new.pass in let v = state c.take_latch.new.pass in let w = state c.add_latched-outcome.new.pass in let x = state c.give_latch.new.pass in
-    let h = c.held_bytes-bytes.ensures in let e = c.take_latch.ensures.own.call ∙ h.own.call in let f = c.in-Full.ensures.own.call ∙ e in
-    let l : TakesRoomLatch call r u v = subst (λ (n : ℕ). TakesRoomLatch n r u v) h.own.call (c.take_latch.ensures.taken c.if-not-take_latch.false) in
-    let up : GivesRoomLatch call w x = subst (λ (n : ℕ). GivesRoomLatch n w x) f c.give_latch.ensures.given in
-    let found : FoundCrowded z call r (take c.args.len c.held_bytes-bytes.result) v w = subst (λ (n : ℕ). FoundCrowded z n r (take c.args.len c.held_bytes-bytes.result) v w) e c.in-Full.ensures.does.1 in
-    subst (λ (q : List ℕ). FoundCrowded z call r q t x) (sym (key_looked z b.class b.number c.args.len k c.held_bytes-bytes.result t m h.bytes))
-    (crowded_around z call r t u v w x h.only l c.requires.latch up (take c.args.len c.held_bytes-bytes.result) c.take_latch.ensures.stored c.give_latch.ensures.stored found)
-
--- to a pass that is alone
-
-pub returns-then-not-take_latch-clause-alone_not_added : goal.returns-then-not-take_latch-clause-alone_not_added
-returns-then-not-take_latch-clause-alone_not_added c k m = let u = state c.held_bytes-bytes.new.pass in let v = state c.take_latch.new.pass in
-    stays_then Never (state c.args.pass.now) u v c.held_bytes-bytes.ensures.only.still (c.take_latch.ensures.alone c.if-not-take_latch.true)
-
-pub returns-in-Found-clause-alone : goal.returns-in-Found-clause-alone
-returns-in-Found-clause-alone c k m = let z : Sizes = sizes c.args.table.now in let r = c.args.pin.now.room in let b = c.args.key in
-    let t = state c.args.pass.now in let u = state c.held_bytes-bytes.new.pass in let v = state c.take_latch.new.pass in let w = state c.add_latched-outcome.new.pass in let x = state c.give_latch.new.pass in let y = state c.give.new.pass in
-    let h = c.held_bytes-bytes.ensures in
-    subst (λ (q : List ℕ). Runs (AddsIn z r (record { 0 = c.in-Found.entry }) b.class b.number c.args.len q) t y) (sym (key_looked z b.class b.number c.args.len k c.held_bytes-bytes.result t m h.bytes))
-    (found_alone z r c.requires.pinned.inside t u v w x h.only.still (c.take_latch.ensures.alone_taken c.if-not-take_latch.false) c.give_latch.ensures.alone
-    (record { 0 = c.in-Found.entry }) (take c.args.len c.held_bytes-bytes.result) b.class b.number c.args.len m.block.block.inside y c.in-Found.ensures.alone c.give.ensures.given.still)
-
-pub returns-in-Added-clause-alone : goal.returns-in-Added-clause-alone
-returns-in-Added-clause-alone c k m = let z : Sizes = sizes c.args.table.now in let r = c.args.pin.now.room in let b = c.args.key in
-    let t = state c.args.pass.now in let u = state c.held_bytes-bytes.new.pass in let v = state c.take_latch.new.pass in let w = state c.add_latched-outcome.new.pass in let x = state c.give_latch.new.pass in
-    let h = c.held_bytes-bytes.ensures in
-    let q : List ℕ = take c.args.len c.held_bytes-bytes.result in let looked : k ≡ take c.args.len c.held_bytes-bytes.result = key_looked z b.class b.number c.args.len k c.held_bytes-bytes.result t m h.bytes in
-    subst (λ (p : ℕ × List ℕ). Runs (AddsIn z r (record { 0 = c.in-Added.entry }) b.class b.number p.0 p.1) t x) (λ j. ((ap length (sym looked) ∙ m.long) j, sym looked j))
-    (adds_alone z r c.requires.pinned.inside t u v w x h.only.still (c.take_latch.ensures.alone_taken c.if-not-take_latch.false) c.give_latch.ensures.alone
-    (record { 0 = c.in-Added.entry }) b.class b.number (length q) q c.in-Added.ensures.alone)
-
-pub returns-in-Full-clause-alone_not_added : goal.returns-in-Full-clause-alone_not_added
-returns-in-Full-clause-alone_not_added c k m = let z : Sizes = sizes c.args.table.now in let r = c.args.pin.now.room in let b = c.args.key in
-    let t = state c.args.pass.now in let u = state c.held_bytes-bytes.new.pass in let v = state c.take_latch.new.pass in let w = state c.add_latched-outcome.new.pass in let x = state c.give_latch.new.pass in
-    let h = c.held_bytes-bytes.ensures in
-    subst (λ (q : List ℕ). Runs (CrowdedIn z r q) t x) (sym (key_looked z b.class b.number c.args.len k c.held_bytes-bytes.result t m h.bytes))
-    (crowded_alone z r c.requires.pinned.inside t u v w x h.only.still (c.take_latch.ensures.alone_taken c.if-not-take_latch.false) c.give_latch.ensures.alone
-    (take c.args.len c.held_bytes-bytes.result) c.in-Full.ensures.alone)
-
--- no step took a block
-
-pub returns-then-not-take_latch-clause-took : goal.returns-then-not-take_latch-clause-took
-returns-then-not-take_latch-clause-took c = took_latched (call_of c.args.pass.now) (state c.args.pass.now) (state c.held_bytes-bytes.new.pass) (state c.take_latch.new.pass) c.held_bytes-bytes.ensures.only c.take_latch.ensures.took
+returns-in-Found-clause-added c k m = let z : Sizes = sizes c.args.table.now in let call = call_of c.args.pass.now in let r = c.args.pin.now.room in let b = c.args.key in let len = c.args.len in let u = state c.args.pass.now in let h = c.held_bytes-bytes in let g = c.base_of-base in let x = state h.new.pass in let v = state g.new.pass in
+    let a = calls_add z r g.result c.place_word.result (call_of g.new.pass) b.class b.number len call (call_of h.new.pass) h.result u x v h.ensures.own.call g.ensures.own.call h.ensures.only g.ensures.only c.requires.claim c.requires.pinned g.ensures.base c.place_word.ensures h.ensures.bytes in
+    let e = c.in-Found.ensures in let t = c.add.new.room in let there = c.pass-1.given.1 (sym e.whole.1.same.same_reference) in let y = c.give.new.pass in let gives : Gives z (call_of t.pass.now) b.class b.number (state t.pass.now) (state y) = subst (λ (p : Pass). Gives z (call_of p) b.class b.number (state p) (state y)) there c.give.ensures.given in
+    call_found _ b.class b.number len call h.result u a k m t e.whole.0 e.whole.1 c.in-Found.entry e.added.0 e.added.1 (state y) gives
 
 pub returns-in-Found-clause-took : goal.returns-in-Found-clause-took
-returns-in-Found-clause-took c = let b = c.args.key in let t = state c.args.pass.now in let x = state c.give_latch.new.pass in
-    took_back (sizes c.args.table.now) (call_of c.give_latch.new.pass) b.class b.number t x (state c.give.new.pass)
-    (took_around (call_of c.args.pass.now) t (state c.held_bytes-bytes.new.pass) (state c.take_latch.new.pass) (state c.add_latched-outcome.new.pass) x c.held_bytes-bytes.ensures.only c.take_latch.ensures.took c.in-Found.ensures.took c.give_latch.ensures.took)
-    c.give.ensures.given
+returns-in-Found-clause-took c = let z : Sizes = sizes c.args.table.now in let call = call_of c.args.pass.now in let r = c.args.pin.now.room in let b = c.args.key in let len = c.args.len in let u = state c.args.pass.now in let h = c.held_bytes-bytes in let g = c.base_of-base in let x = state h.new.pass in let v = state g.new.pass in
+    let a = calls_add z r g.result c.place_word.result (call_of g.new.pass) b.class b.number len call (call_of h.new.pass) h.result u x v h.ensures.own.call g.ensures.own.call h.ensures.only g.ensures.only c.requires.claim c.requires.pinned g.ensures.base c.place_word.ensures h.ensures.bytes in
+    let e = c.in-Found.ensures in let t = c.add.new.room in let there = c.pass-1.given.1 (sym e.whole.1.same.same_reference) in let y = c.give.new.pass in let gives : Gives z (call_of t.pass.now) b.class b.number (state t.pass.now) (state y) = subst (λ (p : Pass). Gives z (call_of p) b.class b.number (state p) (state y)) there c.give.ensures.given in
+    took_back z (call_of t.pass.now) b.class b.number u (state t.pass.now) (state y) (call_took _ b.class b.number len call h.result u a c.requires.key.0 c.requires.key.1 t e.whole.0 e.whole.1) gives
+
+pub returns-in-Found-clause-alone : goal.returns-in-Found-clause-alone
+returns-in-Found-clause-alone c k m = let z : Sizes = sizes c.args.table.now in let call = call_of c.args.pass.now in let r = c.args.pin.now.room in let b = c.args.key in let len = c.args.len in let u = state c.args.pass.now in let h = c.held_bytes-bytes in let g = c.base_of-base in let x = state h.new.pass in let v = state g.new.pass in
+    let a = calls_add z r g.result c.place_word.result (call_of g.new.pass) b.class b.number len call (call_of h.new.pass) h.result u x v h.ensures.own.call g.ensures.own.call h.ensures.only g.ensures.only c.requires.claim c.requires.pinned g.ensures.base c.place_word.ensures h.ensures.bytes in let small = looked_small len h.result (words_held (class_number b.class) b.number u.blocks.held) h.ensures.bytes in
+    let e = c.in-Found.ensures in let t = c.add.new.room in let there = c.pass-1.given.1 (sym e.whole.1.same.same_reference) in let y = c.give.new.pass in let gives : Gives z (call_of t.pass.now) b.class b.number (state t.pass.now) (state y) = subst (λ (p : Pass). Gives z (call_of p) b.class b.number (state p) (state y)) there c.give.ensures.given in let i = c.in-Found.entry in
+    where_lone (AddsIn z r (record { 0 = i }) b.class b.number len k) u v (state y) a.only.still (λ lone. call_found_lone _ b.class b.number len call h.result u a k m t e.whole.0 e.whole.1 small i e.added.0 (e.straight lone) (state y) gives.still)
+
+-- it was added
+
+pub returns-in-Added-clause-own : goal.returns-in-Added-clause-own
+returns-in-Added-clause-own c = let e = c.in-Added.ensures in subst (Stays c.args.pass.now) (sym (c.pass-1.given.1 (sym e.whole.1.same.same_reference))) (stays_both (stays_both c.held_bytes-bytes.ensures.own c.base_of-base.ensures.own) e.whole.1.same.own)
+
+pub returns-in-Added-clause-added : goal.returns-in-Added-clause-added
+returns-in-Added-clause-added c k m = let z : Sizes = sizes c.args.table.now in let call = call_of c.args.pass.now in let r = c.args.pin.now.room in let b = c.args.key in let len = c.args.len in let u = state c.args.pass.now in let h = c.held_bytes-bytes in let g = c.base_of-base in let x = state h.new.pass in let v = state g.new.pass in
+    let a = calls_add z r g.result c.place_word.result (call_of g.new.pass) b.class b.number len call (call_of h.new.pass) h.result u x v h.ensures.own.call g.ensures.own.call h.ensures.only g.ensures.only c.requires.claim c.requires.pinned g.ensures.base c.place_word.ensures h.ensures.bytes in
+    let e = c.in-Added.ensures in let t = c.add.new.room in let there = c.pass-1.given.1 (sym e.whole.1.same.same_reference) in
+    subst (λ (p : Pass). AddsEntry z call r c.in-Added.entry b.class b.number k u (state p)) (sym there)
+    (call_adds _ b.class b.number len call h.result u a k m t e.whole.0 e.whole.1 c.in-Added.entry e.added.1 e.added.2 e.added.3)
 
 pub returns-in-Added-clause-took : goal.returns-in-Added-clause-took
-returns-in-Added-clause-took c = took_around (call_of c.args.pass.now) (state c.args.pass.now) (state c.held_bytes-bytes.new.pass) (state c.take_latch.new.pass) (state c.add_latched-outcome.new.pass) (state c.give_latch.new.pass)
-    c.held_bytes-bytes.ensures.only c.take_latch.ensures.took c.in-Added.ensures.took c.give_latch.ensures.took
+returns-in-Added-clause-took c = let z : Sizes = sizes c.args.table.now in let call = call_of c.args.pass.now in let r = c.args.pin.now.room in let b = c.args.key in let len = c.args.len in let u = state c.args.pass.now in let h = c.held_bytes-bytes in let g = c.base_of-base in let x = state h.new.pass in let v = state g.new.pass in
+    let a = calls_add z r g.result c.place_word.result (call_of g.new.pass) b.class b.number len call (call_of h.new.pass) h.result u x v h.ensures.own.call g.ensures.own.call h.ensures.only g.ensures.only c.requires.claim c.requires.pinned g.ensures.base c.place_word.ensures h.ensures.bytes in
+    let e = c.in-Added.ensures in let t = c.add.new.room in let there = c.pass-1.given.1 (sym e.whole.1.same.same_reference) in
+    subst (λ (p : Pass). MetOnly TookNone u (state p)) (sym there)
+    (call_took _ b.class b.number len call h.result u a c.requires.key.0 c.requires.key.1 t e.whole.0 e.whole.1)
+
+pub returns-in-Added-clause-alone : goal.returns-in-Added-clause-alone
+returns-in-Added-clause-alone c k m = let z : Sizes = sizes c.args.table.now in let call = call_of c.args.pass.now in let r = c.args.pin.now.room in let b = c.args.key in let len = c.args.len in let u = state c.args.pass.now in let h = c.held_bytes-bytes in let g = c.base_of-base in let x = state h.new.pass in let v = state g.new.pass in
+    let a = calls_add z r g.result c.place_word.result (call_of g.new.pass) b.class b.number len call (call_of h.new.pass) h.result u x v h.ensures.own.call g.ensures.own.call h.ensures.only g.ensures.only c.requires.claim c.requires.pinned g.ensures.base c.place_word.ensures h.ensures.bytes in let small = looked_small len h.result (words_held (class_number b.class) b.number u.blocks.held) h.ensures.bytes in
+    let e = c.in-Added.ensures in let t = c.add.new.room in let there = c.pass-1.given.1 (sym e.whole.1.same.same_reference) in let i = c.in-Added.entry in let f = c.entries.ensures.is in let l = e.added.0 in
+    subst (λ (p : Pass). Runs (AddsIn z r (record { 0 = i }) b.class b.number len k) u (state p)) (sym there)
+    (where_lone (AddsIn z r (record { 0 = i }) b.class b.number len k) u v (state t.pass.now) a.only.still (λ lone. call_added_lone _ b.class b.number len call h.result u a k m t e.whole.0 e.whole.1 small i (omega arith) e.added.1 (e.straight lone)))
+
+-- the room was full
+
+pub returns-in-Full-clause-own : goal.returns-in-Full-clause-own
+returns-in-Full-clause-own c = let e = c.in-Full.ensures in subst (Stays c.args.pass.now) (sym (c.pass-1.given.1 (sym e.whole.1.same.same_reference))) (stays_both (stays_both c.held_bytes-bytes.ensures.own c.base_of-base.ensures.own) e.whole.1.same.own)
 
 pub returns-in-Full-clause-took : goal.returns-in-Full-clause-took
-returns-in-Full-clause-took c = took_around (call_of c.args.pass.now) (state c.args.pass.now) (state c.held_bytes-bytes.new.pass) (state c.take_latch.new.pass) (state c.add_latched-outcome.new.pass) (state c.give_latch.new.pass)
-    c.held_bytes-bytes.ensures.only c.take_latch.ensures.took c.in-Full.ensures.took c.give_latch.ensures.took
+returns-in-Full-clause-took c = let z : Sizes = sizes c.args.table.now in let call = call_of c.args.pass.now in let r = c.args.pin.now.room in let b = c.args.key in let len = c.args.len in let u = state c.args.pass.now in let h = c.held_bytes-bytes in let g = c.base_of-base in let x = state h.new.pass in let v = state g.new.pass in
+    let a = calls_add z r g.result c.place_word.result (call_of g.new.pass) b.class b.number len call (call_of h.new.pass) h.result u x v h.ensures.own.call g.ensures.own.call h.ensures.only g.ensures.only c.requires.claim c.requires.pinned g.ensures.base c.place_word.ensures h.ensures.bytes in
+    let e = c.in-Full.ensures in let t = c.add.new.room in let there = c.pass-1.given.1 (sym e.whole.1.same.same_reference) in
+    subst (λ (p : Pass). MetOnly TookNone u (state p)) (sym there)
+    (call_took _ b.class b.number len call h.result u a c.requires.key.0 c.requires.key.1 t e.whole.0 e.whole.1)
+
+pub returns-in-Full-clause-under : goal.returns-in-Full-clause-under
+returns-in-Full-clause-under c k m = let z : Sizes = sizes c.args.table.now in let call = call_of c.args.pass.now in let r = c.args.pin.now.room in let b = c.args.key in let len = c.args.len in let u = state c.args.pass.now in let h = c.held_bytes-bytes in let g = c.base_of-base in let x = state h.new.pass in let v = state g.new.pass in
+    let a = calls_add z r g.result c.place_word.result (call_of g.new.pass) b.class b.number len call (call_of h.new.pass) h.result u x v h.ensures.own.call g.ensures.own.call h.ensures.only g.ensures.only c.requires.claim c.requires.pinned g.ensures.base c.place_word.ensures h.ensures.bytes in
+    let e = c.in-Full.ensures in let t = c.add.new.room in let there = c.pass-1.given.1 (sym e.whole.1.same.same_reference) in
+    subst (λ (p : Pass). KeepsBlock z call r b.class b.number k u (state p)) (sym there)
+    (call_keeps _ b.class b.number len call h.result u a k m t e.whole.0 e.whole.1 e.added.1)
+
+pub returns-in-Full-clause-not_added : goal.returns-in-Full-clause-not_added
+returns-in-Full-clause-not_added c k m = let z : Sizes = sizes c.args.table.now in let call = call_of c.args.pass.now in let r = c.args.pin.now.room in let b = c.args.key in let len = c.args.len in let u = state c.args.pass.now in let h = c.held_bytes-bytes in let g = c.base_of-base in let x = state h.new.pass in let v = state g.new.pass in
+    let a = calls_add z r g.result c.place_word.result (call_of g.new.pass) b.class b.number len call (call_of h.new.pass) h.result u x v h.ensures.own.call g.ensures.own.call h.ensures.only g.ensures.only c.requires.claim c.requires.pinned g.ensures.base c.place_word.ensures h.ensures.bytes in let small = looked_small len h.result (words_held (class_number b.class) b.number u.blocks.held) h.ensures.bytes in
+    let e = c.in-Full.ensures in let t = c.add.new.room in let there = c.pass-1.given.1 (sym e.whole.1.same.same_reference) in
+    subst (λ (p : Pass). NotAddedBy Crowded z call r k u (state p)) (sym there)
+    (call_crowded _ b.class b.number len call h.result u a k m t e.whole.0 e.whole.1 small c.entries.result c.entries.ensures.is e.added.0)
+
+pub returns-in-Full-clause-alone_not_added : goal.returns-in-Full-clause-alone_not_added
+returns-in-Full-clause-alone_not_added c k m = let z : Sizes = sizes c.args.table.now in let call = call_of c.args.pass.now in let r = c.args.pin.now.room in let b = c.args.key in let len = c.args.len in let u = state c.args.pass.now in let h = c.held_bytes-bytes in let g = c.base_of-base in let x = state h.new.pass in let v = state g.new.pass in
+    let a = calls_add z r g.result c.place_word.result (call_of g.new.pass) b.class b.number len call (call_of h.new.pass) h.result u x v h.ensures.own.call g.ensures.own.call h.ensures.only g.ensures.only c.requires.claim c.requires.pinned g.ensures.base c.place_word.ensures h.ensures.bytes in let small = looked_small len h.result (words_held (class_number b.class) b.number u.blocks.held) h.ensures.bytes in
+    let e = c.in-Full.ensures in let t = c.add.new.room in let there = c.pass-1.given.1 (sym e.whole.1.same.same_reference) in
+    subst (λ (p : Pass). Runs (NotAddedIn Crowded z r k) u (state p)) (sym there)
+    (call_crowded_lone _ b.class b.number len call h.result u a k m t e.whole.0 e.whole.1 small c.entries.result c.entries.ensures.is e.added.0)
+
+-- the count or a link was changed
+
+pub returns-in-Busy-clause-own : goal.returns-in-Busy-clause-own
+returns-in-Busy-clause-own c = let e = c.in-Busy.ensures in subst (Stays c.args.pass.now) (sym (c.pass-1.given.1 (sym e.whole.1.same.same_reference))) (stays_both (stays_both c.held_bytes-bytes.ensures.own c.base_of-base.ensures.own) e.whole.1.same.own)
+
+pub returns-in-Busy-clause-took : goal.returns-in-Busy-clause-took
+returns-in-Busy-clause-took c = let z : Sizes = sizes c.args.table.now in let call = call_of c.args.pass.now in let r = c.args.pin.now.room in let b = c.args.key in let len = c.args.len in let u = state c.args.pass.now in let h = c.held_bytes-bytes in let g = c.base_of-base in let x = state h.new.pass in let v = state g.new.pass in
+    let a = calls_add z r g.result c.place_word.result (call_of g.new.pass) b.class b.number len call (call_of h.new.pass) h.result u x v h.ensures.own.call g.ensures.own.call h.ensures.only g.ensures.only c.requires.claim c.requires.pinned g.ensures.base c.place_word.ensures h.ensures.bytes in
+    let e = c.in-Busy.ensures in let t = c.add.new.room in let there = c.pass-1.given.1 (sym e.whole.1.same.same_reference) in
+    subst (λ (p : Pass). MetOnly TookNone u (state p)) (sym there)
+    (call_took _ b.class b.number len call h.result u a c.requires.key.0 c.requires.key.1 t e.whole.0 e.whole.1)
+
+pub returns-in-Busy-clause-under : goal.returns-in-Busy-clause-under
+returns-in-Busy-clause-under c k m = let z : Sizes = sizes c.args.table.now in let call = call_of c.args.pass.now in let r = c.args.pin.now.room in let b = c.args.key in let len = c.args.len in let u = state c.args.pass.now in let h = c.held_bytes-bytes in let g = c.base_of-base in let x = state h.new.pass in let v = state g.new.pass in
+    let a = calls_add z r g.result c.place_word.result (call_of g.new.pass) b.class b.number len call (call_of h.new.pass) h.result u x v h.ensures.own.call g.ensures.own.call h.ensures.only g.ensures.only c.requires.claim c.requires.pinned g.ensures.base c.place_word.ensures h.ensures.bytes in
+    let e = c.in-Busy.ensures in let t = c.add.new.room in let there = c.pass-1.given.1 (sym e.whole.1.same.same_reference) in
+    subst (λ (p : Pass). KeepsBlock z call r b.class b.number k u (state p)) (sym there)
+    (call_keeps _ b.class b.number len call h.result u a k m t e.whole.0 e.whole.1 e.added.1)
+
+pub returns-in-Busy-clause-not_added : goal.returns-in-Busy-clause-not_added
+returns-in-Busy-clause-not_added c k m = let z : Sizes = sizes c.args.table.now in let call = call_of c.args.pass.now in let r = c.args.pin.now.room in let b = c.args.key in let len = c.args.len in let u = state c.args.pass.now in let h = c.held_bytes-bytes in let g = c.base_of-base in let x = state h.new.pass in let v = state g.new.pass in
+    let a = calls_add z r g.result c.place_word.result (call_of g.new.pass) b.class b.number len call (call_of h.new.pass) h.result u x v h.ensures.own.call g.ensures.own.call h.ensures.only g.ensures.only c.requires.claim c.requires.pinned g.ensures.base c.place_word.ensures h.ensures.bytes in
+    let e = c.in-Busy.ensures in let t = c.add.new.room in let there = c.pass-1.given.1 (sym e.whole.1.same.same_reference) in
+    subst (λ (p : Pass). NotAddedBy Busy z call r k u (state p)) (sym there)
+    (call_changed _ b.class b.number len call h.result u a k m t e.whole.0 e.whole.1 e.added.0)
+
+pub returns-in-Busy-clause-alone_not_added : goal.returns-in-Busy-clause-alone_not_added
+returns-in-Busy-clause-alone_not_added c k m = let z : Sizes = sizes c.args.table.now in let call = call_of c.args.pass.now in let r = c.args.pin.now.room in let b = c.args.key in let len = c.args.len in let u = state c.args.pass.now in let h = c.held_bytes-bytes in let g = c.base_of-base in let x = state h.new.pass in let v = state g.new.pass in
+    let a = calls_add z r g.result c.place_word.result (call_of g.new.pass) b.class b.number len call (call_of h.new.pass) h.result u x v h.ensures.own.call g.ensures.own.call h.ensures.only g.ensures.only c.requires.claim c.requires.pinned g.ensures.base c.place_word.ensures h.ensures.bytes in
+    let e = c.in-Busy.ensures in let t = c.add.new.room in let there = c.pass-1.given.1 (sym e.whole.1.same.same_reference) in
+    subst (λ (p : Pass). Runs (NotAddedIn Busy z r k) u (state p)) (sym there)
+    (never_lone u v (state t.pass.now) a.only.still e.alone)

@@ -8,44 +8,44 @@ use Rattle.chunk_ops.proofs.comparing.compare.Goals as goal
 
 pub loop-i-preserved : goal.loop-i-preserved
 loop-i-preserved g c = let w = c.compare_word-order in let i = c.loop-i.invariant in let r : Room = g.R.SearchedRoom.room c.args.room.now in let k = c.loop-i.i in let o : Ordering = w.result in
-    let o_is : o ≡ padded_cmp (8 * k + 8) c.args.key.now (key_at r c.args.entry) = order_step r c.args.entry c.key_word-place.result (g.met.R.SearchedRoom.is_room c.args.room.now c.requires.pinned) c.requires.within c.key_word-place.ensures.word
+    let o_is : o ≡ padded_cmp (8 * k + 8) c.args.key.now (key_at r c.args.entry) = order_step r c.args.entry c.key_word-place.result (g.met.R.SearchedRoom.is_room c.args.room.now c.requires.pinned) c.requires.found c.key_word-place.ensures.word
     c.args.key.now k (g.R.SearchedRoom.room c.loop-i.room) o (slice_bytes c.args.key.now c.type_inv.key) i.same i.tied w.ensures.order in record {
       pin = w.ensures.pinned;
       same = w.ensures.same ∙ i.same;
       words = loaded_more g.met.R.SearchedRoom.meets_both c.args.entry c.key_word-place.result k c.args.room.now c.loop-i.room w.new.room i.words w.ensures.meets;
       tied = ap (λ (n : ℕ). padded_cmp n c.args.key.now (key_at r c.args.entry)) (let e : 8 * (k + 1) ≡ 8 * k + 8 = omega arith in e) ∙ (sym o_is ∙ is_equal o (sym c.is_ne.ensures ∙ c.if-is_ne.false));
       agree = agree_more c.args.key.now (key_at r c.args.entry) k i.agree
-          (sym (words_order r c.args.entry c.key_word-place.result (g.met.R.SearchedRoom.is_room c.args.room.now c.requires.pinned) c.requires.within c.key_word-place.ensures.word c.args.key.now k (g.R.SearchedRoom.room c.loop-i.room) o i.same w.ensures.order)
+          (sym (words_order r c.args.entry c.key_word-place.result (g.met.R.SearchedRoom.is_room c.args.room.now c.requires.pinned) c.requires.found c.key_word-place.ensures.word c.args.key.now k (g.R.SearchedRoom.room c.loop-i.room) o i.same w.ensures.order)
           ∙ is_equal o (sym c.is_ne.ensures ∙ c.if-is_ne.false));
     }
 
 pub returns-then-is_ne-clause-order : goal.returns-then-is_ne-clause-order
 returns-then-is_ne-clause-order g c = let w = c.compare_word-order in let i = c.loop-i.invariant in let r : Room = g.R.SearchedRoom.room c.args.room.now in let k = c.loop-i.i in let o : Ordering = w.result in
-    let o_is : o ≡ padded_cmp (8 * k + 8) c.args.key.now (key_at r c.args.entry) = order_step r c.args.entry c.key_word-place.result (g.met.R.SearchedRoom.is_room c.args.room.now c.requires.pinned) c.requires.within c.key_word-place.ensures.word
+    let o_is : o ≡ padded_cmp (8 * k + 8) c.args.key.now (key_at r c.args.entry) = order_step r c.args.entry c.key_word-place.result (g.met.R.SearchedRoom.is_room c.args.room.now c.requires.pinned) c.requires.found c.key_word-place.ensures.word
     c.args.key.now k (g.R.SearchedRoom.room c.loop-i.room) o (slice_bytes c.args.key.now c.type_inv.key) i.same i.tied w.ensures.order in
     sym (padded_decides (8 * k + 8) c.args.key.now (key_at r c.args.entry) o (sym o_is) (is_unequal o (sym c.is_ne.ensures ∙ c.if-is_ne.true)))
 
 pub returns-then-is_ne-clause-meets : goal.returns-then-is_ne-clause-meets
 returns-then-is_ne-clause-meets g c = let w = c.compare_word-order in let i = c.loop-i.invariant in let r : Room = g.R.SearchedRoom.room c.args.room.now in let k = c.loop-i.i in
-    let s : c.length_in-length.result ≡ length (key_at r c.args.entry) = c.length_in-length.ensures.is ∙ stored_long r c.args.entry c.key_word-place.result (g.met.R.SearchedRoom.is_room c.args.room.now c.requires.pinned) c.requires.within c.key_word-place.ensures.word in
+    let s : c.length_in-length.result ≡ length (key_at r c.args.entry) = c.length_in-length.ensures.is ∙ stored_long r c.args.entry c.key_word-place.result (g.met.R.SearchedRoom.is_room c.args.room.now c.requires.pinned) c.requires.found c.key_word-place.ensures.word in
     let m = c.min.ensures in let d = c.div_ceil-i-end.ensures in
     loaded_key g.R.SearchedRoom.meets c.args.entry c.key_word-place.result (k + 1) k c.args.key.now (key_at r c.args.entry) c.args.room.now w.new.room
     (loaded_more g.met.R.SearchedRoom.meets_both c.args.entry c.key_word-place.result k c.args.room.now c.loop-i.room w.new.room i.words w.ensures.meets) (omega arith) (omega arith) i.agree (omega arith)
 
 pub returns-then-is_ne-clause-reads : goal.returns-then-is_ne-clause-reads
 returns-then-is_ne-clause-reads g c = let w = c.compare_word-order in let i = c.loop-i.invariant in
-    key_reads c.args.key.now c.args.entry c.args.room.now w.new.room c.requires.within (returns-then-is_ne-clause-meets g c) w.ensures.pinned (w.ensures.same ∙ i.same)
+    key_reads c.args.key.now c.args.entry c.args.room.now w.new.room c.requires.found (returns-then-is_ne-clause-meets g c) w.ensures.pinned (w.ensures.same ∙ i.same)
 
 pub returns-clause-order : goal.returns-clause-order
 returns-clause-order g c = let i = c.loop-i.invariant in let r : Room = g.R.SearchedRoom.room c.args.room.now in
-    let s : c.length_in-length.result ≡ length (key_at r c.args.entry) = c.length_in-length.ensures.is ∙ stored_long r c.args.entry c.key_word-place.result (g.met.R.SearchedRoom.is_room c.args.room.now c.requires.pinned) c.requires.within c.key_word-place.ensures.word in
+    let s : c.length_in-length.result ≡ length (key_at r c.args.entry) = c.length_in-length.ensures.is ∙ stored_long r c.args.entry c.key_word-place.result (g.met.R.SearchedRoom.is_room c.args.room.now c.requires.pinned) c.requires.found c.key_word-place.ensures.word in
     let d = c.div_ceil-i-end.ensures in let f = c.loop-i-test.false in c.cmp.ensures ∙ sym (lengths_last c.args.key.now (key_at r c.args.entry) c.loop-i.i c.length_in-length.result c.min.result i.tied c.min.ensures s (omega arith))
 
 pub returns-clause-meets : goal.returns-clause-meets
 returns-clause-meets g c = let i = c.loop-i.invariant in let r : Room = g.R.SearchedRoom.room c.args.room.now in let k = c.loop-i.i in
-    let s : c.length_in-length.result ≡ length (key_at r c.args.entry) = c.length_in-length.ensures.is ∙ stored_long r c.args.entry c.key_word-place.result (g.met.R.SearchedRoom.is_room c.args.room.now c.requires.pinned) c.requires.within c.key_word-place.ensures.word in
+    let s : c.length_in-length.result ≡ length (key_at r c.args.entry) = c.length_in-length.ensures.is ∙ stored_long r c.args.entry c.key_word-place.result (g.met.R.SearchedRoom.is_room c.args.room.now c.requires.pinned) c.requires.found c.key_word-place.ensures.word in
     let m = c.min.ensures in let d = c.div_ceil-i-end.ensures in let t = c.loop-i.auto.i-end in
     loaded_key g.R.SearchedRoom.meets c.args.entry c.key_word-place.result k k c.args.key.now (key_at r c.args.entry) c.args.room.now c.loop-i.room i.words (omega arith) (omega arith) i.agree (omega arith)
 
 pub returns-clause-reads : goal.returns-clause-reads
-returns-clause-reads g c = let i = c.loop-i.invariant in key_reads c.args.key.now c.args.entry c.args.room.now c.loop-i.room c.requires.within (returns-clause-meets g c) i.pin i.same
+returns-clause-reads g c = let i = c.loop-i.invariant in key_reads c.args.key.now c.args.entry c.args.room.now c.loop-i.room c.requires.found (returns-clause-meets g c) i.pin i.same

@@ -9,7 +9,7 @@ use Rattle.oak_core.specs.Passes.{state, key as sizes, call_of}
 use Rattle.oak_core.proofs.seats.SamePass.{stays_both}
 use Rattle.oak_core.proofs.memory.Words.{index_below}
 use Rattle.chunk_ops.proofs.FoundEntries.{class_is, word_at, pin_still, entry_still}
-use Rattle.chunk_ops.proofs.ListedEntries.{key_inside, key_bytes_small, key_word_part}
+use Rattle.chunk_ops.proofs.KeyLoads.{key_inside, key_bytes_small, key_word_part}
 use Rattle.chunk_ops.proofs.MeetingCalls.{only_both, only_in}
 use Rattle.chunk_ops.proofs.StoredLaws.{filled_more, filled_all}
 use Rattle.chunk_ops.proofs.WordLoads.{only_loaded}

@@ -6,7 +6,7 @@ use Rattle.oak_core.specs.Passes.{state, key, call_of}
 use Rattle.chunk_ops.specs.AskedRanges.{IsAsked}
 use Rattle.chunk_ops.specs.PinRecords.{HasRoomPin, RoomPinned}
 use Rattle.chunk_ops.specs.RoomPins.{PinsOpen, Unpins}
-use Rattle.chunk_ops.proofs.FoundRooms.{has_pin, now_begun, no_latch_then, pins_asked, pinned_first, off_then, only_then, off_shut, shut_alone, off_alone}
+use Rattle.chunk_ops.proofs.FoundRooms.{has_pin, now_begun, no_claim_then, pins_asked, pinned_first, off_then, only_then, off_shut, shut_alone, off_alone}
 use Rattle.chunk_ops.proofs.MeetingCalls.{only_in}
 use Rattle.chunk_ops.proofs.PinSteps.{unpins_in}
 use Rattle.chunk_ops.proofs.RoomTries.{pins_both}
@@ -29,11 +29,8 @@ unpin-requires-clause-pinned c = let z : Sizes = key c.args.table.now in let o =
     subst (λ (a : RoomHolds). RoomPinned z c.in-Some.pin.room a) (sym c.if-is_asked.ensures.only.rooms)
     (subst (λ (r : ℕ). HasRoomPin z r (state c.pin_open.new.pass)) (sym o.0) (has_pin z (call_of c.args.pass.now) c.args.room (state c.args.pass.now) (state c.pin_open.new.pass) o.1))
 
-pub unpin-requires-clause-latch : goal.unpin-requires-clause-latch
-unpin-requires-clause-latch c = let o = c.in-Some.ensures.opened in ap (λ (a : RoomHolds). a.latch) c.if-is_asked.ensures.only.rooms ∙ (no_latch_then (key c.args.table.now) (call_of c.args.pass.now) c.args.room (state c.args.pass.now) (state c.pin_open.new.pass) o.1).0
-
 pub unpin-requires-clause-claim : goal.unpin-requires-clause-claim
-unpin-requires-clause-claim c = let o = c.in-Some.ensures.opened in ap (λ (a : RoomHolds). a.claim) c.if-is_asked.ensures.only.rooms ∙ (no_latch_then (key c.args.table.now) (call_of c.args.pass.now) c.args.room (state c.args.pass.now) (state c.pin_open.new.pass) o.1).1
+unpin-requires-clause-claim c = let o = c.in-Some.ensures.opened in ap (λ (a : RoomHolds). a.claim) c.if-is_asked.ensures.only.rooms ∙ no_claim_then (key c.args.table.now) (call_of c.args.pass.now) c.args.room (state c.args.pass.now) (state c.pin_open.new.pass) o.1
 
 -- the end of the pin, in the call
 ends : (z : Sizes) (call now r k : ℕ) (x u : PassState) → now ≡ call → k ≡ r → Unpins z now k x u → Unpins z call r x u

@@ -1,6 +1,6 @@
 use Rattle.oak_core.specs.Passes.{state, key as sizes, call_of}
 use Rattle.chunk_ops.specs.AskedRanges.{bytes_in_option}
-use Rattle.chunk_ops.proofs.FoundBeside.{nearest_has}
+use Rattle.chunk_ops_tests.proofs.FoundEntries.{nearest_has}
 use Rattle.chunk_ops_tests.proofs.adding_tests.byte_beside.Goals as goal
 
 pub byte_of-requires-clause-entry : goal.byte_of-requires-clause-entry

@@ -1,12 +1,12 @@
-use Rattle.std.proofs.Common.{List, ℕ, ◌<◌}
+use Rattle.std.proofs.Common.{List, ℕ, MatchOption}
 use Rattle.oak_core.specs.Passes.{Stays, state, key as sizes}
 use Rattle.chunk_ops.specs.PinRecords.{HasEntry}
 use Rattle.chunk_ops.specs.TestStates.{StillPinned}
 use Rattle.chunk_ops_tests.proofs.listing_tests.lists_bytes.Given as goal
 
-abbrev pub invariant-loop-i : goal.invariant-loop-i
-invariant-loop-i g l = record {
+abbrev pub invariant-loop-byte : goal.invariant-loop-byte
+invariant-loop-byte g l = record {
   own : Stays l.fn.pass l.pass;
   still : StillPinned (sizes l.table) l.pin.room (state l.fn.pass) (state l.pass);
-  entries : (j : ℕ) → j < l.many → (k : List ℕ) × HasEntry l.pin.room j k (state l.pass);
+  from : MatchOption l.from Unit (λ i. (k : List ℕ) × HasEntry l.pin.room i.0 k (state l.pass));
 }

@@ -16,4 +16,4 @@ unpin_room-pinned-requires-clause-names g c = let z : Sizes = key c.args.table.n
     let t = c.pin_room-before.ensures.told 0 names in
     let held : (state c.pin_room-before.new.pass).rooms ≡ record no_rooms { pin = Some (pinned_at (memory z t.table.words).rooms 0) } =
     (λ i. (t.after i).rooms) ∙ ap (λ (a : RoomHolds). record a { pin = Some (pinned_at (memory z t.table.words).rooms 0) }) c.requires.idle.rooms in
-    (0, names, refl, record { inside = (names.inside, (omega arith)); rooms = subst (λ (a : RoomHolds). (room_pins 0 a ≡ 1) × (a.latch ≡ None) × (a.claim ≡ None)) (sym held) (one_at-same 0 0 refl, refl, refl) })
+    (0, names, refl, record { inside = (names.inside, (omega arith)); rooms = subst (λ (a : RoomHolds). (room_pins 0 a ≡ 1) × (a.claim ≡ None)) (sym held) (one_at-same 0 0 refl, refl) })

@@ -22,7 +22,7 @@ module _ (z : Sizes) (call next n k : ℕ) (u v w : PassState) (idle : HoldsNoth
 
   -- so it may undo it
   may_unpin : MayOnRooms z next (unpin_room 0) v
-  may_unpin = record { inside = t.may.inside; rooms = subst (λ (a : RoomHolds). (room_pins 0 a ≡ 1) × (a.latch ≡ None) × (a.claim ≡ None)) (sym has_pin) (one_at-same 0 0 refl, refl, refl) }
+  may_unpin = record { inside = t.may.inside; rooms = subst (λ (a : RoomHolds). (room_pins 0 a ≡ 1) × (a.claim ≡ None)) (sym has_pin) (one_at-same 0 0 refl, refl) }
 
   -- and holds nothing then
   module _ (d : Told z next (on_rooms (unpin_room 0)) v k w) where

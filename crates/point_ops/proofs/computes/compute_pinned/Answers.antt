@@ -2,7 +2,7 @@ use Rattle.point_ops.specs.declared.spots.Spot.TheVariants.{Absent}
 use Rattle.point_ops.proofs.LoneLeftPins.{rewrites_key}
 use Rattle.point_ops.proofs.LoneSpots.{spot_stays}
 use Rattle.point_ops.specs.LoneLeft.{LeavesUnder}
-use Rattle.chunk_ops.specs.Latching.{Never}
+use Rattle.chunk_ops.specs.AddsAlone.{Never}
 use Rattle.chunk_ops.specs.PinRecords.{WordsStay}
 use Rattle.oak_core.specs.AloneWords.{Runs}
 use Rattle.point_ops.proofs.LoneCalls.{lock_never, of_each}
@@ -30,6 +30,9 @@ compute_life-requires-clause-kind g c = let o = c.args.recipe.now in let k = (go
 
 pub returns-in-Ok-clause-got : goal.returns-in-Ok-clause-got
 returns-in-Ok-clause-got g c = let o = c.args.recipe.now in let k = (goal.Recipe-dyn g (o.vtable, o.value)).told_kind o.value in let n = (goal.Recipe-dyn g (o.vtable, o.value)).told_argument o.value in let x = c.in-Ok.ensures.wrote c.args.key.now c.in-Present.ensures.spot.life in rewrote (sizes c.args.table.now) (call_of c.args.pass.now) c.args.key.now (state c.args.pass.now) (state c.look_up.new.pass) (state c.compute_life.new.pass) _ c.look_up.ensures.own.call c.look_up.ensures.under.learns c.args.pin.now.room c.in-Present.entry.0 c.in-Present.home.header c.in-Present.home.generation c.in-Present.ensures.spot c.compute_kind-kind.result (Compute k n) replies.Done c.in-Ok.at x.0 (Some (recipe_result k n x.0)) (ap Some (sym c.compute_kind-kind.ensures)) refl refl x.1
+
+pub returns-in-Ok-clause-held : goal.returns-in-Ok-clause-held
+returns-in-Ok-clause-held g c = held_under (sizes c.args.table.now) (call_of c.args.pass.now) c.args.pin.now.room (state c.args.pass.now) (state c.look_up.new.pass) (state c.compute_life.new.pass) c.look_up.ensures.under c.compute_life.ensures.held
 
 pub returns-in-Err-Busy-clause-held : goal.returns-in-Err-Busy-clause-held
 returns-in-Err-Busy-clause-held g c = held_under (sizes c.args.table.now) (call_of c.args.pass.now) c.args.pin.now.room (state c.args.pass.now) (state c.look_up.new.pass) (state c.compute_life.new.pass) c.look_up.ensures.under c.compute_life.ensures.held

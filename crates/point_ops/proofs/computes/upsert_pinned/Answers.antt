@@ -38,6 +38,9 @@ returns-in-Err-clause-halted g c = let o = c.args.recipe.now in let k = (goal.Re
 pub returns-in-Ok-compute_life-clause-got : goal.returns-in-Ok-compute_life-clause-got
 returns-in-Ok-compute_life-clause-got g c = let o = c.args.recipe.now in let k = (goal.Recipe-dyn g (o.vtable, o.value)).told_kind o.value in let n = (goal.Recipe-dyn g (o.vtable, o.value)).told_argument o.value in let x = c.in-Ok-compute_life.ensures.wrote c.args.key.now c.in-Present.ensures.spot.life in rewrote (sizes c.args.table.now) (call_of c.args.pass.now) c.args.key.now (state c.args.pass.now) (state c.look_up.new.pass) (state c.compute_life.new.pass) _ c.look_up.ensures.own.call c.look_up.ensures.under.learns c.args.pin.now.room c.in-Present.entry.0 c.in-Present.home.header c.in-Present.home.generation c.in-Present.ensures.spot c.upsert_kind-kind.result (Upsert c.args.value.now k n) replies.Done c.in-Ok-compute_life.at x.0 (Some (recipe_result k n x.0)) (ap Some (sym c.upsert_kind-kind.ensures)) refl refl x.1
 
+pub returns-in-Ok-compute_life-clause-held : goal.returns-in-Ok-compute_life-clause-held
+returns-in-Ok-compute_life-clause-held g c = held_under (sizes c.args.table.now) (call_of c.args.pass.now) c.args.pin.now.room (state c.args.pass.now) (state c.look_up.new.pass) (state c.compute_life.new.pass) c.look_up.ensures.under c.compute_life.ensures.held
+
 pub returns-in-Err-compute_life-clause-held : goal.returns-in-Err-compute_life-clause-held
 returns-in-Err-compute_life-clause-held g c = held_under (sizes c.args.table.now) (call_of c.args.pass.now) c.args.pin.now.room (state c.args.pass.now) (state c.look_up.new.pass) (state c.compute_life.new.pass) c.look_up.ensures.under c.compute_life.ensures.held
 

@@ -23,15 +23,17 @@ returns-in-Ok-clause-under c = let z = sizes c.args.table.now in let call = call
 pub returns-in-Err-clause-under : goal.returns-in-Err-clause-under
 returns-in-Err-clause-under c = let z = sizes c.args.table.now in let call = call_of c.args.pass.now in let r = c.args.pin.now.room in let b = c.in_ok-block.block in let key = c.args.key.now in
     let v = state c.args.pass.now in let u = state c.take_block.new.pass in let w = state c.add.new.pass in let x = state c.give.new.pass in let m = c.in_ok-block.ensures.made.1 in let now = call_of c.take_block.new.pass in let later = call_of c.add.new.pass in
-    unadded_under z call r b.class b.number key v u w c.requires.none m now c.take_block.ensures.own.call c.in-Err.ensures.under later x (c.add.ensures.own.call ∙ c.take_block.ensures.own.call)
+    unadded_under z call r b.class b.number key v u w c.requires.none m now c.take_block.ensures.own.call
+    (c.in-Err.ensures.under key (may_add z call r b.class b.number key v u w c.requires.none m now c.take_block.ensures.own.call c.requires.key c.requires.covers)) later x (c.add.ensures.own.call ∙ c.take_block.ensures.own.call)
     (subst (λ (o : Block). Gives z later o.class o.number w x) c.in-Err.ensures.block c.give.ensures.given)
 
 pub returns-in-Err-clause-halted : goal.returns-in-Err-clause-halted
 returns-in-Err-clause-halted c = let z = sizes c.args.table.now in let call = call_of c.args.pass.now in let r = c.args.pin.now.room in let b = c.in_ok-block.block in let key = c.args.key.now in
     let v = state c.args.pass.now in let u = state c.take_block.new.pass in let w = state c.add.new.pass in let x = state c.give.new.pass in let m = c.in_ok-block.ensures.made.1 in let now = call_of c.take_block.new.pass in let later = call_of c.add.new.pass in
     subst (λ (y : Halt). AddingHalts y z call key v x) (sym c.halt_of.ensures)
-    (unadded_halts z call r b.class b.number key v u w c.requires.none m now c.take_block.ensures.own.call c.in-Err.ensures.under later x (c.add.ensures.own.call ∙ c.take_block.ensures.own.call)
-    (subst (λ (o : Block). Gives z later o.class o.number w x) c.in-Err.ensures.block c.give.ensures.given) c.requires.covers c.requires.latch c.in-Err.field-0.why
+    (unadded_halts z call r b.class b.number key v u w c.requires.none m now c.take_block.ensures.own.call
+    (c.in-Err.ensures.under key (may_add z call r b.class b.number key v u w c.requires.none m now c.take_block.ensures.own.call c.requires.key c.requires.covers)) later x (c.add.ensures.own.call ∙ c.take_block.ensures.own.call)
+    (subst (λ (o : Block). Gives z later o.class o.number w x) c.in-Err.ensures.block c.give.ensures.given) c.requires.covers c.in-Err.field-0.why
     (c.in-Err.ensures.not_added key (may_add z call r b.class b.number key v u w c.requires.none m now c.take_block.ensures.own.call c.requires.key c.requires.covers)))
 
 pub returns-in-Ok-clause-alone : goal.returns-in-Ok-clause-alone

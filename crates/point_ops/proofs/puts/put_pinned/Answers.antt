@@ -79,6 +79,12 @@ pub returns-in-Ok-overwrite-clause-alone_left : goal.returns-in-Ok-overwrite-cla
 returns-in-Ok-overwrite-clause-alone_left c = let z = sizes c.args.table.now in let r = c.args.pin.now.room in let v = state c.args.pass.now in let u = state c.look_up.new.pass in let w = state c.overwrite.new.pass in
     over_key z r c.in-Present.home.header c.in-Present.home.generation c.in-Present.entry c.args.key.now c.args.value.now c.in-Ok-overwrite.at v u w c.in-Present.ensures.alone (c.in-Ok-overwrite.ensures.alone_over r c.look_up.ensures.under.pin.has)
 
+pub returns-in-Ok-overwrite-clause-held : goal.returns-in-Ok-overwrite-clause-held
+returns-in-Ok-overwrite-clause-held c = held_under (sizes c.args.table.now) (call_of c.args.pass.now) c.args.pin.now.room (state c.args.pass.now) (state c.look_up.new.pass) (state c.overwrite.new.pass) c.look_up.ensures.under c.overwrite.ensures.held
+
+pub returns-in-Err-overwrite-clause-held : goal.returns-in-Err-overwrite-clause-held
+returns-in-Err-overwrite-clause-held c = held_under (sizes c.args.table.now) (call_of c.args.pass.now) c.args.pin.now.room (state c.args.pass.now) (state c.look_up.new.pass) (state c.overwrite.new.pass) c.look_up.ensures.under c.overwrite.ensures.held
+
 pub returns-in-IfAbsent-clause-held : goal.returns-in-IfAbsent-clause-held
 returns-in-IfAbsent-clause-held c = held_under (sizes c.args.table.now) (call_of c.args.pass.now) c.args.pin.now.room (state c.args.pass.now) (state c.look_up.new.pass) (state c.keep_life.new.pass) c.look_up.ensures.under (learned_held _ (state c.look_up.new.pass) (state c.keep_life.new.pass) c.keep_life.ensures.only)
 

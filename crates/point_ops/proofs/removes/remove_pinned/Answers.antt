@@ -2,7 +2,7 @@ use Rattle.point_ops.specs.declared.spots.Spot.TheVariants.{Absent}
 use Rattle.point_ops.proofs.LoneLeftPins.{removes_key}
 use Rattle.point_ops.proofs.LoneSpots.{spot_stays}
 use Rattle.point_ops.specs.LoneLeft.{LeavesUnder}
-use Rattle.chunk_ops.specs.Latching.{Never}
+use Rattle.chunk_ops.specs.AddsAlone.{Never}
 use Rattle.chunk_ops.specs.PinRecords.{WordsStay}
 use Rattle.oak_core.specs.AloneWords.{Runs}
 use Rattle.point_ops.proofs.LoneCalls.{lock_never, of_each}
@@ -24,6 +24,9 @@ use Rattle.point_ops.proofs.removes.remove_pinned.Goals as goal
 
 pub returns-in-Ok-clause-got : goal.returns-in-Ok-clause-got
 returns-in-Ok-clause-got c = let x = c.in-Ok.ensures.wrote c.args.key.now c.in-Present.ensures.spot.life c.in-Present.ensures.spot.has in rewrote (sizes c.args.table.now) (call_of c.args.pass.now) c.args.key.now (state c.args.pass.now) (state c.look_up.new.pass) (state c.remove_life.new.pass) _ c.look_up.ensures.own.call c.look_up.ensures.under.learns c.args.pin.now.room c.in-Present.entry.0 c.in-Present.home.header c.in-Present.home.generation c.in-Present.ensures.spot kinds.Remove Remove replies.Removed c.in-Ok.at x.0 None refl refl refl x.1
+
+pub returns-in-Ok-clause-held : goal.returns-in-Ok-clause-held
+returns-in-Ok-clause-held c = held_under (sizes c.args.table.now) (call_of c.args.pass.now) c.args.pin.now.room (state c.args.pass.now) (state c.look_up.new.pass) (state c.remove_life.new.pass) c.look_up.ensures.under c.remove_life.ensures.held
 
 pub returns-in-Err-Busy-clause-held : goal.returns-in-Err-Busy-clause-held
 returns-in-Err-Busy-clause-held c = held_under (sizes c.args.table.now) (call_of c.args.pass.now) c.args.pin.now.room (state c.args.pass.now) (state c.look_up.new.pass) (state c.remove_life.new.pass) c.look_up.ensures.under c.remove_life.ensures.held

@@ -21,7 +21,7 @@ pub open_front-requires-clause-front : goal.open_front-requires-clause-front
 open_front-requires-clause-front c = let z : Sizes = sizes c.args.table.now in let call = call_of c.args.pass.now in let key = c.args.key.now in let v = state c.args.pass.now in let a = state c.try_take_chunk.new.pass in let q = state c.high_of.new.pass in
     let low = c.in-Some.low in let ys = take low.kept (slots_of c.try_take_chunk.new.pass) in let idle = c.requires.idle in let lower = c.in-Some.ensures.takes in let to_a = c.try_take_chunk.ensures.own.call in
     let works = subst (λ (k : ℕ). WorksOnRooms z k a q) to_a c.high_of.ensures.works in let alone = lone_front z call key low ys v a idle lower in let front = front_looked z call low.room lower.words lower.range [] [] a q alone works c.high_of.ensures.rooms in
-    (lower.words, lower.range, [], [], front, taken_chained z call key low ys v a lower)
+    (lower.words, lower.range, [], [], front, taken_chained z call key low ys v a lower, lower.rewritten.linked)
 
 pub returns-in_default-high_of-clause-apart : goal.returns-in_default-high_of-clause-apart
 returns-in_default-high_of-clause-apart c = λ high same. let z : Sizes = sizes c.args.table.now in let call = call_of c.args.pass.now in let key = c.args.key.now in let v = state c.args.pass.now in let a = state c.try_take_chunk.new.pass in let q = state c.high_of.new.pass in
@@ -47,7 +47,7 @@ try_take_chunk-requires-2-clause-compacted c = let z : Sizes = sizes c.args.tabl
 pub open_front-requires-then-low-up-clause-front : goal.open_front-requires-then-low-up-clause-front
 open_front-requires-then-low-up-clause-front c = let z : Sizes = sizes c.args.table.now in let q = state c.high_of.new.pass in let up = c.in-Some-try_take_chunk.up in let b = state c.try_take_chunk-2.new.pass in
     let xs = take up.kept (slots_of c.try_take_chunk-2.new.pass) in let upper = c.in-Some-try_take_chunk.ensures.takes in
-    (upper.words, upper.range, q.rooms.held, q.rooms.moving, upper.front, taken_chained z (call_of c.high_of.new.pass) c.as_slice.result.now up xs q b upper)
+    (upper.words, upper.range, q.rooms.held, q.rooms.moving, upper.front, taken_chained z (call_of c.high_of.new.pass) c.as_slice.result.now up xs q b upper, upper.rewritten.linked)
 
 pub open_front-requires-then-low-up-2-clause-front : goal.open_front-requires-then-low-up-2-clause-front
 open_front-requires-then-low-up-2-clause-front c = let z : Sizes = sizes c.args.table.now in let call = call_of c.args.pass.now in let key = c.args.key.now in let v = state c.args.pass.now in let a = state c.try_take_chunk.new.pass in let q = state c.high_of.new.pass in
@@ -58,7 +58,7 @@ open_front-requires-then-low-up-2-clause-front c = let z : Sizes = sizes c.args.
     let upper = subst (λ (k : ℕ). TakesChunk z k h up xs q b) to_q (subst (λ (l : List ℕ). TakesChunk z (call_of c.high_of.new.pass) l up xs q b) c.as_slice.ensures c.in-Some-try_take_chunk.ensures.takes) in
     let d = state c.open_front-then-low-up.new.pass in let n = subst (λ (k : ℕ). OpensFront z k up.room upper.words q.rooms.held q.rooms.moving b d) to_b (c.open_front-then-low-up.ensures.opens upper.words upper.range q.rooms.held q.rooms.moving upper.front) in
     let again = front_back z call low.room up.room lower.words upper.words lower.range upper.range [] [] q b d front upper.front n in
-    (lower.words, lower.range, [], [], again, taken_chained z call key low ys v a lower)
+    (lower.words, lower.range, [], [], again, taken_chained z call key low ys v a lower, lower.rewritten.linked)
 
 pub returns-then-low-up-clause-apart : goal.returns-then-low-up-clause-apart
 returns-then-low-up-clause-apart c = λ high same. let z : Sizes = sizes c.args.table.now in let call = call_of c.args.pass.now in let key = c.args.key.now in let v = state c.args.pass.now in let a = state c.try_take_chunk.new.pass in let q = state c.high_of.new.pass in
@@ -91,7 +91,7 @@ open_front-requires-2-clause-front c = let z : Sizes = sizes c.args.table.now in
     let upper = subst (λ (k : ℕ). TakesChunk z k h up xs q b) to_q (subst (λ (l : List ℕ). TakesChunk z (call_of c.high_of.new.pass) l up xs q b) c.as_slice.ensures c.in-Some-try_take_chunk.ensures.takes) in
     let few = c.if-low-up.false in let is = c.entries.ensures.is in let pair = pair_held z call key h low up ys xs v a q b lower front upper end (omega (arith, few, is)) in let d = state c.join_above.new.pass in
     let joins = subst (λ (k : ℕ). JoinsPair z k low up lower.range upper.range b d) to_b (c.join_above.ensures.joins pair) in
-    (joins.opened, _, [], [], joins.front, joins.chained)
+    (joins.opened, _, [], [], joins.front, joins.chained, joins.linked)
 
 pub returns-clause-joined : goal.returns-clause-joined
 returns-clause-joined c = λ _. let z : Sizes = sizes c.args.table.now in let call = call_of c.args.pass.now in let key = c.args.key.now in let v = state c.args.pass.now in let a = state c.try_take_chunk.new.pass in let q = state c.high_of.new.pass in
@@ -136,7 +136,7 @@ open_front-requires-in_default-try_take_chunk-clause-front c = let z : Sizes = s
     let low = c.in-Some.low in let ys = take low.kept (slots_of c.try_take_chunk.new.pass) in let idle = c.requires.idle in let lower = c.in-Some.ensures.takes in let to_a = c.try_take_chunk.ensures.own.call in
     let works = subst (λ (k : ℕ). WorksOnRooms z k a q) to_a c.high_of.ensures.works in let alone = lone_front z call key low ys v a idle lower in let front = front_looked z call low.room lower.words lower.range [] [] a q alone works c.high_of.ensures.rooms in
     let to_q = c.high_of.ensures.own.call ∙ to_a in let b = state c.try_take_chunk-2.new.pass in let gave = c.in_default-try_take_chunk.ensures in let back = subst (λ (k : ℕ). ComesBack z k q b) to_q gave.back in let kept = front_kept z call low.room lower.words lower.range [] [] q b front back in
-    (lower.words, lower.range, [], [], kept, taken_chained z call key low ys v a lower)
+    (lower.words, lower.range, [], [], kept, taken_chained z call key low ys v a lower, lower.rewritten.linked)
 
 pub returns-in_default-try_take_chunk-clause-busy : goal.returns-in_default-try_take_chunk-clause-busy
 returns-in_default-try_take_chunk-clause-busy c = let z : Sizes = sizes c.args.table.now in let call = call_of c.args.pass.now in let key = c.args.key.now in let v = state c.args.pass.now in let a = state c.try_take_chunk.new.pass in let q = state c.high_of.new.pass in

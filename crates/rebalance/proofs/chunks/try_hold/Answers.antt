@@ -61,7 +61,7 @@ open_front-requires-clause-front c = let z : Sizes = sizes c.args.table.now in l
     let works = subst (λ (k : ℕ). WorksOnRooms z k y q) to_here c.front_has.ensures.works in
     let front = looked_front z call c.args.looks r c.args.key.now v x b.only c.in-Ok.ensures.pinned y h.0 h.1 h.2 q works c.front_has.ensures.rooms in
     let k = c.compact_front.ensures.compacted h.0 h.1 v.rooms.held v.rooms.moving front b.valued b.rows b.apart in
-    (k.words, k.range, v.rooms.held, v.rooms.moving, k.front, compacted_chained z (call_of c.front_has.new.pass) r c.compact_front.result.dropped (take c.compact_front.result.kept (slots_of c.compact_front.new.pass)) h.0 v.rooms.held v.rooms.moving q (state c.compact_front.new.pass) k)
+    (k.words, k.range, v.rooms.held, v.rooms.moving, k.front, compacted_chained z (call_of c.front_has.new.pass) r c.compact_front.result.dropped (take c.compact_front.result.kept (slots_of c.compact_front.new.pass)) h.0 v.rooms.held v.rooms.moving q (state c.compact_front.new.pass) k, k.rewritten.linked)
 
 pub returns-clause-back : goal.returns-clause-back
 returns-clause-back c = let z : Sizes = sizes c.args.table.now in let call = call_of c.args.pass.now in let r = c.in-Ok.pin.room in let v = state c.args.pass.now in let x = state c.pin_covering.new.pass in let y = state c.hold_pinned.new.pass in let q = state c.front_has.new.pass in let b = c.requires.compacted in

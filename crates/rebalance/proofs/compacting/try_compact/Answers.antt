@@ -15,7 +15,7 @@ compact_front-read-requires-clause-front c = let v = state c.args.pass.now in le
 pub open_front-requires-clause-front : goal.open_front-requires-clause-front
 open_front-requires-clause-front c = let z = sizes c.args.table.now in let v = state c.args.pass.now in let h = c.in-Some.ensures.holds in
     let k = c.compact_front-read.ensures.compacted h.0 h.1 v.rooms.held v.rooms.moving h.2.front (no_ranges v c.requires.idle) (no_rows z v c.requires.idle) (no_several v c.requires.idle) in
-    (k.words, k.range, v.rooms.held, v.rooms.moving, k.front, compacted_chained z (call_of c.try_hold.new.pass) c.in-Some.room c.compact_front-read.result.dropped (take c.compact_front-read.result.kept (slots_of c.compact_front-read.new.pass)) h.0 v.rooms.held v.rooms.moving (state c.try_hold.new.pass) (state c.compact_front-read.new.pass) k)
+    (k.words, k.range, v.rooms.held, v.rooms.moving, k.front, compacted_chained z (call_of c.try_hold.new.pass) c.in-Some.room c.compact_front-read.result.dropped (take c.compact_front-read.result.kept (slots_of c.compact_front-read.new.pass)) h.0 v.rooms.held v.rooms.moving (state c.try_hold.new.pass) (state c.compact_front-read.new.pass) k, k.rewritten.linked)
 
 pub overflow_cast-result : goal.overflow_cast-result
 overflow_cast-result c = let z = sizes c.args.table.now in let v = state c.args.pass.now in let h = c.in-Some.ensures.holds in

@@ -6,7 +6,7 @@ use Rattle.chunk_core.specs.Rooms.{RoomMemory}
 use Rattle.oak_core.specs.declared.sorting.SortSlot.{SortSlot}
 use Rattle.rebalance.specs.declared.entries.Entry.{Entry}
 use Rattle.rebalance.specs.declared.reading.Read.{Read}
-use Rattle.rebalance.specs.Compacted.{in_use}
+use Rattle.rebalance.specs.Compacted.{linked_in}
 use Rattle.rebalance.specs.Entries.{kept}
 use Rattle.rebalance.specs.Slots.{entry_of}
 use Rattle.rebalance.proofs.SortLaws.{IsSlot, distinct_slots, keys_rise, front_slots, each_slot, sorted_slots}
@@ -15,7 +15,7 @@ use Rattle.rebalance.proofs.rewriting.read_sorted.Goals as goal
 pub sort-requires-clause-distinct : goal.sort-requires-clause-distinct
 sort-requires-clause-distinct g c = let rooms = c.args.rooms.now in let keys = g.H.HeldRooms.keys rooms in let m : RoomMemory = g.H.HeldRooms.rooms rooms in
     let slots : List SortSlot = g.H.HeldRooms.slots c.read_room-read.new.rooms in let x : Read = c.read_room-read.result in let read = c.read_room-read.ensures.read in
-    distinct_slots keys (kept (in_use m c.args.room)) (take x.kept slots) (front_slots (IsSlot keys) slots x.kept read.fits read.stored) read.front c.requires.room.distinct
+    distinct_slots keys (kept (linked_in m c.args.room)) (take x.kept slots) (front_slots (IsSlot keys) slots x.kept read.fits read.stored) read.front c.requires.room.distinct
 
 pub returns-clause-read : goal.returns-clause-read
 returns-clause-read g c = let rooms = c.args.rooms.now in let keys = g.H.HeldRooms.keys rooms in let x : Read = c.read_room-read.result in let read = c.read_room-read.ensures.read in

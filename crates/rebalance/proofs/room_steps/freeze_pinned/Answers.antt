@@ -11,7 +11,7 @@ use Rattle.oak_core.proofs.seats.SamePass.{stays_both}
 use Rattle.rebalance.proofs.Repeated.{repeats_more}
 use Rattle.rebalance.proofs.FrozenRooms.{pin_load, pin_load_only, pinned_still, finds_changed, finds_frozen, freezes, leaves_changed, never_changed}
 use Rattle.rebalance.proofs.RoomExchanges.{packed_states, freeze_misses}
-use Rattle.chunk_ops.specs.Latching.{Never}
+use Rattle.chunk_ops.specs.AddsAlone.{Never}
 use Rattle.chunk_ops.proofs.MeetingCalls.{stays_then}
 use Rattle.rebalance.specs.Holding.{FindsChanged}
 use Rattle.rebalance.specs.Repeating.{Repeats}

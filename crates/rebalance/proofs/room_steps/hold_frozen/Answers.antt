@@ -8,7 +8,7 @@ use Rattle.oak_core.specs.RoomCalls.{HoldsRoomWord}
 use Rattle.oak_core.specs.Thawing.{ThawsRoom}
 use Rattle.oak_core.proofs.seats.SamePass.{stays_both}
 use Rattle.chunk_core.specs.declared.holds.RoomHolds.{RoomHolds}
-use Rattle.chunk_ops.specs.Latching.{Never}
+use Rattle.chunk_ops.specs.AddsAlone.{Never}
 use Rattle.chunk_ops.proofs.MeetingCalls.{stays_then}
 use Rattle.rebalance.specs.Holding.{FindsPinned}
 use Rattle.rebalance.specs.Repeating.{Repeats}

@@ -1,7 +1,7 @@
 use Rattle.std.proofs.Common.{◌<◌}
 use Rattle.oak_core.specs.AloneWords.{Runs}
 use Rattle.oak_core.specs.Passes.{Stays, state, key, call_of}
-use Rattle.chunk_ops.specs.Latching.{Never}
+use Rattle.chunk_ops.specs.AddsAlone.{Never}
 use Rattle.rebalance.specs.Resting.{OnlyRests}
 use Rattle.rebalance.specs.Holding.{FindsPinned}
 use Rattle.rebalance.specs.Repeating.{Repeats}

@@ -47,7 +47,7 @@ open_front-requires-clause-front c = let z = sizes c.args.table.now in let call 
     let slots = slots_of c.read_front-read.new.pass in let x = c.read_front-read.result in let here = c.try_hold.ensures.own.call in let k = c.fill_front.ensures in
     let reads = subst (λ (n : ℕ). ReadsFront z n r slots x v u) here c.read_front-read.ensures.reads in
     let filled = split_filled z call r c.args.key.now h.0 h.1 v0 v c.requires.idle c.requires.key (slice_bytes c.args.key.now c.type_inv.key) h.2 u slots x reads t (subst (λ (n : ℕ). WorksOnRooms z n u t) (c.read_front-read.ensures.own.call ∙ here) k.works) k.ranges k.filled in
-    (filled.words, filled.range, v0.rooms.held, v0.rooms.moving, filled.front, compacted_chained z call r x.dropped (take x.kept slots) h.0 v0.rooms.held v0.rooms.moving v t filled)
+    (filled.words, filled.range, v0.rooms.held, v0.rooms.moving, filled.front, compacted_chained z call r x.dropped (take x.kept slots) h.0 v0.rooms.held v0.rooms.moving v t filled, filled.rewritten.linked)
 
 pub returns-then-read-entries-clause-loosened : goal.returns-then-read-entries-clause-loosened
 returns-then-read-entries-clause-loosened c _ = let z = sizes c.args.table.now in let call = call_of c.args.pass.now in let r = c.in-Some.room in let v = state c.try_hold.new.pass in let h = c.in-Some.ensures.holds in let v0 = state c.args.pass.now in let u = state c.read_front-read.new.pass in let t = state c.fill_front.new.pass in let e = state c.open_front.new.pass in
@@ -87,7 +87,7 @@ open_front-requires-in_default-claim_free-clause-front c = let z = sizes c.args.
     let none = subst (λ (n : ℕ). FindsNoneFree z n r u t) to_read c.in_default-claim_free.ensures.none in
     let filled = none_filled z call r c.args.key.now h.0 h.1 v0 v c.requires.idle c.requires.key (slice_bytes c.args.key.now c.type_inv.key) h.2 u slots x reads (let a = c.if-read-entries.false in let b = c.entries.ensures.is in omega arith) t none s
     (subst (λ (n : ℕ). WorksOnRooms z n t s) (c.claim_free.ensures.own.call ∙ to_read) k.works) k.ranges (subst (λ (xs : List SortSlot). Fills z.entries r (take x.kept xs) x.base (held_memory t.rooms.held) (held_memory s.rooms.held)) c.claim_free.ensures.own.sorting k.filled) in
-    (filled.words, filled.range, v0.rooms.held, v0.rooms.moving, filled.front, compacted_chained z call r 0 (take x.kept slots) h.0 v0.rooms.held v0.rooms.moving t s filled)
+    (filled.words, filled.range, v0.rooms.held, v0.rooms.moving, filled.front, compacted_chained z call r 0 (take x.kept slots) h.0 v0.rooms.held v0.rooms.moving t s filled, filled.rewritten.linked)
 
 pub returns-in_default-claim_free-clause-none : goal.returns-in_default-claim_free-clause-none
 returns-in_default-claim_free-clause-none c = let z = sizes c.args.table.now in let call = call_of c.args.pass.now in let r = c.in-Some.room in let v = state c.try_hold.new.pass in let h = c.in-Some.ensures.holds in let v0 = state c.args.pass.now in let u = state c.read_front-read.new.pass in let t = state c.claim_free.new.pass in let s = state c.fill_front-in_default-claim_free.new.pass in let e = state c.open_front-in_default-claim_free.new.pass in

@@ -2,7 +2,7 @@ use Rattle.std.proofs.Common.{◌≡◌, ℕ, suc, ◌+◌, Option, Some, None, 
 use Rattle.oak_model.specs.KeyNumber.{key_number}
 use Rattle.oak_core.specs.AloneWords.{Runs}
 use Rattle.oak_core.specs.Passes.{key as sizes, state}
-use Rattle.chunk_ops.specs.Latching.{Never}
+use Rattle.chunk_ops.specs.AddsAlone.{Never}
 use Rattle.chunk_ops.proofs.MeetingCalls.{both_stay, stays_then}
 use Rattle.value_ops.specs.declared.pinned_value.PinnedValue.{PinnedValue}
 use Rattle.scan_cursor.specs.declared.ways.Way.{Way}

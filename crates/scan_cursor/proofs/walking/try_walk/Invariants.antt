@@ -4,7 +4,7 @@ use Rattle.oak_core.specs.AloneWords.{Runs}
 use Rattle.oak_core.specs.PassState.{HoldsNothing}
 use Rattle.oak_core.specs.Passes.{key as sizes, state}
 use Rattle.oak_core.specs.Scratch.{StaysButSlots}
-use Rattle.chunk_ops.specs.Latching.{Never}
+use Rattle.chunk_ops.specs.AddsAlone.{Never}
 use Rattle.chunk_ops.specs.PinRecords.{WordsStay}
 use Rattle.scan_cursor.specs.Busy.{AreInVain}
 use Rattle.scan_cursor.specs.Walks.{WalkPasses, course_of, view_at}

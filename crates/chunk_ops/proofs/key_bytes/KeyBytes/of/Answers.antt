@@ -1,4 +1,4 @@
-use Rattle.std.proofs.Common.{◌≡◌, ℕ, ◌≤◌, List, take, sym, ◌∙◌, subst}
+use Rattle.std.proofs.Common.{ℕ, ◌≤◌, take, sym, ◌∙◌, subst}
 use Rattle.oak_model.specs.declared.limits.TheConstants.{GREATEST_KEY}
 use Rattle.oak_model.specs.WordBytes.{bytes_of}
 use Rattle.chunk_ops.proofs.KeyCopies.{stored_bytes}

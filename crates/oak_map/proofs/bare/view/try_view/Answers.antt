@@ -4,7 +4,7 @@ use Rattle.oak_core.specs.QuietSteps.{IsQuiet}
 use Rattle.oak_core.proofs.seats.AloneRuns.{runs_as}
 use Rattle.oak_core.proofs.calls.QuietCalls.{only_both, only_none}
 use Rattle.oak_core.proofs.seats.SamePass.{stays_both}
-use Rattle.chunk_ops.specs.Latching.{Never}
+use Rattle.chunk_ops.specs.AddsAlone.{Never}
 use Rattle.point_ops.specs.Gets.{GotFits}
 use Rattle.point_ops.specs.LoneReplies.{GotAlone}
 use Rattle.oak_core.specs.declared.states.PassState.{PassState}

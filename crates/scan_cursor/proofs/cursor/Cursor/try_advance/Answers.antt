@@ -2,7 +2,7 @@ use Rattle.std.proofs.Common.{Bool, List, ℕ, sym, subst}
 use Rattle.oak_model.specs.KeyNumber.{key_number}
 use Rattle.oak_core.specs.Passes.{key as sizes, state}
 use Rattle.oak_core.proofs.seats.AloneRuns.{runs_as}
-use Rattle.chunk_ops.specs.Latching.{Never}
+use Rattle.chunk_ops.specs.AddsAlone.{Never}
 use Rattle.scan_cursor.specs.declared.walking.Stepped.TheVariants.{Again}
 use Rattle.scan_cursor.specs.Busy.{AreInVain}
 use Rattle.scan_cursor.specs.Cursors.{Advances, course, under, view_under}

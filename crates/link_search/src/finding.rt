@@ -1,0 +1,40 @@
+//! The entry of a key.
+ghost use Rattle.std.specs.Prelude.{◌≡◌, ℕ, ◌<◌, ◌+◌, MatchOption};
+ghost use Rattle.chunk_core.specs.LinkedEntries.{prefix_in};
+ghost use Rattle.link_search.specs.Finds.{Finds, LoadsFew};
+ghost use Rattle.link_search.specs.Linked.{Grown};
+
+use crate::room::{LinkedRoom, Sorted};
+use crate::ties::Tie;
+use crate::walking::walk;
+use chunk_core::count_word::prefix_in;
+
+/// The last entry of the prefix that lies before a place, where the first `many` do.
+pub(crate) fn before(many: u32) -> Option<u32>
+    ensures { MatchOption result (many ≡ 0) (λ i. many ≡ i + 1) }
+{
+    if many == 0 { None } else { Some(many - 1) }
+}
+
+/// The entry of the key: the sorted prefix is halved, and the links from there are walked. The count is
+/// loaded behind the walk, too, so that all entries that were passed are below it. It is missing only
+/// where a link that was loaded in the call leads from a smaller key, or from the low bound, to a greater
+/// one, or to the high bound, and no entry that was found has the key. The call makes loads alone.
+pub fn find<R: LinkedRoom>(room: &mut R, key: &[u8]) -> Option<u32>
+    requires pinned { R.pinned room.old }
+    ensures pinned { R.pinned room.new }
+    ensures grown { Grown (R.view room.old) (R.view room.new) }
+    ensures finds { Finds R.view R.meets result key.now room.old room.new }
+    ensures loads { LoadsFew R.meets (R.view room.new) room.old room.new }
+{
+    let count = room.count();
+    match room.search(key, prefix_in(count)) {
+        Sorted::At(entry) => Some(entry),
+        Sorted::Between(many) => {
+            let from = before(many);
+            let place = walk(room, Some(key), Tie::Reached, from);
+            room.count();
+            place.entry_of_key()
+        }
+    }
+}

@@ -1,7 +1,0 @@
-use Rattle.std.proofs.Common.{ℕ}
-use Rattle.oak_core.specs.RoomCalls.{NamesLatch, TakesLatch}
-use Rattle.oak_core.specs.Passes.{state, key, call_of}
-use Rattle.oak_core.proofs.room_steps.latch.Given as goal
-
-abbrev pub ghosts-exchange_said : goal.ghosts-exchange_said
-ghosts-exchange_said a = record { told = λ n w. (r : ℕ) → NamesLatch (key a.table.now) r a.word → TakesLatch (key a.table.now) (call_of a.pass.now) r (state a.pass.now) n w }

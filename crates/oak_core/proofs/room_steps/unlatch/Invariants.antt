@@ -1,7 +1,0 @@
-use Rattle.std.proofs.Common.{ℕ}
-use Rattle.oak_core.specs.RoomCalls.{NamesLatch, GivesLatch}
-use Rattle.oak_core.specs.Passes.{state, key, call_of}
-use Rattle.oak_core.proofs.room_steps.unlatch.Given as goal
-
-abbrev pub ghosts-store_said : goal.ghosts-store_said
-ghosts-store_said a = record { told = λ _ w. (r : ℕ) → NamesLatch (key a.table.now) r a.word → GivesLatch (key a.table.now) (call_of a.pass.now) r (state a.pass.now) w }

@@ -1,7 +1,0 @@
-use Rattle.std.proofs.Common.{◌∙◌}
-use Rattle.oak_core.specs.Passes.{key}
-use Rattle.oak_core.proofs.memory.RoomPlaces.{latch_behind}
-use Rattle.oak_core.proofs.table.OakTable.latch_at.Goals as goal
-
-pub returns : goal.returns
-returns c = c.behind_pin.ensures ∙ latch_behind (key c.args.self.now) c.args.room
