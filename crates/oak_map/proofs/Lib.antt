@@ -44,7 +44,6 @@ mod Through
 mod TriedThrough
 mod Bounds
 pub mod LentEnds
-mod LendingTests
 pub mod TestLaws
 mod NeighbourSums
 mod KeyLacks

@@ -1,5 +1,5 @@
--- What each call of the tests leaves of their pass.
-use Rattle.std.proofs.Common.{◌≡◌, ℕ, ◌≤◌, Bool, true, false, List, [], ◌∷◌, Result, Ok, Err, IfOk, IfErr, sym, ap, ◌∙◌, subst, arith}
+-- What a call that puts leaves of a pass that is ready for it.
+use Rattle.std.proofs.Common.{◌≡◌, ℕ, ◌≤◌, Bool, true, false, List, [], ◌∷◌, sym, ap, ◌∙◌, subst, arith}
 use Rattle.oak_model.specs.declared.cells.CellCall.{CellCall}
 use Rattle.oak_model.specs.declared.cells.CellReply.{CellReply}
 use Rattle.oak_model.specs.declared.cells.CellReply.TheVariants as replies
@@ -13,17 +13,10 @@ use Rattle.oak_model.proofs.Lists.{each_append}
 use Rattle.oak_core.specs.declared.states.KeyedWrite.{KeyedWrite}
 use Rattle.oak_core.specs.declared.states.Knowledge.{Knowledge}
 use Rattle.oak_core.specs.declared.states.PassState.{PassState}
-use Rattle.point_ops.specs.declared.halts.Halt.TheVariants as halts
-use Rattle.point_ops.specs.Parts.{WroteFits}
 use Rattle.point_ops.specs.Replies.{MineAfter}
 use Rattle.point_ops.specs.TestStates.{IsReady, IsReadyAgain, WroteBy}
-use Rattle.point_ops.proofs.TestLaws.{wrote_again}
-use Rattle.oak_map.specs.declared.answers.Busy.{Busy}
-use Rattle.oak_map.specs.GivingUp.{TriesInVain}
-use Rattle.oak_map.specs.Replying.{MapReplies, PutFits, Tries}
-use Rattle.oak_map.specs.Stopping.{StopsTrying}
+use Rattle.oak_map.specs.Replying.{MapReplies, PutFits}
 use Rattle.oak_map.proofs.AnsweredPuts.{put_idle, put_numbers}
-use Rattle.oak_map.proofs.Trying.{idle_on}
 
 -- of its own writes it has the same, or one more, which is of the call
 wrote_after : (b : Bool) (call k at : ℕ) (v w : PassState) → MineAfter b call k at v w → WroteBy call v → WroteBy call w
@@ -56,20 +49,3 @@ put_again y z call key ask v w f r = let k = put_keeps y z call key ask v w f r.
   loaded = k.loaded;
   ready = record { idle = put_idle z call key ask y v w r.idle f; wrote = k.wrote };
 }
-
--- a call on one key that may give up
-pub changed_again : (y : Result Wrote Busy) (P : PassState → PassState → Type 0) (call looks : ℕ) (key : List ℕ) (ask : CellCall) (v w : PassState) → IfOk y (λ x. WroteFits x call key ask v w) → IfErr y (λ _. TriesInVain P call looks v w) → IsReady call v → IsReadyAgain call v w
-changed_again (Ok x) P call looks key ask v w f g r = wrote_again (Ok x) call key ask v w f tt r
-changed_again (Err b) P call looks key ask v w f g r = wrote_again (Err halts.Busy) call key ask v w tt g.refused r
-
--- a put that stopped trying wrote nothing
-tries_again : (z : Sizes) (call : ℕ) (v w : PassState) → Tries z call v w → IsReady call v → IsReadyAgain call v w
-tries_again z call v w t r = record {
-  numbers = t.holds.numbers;
-  loaded = t.goes.loaded;
-  ready = record { idle = idle_on v w t.holds r.idle; wrote = subst (Each (λ (x : KeyedWrite). x.write.call ≤ call)) (sym t.mine) r.wrote };
-}
-
-pub tried_again : {E : Type 0} (r : Result Wrote E) (z : Sizes) (call looks : ℕ) (key : List ℕ) (ask : CellCall) (v w : PassState) → IfOk r (λ x. PutFits x z call key ask v w) → IfErr r (λ _. StopsTrying z call looks key ask v w) → IsReady call v → IsReadyAgain call v w
-tried_again (Ok y) z call looks key ask v w f g r = put_again y z call key ask v w f r
-tried_again (Err e) z call looks key ask v w f g r = tries_again z call v w g.tries r

@@ -12,4 +12,3 @@ pub mod Rests
 pub mod Stopping
 pub mod TriedRests
 pub mod RoomForKeys
-pub mod RoomTests

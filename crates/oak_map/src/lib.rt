@@ -6,45 +6,23 @@ mod asking;
 pub mod bare;
 mod changing;
 mod chunks;
-#[cfg(test)]
-mod error_tests;
 mod finding;
-#[cfg(test)]
-mod giving_up_tests;
 mod going_on;
 mod hinted;
 mod in_bytes;
-#[cfg(test)]
-mod index_tests;
 mod laws;
 mod leaving;
 mod lending;
-#[cfg(test)]
-mod lending_tests;
 mod map;
 mod mending;
 mod publishing;
 mod put_loops;
 mod putting;
-#[cfg(test)]
-mod room_tests;
-#[cfg(test)]
-mod row_tests;
 mod settling;
 mod showing;
-#[cfg(test)]
-mod test_calls;
-#[cfg(test)]
-mod tests;
-#[cfg(test)]
-mod thread_tests;
-#[cfg(test)]
-mod try_put_tests;
 mod try_putting;
 mod viewing;
 mod waiting;
-#[cfg(test)]
-mod worn_tests;
 
 pub use answers::{Busy, NoValue};
 pub use in_bytes::InBytes;

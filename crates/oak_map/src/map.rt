@@ -64,6 +64,13 @@ impl MapPass {
 }
 
 impl<R: Wait + Drop + Send> OakMap<R> {
+    /// The table of the map, on which its passes are: what the calls of [`bare`](crate::bare) and of the crates below take.
+    pub fn table(&self) -> &OakTable
+        ensures { result.now ≡ table_of self.now }
+    {
+        &self.table
+    }
+
     /// An empty map of this shape with its first pass, which has the number 0. The pass is alone, holds
     /// nothing, and has met the making of the map.
     pub fn create(rt: &R, shape: &Shape) -> Result<(OakMap<R>, MapPass), OutOfMemory>

@@ -1,0 +1,2 @@
+mod LendingTests
+mod TestLaws
