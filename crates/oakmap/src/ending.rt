@@ -254,7 +254,7 @@ fn run_text<R: Threads + Wait + Clone + Drop + Send + Sync + AllocGlobal, G: Gat
 }
 
 /// The text of a run that came to an end.
-pub(crate) fn text_of(alloc: Global, script: &Script, ran: &Ran) -> Result<Vec<u8>, OutOfMemory>
+fn text_of(alloc: Global, script: &Script, ran: &Ran) -> Result<Vec<u8>, OutOfMemory>
     requires run { RunsScript script.now (map (λ v. v.items) ran.now.replies.items) ran.now.finals.items ran.now.recipe_calls.items ran.now.closed }
     ensures { IfOk result (λ v. PrintsCounts script.now ran.now.closed v.items ran.now.recipe_calls.items) }
 {

@@ -8,10 +8,8 @@ mod ended;
 mod ending;
 mod lengths;
 mod process;
-mod recipes;
+pub mod recipes;
 mod status;
-#[cfg(test)]
-mod tests;
 mod workloads;
 
 pub use commands::{Command, Workload, command_of};

@@ -1,6 +1,6 @@
 //! A script that comes byte by byte, and a text that is taken byte by byte, up to each fault.
 
-use super::{Used, bytes_of, end, sink_of, used_text};
+use crate::test_runs::{Used, bytes_of, end, sink_of, used_text};
 use outside::{CutSource, FreeGate, ShortSink, SureSource};
 use std::alloc::{AllocError, Global};
 use std::test::Fail;

@@ -1,6 +1,6 @@
 //! Generated workloads, each with its summary.
 
-use super::{bytes_of, end, sink_of};
+use crate::test_runs::{bytes_of, end, sink_of};
 use outside::{FreeGate, MemorySource};
 use std::test::Fail;
 

@@ -1,8 +1,8 @@
 //! Recipes that are lent to a run, and stand in their places behind it.
 
-use super::{bytes_of, recipes_of, script_of, sink_of, words_in};
-use crate::ending::top_lent;
+use crate::test_runs::{bytes_of, recipes_of, script_of, sink_of, words_in};
 use oak_run::run_script_lent;
+use oakmap::top_lent;
 use outside::{FreeGate, SureSource};
 use std::process::Abort;
 use std::sync::Wait;

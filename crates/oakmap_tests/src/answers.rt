@@ -1,6 +1,6 @@
 //! Scripts of the default shape, each with the text of its run.
 
-use super::{Used, expect, expect_used};
+use crate::test_runs::{Used, expect, expect_used};
 use std::test::Fail;
 
 /// A script without its first two lines and its last, the text of its run up to the final map, and what is

@@ -1,6 +1,6 @@
 //! Threads that count on one key: each call adds one, and the first of all puts the key.
 
-use super::{Used, run_of, used_text, written};
+use crate::test_runs::{Used, run_of, used_text, written};
 use outside::FreeGate;
 use std::alloc::Global;
 use std::test::Fail;

@@ -1,6 +1,6 @@
 //! What is said where no run is printed whole.
 
-use super::{bytes_of, end, expect, sink_of};
+use crate::test_runs::{bytes_of, end, expect, sink_of};
 use outside::{FreeGate, MemorySource, SureSource};
 use std::test::Fail;
 

@@ -1,7 +1,7 @@
 //! The words with which the process is called.
 
-use super::{bytes_of, sink_of};
-use crate::process::program;
+use crate::test_runs::{bytes_of, sink_of};
+use oakmap::program;
 use outside::{FreeGate, SureSource};
 use std::env::{Env, FillError};
 use std::process::{Abort, ExitCode};

@@ -2,7 +2,7 @@
 //! what was refused lacked what it names.
 ghost use Rattle.oak_core.specs.Closing.{FullsLacked};
 
-use super::{lines_of, run_of};
+use crate::test_runs::{lines_of, run_of};
 use oak_core::Closed;
 use outside::FreeGate;
 use std::alloc::Global;

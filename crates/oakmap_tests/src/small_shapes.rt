@@ -1,6 +1,6 @@
 //! Scripts that ask for a small table, each with the text of its run.
 
-use super::expect;
+use crate::test_runs::expect;
 use std::test::Fail;
 
 /// A script without its first line and its last, and the text of its run; with a slash for a line's end.

@@ -5,22 +5,10 @@ ghost use Rattle.oak_core.specs.Closing.{FullsLacked};
 ghost use Rattle.oak_script.specs.declared.limits.TheConstants.{GREATEST_THREADS};
 ghost use Rattle.oak_script.specs.Grammar.{IsScript};
 
-mod answers;
-mod counting;
-mod gates;
-mod lent;
-mod pieces;
-mod refusals;
-mod small_shapes;
-mod statuses;
-mod threads;
-mod words;
-mod workloads;
-
-use crate::ending::{text_of, top};
-use crate::recipes::add;
 use oak_run::{Ran, run_script};
-use oak_script::{GREATEST_THREADS, NoScript, Script, read_script};
+use oak_script::{GREATEST_THREADS, NoScript, Script, print_run, read_script};
+use oakmap::recipes::add;
+use oakmap::top;
 use outside::{FreeGate, Gate, MemorySink, Sink, Source, SureSource};
 use std::alloc::Global;
 use std::process::Abort;
@@ -30,7 +18,7 @@ use std::thread::Threads;
 use value_ops::{Recipe, StepRecipe};
 
 /// The words of a text.
-fn words_in(alloc: Global, text: &str) -> Result<Vec<String>, Fail> {
+pub(crate) fn words_in(alloc: Global, text: &str) -> Result<Vec<String>, Fail> {
     let mut words = Vec::new(alloc);
     for word in text.split_whitespace() {
         words.push(String::from_str(alloc, word)?)?;
@@ -39,7 +27,7 @@ fn words_in(alloc: Global, text: &str) -> Result<Vec<String>, Fail> {
 }
 
 /// The bytes of a text that has a slash for each line feed.
-fn bytes_of(alloc: Global, text: &str) -> Result<Vec<u8>, Fail> {
+pub(crate) fn bytes_of(alloc: Global, text: &str) -> Result<Vec<u8>, Fail> {
     let mut bytes = Vec::new(alloc);
     for byte in text.bytes() {
         bytes.push(if byte == b'/' { b'\n' } else { byte })?;
@@ -48,13 +36,13 @@ fn bytes_of(alloc: Global, text: &str) -> Result<Vec<u8>, Fail> {
 }
 
 /// The bytes of a text that has a slash between its lines.
-fn lines_of(alloc: Global, text: &str) -> Result<Vec<u8>, Fail> {
+pub(crate) fn lines_of(alloc: Global, text: &str) -> Result<Vec<u8>, Fail> {
     let text = format!(in alloc; "{text}/")?;
     bytes_of(alloc, text.as_str())
 }
 
 /// A recipe for each thread that a script may have.
-fn recipes_of(alloc: Global) -> Result<Vec<Box<dyn Recipe + Send>>, Fail>
+pub(crate) fn recipes_of(alloc: Global) -> Result<Vec<Box<dyn Recipe + Send>>, Fail>
     ensures enough { IfOk result (λ v. length v.items ≡ GREATEST_THREADS) }
     ensures counts { IfOk result (λ v. AllByRecursion (λ r. calls r < 2 ^ 63) v.items) }
 {
@@ -66,7 +54,7 @@ fn recipes_of(alloc: Global) -> Result<Vec<Box<dyn Recipe + Send>>, Fail>
 }
 
 /// The script that a text is, which has a slash for each line feed.
-fn script_of(alloc: Global, text: &str) -> Result<Script, Fail>
+pub(crate) fn script_of(alloc: Global, text: &str) -> Result<Script, Fail>
     ensures { IfOk result IsScript }
 {
     match read_script(alloc, &bytes_of(alloc, text)?) {
@@ -77,7 +65,7 @@ fn script_of(alloc: Global, text: &str) -> Result<Script, Fail>
 }
 
 /// Runs the text's script under the gate: what the run answered, and the text of the run.
-fn run_of<R: Threads + Wait + Clone + Drop + Send + Sync + AllocGlobal, G: Gate>(
+pub(crate) fn run_of<R: Threads + Wait + Clone + Drop + Send + Sync + AllocGlobal, G: Gate>(
     rt: &R,
     text: &str,
     gate: &G,
@@ -87,18 +75,19 @@ fn run_of<R: Threads + Wait + Clone + Drop + Send + Sync + AllocGlobal, G: Gate>
     let alloc = rt.alloc();
     let script = script_of(alloc, text)?;
     let ran = run_script(rt, &script, gate, recipes_of(alloc)?)?;
-    let text = text_of(alloc, &script, &ran)?;
+    let usage = ran.closed.usage();
+    let text = print_run(alloc, &script, &ran.replies, &ran.finals, &usage)?;
     Ok((ran, text))
 }
 
 /// A sink with room for more than any text here, which fails at these calls.
-fn sink_of(alloc: Global, fails: &[u64]) -> Result<MemorySink, Fail> {
+pub(crate) fn sink_of(alloc: Global, fails: &[u64]) -> Result<MemorySink, Fail> {
     let room = vec![in alloc; 0u8; 8_192]?;
     Ok(MemorySink::make(room, Vec::from_slice(alloc, fails)?))
 }
 
 /// Calls the program with these words, and asserts the status, and that a map was closed exactly with 0 and 5.
-fn end<
+pub(crate) fn end<
     R: Threads + Wait + Clone + Drop + Send + Sync + AllocGlobal + Abort,
     S: Source,
     K: Sink,
@@ -113,12 +102,10 @@ fn end<
 }
 
 /// Runs `oakmap run` on the text under the gate, and asserts the status: what was written.
-fn written<R: Threads + Wait + Clone + Drop + Send + Sync + AllocGlobal + Abort, G: Gate>(
-    rt: &R,
-    text: &str,
-    gate: &G,
-    status: u8,
-) -> Result<MemorySink, Fail> {
+pub(crate) fn written<
+    R: Threads + Wait + Clone + Drop + Send + Sync + AllocGlobal + Abort,
+    G: Gate,
+>(rt: &R, text: &str, gate: &G, status: u8) -> Result<MemorySink, Fail> {
     let alloc = rt.alloc();
     let mut source = SureSource::make(bytes_of(alloc, text)?);
     let mut sink = sink_of(alloc, &[])?;
@@ -127,13 +114,10 @@ fn written<R: Threads + Wait + Clone + Drop + Send + Sync + AllocGlobal + Abort,
 }
 
 /// Runs `oakmap run` on the text under the gate, and asserts the status and what was written.
-fn expect_under<R: Threads + Wait + Clone + Drop + Send + Sync + AllocGlobal + Abort, G: Gate>(
-    rt: &R,
-    text: &str,
-    gate: &G,
-    status: u8,
-    says: &str,
-) -> Result<(), Fail> {
+pub(crate) fn expect_under<
+    R: Threads + Wait + Clone + Drop + Send + Sync + AllocGlobal + Abort,
+    G: Gate,
+>(rt: &R, text: &str, gate: &G, status: u8, says: &str) -> Result<(), Fail> {
     let alloc = rt.alloc();
     let sink = written(rt, text, gate, status)?;
     assert_eq!(rt; sink.written(), lines_of(alloc, says)?.as_slice(), "{text}");
@@ -141,7 +125,7 @@ fn expect_under<R: Threads + Wait + Clone + Drop + Send + Sync + AllocGlobal + A
 }
 
 /// The same under a gate that holds no thread.
-fn expect<R: Threads + Wait + Clone + Drop + Send + Sync + AllocGlobal + Abort>(
+pub(crate) fn expect<R: Threads + Wait + Clone + Drop + Send + Sync + AllocGlobal + Abort>(
     rt: &R,
     text: &str,
     status: u8,
@@ -151,10 +135,10 @@ fn expect<R: Threads + Wait + Clone + Drop + Send + Sync + AllocGlobal + Abort>(
 }
 
 /// What is used of a table: blocks of 16, 64, 256 and 1,024 bytes, headers, chunks.
-type Used = [u32; 6];
+pub(crate) type Used = [u32; 6];
 
 /// The text of a run over a table of the default shape, of which this is used at the end.
-fn used_text(alloc: Global, says: &str, used: Used) -> Result<String, Fail> {
+pub(crate) fn used_text(alloc: Global, says: &str, used: Used) -> Result<String, Fail> {
     let [b16, b64, b256, b1024, headers, chunks] = used;
     let text = format!(in alloc;
         "{says}/arena/b16 {b16} 16384/b64 {b64} 4096/b256 {b256} 1024/b1024 {b1024} 512/\
@@ -164,7 +148,7 @@ fn used_text(alloc: Global, says: &str, used: Used) -> Result<String, Fail> {
 }
 
 /// Runs the script, whose text has to end with the table of the default shape.
-fn expect_used<R: Threads + Wait + Clone + Drop + Send + Sync + AllocGlobal + Abort>(
+pub(crate) fn expect_used<R: Threads + Wait + Clone + Drop + Send + Sync + AllocGlobal + Abort>(
     rt: &R,
     text: &str,
     says: &str,

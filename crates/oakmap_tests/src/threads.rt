@@ -1,6 +1,6 @@
 //! Scripts of several threads that have one lawful text.
 
-use super::expect_used;
+use crate::test_runs::expect_used;
 use std::alloc::Global;
 use std::process::Abort;
 use std::sync::Wait;

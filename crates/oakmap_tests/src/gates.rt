@@ -1,6 +1,6 @@
 //! Runs whose threads are held in turn, so that they can't come to their ends one after another.
 
-use super::{Used, expect_under, lines_of, run_of, used_text, written};
+use crate::test_runs::{Used, expect_under, lines_of, run_of, used_text, written};
 use outside::{FreeGate, Gate};
 use std::hint::spin_loop;
 use std::process::Abort;
