@@ -1,41 +1,26 @@
-//! Puts a value, looks at its key again and again, and puts over it again and again: an example of the calls
-//! on one key that wait for nobody, whose time is measured (`bench/time_calls.sh`).
+//! Puts a value, looks at its key again and again, and puts over it again and again; or fills a chunk by keys in a
+//! scrambled order, in one table after the other, and looks at each key of the last one again and again: an example of
+//! the calls on one key that wait for nobody, whose time is measured (`bench/time_calls.sh`).
 //!
 //! usage: point_rounds GETS PUTS
+//!        point_rounds GETS FILLS ENTRIES KEYS
 #![tactic(auto)]
 
-ghost use Rattle.std.specs.Prelude.{◌≤◌, IfOk, IfSome};
+ghost use Rattle.std.specs.Prelude.{◌≤◌};
 ghost use Rattle.point_rounds.specs.declared.rounds.TheConstants.{MOST_PUTS};
 
+mod chunks;
 mod rounds;
+mod words;
 
+use chunks::fill_again;
 use oak_core::OakTable;
-use oak_model::{Shape, Usage};
+use oak_model::{GREATEST_ENTRIES, LEAST_ENTRIES, Shape, Usage};
 use rounds::{MOST_PUTS, get_again, put, put_again};
 use std::alloc::Global;
+use std::env;
 use std::process::ExitCode;
-use std::{env, io};
-
-/// The count that the word at this place names.
-fn count_at(rt: &HostRuntime, place: usize) -> io::Result<Option<u32>> {
-    let Some(word) = env::args(rt)?.nth(place) else {
-        return Ok(None);
-    };
-    Ok(word.parse().ok())
-}
-
-/// How many gets and puts the words name, where they name both, and not too many puts.
-fn counts(rt: &HostRuntime) -> io::Result<Option<(u32, u32)>>
-    ensures few { IfOk result (λ found. IfSome found (λ x. x.1 ≤ MOST_PUTS)) }
-{
-    let (Some(gets), Some(puts)) = (count_at(rt, 1)?, count_at(rt, 2)?) else {
-        return Ok(None);
-    };
-    if puts > MOST_PUTS {
-        return Ok(None);
-    }
-    Ok(Some((gets, puts)))
-}
+use words::{Asked, Calls, Fills, asked_by};
 
 /// Makes a table, puts the key, makes so many calls on it, and closes the table: the numbers that the gets
 /// told, added up, those of the puts, and what is in use.
@@ -50,19 +35,39 @@ fn run(alloc: Global, gets: u32, puts: u32) -> anyhow::Result<(u64, u64, Usage)>
     Ok((got, told, table.close(pass).usage()))
 }
 
-fn main(rt: HostRuntime) -> anyhow::Result<ExitCode> {
-    let Some((gets, puts)) = counts(&rt)? else {
-        println!(rt; "usage: point_rounds GETS PUTS, at most {MOST_PUTS} puts")?;
-        return Ok(ExitCode::from(2));
-    };
-    let (got, told, used) = run(rt.alloc(), gets, puts)?;
+/// Makes the calls on one key, and prints what they told.
+fn call_one(rt: &HostRuntime, calls: &Calls) -> anyhow::Result<()> {
+    let (got, told, used) = run(rt.alloc(), calls.gets, calls.puts)?;
     let Usage {
         blocks,
         headers,
         ..
     } = used;
-    println!(rt; "{gets} gets, sum {got}")?;
-    println!(rt; "{puts} puts, sum {told}")?;
+    println!(rt; "{} gets, sum {got}", calls.gets)?;
+    println!(rt; "{} puts, sum {told}", calls.puts)?;
     println!(rt; "{} blocks and {headers} headers in use", blocks[0])?;
+    Ok(())
+}
+
+/// Fills the chunks, looks at the keys of the last one, and prints how many keys were new, and what the looks told.
+fn fill_all(rt: &HostRuntime, fills: &Fills) -> anyhow::Result<()> {
+    let (new, sum) = fill_again(rt.alloc(), fills)?;
+    println!(rt; "{} fills, {new} keys new", fills.fills)?;
+    println!(rt; "{} gets of each key, sum {sum}", fills.gets)?;
+    Ok(())
+}
+
+fn main(rt: HostRuntime) -> anyhow::Result<ExitCode> {
+    match asked_by(env::args(&rt)?) {
+        Some(Asked::Key(calls)) => call_one(&rt, &calls)?,
+        Some(Asked::Chunk(fills)) => fill_all(&rt, &fills)?,
+        None => {
+            println!(rt; "usage: point_rounds GETS PUTS, at most {MOST_PUTS} puts")?;
+            println!(rt;
+                "       point_rounds GETS FILLS ENTRIES KEYS, at least one fill, {LEAST_ENTRIES} to {GREATEST_ENTRIES} entries, and at most as many keys"
+            )?;
+            return Ok(ExitCode::from(2));
+        }
+    }
     Ok(ExitCode::SUCCESS)
 }

@@ -1,5 +1,6 @@
 //! One key, looked at and put again and again.
 ghost use Rattle.std.specs.Prelude.{◌≡◌, ◌<◌, ◌≤◌, ◌+◌};
+ghost use Rattle.oak_model.specs.Key.{IsKey};
 ghost use Rattle.oak_core.specs.MayWrite.{IsNewCall};
 ghost use Rattle.oak_core.specs.Passes.{IsPassOf, Stays, Turns, state, call_of};
 ghost use Rattle.point_ops.specs.TestStates.{IsReady, IsReadyAgain};
@@ -13,7 +14,7 @@ use point_ops::{Got, try_get, try_put};
 pub const MOST_PUTS: u32 = 4_000_000_000;
 
 /// The pass's next call, in which it made no write so far.
-fn next_call(pass: &mut Pass, call: u32)
+pub fn next_call(pass: &mut Pass, call: u32)
     requires above { call_of pass.old < call }
     requires ready { IsReady (call_of pass.old) (state pass.old) }
     ensures turned { Turns pass.old pass.new call }
@@ -24,13 +25,14 @@ fn next_call(pass: &mut Pass, call: u32)
 }
 
 /// The number that a look at the key tells, or 0 where it is refused.
-fn get(table: &OakTable, pass: &mut Pass) -> u64
+pub fn get(table: &OakTable, pass: &mut Pass, key: &[u8]) -> u64
     requires own { IsPassOf table.now pass.old }
+    requires key { IsKey key.now }
     requires ready { IsReady (call_of pass.old) (state pass.old) }
     ensures own { Stays pass.old pass.new }
     ensures ready { IsReadyAgain (call_of pass.old) (state pass.old) (state pass.new) }
 {
-    match try_get(table, pass, NO_HINT, b"key") {
+    match try_get(table, pass, NO_HINT, key) {
         Ok(Got::Absent { at }) => at,
         Ok(Got::View(view)) => view.at(),
         Err(_) => 0,
@@ -63,7 +65,7 @@ pub fn get_again(table: &OakTable, pass: &mut Pass, count: u32) -> u64
 {
     let mut sum = 0u64;
     for _ in 0..count {
-        sum = sum.wrapping_add(get(table, pass));
+        sum = sum.wrapping_add(get(table, pass, b"key"));
     }
     sum
 }
