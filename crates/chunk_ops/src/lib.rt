@@ -7,7 +7,6 @@ mod bounds;
 mod comparing;
 mod entries;
 mod finding;
-mod key_blocks;
 mod key_bytes;
 mod listing;
 mod loading;
