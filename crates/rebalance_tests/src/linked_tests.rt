@@ -22,7 +22,7 @@ fn found_of(rt: &impl Abort, table: &OakTable, pass: &mut Pass, key: &[u8]) -> F
 {
     let Ok(pin) = pin_for(table, pass, key, NO_HINT) else {
         assert!(rt; false);
-        return Found::Missing;
+        return Found::Missing { behind: None };
     };
     let found = find(table, pass, &pin, key);
     unpin(table, pass, pin);
@@ -67,10 +67,10 @@ fn fifteen_are_found(rt: &impl Abort, table: &OakTable, pass: &mut Pass)
 {
     for i in 0..15 {
         let found = found_of(rt, table, pass, &[i + 1]);
-        assert!(rt; found != Found::Missing);
+        assert!(rt; matches!(found, Found::Entry(_)));
     }
     let found = found_of(rt, table, pass, &[16]);
-    assert!(rt; found == Found::Missing);
+    assert!(rt; matches!(found, Found::Missing { behind: Some(_) }));
 }
 
 /// Fifteen keys are found in a room that was compacted, and still once a key between them is put.
@@ -87,7 +87,7 @@ fn are_found<R: Abort + Wait>(rt: &R, table: &OakTable, pass: &mut Pass)
     fifteen_are_found(rt, table, pass);
     puts(rt, table, pass, 16, &[8, 0]);
     let found = found_of(rt, table, pass, &[8, 0]);
-    assert!(rt; found != Found::Missing);
+    assert!(rt; matches!(found, Found::Entry(_)));
     fifteen_are_found(rt, table, pass);
 }
 
