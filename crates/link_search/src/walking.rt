@@ -14,7 +14,7 @@ use std::cmp::Ordering;
 /// A place in the order of keys: the entry before it, if there is one, the link of that entry or the
 /// first, and how the key that was sought compares with that of the entry that the link names; `Less`,
 /// where it names none.
-#[derive(Clone, Copy, Debug)]
+#[derive(Clone, Copy)]
 pub(crate) struct Place {
     pub(crate) from: Option<u32>,
     pub(crate) link: u32,

@@ -16,7 +16,7 @@ use std::alloc::Global;
 const LOOKS: u32 = 64;
 
 /// Why a value was not put and got.
-#[derive(Clone, Copy, Debug)]
+#[derive(Clone, Copy)]
 pub enum NoTrip {
     OutOfMemory,
     Full,
@@ -24,7 +24,7 @@ pub enum NoTrip {
 }
 
 /// A value that was got: its stamp, its length, and its first eight bytes as a number.
-#[derive(Clone, Copy, Debug)]
+#[derive(Clone, Copy)]
 struct Got {
     at: u64,
     length: usize,

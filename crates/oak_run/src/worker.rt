@@ -74,7 +74,7 @@ fn reply_to<R: Wait + Drop + Send>(
 }
 
 /// What a thread answered: the reply to each of its calls, and how often its recipe computed.
-#[derive(Debug, Drop)]
+#[derive(Drop)]
 pub struct Answered {
     pub replies: Vec<Reply>,
     pub computed: u64,

@@ -18,7 +18,7 @@ use oak_model::Shape;
 use std::alloc::Global;
 
 /// How far a script was read, and the shape that it asked for.
-#[derive(Clone, Copy, Debug, PartialEq, Eq)]
+#[derive(Clone, Copy, PartialEq, Eq)]
 pub enum Stage {
     Start,
     Headed,

@@ -6,7 +6,7 @@ use crate::faults::What;
 use std::alloc::{AllocError, AllocFailed};
 
 /// Why a line was not taken.
-#[derive(Debug, Drop)]
+#[derive(Drop)]
 pub enum Stop {
     Fault(What),
     OutOfMemory,

@@ -21,7 +21,7 @@ use value_ops::{BadPin, HeaderPin, Home, pin_at};
 
 /// What a look at a life found: it goes on, and has the stamp of its last write, or it was removed, with
 /// that stamp.
-#[derive(Clone, Copy, Debug, PartialEq, Eq)]
+#[derive(Clone, Copy, PartialEq, Eq)]
 pub(crate) enum Life {
     Live { at: u64 },
     Dead { at: u64 },

@@ -40,7 +40,7 @@ use oak_model::{Hint, Kind, Wrote};
 use value_ops::Home;
 
 /// Whether a put writes where the key is present.
-#[derive(Clone, Copy, Debug)]
+#[derive(Clone, Copy)]
 enum Puts {
     Always,
     IfAbsent,

@@ -15,7 +15,7 @@ use value_ops::Home;
 
 /// Where a key was found: absent at a floor, with its entry where it has one, or as a life that its entry
 /// names.
-#[derive(Clone, Copy, Debug, PartialEq, Eq)]
+#[derive(Clone, Copy, PartialEq, Eq)]
 pub(crate) enum Spot {
     Absent { entry: Option<EntryNo>, floor: u64 },
     Present { entry: EntryNo, home: Home },

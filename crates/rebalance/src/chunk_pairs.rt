@@ -33,14 +33,14 @@ use oak_model::GREATEST_ENTRIES;
 
 /// What became of a chunk that was to be merged with the one above it: both are one chunk, or they stay
 /// apart, with the key at which the one above begins, if there is one.
-#[derive(Debug, Drop)]
+#[derive(Drop)]
 pub(crate) enum Merged {
     Joined,
     Apart(Option<KeyBytes>),
 }
 
 /// A chunk that is held alone and compacted: its room, how many entries it has, and its base.
-#[derive(Clone, Copy, Debug)]
+#[derive(Clone, Copy)]
 struct Taken {
     room: u32,
     kept: usize,

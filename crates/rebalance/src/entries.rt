@@ -5,7 +5,7 @@ ghost use Rattle.rebalance.specs.Entries.{has_value};
 use chunk_core::value_word::NAMES;
 
 /// An entry: its key word and its value word.
-#[derive(Clone, Copy, Debug)]
+#[derive(Clone, Copy)]
 pub(crate) struct Entry {
     pub(crate) place: u64,
     pub(crate) value: u64,

@@ -18,7 +18,7 @@ ghost use Rattle.rebalance.specs.Slots.{AreDistinct, Rise};
 use oak_core::SortSlot;
 
 /// A word of a held room.
-#[derive(Clone, Copy, Debug)]
+#[derive(Clone, Copy)]
 pub(crate) enum RoomWord {
     Base,
     Count,

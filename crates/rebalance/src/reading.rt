@@ -18,7 +18,7 @@ use chunk_ops::{KEY_WORDS, StoredKey};
 use oak_core::SortSlot;
 
 /// How many entries were kept and how many dropped, and the base for the keys that have no linked entry.
-#[derive(Clone, Copy, Debug)]
+#[derive(Clone, Copy)]
 pub(crate) struct Read {
     pub(crate) kept: usize,
     pub(crate) dropped: usize,

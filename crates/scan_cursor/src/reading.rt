@@ -19,7 +19,7 @@ use value_ops::{BadPin, PinnedValue, pin_at};
 
 /// What a read of a key came to: it is present, and its value is pinned; it is absent; or its room was moved, or its
 /// value is being written, or was written anew, so that it is to be read again.
-#[derive(Clone, Copy, Debug)]
+#[derive(Clone, Copy)]
 pub(crate) enum Here {
     Present(PinnedValue),
     Absent,

@@ -31,7 +31,7 @@ use value_ops::PinnedValue;
 /// How far a scan has come, and what it keeps of the room that it is in. Where it has loaded the entries, those that are
 /// left stand in the slots of its pass, from one number on and below another, and the room's bound in the direction of
 /// the scan is kept.
-#[derive(Debug, Drop)]
+#[derive(Drop)]
 pub(crate) struct Walk {
     pub(crate) mark: Mark,
     pub(crate) gathered: bool,
@@ -75,7 +75,7 @@ impl Walk {
 
 /// What a step of a scan came to: a pair, whose value is pinned; the end; neither yet; or nothing was read, since another
 /// pass has the room of the key or its value, so that it is to be tried again.
-#[derive(Clone, Copy, Debug)]
+#[derive(Clone, Copy)]
 pub(crate) enum Stepped {
     Given(PinnedValue),
     Ended,
