@@ -4,8 +4,6 @@
 mod searching;
 mod storing;
 mod taking;
-#[cfg(test)]
-mod tests;
 
 pub use storing::store_bytes;
 pub use taking::{NoBlock, give, store, take};

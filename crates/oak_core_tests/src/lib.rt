@@ -10,6 +10,8 @@ mod model_tests;
 #[cfg(test)]
 mod pass_tests;
 #[cfg(test)]
+mod pin_word_tests;
+#[cfg(test)]
 mod rebalance_tests;
 #[cfg(test)]
 mod word_tests;

@@ -57,6 +57,3 @@ pub fn parts_of_a_pack(generation: u32, state: u8, count: u32)
     ensures state { state_of (packed generation state count) ≡ state }
     ensures count { count_of (packed generation state count) ≡ count }
 {}
-
-#[cfg(test)]
-mod tests;

@@ -1,7 +1,7 @@
 use Rattle.std.proofs.Common.{slice_index}
 use Rattle.oak_core.specs.Passes.{state, key, call_of}
 use Rattle.arena_ops.proofs.StackLaws.{stack_top, stack_less}
-use Rattle.arena_ops.proofs.tests.give_at.Goals as goal
+use Rattle.value_ops_tests.proofs.arena_ops_tests.give_at.Goals as goal
 
 pub give-requires-clause-held : goal.give-requires-clause-held
 give-requires-clause-held c = stack_top (key c.args.table.now) c.args.class (λ k. slice_index c.args.numbers.now k) c.args.i (state c.args.pass.now).blocks c.requires.stack

@@ -1,7 +1,7 @@
 use Rattle.std.proofs.Common.{◌≡◌, length, slice_index}
 use Rattle.oak_core.specs.Passes.{Stays, state, key}
 use Rattle.arena_ops.specs.Stack.{IsStack, KeepsRest}
-use Rattle.arena_ops.proofs.tests.take_all.Given as goal
+use Rattle.value_ops_tests.proofs.arena_ops_tests.take_all.Given as goal
 
 abbrev pub invariant-loop-i : goal.invariant-loop-i
 invariant-loop-i g l = record {

@@ -5,8 +5,8 @@ ghost use Rattle.arena_core.specs.Arena.{block_words};
 ghost use Rattle.oak_core.specs.Passes.{IsPassOf, Stays, state, key};
 ghost use Rattle.arena_ops.specs.Stack.{IsStack, KeepsRest};
 
-use crate::{NoBlock, give, store, take};
-use oak_core::{Block, OakTable, Pass, load};
+use arena_ops::{NoBlock, give, store, take};
+use oak_core::{Block, OakTable, Pass};
 use oak_model::{Class, Shape, Usage};
 use std::process::Abort;
 use std::test::Fail;

@@ -1,7 +1,7 @@
 use Rattle.std.proofs.Common.{◌≤◌, length, slice_index}
 use Rattle.oak_core.specs.Passes.{Stays, state, key}
 use Rattle.arena_ops.specs.Stack.{IsStack, KeepsRest}
-use Rattle.arena_ops.proofs.tests.give_all.Given as goal
+use Rattle.value_ops_tests.proofs.arena_ops_tests.give_all.Given as goal
 
 abbrev pub invariant-loop-left : goal.invariant-loop-left
 invariant-loop-left l = record {
