@@ -41,6 +41,14 @@ fn run(alloc: Global, count: u32) -> anyhow::Result<(u64, Usage)>
     Ok((sum, table.close(pass).usage()))
 }
 
+/// Prints what is in use.
+fn print_used(rt: &HostRuntime, used: &Usage) -> io::Result<()> {
+    println!(rt;
+        "{} blocks and {} headers in use",
+        used.blocks[0], used.headers
+    )
+}
+
 fn main(rt: HostRuntime) -> anyhow::Result<ExitCode> {
     let count = count_in(&rt)?.unwrap_or(u32::MAX);
     if count > MOST_ROUNDS {
@@ -48,12 +56,7 @@ fn main(rt: HostRuntime) -> anyhow::Result<ExitCode> {
         return Ok(ExitCode::from(2));
     }
     let (sum, used) = run(rt.alloc(), count)?;
-    let Usage {
-        blocks,
-        headers,
-        ..
-    } = used;
     println!(rt; "{count} rounds, sum {sum}")?;
-    println!(rt; "{} blocks and {headers} headers in use", blocks[0])?;
+    print_used(&rt, &used)?;
     Ok(ExitCode::SUCCESS)
 }

@@ -29,18 +29,21 @@ fn run(alloc: Global, count: u64) -> anyhow::Result<(u64, Usage)> {
     Ok((sum, table.close(pass).usage()))
 }
 
+/// Prints what is in use.
+fn print_used(rt: &HostRuntime, used: &Usage) -> io::Result<()> {
+    println!(rt;
+        "{} blocks and {} headers in use",
+        used.blocks[0], used.headers
+    )
+}
+
 fn main(rt: HostRuntime) -> anyhow::Result<ExitCode> {
     let Some(count) = count_in(&rt)? else {
         println!(rt; "usage: value_rounds ROUNDS")?;
         return Ok(ExitCode::from(2));
     };
     let (sum, used) = run(rt.alloc(), count)?;
-    let Usage {
-        blocks,
-        headers,
-        ..
-    } = used;
     println!(rt; "{count} rounds, sum {sum}")?;
-    println!(rt; "{} blocks and {headers} headers in use", blocks[0])?;
+    print_used(&rt, &used)?;
     Ok(ExitCode::SUCCESS)
 }
