@@ -18,8 +18,8 @@ use oak_core::OakTable;
 use oak_model::{GREATEST_ENTRIES, LEAST_ENTRIES, Shape, Usage};
 use rounds::{MOST_PUTS, get_again, put, put_again};
 use std::alloc::Global;
-use std::env;
 use std::process::ExitCode;
+use std::{env, io};
 use words::{Asked, Calls, Fills, asked_by};
 
 /// Makes a table, puts the key, makes so many calls on it, and closes the table: the numbers that the gets
@@ -35,17 +35,20 @@ fn run(alloc: Global, gets: u32, puts: u32) -> anyhow::Result<(u64, u64, Usage)>
     Ok((got, told, table.close(pass).usage()))
 }
 
+/// Prints what is in use.
+fn print_used(rt: &HostRuntime, used: &Usage) -> io::Result<()> {
+    println!(rt;
+        "{} blocks and {} headers in use",
+        used.blocks[0], used.headers
+    )
+}
+
 /// Makes the calls on one key, and prints what they told.
 fn call_one(rt: &HostRuntime, calls: &Calls) -> anyhow::Result<()> {
     let (got, told, used) = run(rt.alloc(), calls.gets, calls.puts)?;
-    let Usage {
-        blocks,
-        headers,
-        ..
-    } = used;
     println!(rt; "{} gets, sum {got}", calls.gets)?;
     println!(rt; "{} puts, sum {told}", calls.puts)?;
-    println!(rt; "{} blocks and {headers} headers in use", blocks[0])?;
+    print_used(rt, &used)?;
     Ok(())
 }
 
@@ -57,15 +60,20 @@ fn fill_all(rt: &HostRuntime, fills: &Fills) -> anyhow::Result<()> {
     Ok(())
 }
 
+/// Prints what the program's words may be.
+fn print_usage(rt: &HostRuntime) -> io::Result<()> {
+    println!(rt; "usage: point_rounds GETS PUTS, at most {MOST_PUTS} puts")?;
+    println!(rt;
+        "       point_rounds GETS FILLS ENTRIES KEYS, at least one fill, {LEAST_ENTRIES} to {GREATEST_ENTRIES} entries, and at most as many keys"
+    )
+}
+
 fn main(rt: HostRuntime) -> anyhow::Result<ExitCode> {
     match asked_by(env::args(&rt)?) {
         Some(Asked::Key(calls)) => call_one(&rt, &calls)?,
         Some(Asked::Chunk(fills)) => fill_all(&rt, &fills)?,
         None => {
-            println!(rt; "usage: point_rounds GETS PUTS, at most {MOST_PUTS} puts")?;
-            println!(rt;
-                "       point_rounds GETS FILLS ENTRIES KEYS, at least one fill, {LEAST_ENTRIES} to {GREATEST_ENTRIES} entries, and at most as many keys"
-            )?;
+            print_usage(&rt)?;
             return Ok(ExitCode::from(2));
         }
     }
