@@ -1,10 +1,44 @@
 //! The calls of a caller, each on a map of its own.
 use oak_caller::{
-    Copied, InBytes, Number, OakMap, Recipe, RecipeKind, Shape, StepRecipe, Store, Way, Wrote,
+    Caller, Copied, InBytes, Number, OakMap, Recipe, RecipeKind, Shape, StepRecipe, Store, Way,
+    Wrote,
 };
+use std::fmt::Debug;
 use std::process::Abort;
 use std::sync::Wait;
 use std::test::Fail;
+
+/// What a call told is what is due.
+fn is_due<T: Debug + PartialEq + Drop>(rt: &impl Abort, told: T, due: T) {
+    assert_eq!(rt; told, due);
+}
+
+/// A store for two passes, in small rooms.
+fn small_store<R: Wait + Clone + Drop + Send + AllocGlobal>(rt: &R) -> Result<Store<R>, Fail> {
+    Ok(Store::create(rt, &Shape::make(2, 4, 4, 16, [16, 0, 0, 0])?)?)
+}
+
+/// Copies the value of a key to a place of six bytes.
+fn copies_whole<R: Abort + Wait + Drop + Send>(rt: &R, caller: &mut Caller<'_, R>) {
+    let mut out = [7; 6];
+    let copied = caller.get_into(rt, b"k", &mut out);
+    is_due(rt, copied, Copied::Whole { len: 5, at: 1 });
+    is_due(rt, out, *b"three\x07");
+}
+
+/// Copies nothing to a place of four.
+fn copies_nothing<R: Abort + Wait + Drop + Send>(rt: &R, caller: &mut Caller<'_, R>) {
+    let mut short = [7; 4];
+    let copied = caller.get_into(rt, b"k", &mut short);
+    is_due(rt, copied, Copied::TooLong { len: 5, at: 1 });
+    is_due(rt, short, [7; 4]);
+}
+
+/// Reads the value where it lies.
+fn reads<R: Abort + Wait + Drop + Send>(rt: &R, caller: &mut Caller<'_, R>) {
+    assert!(rt; caller.contains(rt, b"k"));
+    is_due(rt, caller.read(rt, b"k", |bytes| bytes.len()), Some(5));
+}
 
 /// Puts, reads and removes a key.
 fn goes_through_a_life<R: Abort + Wait + Drop + Send + AllocGlobal>(
@@ -12,36 +46,52 @@ fn goes_through_a_life<R: Abort + Wait + Drop + Send + AllocGlobal>(
     store: &mut Store<R>,
 ) -> Result<(), Fail> {
     let mut caller = store.caller(rt)?;
-    assert_eq!(rt; caller.put(rt, b"k", b"three")?, Wrote::New { at: 1 });
-    assert_eq!(rt;
-        caller.put_if_absent(rt, b"k", b"four")?,
-        Wrote::Kept { at: 1 }
+    is_due(rt, caller.put(rt, b"k", b"three"), Ok(Wrote::New { at: 1 }));
+    is_due(
+        rt,
+        caller.put_if_absent(rt, b"k", b"four"),
+        Ok(Wrote::Kept { at: 1 }),
     );
-    let mut out = [7; 6];
-    assert_eq!(rt;
-        caller.get_into(rt, b"k", &mut out),
-        Copied::Whole { len: 5, at: 1 }
-    );
-    assert_eq!(rt; out, *b"three\x07");
-    let mut short = [7; 4];
-    assert_eq!(rt;
-        caller.get_into(rt, b"k", &mut short),
-        Copied::TooLong { len: 5, at: 1 }
-    );
-    assert_eq!(rt; short, [7; 4]);
-    assert!(rt; caller.contains(rt, b"k"));
-    assert_eq!(rt; caller.read(rt, b"k", |bytes| bytes.len()), Some(5));
-    assert_eq!(rt; caller.remove(rt, b"k")?, Wrote::Removed { at: 2 });
+    copies_whole(rt, &mut caller);
+    copies_nothing(rt, &mut caller);
+    reads(rt, &mut caller);
+    is_due(rt, caller.remove(rt, b"k"), Ok(Wrote::Removed { at: 2 }));
     assert!(rt; !caller.contains(rt, b"k"));
-    assert_eq!(rt; caller.last_call(), 3);
+    is_due(rt, caller.last_call(), 3);
     Ok(())
 }
 
 #[test]
 fn a_life(rt: HostRuntime) -> Result<(), Fail> {
-    let mut store = Store::create(&rt, &Shape::make(2, 4, 4, 16, [16, 0, 0, 0])?)?;
+    let mut store = small_store(&rt)?;
     let done = goes_through_a_life(&rt, &mut store);
     done
+}
+
+/// The last byte of a value.
+fn last_byte(bytes: &[u8]) -> Option<u8> {
+    bytes.last().copied()
+}
+
+/// Looks at a number by a view while it is added to, and until it is removed.
+fn looks_on<R: Abort + Wait + Drop + Send + AllocGlobal>(
+    rt: &R,
+    caller: &mut Caller<'_, R>,
+) -> Result<(), Fail> {
+    let Some(view) = caller.view(rt, b"n") else {
+        assert!(rt; false);
+        return Ok(());
+    };
+    is_due(rt, caller.add(rt, b"n", 5)?, Wrote::Done { at: 2 });
+    is_due(
+        rt,
+        caller.get_u64(rt, b"n"),
+        Number::Eight { number: 14, at: 2 },
+    );
+    is_due(rt, caller.look(rt, &view, last_byte), Some(Some(14)));
+    is_due(rt, caller.remove(rt, b"n")?, Wrote::Removed { at: 3 });
+    is_due(rt, caller.look(rt, &view, last_byte), None);
+    Ok(())
 }
 
 /// Adds to a number, and looks at it by a view until it is removed.
@@ -50,34 +100,50 @@ fn adds_up<R: Abort + Wait + Drop + Send + AllocGlobal>(
     store: &mut Store<R>,
 ) -> Result<(), Fail> {
     let mut caller = store.caller(rt)?;
-    assert_eq!(rt; caller.get_u64(rt, b"n"), Number::Absent { at: 0 });
-    assert_eq!(rt; caller.add(rt, b"n", 9)?, Wrote::New { at: 1 });
-    let Some(view) = caller.view(rt, b"n") else {
-        assert!(rt; false);
-        return Ok(());
-    };
-    assert_eq!(rt; caller.add(rt, b"n", 5)?, Wrote::Done { at: 2 });
-    assert_eq!(rt;
-        caller.get_u64(rt, b"n"),
-        Number::Eight { number: 14, at: 2 }
-    );
-    assert_eq!(rt;
-        caller.look(rt, &view, |bytes| bytes.last().copied()),
-        Some(Some(14))
-    );
-    assert_eq!(rt; caller.remove(rt, b"n")?, Wrote::Removed { at: 3 });
-    assert_eq!(rt; caller.look(rt, &view, |bytes| bytes.last().copied()), None);
-    Ok(())
+    is_due(rt, caller.get_u64(rt, b"n"), Number::Absent { at: 0 });
+    is_due(rt, caller.add(rt, b"n", 9), Ok(Wrote::New { at: 1 }));
+    looks_on(rt, &mut caller)
 }
 
 #[test]
 fn a_sum(rt: HostRuntime) -> Result<(), Fail> {
-    let mut store = Store::create(&rt, &Shape::make(2, 4, 4, 16, [16, 0, 0, 0])?)?;
+    let mut store = small_store(&rt)?;
     let done = adds_up(&rt, &mut store);
     done
 }
 
-/// Turns the bytes of a value round, and puts one with a recipe where there is none.
+/// Turns the bytes of a value round, and puts one with the recipe where there is none.
+fn turns_round<R: Abort + Wait + Drop + Send>(
+    rt: &R,
+    caller: &mut Caller<'_, R>,
+    turns: &mut Box<dyn Recipe + Send>,
+) {
+    is_due(
+        rt,
+        caller.compute(rt, b"k", turns),
+        Ok(Wrote::Absent { at: 0 }),
+    );
+    is_due(
+        rt,
+        caller.upsert(rt, b"k", b"abc", turns),
+        Ok(Wrote::New { at: 1 }),
+    );
+    is_due(
+        rt,
+        caller.compute(rt, b"k", turns),
+        Ok(Wrote::Done { at: 2 }),
+    );
+}
+
+/// The value is turned round.
+fn is_round<R: Abort + Wait + Drop + Send>(rt: &R, caller: &mut Caller<'_, R>) {
+    let mut out = [0; 3];
+    let copied = caller.get_into(rt, b"k", &mut out);
+    is_due(rt, copied, Copied::Whole { len: 3, at: 2 });
+    is_due(rt, out, *b"cba");
+}
+
+/// Turns the bytes of a value round with a recipe, which tells how often it was called.
 fn applies<R: Abort + Wait + Drop + Send + AllocGlobal>(
     rt: &R,
     store: &mut Store<R>,
@@ -85,47 +151,33 @@ fn applies<R: Abort + Wait + Drop + Send + AllocGlobal>(
     let mut caller = store.caller(rt)?;
     let mut turns: Box<dyn Recipe + Send> = Box::new(rt.alloc(), StepRecipe::make())?;
     turns.tell(RecipeKind::Rev, 0);
-    assert_eq!(rt;
-        caller.compute(rt, b"k", &mut turns)?,
-        Wrote::Absent { at: 0 }
-    );
-    assert_eq!(rt;
-        caller.upsert(rt, b"k", b"abc", &mut turns)?,
-        Wrote::New { at: 1 }
-    );
-    assert_eq!(rt;
-        caller.compute(rt, b"k", &mut turns)?,
-        Wrote::Done { at: 2 }
-    );
-    let mut out = [0; 3];
-    assert_eq!(rt;
-        caller.get_into(rt, b"k", &mut out),
-        Copied::Whole { len: 3, at: 2 }
-    );
-    assert_eq!(rt; out, *b"cba");
-    assert_eq!(rt; turns.calls(), 1);
+    turns_round(rt, &mut caller, &mut turns);
+    is_round(rt, &mut caller);
+    is_due(rt, turns.calls(), 1);
     Ok(())
 }
 
 #[test]
 fn a_recipe(rt: HostRuntime) -> Result<(), Fail> {
-    let mut store = Store::create(&rt, &Shape::make(2, 4, 4, 16, [16, 0, 0, 0])?)?;
+    let mut store = small_store(&rt)?;
     let done = applies(&rt, &mut store);
     done
 }
 
-/// Puts three keys by two callers, the second of which is taken in again, and scans them.
-fn goes_over<R: Abort + Wait + Drop + Send + AllocGlobal>(
+/// Puts two keys by one caller, and a third by another.
+fn puts_three<R: Abort + Wait + Drop + Send>(
     rt: &R,
-    store: &mut Store<R>,
-) -> Result<(), Fail> {
-    let mut caller = store.caller(rt)?;
-    assert!(rt; caller.is_empty(rt));
-    let mut other = caller.split(rt)?;
+    caller: &mut Caller<'_, R>,
+    other: &mut Caller<'_, R>,
+) {
     for key in [b"a", b"b"] {
-        assert_eq!(rt; caller.put(rt, key, key)?, Wrote::New { at: 1 });
+        is_due(rt, caller.put(rt, key, key), Ok(Wrote::New { at: 1 }));
     }
-    assert_eq!(rt; other.put(rt, b"c", b"cc")?, Wrote::New { at: 1 });
+    is_due(rt, other.put(rt, b"c", b"cc"), Ok(Wrote::New { at: 1 }));
+}
+
+/// Scans the keys from one on, to the end.
+fn goes_up<R: Abort + Wait + Drop + Send>(rt: &R, caller: &mut Caller<'_, R>) {
     let mut seen = 0usize;
     let ended = caller.for_each(rt, Some(b"b"), None, Way::Up, |key, value| {
         seen = seen.wrapping_add(key.len());
@@ -133,14 +185,34 @@ fn goes_over<R: Abort + Wait + Drop + Send + AllocGlobal>(
         true
     });
     assert!(rt; ended);
-    assert_eq!(rt; seen, 5);
+    is_due(rt, seen, 5);
+}
+
+/// Scans them down, until the closure stops the scan.
+fn goes_down<R: Abort + Wait + Drop + Send>(rt: &R, caller: &mut Caller<'_, R>) {
     assert!(rt; !caller.for_each(rt, None, None, Way::Down, |_key, value| value.len() == 2));
-    assert_eq!(rt; caller.count(rt, None, Some(b"b")), 2);
-    assert_eq!(rt;
-        caller.first(rt, |key, _value| key.first().copied()),
-        Some(Some(b'a'))
-    );
-    assert_eq!(rt; caller.last(rt, |_key, value| value.len()), Some(2));
+}
+
+/// Counts those below one, and finds the first and the last.
+fn finds_ends<R: Abort + Wait + Drop + Send>(rt: &R, caller: &mut Caller<'_, R>) {
+    is_due(rt, caller.count(rt, None, Some(b"b")), 2);
+    let first = caller.first(rt, |key, _value| key.first().copied());
+    is_due(rt, first, Some(Some(b'a')));
+    is_due(rt, caller.last(rt, |_key, value| value.len()), Some(2));
+}
+
+/// Puts three keys by two callers, and scans them by the first.
+fn goes_over<R: Abort + Wait + Drop + Send + AllocGlobal>(
+    rt: &R,
+    store: &mut Store<R>,
+) -> Result<(), Fail> {
+    let mut caller = store.caller(rt)?;
+    assert!(rt; caller.is_empty(rt));
+    let mut other = caller.split(rt)?;
+    puts_three(rt, &mut caller, &mut other);
+    goes_up(rt, &mut caller);
+    goes_down(rt, &mut caller);
+    finds_ends(rt, &mut caller);
     Ok(())
 }
 
@@ -151,25 +223,40 @@ fn a_scan(rt: HostRuntime) -> Result<(), Fail> {
     done
 }
 
+/// Puts two hundred keys.
+fn puts_many<R: Abort + Wait + Drop + Send>(rt: &R, caller: &mut Caller<'_, R>) {
+    for i in 0..200u8 {
+        is_due(rt, caller.put(rt, &[i, 7], b"v"), Ok(Wrote::New { at: 1 }));
+    }
+}
+
+/// Clears the keys of a range, and leaves those beside it.
+fn clears_some<R: Abort + Wait + Drop + Send + AllocGlobal>(rt: &R, caller: &mut Caller<'_, R>) {
+    is_due(rt, caller.clear(rt, Some(&[10]), Some(&[179, 7])), Ok(170));
+    is_due(rt, caller.count(rt, None, None), 30);
+    assert!(rt; caller.contains(rt, &[9, 7]));
+    assert!(rt; !caller.contains(rt, &[10, 7]));
+    assert!(rt; !caller.contains(rt, &[179, 7]));
+    assert!(rt; caller.contains(rt, &[180, 7]));
+}
+
+/// Clears the others, behind which there is none to clear.
+fn clears_all<R: Abort + Wait + Drop + Send + AllocGlobal>(rt: &R, caller: &mut Caller<'_, R>) {
+    is_due(rt, caller.clear(rt, None, None), Ok(30));
+    assert!(rt; caller.is_empty(rt));
+    is_due(rt, caller.clear(rt, None, None), Ok(0));
+    is_due(rt, caller.last_call(), 400);
+}
+
 /// Puts two hundred keys, removes those of a range, and then the others.
 fn clears<R: Abort + Wait + Drop + Send + AllocGlobal>(
     rt: &R,
     store: &mut Store<R>,
 ) -> Result<(), Fail> {
     let mut caller = store.caller(rt)?;
-    for i in 0..200u8 {
-        assert_eq!(rt; caller.put(rt, &[i, 7], b"v")?, Wrote::New { at: 1 });
-    }
-    assert_eq!(rt; caller.clear(rt, Some(&[10]), Some(&[179, 7]))?, 170);
-    assert_eq!(rt; caller.count(rt, None, None), 30);
-    assert!(rt; caller.contains(rt, &[9, 7]));
-    assert!(rt; !caller.contains(rt, &[10, 7]));
-    assert!(rt; !caller.contains(rt, &[179, 7]));
-    assert!(rt; caller.contains(rt, &[180, 7]));
-    assert_eq!(rt; caller.clear(rt, None, None)?, 30);
-    assert!(rt; caller.is_empty(rt));
-    assert_eq!(rt; caller.clear(rt, None, None)?, 0);
-    assert_eq!(rt; caller.last_call(), 400);
+    puts_many(rt, &mut caller);
+    clears_some(rt, &mut caller);
+    clears_all(rt, &mut caller);
     Ok(())
 }
 
@@ -186,21 +273,27 @@ fn shows<R: Abort + Wait + Drop + Send + AllocGlobal>(
     store: &mut Store<R>,
 ) -> Result<(), Fail> {
     let mut caller = store.caller(rt)?;
-    assert_eq!(rt; caller.put(rt, b"k", b"v")?, Wrote::New { at: 1 });
+    is_due(rt, caller.put(rt, b"k", b"v"), Ok(Wrote::New { at: 1 }));
     let shown = format!(in rt.alloc(); "{caller:?}")?;
-    assert_eq!(rt; shown.as_str(), "Caller { last_call: 1, .. }");
+    is_due(rt, shown.as_str(), "Caller { last_call: 1, .. }");
+    Ok(())
+}
+
+/// Shows a map and its first pass.
+fn shows_a_map<R: Abort + Wait + Clone + Drop + Send + AllocGlobal>(rt: &R) -> Result<(), Fail> {
+    let (map, pass) = OakMap::create(rt, &Shape::make(2, 4, 4, 16, [16, 0, 0, 0])?)?;
+    let shown = format!(in rt.alloc(); "{map:?} {pass:?}");
+    pass.leave();
+    is_due(rt, shown?.as_str(), "OakMap { .. } MapPass { .. }");
     Ok(())
 }
 
 #[test]
 fn what_is_shown(rt: HostRuntime) -> Result<(), Fail> {
-    let mut store = Store::create(&rt, &Shape::make(2, 4, 4, 16, [16, 0, 0, 0])?)?;
+    let mut store = small_store(&rt)?;
     let shown = format!(in rt.alloc(); "{store:?}")?;
-    assert_eq!(rt; shown.as_str(), "Store { .. }");
-    let (map, pass) = OakMap::create(&rt, &Shape::make(2, 4, 4, 16, [16, 0, 0, 0])?)?;
-    let shown = format!(in rt.alloc(); "{map:?} {pass:?}");
-    pass.leave();
-    assert_eq!(rt; shown?.as_str(), "OakMap { .. } MapPass { .. }");
+    is_due(&rt, shown.as_str(), "Store { .. }");
+    shows_a_map(&rt)?;
     let done = shows(&rt, &mut store);
     done
 }
