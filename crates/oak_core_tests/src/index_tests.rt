@@ -2,39 +2,114 @@
 ghost use Rattle.oak_model.specs.Key.{IsKey};
 
 use chunk_index::{ChunkIndex, IndexReader, IndexWriter};
+use oak_model::{Hint, OutOfMemory};
+use std::process::Abort;
 use std::sync::Wait;
 use std::test::Fail;
 use std::thread::{Threads, join};
+
+/// The hint, which was asked for at this key or bound, names this room.
+pub(crate) fn names(rt: &impl Abort, hint: Hint, at: &[u8], room: Option<u32>) {
+    assert_eq!(rt; hint.room, room, "at {at:?}");
+}
+
+/// The hint of the key names this room.
+fn hints(rt: &impl Abort, reader: &mut IndexReader, key: &[u8], room: Option<u32>) {
+    names(rt, reader.hint(key), key, room);
+}
+
+/// The hint under the bound names this room.
+fn hints_under(rt: &impl Abort, reader: &mut IndexReader, bound: Option<&[u8]>, room: Option<u32>) {
+    names(rt, reader.hint_under(bound), bound.unwrap_or(b""), room);
+}
+
+/// The hint of each key names the room beside it.
+fn hint_each(rt: &impl Abort, reader: &mut IndexReader, rows: &[(&[u8], Option<u32>)]) {
+    for &(key, room) in rows {
+        hints(rt, reader, key, room);
+    }
+}
+
+/// Keys, and their rooms where `k` is the minimum of room 1, and `p` of room 2.
+const HINTS_OF_TWO: [(&[u8], Option<u32>); 4] = [
+    (b"j", None),
+    (b"k", Some(1)),
+    (b"ox", Some(1)),
+    (b"p", Some(2)),
+];
+
+/// The hints before two minima are set and then.
+fn two_minima<R: Abort + Wait + Drop + Send>(
+    rt: &R,
+    writer: &mut IndexWriter<R>,
+    reader: &mut IndexReader,
+) -> Result<(), OutOfMemory> {
+    hints(rt, reader, b"k", None);
+    writer.set(b"p", 2)?;
+    writer.set(b"k", 1)?;
+    hint_each(rt, reader, &HINTS_OF_TWO);
+    hints_under(rt, reader, Some(b"k"), None);
+    hints_under(rt, reader, Some(b"p"), Some(1));
+    hints_under(rt, reader, None, Some(2));
+    Ok(())
+}
+
+/// A reader of nothing hints nothing.
+fn none_hints_nothing(rt: &impl Abort) {
+    hints(rt, &mut IndexReader::none(), b"p", None);
+}
 
 #[test]
 fn a_hint_is_the_room_of_the_greatest_minimum(rt: HostRuntime) -> Result<(), Fail> {
     let mut writer = IndexWriter::create(&rt, 4, 2)?;
     let mut reader = writer.reader();
-    assert_eq!(rt; reader.hint(b"k").room, None);
-    writer.set(b"p", 2)?;
-    writer.set(b"k", 1)?;
-    assert_eq!(rt; reader.hint(b"j").room, None);
-    assert_eq!(rt; reader.hint(b"k").room, Some(1));
-    assert_eq!(rt; reader.hint(b"ox").room, Some(1));
-    assert_eq!(rt; reader.hint(b"p").room, Some(2));
-    assert_eq!(rt; reader.hint_under(Some(b"k")).room, None);
-    assert_eq!(rt; reader.hint_under(Some(b"p")).room, Some(1));
-    assert_eq!(rt; reader.hint_under(None).room, Some(2));
-    assert_eq!(rt; IndexReader::none().hint(b"p").room, None);
+    two_minima(&rt, &mut writer, &mut reader)?;
+    none_hints_nothing(&rt);
     Ok(())
+}
+
+/// Keys, and their rooms where `a\0`, `abcdefgh` and `abcdefgh2` are the minima of rooms 3, 2 and 1.
+const HINTS_OF_ONE_HEAD: [(&[u8], Option<u32>); 4] = [
+    (b"a", None),
+    (b"abc", Some(3)),
+    (b"abcdefgh1", Some(2)),
+    (b"abcdefgh2\0", Some(1)),
+];
+
+/// Sets three minima, of which two have the same eight bytes in front.
+fn set_one_head<R: Wait + Drop + Send>(writer: &mut IndexWriter<R>) -> Result<(), OutOfMemory> {
+    writer.set(b"abcdefgh2", 1)?;
+    writer.set(b"abcdefgh", 2)?;
+    writer.set(b"a\0", 3)
 }
 
 #[test]
 fn minima_of_one_head_are_told_apart(rt: HostRuntime) -> Result<(), Fail> {
     let mut writer = IndexWriter::create(&rt, 4, 2)?;
     let mut reader = writer.reader();
-    writer.set(b"abcdefgh2", 1)?;
-    writer.set(b"abcdefgh", 2)?;
-    writer.set(b"a\0", 3)?;
-    assert_eq!(rt; reader.hint(b"a").room, None);
-    assert_eq!(rt; reader.hint(b"abc").room, Some(3));
-    assert_eq!(rt; reader.hint(b"abcdefgh1").room, Some(2));
-    assert_eq!(rt; reader.hint(b"abcdefgh2\0").room, Some(1));
+    set_one_head(&mut writer)?;
+    hint_each(&rt, &mut reader, &HINTS_OF_ONE_HEAD);
+    Ok(())
+}
+
+/// Sets the minimum of room 2, and that of room 1 twice.
+fn set_two_rooms<R: Wait + Drop + Send>(writer: &mut IndexWriter<R>) -> Result<(), OutOfMemory> {
+    writer.set(b"c", 2)?;
+    writer.set(b"m", 1)?;
+    writer.set(b"b", 1)
+}
+
+/// Two rooms have a minimum, and the one is taken from its room by another.
+fn pairs_taken_out<R: Abort + Wait + Drop + Send>(
+    rt: &R,
+    writer: &mut IndexWriter<R>,
+    reader: &mut IndexReader,
+) -> Result<(), OutOfMemory> {
+    set_two_rooms(writer)?;
+    hints(rt, reader, b"n", Some(2));
+    writer.set(b"c", 3)?;
+    hints(rt, reader, b"n", Some(3));
+    hints_under(rt, reader, Some(b"c"), Some(1));
     Ok(())
 }
 
@@ -42,27 +117,34 @@ fn minima_of_one_head_are_told_apart(rt: HostRuntime) -> Result<(), Fail> {
 fn a_pair_takes_out_those_of_its_room_and_minimum(rt: HostRuntime) -> Result<(), Fail> {
     let mut writer = IndexWriter::create(&rt, 4, 2)?;
     let mut reader = writer.reader();
-    writer.set(b"c", 2)?;
-    writer.set(b"m", 1)?;
-    writer.set(b"b", 1)?;
-    assert_eq!(rt; reader.hint(b"n").room, Some(2));
-    writer.set(b"c", 3)?;
-    assert_eq!(rt; reader.hint(b"n").room, Some(3));
-    assert_eq!(rt; reader.hint_under(Some(b"c")).room, Some(1));
+    pairs_taken_out(&rt, &mut writer, &mut reader)?;
     Ok(())
+}
+
+/// A new reader hints the key `m` at this room.
+fn new_reader_hints<R: Abort + Wait + Drop + Send>(
+    rt: &R,
+    writer: &mut IndexWriter<R>,
+    room: Option<u32>,
+) {
+    hints(rt, &mut writer.reader(), b"m", room);
+}
+
+/// While the one place is taken a second reader hints nothing, and a third does once it is free.
+fn one_place<R: Abort + Wait + Drop + Send>(rt: &R, writer: &mut IndexWriter<R>) {
+    let mut first = writer.reader();
+    let mut second = writer.reader();
+    hints(rt, &mut first, b"m", Some(1));
+    hints(rt, &mut second, b"m", None);
+    drop(first);
+    new_reader_hints(rt, writer, Some(1));
 }
 
 #[test]
 fn a_reader_without_a_place_hints_nothing(rt: HostRuntime) -> Result<(), Fail> {
     let mut writer = IndexWriter::create(&rt, 4, 1)?;
     writer.set(b"m", 1)?;
-    let mut first = writer.reader();
-    let mut second = writer.reader();
-    assert_eq!(rt; first.hint(b"m").room, Some(1));
-    assert_eq!(rt; second.hint(b"m").room, None);
-    drop(first);
-    let mut third = writer.reader();
-    assert_eq!(rt; third.hint(b"m").room, Some(1));
+    one_place(&rt, &mut writer);
     Ok(())
 }
 
@@ -80,19 +162,41 @@ fn set_at_last<R: Wait + Drop + Send>(
         || (reader.hint(low).room == seen && writer.set(low, room).is_ok())
 }
 
+/// Sets a pair at the second try at the latest.
+fn sets<R: Abort + Wait + Drop + Send>(
+    rt: &R,
+    writer: &mut IndexWriter<R>,
+    reader: &mut IndexReader,
+    low: &[u8],
+    room: u32,
+)
+    requires { IsKey low.now }
+{
+    assert!(rt; set_at_last(writer, reader, low, room), "of {room}");
+}
+
+/// Sets the minima of five rooms.
+fn set_five<R: Abort + Wait + Drop + Send>(
+    rt: &R,
+    writer: &mut IndexWriter<R>,
+    reader: &mut IndexReader,
+) {
+    sets(rt, writer, reader, b"t", 1);
+    sets(rt, writer, reader, b"k", 2);
+    sets(rt, writer, reader, b"p", 3);
+    sets(rt, writer, reader, b"m", 4);
+    sets(rt, writer, reader, b"w", 5);
+}
+
 /// There are more rooms than the index was made for, so its lists grow, by calls of `set` that may find no memory.
 #[test]
 fn want_of_memory_leaves_what_readers_see(rt: HostRuntime) -> Result<(), Fail> {
     let mut writer = IndexWriter::create(&rt, 1, 2)?;
     let mut reader = writer.reader();
-    assert!(rt; set_at_last(&mut writer, &mut reader, b"t", 1));
-    assert!(rt; set_at_last(&mut writer, &mut reader, b"k", 2));
-    assert!(rt; set_at_last(&mut writer, &mut reader, b"p", 3));
-    assert!(rt; set_at_last(&mut writer, &mut reader, b"m", 4));
-    assert!(rt; set_at_last(&mut writer, &mut reader, b"w", 5));
+    set_five(&rt, &mut writer, &mut reader);
     let mut other = writer.reader();
-    assert_eq!(rt; other.hint(b"q").room, Some(3));
-    assert_eq!(rt; other.hint_under(None).room, Some(5));
+    hints(&rt, &mut other, b"q", Some(3));
+    hints_under(&rt, &mut other, None, Some(5));
     Ok(())
 }
 
@@ -115,16 +219,19 @@ fn publish_again<R: Wait + Drop + Send>(rt: &R, index: &ChunkIndex<R>) -> bool {
     fine
 }
 
-fn race<R: Threads + Wait + Drop + Send + Sync>(rt: &R, index: &ChunkIndex<R>) -> (bool, u32) {
+/// Each hint that one thread asks for while another moves the minimum is right.
+fn race<R: Abort + Threads + Wait + Drop + Send + Sync>(rt: &R, index: &ChunkIndex<R>) {
     let reader = index.reader(rt);
-    join(rt, || publish_again(rt, index), move || count_wrong(reader))
+    let (fine, wrong) = join(rt, || publish_again(rt, index), move || count_wrong(reader));
+    assert!(rt; fine);
+    assert_eq!(rt; wrong, 0);
 }
 
 #[test]
 fn a_thread_asks_while_another_sets(rt: HostRuntime) -> Result<(), Fail> {
     let index = ChunkIndex::create(&rt, 4, 2)?;
     index.publish(&rt, b"l", 1)?;
-    assert_eq!(rt; race(&rt, &index), (true, 0));
-    assert_eq!(rt; index.reader(&rt).hint(b"m").room, Some(2));
+    race(&rt, &index);
+    hints(&rt, &mut index.reader(&rt), b"m", Some(2));
     Ok(())
 }

@@ -1,16 +1,18 @@
 //! Tests of passes: how many a shape allows, and that a new one looks at a table that was used.
 ghost use Rattle.std.specs.Prelude.{◌≡◌, ◌<◌, length, slice_index};
+ghost use Rattle.oak_model.specs.declared.limits.TheConstants.{GREATEST_ENTRIES};
 ghost use Rattle.oak_core.specs.PassState.{HoldsNothing, IsAlone};
 ghost use Rattle.oak_core.specs.Opening.{first_state};
 ghost use Rattle.oak_core.specs.Passes.{IsPassOf, Stays, state, key, call_of, scratch_of};
 ghost use Rattle.oak_core.specs.Scratch.{StaysButScratch};
 ghost use Rattle.oak_core.specs.Splitting.{LooksAtGiven};
 
+use crate::index_tests::names;
 use chunk_core::OPEN;
 use chunk_index::{IndexReader, IndexWriter};
 use header_core::LAST_GENERATION;
 use oak_core::steps::{pin_room, unpin_room};
-use oak_core::{OakTable, Pass, SortSlot, SplitFault, Writing, load};
+use oak_core::{OakTable, Pass, SortSlot, Sorting, SplitFault, Writing, load};
 use oak_model::{BadShape, Shape, ShapeField, Usage};
 use pin_word::pack;
 use std::alloc::Global;
@@ -61,23 +63,32 @@ fn split_twice(rt: &impl Abort, alloc: Global, table: &OakTable, pass: &mut Pass
     pass.join(table, other);
 }
 
-#[test]
-fn a_shape_of_two_passes(rt: HostRuntime) -> Result<(), Fail> {
+/// A shape of three entries is none.
+fn three_entries_are_refused(rt: &impl Abort) {
     let bad = BadShape {
         field: ShapeField::Entries,
         value: 3,
     };
     assert!(rt; Shape::make(2, 4, 3, 16, [2, 0, 0, 0]) == Err(bad));
-    let shape = Shape::make(2, 4, 4, 16, [2, 0, 0, 0])?;
-    let (table, mut pass) = OakTable::create(rt.alloc(), &shape)?;
-    split_twice(&rt, rt.alloc(), &table, &mut pass);
-    let closed = table.close(pass);
+}
+
+/// The table was closed with nothing in use but its one chunk.
+fn is_unused(rt: &impl Abort, usage: Usage) {
     let unused = Usage {
         blocks: [0, 0, 0, 0],
         headers: 0,
         chunks: 1,
     };
-    assert!(rt; closed.usage() == unused);
+    assert!(rt; usage == unused);
+}
+
+#[test]
+fn a_shape_of_two_passes(rt: HostRuntime) -> Result<(), Fail> {
+    three_entries_are_refused(&rt);
+    let shape = Shape::make(2, 4, 4, 16, [2, 0, 0, 0])?;
+    let (table, mut pass) = OakTable::create(rt.alloc(), &shape)?;
+    split_twice(&rt, rt.alloc(), &table, &mut pass);
+    is_unused(&rt, table.close(pass).usage());
     Ok(())
 }
 
@@ -91,13 +102,7 @@ fn a_table_with_old_headers(rt: HostRuntime) -> Result<(), Fail> {
     let shape = Shape::make(1, 1, 4, 1, [8, 0, 0, 0])?;
     let (table, pass) = OakTable::create_aged(rt.alloc(), &shape, LAST_GENERATION - 1)?;
     has_number_zero(&pass);
-    let unused = Usage {
-        blocks: [0, 0, 0, 0],
-        headers: 0,
-        chunks: 1,
-    };
-    let used = table.close(pass).usage();
-    assert!(rt; used == unused);
+    is_unused(&rt, table.close(pass).usage());
     Ok(())
 }
 
@@ -184,30 +189,52 @@ fn slot(key: u64, value: u64) -> SortSlot {
     }
 }
 
+/// Sets the first three slots, and sorts them.
+fn sort_three(sorting: &mut Sorting) {
+    sorting.set(0, slot(7, 1));
+    sorting.set(1, slot(5, 3));
+    sorting.set(2, slot(5, 2));
+    sorting.front_mut(3).sort_unstable();
+}
+
+/// Slot `i` is this one.
+fn slot_is(rt: &impl Abort, sorting: &Sorting, i: usize, due: SortSlot)
+    requires { i < GREATEST_ENTRIES }
+{
+    assert_eq!(rt; sorting.slots()[i], due, "slot {i}");
+}
+
+/// The three slots are in their order.
+fn three_in_order(rt: &impl Abort, sorting: &Sorting) {
+    slot_is(rt, sorting, 0, slot(5, 2));
+    slot_is(rt, sorting, 1, slot(5, 3));
+    slot_is(rt, sorting, 2, slot(7, 1));
+}
+
 #[test]
 fn slots_of_a_pass(rt: HostRuntime) -> Result<(), Fail> {
     let shape = Shape::make(1, 1, 4, 1, [1, 1, 1, 1])?;
     let (table, mut pass) = OakTable::create(rt.alloc(), &shape)?;
-    pass.sorting_mut().set(0, slot(7, 1));
-    pass.sorting_mut().set(1, slot(5, 3));
-    pass.sorting_mut().set(2, slot(5, 2));
-    pass.sorting_mut().front_mut(3).sort_unstable();
-    assert_eq!(rt; pass.sorting().slots()[0], slot(5, 2));
-    assert_eq!(rt; pass.sorting().slots()[1], slot(5, 3));
-    assert_eq!(rt; pass.sorting().slots()[2], slot(7, 1));
+    sort_three(pass.sorting_mut());
+    three_in_order(&rt, pass.sorting());
     table.close(pass);
     Ok(())
+}
+
+/// Two bytes, of which the second is set.
+fn two_bytes(rt: &impl Abort, scratch: &mut Writing) {
+    scratch.set_len(2);
+    scratch.set(1, 5);
+    assert_eq!(rt; scratch.len(), 2);
+    assert_eq!(rt; scratch.byte(1), 5);
+    assert!(rt; scratch.bytes() == [0, 5].as_slice());
 }
 
 #[test]
 fn a_scratch(rt: HostRuntime) -> Result<(), Fail> {
     let mut scratch = Writing::make(rt.alloc())?;
     assert!(rt; scratch.is_empty());
-    scratch.set_len(2);
-    scratch.set(1, 5);
-    assert_eq!(rt; scratch.len(), 2);
-    assert_eq!(rt; scratch.byte(1), 5);
-    assert!(rt; scratch.bytes() == [0, 5].as_slice());
+    two_bytes(&rt, &mut scratch);
     Ok(())
 }
 
@@ -237,16 +264,30 @@ fn a_pinned_room(rt: HostRuntime) -> Result<(), Fail> {
     Ok(())
 }
 
+/// The pass's hint of the key names this room.
+fn hints(rt: &impl Abort, pass: &mut Pass, key: &[u8], room: Option<u32>)
+    ensures { pass.new ≡ pass.old }
+{
+    names(rt, pass.hint(key), key, room);
+}
+
+/// Its hint under the bound names this room.
+fn hints_under(rt: &impl Abort, pass: &mut Pass, bound: &[u8], room: Option<u32>)
+    ensures { pass.new ≡ pass.old }
+{
+    names(rt, pass.hint_under(Some(bound)), bound, room);
+}
+
 /// The pass hints nothing, and with the reader the room of the minimum `k`.
 fn hints_by(rt: &impl Abort, pass: &mut Pass, reader: IndexReader)
     ensures { pass.new ≡ pass.old }
 {
-    assert_eq!(rt; pass.hint(b"m").room, None);
+    hints(rt, pass, b"m", None);
     pass.set_reader(reader);
-    assert_eq!(rt; pass.hint(b"m").room, Some(2));
-    assert_eq!(rt; pass.hint(b"j").room, None);
-    assert_eq!(rt; pass.hint_under(Some(b"m")).room, Some(2));
-    assert_eq!(rt; pass.hint_under(Some(b"k")).room, None);
+    hints(rt, pass, b"m", Some(2));
+    hints(rt, pass, b"j", None);
+    hints_under(rt, pass, b"m", Some(2));
+    hints_under(rt, pass, b"k", None);
 }
 
 #[test]
