@@ -4,37 +4,50 @@ use oak_model::{GREATEST_KEY, is_key};
 use std::process::Abort;
 use std::test::Fail;
 
-/// A key of `length` bytes: all are `fill` but the one at `place`.
-#[derive(Clone, Copy, Debug)]
-struct Made {
-    length: usize,
-    fill: u8,
-    place: usize,
-    byte: u8,
-}
+/// A key: how many bytes it has, what each is but the one at a place, that place, and the byte there.
+type Made = (usize, u8, usize, u8);
 
-fn all(length: usize, fill: u8) -> Made {
-    one(length, fill, 0, fill)
-}
+/// Keys that begin others, those with a 0 behind the last byte, and such as differ in one byte beside the end of a
+/// word or of the key.
+const KEYS: [Made; 29] = [
+    (1, 0, 0, 0),
+    (7, 0, 0, 0),
+    (8, 0, 0, 0),
+    (9, 0, 0, 0),
+    (63, 0, 0, 0),
+    (64, 0, 0, 0),
+    (1, 255, 0, 255),
+    (7, 255, 0, 255),
+    (8, 255, 0, 255),
+    (9, 255, 0, 255),
+    (63, 255, 0, 255),
+    (64, 255, 0, 255),
+    (1, 97, 0, 97),
+    (7, 97, 0, 97),
+    (8, 97, 0, 97),
+    (9, 97, 0, 97),
+    (63, 97, 0, 97),
+    (64, 97, 0, 97),
+    (7, 97, 6, 98),
+    (8, 97, 7, 0),
+    (8, 97, 7, 98),
+    (9, 97, 7, 98),
+    (9, 97, 8, 0),
+    (9, 97, 8, 98),
+    (63, 97, 7, 98),
+    (63, 97, 8, 98),
+    (63, 97, 62, 98),
+    (64, 97, 63, 0),
+    (64, 97, 63, 98),
+];
 
-fn one(length: usize, fill: u8, place: usize, byte: u8) -> Made {
-    Made {
-        length,
-        fill,
-        place,
-        byte,
+/// Its bytes, and behind them others.
+fn made_bytes((_, fill, place, byte): Made) -> [u8; GREATEST_KEY] {
+    let mut bytes = [fill; GREATEST_KEY];
+    if place < GREATEST_KEY {
+        bytes[place] = byte;
     }
-}
-
-impl Made {
-    /// Its bytes, and behind them others.
-    fn bytes(self) -> [u8; GREATEST_KEY] {
-        let mut bytes = [self.fill; GREATEST_KEY];
-        if self.place < GREATEST_KEY {
-            bytes[self.place] = self.byte;
-        }
-        bytes
-    }
+    bytes
 }
 
 fn compare_two(rt: &impl Abort, a: &[u8], b: &[u8]) {
@@ -45,10 +58,10 @@ fn compare_two(rt: &impl Abort, a: &[u8], b: &[u8]) {
 }
 
 fn compare_made(rt: &impl Abort, a: Made, b: Made) {
-    let (left, right) = (a.bytes(), b.bytes());
-    assert!(rt; a.length <= GREATEST_KEY);
-    assert!(rt; b.length <= GREATEST_KEY);
-    compare_two(rt, &left[..a.length], &right[..b.length]);
+    let (left, right) = (made_bytes(a), made_bytes(b));
+    assert!(rt; a.0 <= GREATEST_KEY);
+    assert!(rt; b.0 <= GREATEST_KEY);
+    compare_two(rt, &left[..a.0], &right[..b.0]);
 }
 
 fn compare_with_each(rt: &impl Abort, a: Made, keys: &[Made]) {
@@ -57,43 +70,11 @@ fn compare_with_each(rt: &impl Abort, a: Made, keys: &[Made]) {
     }
 }
 
-/// Each with each, as std compares bytes: keys that begin others, those with a 0 behind the last byte,
-/// and such as differ in one byte beside the end of a word or of the key.
+/// Each with each, as std compares bytes.
 #[test]
 fn stored_keys_have_the_order_of_bytes(rt: HostRuntime) -> Result<(), Fail> {
-    let keys = [
-        all(1, 0),
-        all(7, 0),
-        all(8, 0),
-        all(9, 0),
-        all(63, 0),
-        all(64, 0),
-        all(1, 255),
-        all(7, 255),
-        all(8, 255),
-        all(9, 255),
-        all(63, 255),
-        all(64, 255),
-        all(1, 97),
-        all(7, 97),
-        all(8, 97),
-        all(9, 97),
-        all(63, 97),
-        all(64, 97),
-        one(7, 97, 6, 98),
-        one(8, 97, 7, 0),
-        one(8, 97, 7, 98),
-        one(9, 97, 7, 98),
-        one(9, 97, 8, 0),
-        one(9, 97, 8, 98),
-        one(63, 97, 7, 98),
-        one(63, 97, 8, 98),
-        one(63, 97, 62, 98),
-        one(64, 97, 63, 0),
-        one(64, 97, 63, 98),
-    ];
-    for key in &keys {
-        compare_with_each(&rt, *key, &keys);
+    for key in &KEYS {
+        compare_with_each(&rt, *key, &KEYS);
     }
     Ok(())
 }

@@ -90,6 +90,11 @@ fn pins_of_one_room(rt: HostRuntime) -> Result<(), Fail> {
     Ok(())
 }
 
+/// The pass has tried to pin a room so often.
+fn has_tried(rt: &impl Abort, pass: &Pass, times: u64) {
+    assert_eq!(rt; pass.tries(), times);
+}
+
 /// Where the room that is tried first is free, or none that the table has, room 0 is pinned.
 fn tries_rise(rt: &impl Abort, table: &OakTable, pass: &mut Pass)
     requires own { IsPassOf table.now pass.old }
@@ -97,15 +102,15 @@ fn tries_rise(rt: &impl Abort, table: &OakTable, pass: &mut Pass)
     ensures own { Stays pass.old pass.new }
     ensures idle { IsIdleAgain (state pass.old) (state pass.new) }
 {
-    assert_eq!(rt; pass.tries(), 0);
+    has_tried(rt, pass, 0);
     keys_room(rt, table, pass, &[7], Some(0));
-    assert_eq!(rt; pass.tries(), 1);
+    has_tried(rt, pass, 1);
     keys_room(rt, table, pass, &[7], Some(3));
-    assert_eq!(rt; pass.tries(), 2);
+    has_tried(rt, pass, 2);
     keys_room(rt, table, pass, &[7], Some(2));
-    assert_eq!(rt; pass.tries(), 4);
+    has_tried(rt, pass, 4);
     last_keys(rt, table, pass);
-    assert_eq!(rt; pass.tries(), 5);
+    has_tried(rt, pass, 5);
 }
 
 #[test]
