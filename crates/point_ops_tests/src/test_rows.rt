@@ -1,7 +1,7 @@
 //! Calls on a small room, each with the reply that the cell and the order of work give it.
 
 /// What a call is.
-#[derive(Clone, Copy, Debug, PartialEq, Eq)]
+#[derive(Clone, Copy)]
 pub(crate) enum Ask {
     Get,
     Put,
@@ -12,7 +12,7 @@ pub(crate) enum Ask {
 }
 
 /// What it replies.
-#[derive(Clone, Copy, Debug, PartialEq, Eq)]
+#[derive(Clone, Copy, Debug, PartialEq)]
 pub(crate) enum Said {
     Holds,
     New,
@@ -35,6 +35,28 @@ use Said::{Absent, Crowded, Done, Holds, Kept, New, NoBlock, NoHeader, Over, Rem
 /// value that it gets), the reply, and its number. An `Xor` has the byte as its argument, and an `Upsert` has 15.
 /// A key of a letter from p on has the letter 20 times. The number of a `NoBlock` is the bytes of the class.
 pub(crate) type Row = (Ask, u8, u8, usize, Said, u64);
+
+/// On one header.
+pub(crate) const ROWS_OF_ONE_HEADER: [Row; 8] = [
+    (Put, b'a', 1, 1, New, 1),
+    (Put, b'b', 2, 1, NoHeader, 0),
+    (Xor, b'a', 0, 0, Done, 2),
+    (Xor, b'b', 0, 0, Absent, 0),
+    (PutNew, b'a', 5, 1, Kept, 2),
+    (Upsert, b'a', 5, 1, Done, 3),
+    (Remove, b'a', 0, 0, Removed, 4),
+    (Put, b'a', 7, 1, New, 5),
+];
+
+/// On a room of four entries.
+pub(crate) const ROWS_OF_FOUR_ENTRIES: [Row; 6] = [
+    (Put, b'a', 0, 1, New, 1),
+    (Put, b'b', 0, 1, New, 1),
+    (Put, b'c', 0, 1, New, 1),
+    (Put, b'd', 0, 1, New, 1),
+    (Put, b'e', 0, 1, Crowded, 0),
+    (Get, b'e', 0, 0, Absent, 0),
+];
 
 /// By one pass over a table of one room with 6 entries, 5 headers, and 7, 3, 2 and 1 blocks.
 pub(crate) const ROWS: [Row; 200] = [

@@ -8,7 +8,7 @@ ghost use Rattle.oak_core.specs.PassState.{HoldsNothing, IsAlone};
 ghost use Rattle.oak_core.specs.Scratch.{StaysButScratch};
 ghost use Rattle.point_ops.specs.TestStates.{HasView, IsReady, IsReadyAgain};
 
-use crate::test_rows::{Ask, ROWS, Row, Said};
+use crate::test_rows::{Ask, ROWS, ROWS_OF_FOUR_ENTRIES, ROWS_OF_ONE_HEADER, Row, Said};
 use oak_core::{OakTable, Pass};
 use oak_model::{Class, NO_HINT, RecipeKind, Shape, Usage, Wrote};
 use point_ops::{
@@ -174,7 +174,11 @@ fn has_reply(
 {
     turn(pass, call);
     let (asked, letter, byte, len, reply, at) = row;
-    let argument = if asked == Ask::Upsert { 15 } else { byte };
+    let argument = if matches!(asked, Ask::Upsert) {
+        15
+    } else {
+        byte
+    };
     let letters = [letter; 20];
     let bytes = [byte; 1024];
     let bytes = &bytes[..len.min(1024)];
@@ -223,8 +227,26 @@ fn done_rows(rows: &[Row]) -> u64 {
     done
 }
 
-/// The rows have their replies on a table of this shape, which is used so then. The recipe was called just as
-/// often as a row is done.
+/// The rows have their replies on a table of this shape, which is used so then.
+fn run_by_recipe(
+    rt: &impl Abort,
+    alloc: Global,
+    shape: &Shape,
+    recipe: &mut Box<dyn Recipe + Send>,
+    rows: &[Row],
+    used: Usage,
+) -> Result<(), Fail>
+    requires none { calls recipe.old ≡ 0 }
+    requires few { length rows.now < 2 ^ 32 }
+{
+    let (table, mut pass) = OakTable::create(alloc, shape)?;
+    have_replies(rt, &table, &mut pass, recipe, rows);
+    let usage = table.close(pass).usage();
+    assert_eq!(rt; usage, used);
+    Ok(())
+}
+
+/// They have, and the recipe was called just as often as a row is done.
 fn run_rows(
     rt: &impl Abort,
     alloc: Global,
@@ -235,10 +257,7 @@ fn run_rows(
     requires few { length rows.now < 2 ^ 32 }
 {
     let mut recipe: Box<dyn Recipe + Send> = Box::new(alloc, StepRecipe::make())?;
-    let (table, mut pass) = OakTable::create(alloc, shape)?;
-    have_replies(rt, &table, &mut pass, &mut recipe, rows);
-    let usage = table.close(pass).usage();
-    assert_eq!(rt; usage, used);
+    run_by_recipe(rt, alloc, shape, &mut recipe, rows, used)?;
     let done = done_rows(rows);
     assert_eq!(rt; recipe.calls(), done);
     Ok(())
@@ -258,41 +277,23 @@ fn two_hundred_calls_on_a_small_room(rt: HostRuntime) -> Result<(), Fail> {
 #[test]
 fn one_header(rt: HostRuntime) -> Result<(), Fail> {
     let shape = Shape::make(1, 1, 4, 1, [4, 0, 0, 0])?;
-    let rows = [
-        (Ask::Put, b'a', 1, 1, Said::New, 1),
-        (Ask::Put, b'b', 2, 1, Said::NoHeader, 0),
-        (Ask::Xor, b'a', 0, 0, Said::Done, 2),
-        (Ask::Xor, b'b', 0, 0, Said::Absent, 0),
-        (Ask::PutNew, b'a', 5, 1, Said::Kept, 2),
-        (Ask::Upsert, b'a', 5, 1, Said::Done, 3),
-        (Ask::Remove, b'a', 0, 0, Said::Removed, 4),
-        (Ask::Put, b'a', 7, 1, Said::New, 5),
-    ];
     let used = Usage {
         blocks: [2, 0, 0, 0],
         headers: 1,
         chunks: 1,
     };
-    run_rows(&rt, rt.alloc(), &shape, &rows, used)
+    run_rows(&rt, rt.alloc(), &shape, &ROWS_OF_ONE_HEADER, used)
 }
 
 #[test]
 fn four_entries(rt: HostRuntime) -> Result<(), Fail> {
     let shape = Shape::make(1, 1, 4, 8, [16, 0, 0, 0])?;
-    let rows = [
-        (Ask::Put, b'a', 0, 1, Said::New, 1),
-        (Ask::Put, b'b', 0, 1, Said::New, 1),
-        (Ask::Put, b'c', 0, 1, Said::New, 1),
-        (Ask::Put, b'd', 0, 1, Said::New, 1),
-        (Ask::Put, b'e', 0, 1, Said::Crowded, 0),
-        (Ask::Get, b'e', 0, 0, Said::Absent, 0),
-    ];
     let used = Usage {
         blocks: [8, 0, 0, 0],
         headers: 4,
         chunks: 1,
     };
-    run_rows(&rt, rt.alloc(), &shape, &rows, used)
+    run_rows(&rt, rt.alloc(), &shape, &ROWS_OF_FOUR_ENTRIES, used)
 }
 
 /// The view's life is over.
@@ -541,18 +542,33 @@ fn ends_as(rt: &impl Abort, table: &OakTable, pass: &mut Pass, at: u64, byte: u8
     assert!(rt; found == (Said::Holds, at));
 }
 
-#[test]
-fn two_threads_compute_one_value(rt: HostRuntime) -> Result<(), Fail> {
-    let mut ones: Box<dyn Recipe + Send> = Box::new(rt.alloc(), StepRecipe::make())?;
-    let mut twos: Box<dyn Recipe + Send> = Box::new(rt.alloc(), StepRecipe::make())?;
-    ones.tell(RecipeKind::Xor, 1);
-    twos.tell(RecipeKind::Xor, 2);
+/// Two threads compute the value of k on a new table, and it is as both leave it.
+fn compute_one_value<R: Threads + Abort + Sync>(
+    rt: &R,
+    alloc: Global,
+    ones: &mut Box<dyn Recipe + Send>,
+    twos: &mut Box<dyn Recipe + Send>,
+) -> Result<(), Fail> {
     let shape = Shape::make(2, 1, 4, 1, [2, 0, 0, 0])?;
-    let (table, mut pass) = OakTable::create(rt.alloc(), &shape)?;
+    let (table, mut pass) = OakTable::create(alloc, &shape)?;
     let new = put_byte(&table, &mut pass, 1, 0);
-    split_and_flip(&rt, rt.alloc(), &table, &mut pass, &mut ones, &mut twos);
-    ends_as(&rt, &table, &mut pass, 602, 1);
+    split_and_flip(rt, alloc, &table, &mut pass, ones, twos);
+    ends_as(rt, &table, &mut pass, 602, 1);
     table.close(pass);
     assert!(rt; new == (Said::New, 1));
     Ok(())
+}
+
+/// A recipe that was told this argument of `Xor`, and was not called.
+fn xor_recipe(alloc: Global, argument: u8) -> Result<Box<dyn Recipe + Send>, Fail> {
+    let mut recipe: Box<dyn Recipe + Send> = Box::new(alloc, StepRecipe::make())?;
+    recipe.tell(RecipeKind::Xor, u64::from(argument));
+    Ok(recipe)
+}
+
+#[test]
+fn two_threads_compute_one_value(rt: HostRuntime) -> Result<(), Fail> {
+    let mut ones = xor_recipe(rt.alloc(), 1)?;
+    let mut twos = xor_recipe(rt.alloc(), 2)?;
+    compute_one_value(&rt, rt.alloc(), &mut ones, &mut twos)
 }
