@@ -51,7 +51,9 @@ impl<W: Write + Drop> Sink for StdSink<W> {
 #[cfg(test)]
 mod tests {
     use super::*;
-    use std::io::{Error, ErrorKind, Result};
+    use crate::tests;
+    use std::io::{self, Error, ErrorKind};
+    use std::process::Abort;
     use std::test::Fail;
 
     /// Takes one byte of a piece, then none, then fails, and so on.
@@ -61,7 +63,7 @@ mod tests {
     }
 
     impl Write for Flaky {
-        fn write(&mut self, buf: &[u8]) -> Result<usize> {
+        fn write(&mut self, buf: &[u8]) -> io::Result<usize> {
             self.turn = (self.turn % 3) + 1;
             match self.turn {
                 1 => Ok(buf.len().min(1)),
@@ -70,30 +72,47 @@ mod tests {
             }
         }
 
-        fn flush(&mut self) -> Result<()> {
+        fn flush(&mut self) -> io::Result<()> {
             Ok(())
         }
     }
 
+    /// Writes the piece, and asserts the answer and the count of faults.
+    fn expect_counted<W: Write + Drop>(
+        rt: &impl Abort,
+        sink: &mut StdSink<W>,
+        piece: &str,
+        answer: Result<usize, Failed>,
+        faults: u64,
+    ) {
+        tests::expect_write(rt, sink, piece, answer);
+        assert_eq!(rt; sink.faults, faults);
+    }
+
     #[test]
-    fn hands_the_bytes_to_the_writer(rt: HostRuntime) -> std::result::Result<(), Fail> {
+    fn hands_the_bytes_to_the_writer(rt: HostRuntime) -> Result<(), Fail> {
         let mut sink = StdSink::make(Vec::new(rt.alloc()));
-        assert_eq!(rt; sink.write(b"oak".as_slice())?, 3);
-        assert_eq!(rt; sink.write(b"".as_slice())?, 0);
-        assert_eq!(rt; sink.write(b" 1".as_slice())?, 2);
+        expect_counted(&rt, &mut sink, "oak", Ok(3), 0);
+        expect_counted(&rt, &mut sink, "", Ok(0), 0);
+        expect_counted(&rt, &mut sink, " 1", Ok(2), 0);
         assert_eq!(rt; sink.inner.as_slice(), b"oak 1".as_slice());
-        assert_eq!(rt; sink.faults, 0);
         Ok(())
     }
+
+    /// A piece, what its write answers, and how many writes failed so far.
+    const WRITES: [(&str, Result<usize, Failed>, u64); 5] = [
+        ("oak", Ok(1), 0),
+        ("oak", Err(Failed), 1),
+        ("oak", Err(Failed), 2),
+        ("oak", Ok(1), 2),
+        ("", Ok(0), 2),
+    ];
 
     #[test]
     fn counts_each_error_and_each_write_of_nothing(rt: HostRuntime) {
         let mut sink = StdSink::make(Flaky { turn: 0 });
-        for (want, faults) in [(Ok(1), 0), (Err(Failed), 1), (Err(Failed), 2), (Ok(1), 2)] {
-            assert_eq!(rt; sink.write(b"oak".as_slice()), want);
-            assert_eq!(rt; sink.faults, faults);
+        for (piece, answer, faults) in &WRITES {
+            expect_counted(&rt, &mut sink, piece, *answer, *faults);
         }
-        assert_eq!(rt; sink.write(b"".as_slice()), Ok(0));
-        assert_eq!(rt; sink.faults, 2);
     }
 }

@@ -52,8 +52,9 @@ impl<R: Read + Drop> Source for StdSource<R> {
 #[cfg(test)]
 mod tests {
     use super::*;
-    use std::io::{Error, ErrorKind, Result};
-    use std::test::Fail;
+    use crate::tests;
+    use std::io::{self, Error, ErrorKind};
+    use std::process::Abort;
 
     /// Fails at every other read, from the first on, and gives one byte at the others.
     #[derive(Drop)]
@@ -62,7 +63,7 @@ mod tests {
     }
 
     impl Read for Flaky {
-        fn read(&mut self, buf: &mut [u8]) -> Result<usize> {
+        fn read(&mut self, buf: &mut [u8]) -> io::Result<usize> {
             self.fails = !self.fails;
             if !self.fails {
                 return Err(Error::from(ErrorKind::Interrupted));
@@ -77,29 +78,47 @@ mod tests {
         }
     }
 
+    /// Reads into the piece, and asserts the answer and the count of faults.
+    fn expect_counted<R: Read + Drop>(
+        rt: &impl Abort,
+        source: &mut StdSource<R>,
+        piece: &mut [u8; 2],
+        answer: Result<usize, Failed>,
+        faults: u64,
+    ) {
+        tests::expect_read(rt, source, piece, answer);
+        assert_eq!(rt; source.faults, faults);
+    }
+
+    /// How many bytes a read gives, and the piece behind it.
+    const READS: [(usize, &[u8; 2]); 3] = [(2, b"oa"), (1, b"ka"), (0, b"ka")];
+
     #[test]
-    fn gives_what_the_reader_gives(rt: HostRuntime) -> std::result::Result<(), Fail> {
+    fn gives_what_the_reader_gives(rt: HostRuntime) {
         let mut source = StdSource::make(b"oak".as_slice());
         let mut piece = [0u8; 2];
-        let want = [(2, [b'o', b'a']), (1, [b'k', b'a']), (0, [b'k', b'a'])];
-        for (count, bytes) in want {
-            assert_eq!(rt; source.read(&mut piece)?, count);
-            assert!(rt; piece == bytes);
+        for (count, bytes) in &READS {
+            expect_counted(&rt, &mut source, &mut piece, Ok(*count), 0);
+            assert!(rt; piece == **bytes);
         }
-        assert_eq!(rt; source.faults, 0);
-        Ok(())
     }
+
+    /// What a read answers, and how many reads failed so far.
+    const FLAKY_READS: [(Result<usize, Failed>, u64); 4] = [
+        (Err(Failed), 1),
+        (Ok(1), 1),
+        (Err(Failed), 2),
+        (Ok(1), 2),
+    ];
 
     #[test]
     fn counts_each_error_of_the_reader(rt: HostRuntime) {
         let mut source = StdSource::make(Flaky { fails: true });
         let mut piece = [0u8; 2];
-        for (want, faults) in [(Err(Failed), 1), (Ok(1), 1), (Err(Failed), 2), (Ok(1), 2)] {
-            assert_eq!(rt; source.read(&mut piece), want);
-            assert_eq!(rt; source.faults, faults);
+        for (answer, faults) in &FLAKY_READS {
+            expect_counted(&rt, &mut source, &mut piece, *answer, *faults);
         }
         source.faults = u64::MAX;
-        assert_eq!(rt; source.read(&mut piece), Err(Failed));
-        assert_eq!(rt; source.faults, u64::MAX);
+        expect_counted(&rt, &mut source, &mut piece, Err(Failed), u64::MAX);
     }
 }
