@@ -66,10 +66,9 @@ impl Thread {
         requires value { IsValue value.now }
         ensures { OnOk result (CallsAnswered self.new.calls.items self.new.replies.items) }
     {
-        let call = Call::Get {
-            key: Key::make(alloc, key)?,
-        };
-        self.add(call, shown(alloc, key, value, at)?)
+        let reply = shown(alloc, key, value, at)?;
+        let key = Key::make(alloc, key)?;
+        self.add(Call::Get { key }, reply)
     }
 
     /// Adds a removal, with this stamp.
@@ -144,6 +143,21 @@ fn expect_text(
     Ok(())
 }
 
+/// A script of one thread, and the replies to it.
+fn one_thread(
+    alloc: Global,
+    shape: Shape,
+    thread: Thread,
+) -> Result<(Script, Vec<Vec<Reply>>), Fail>
+    requires { CallsAnswered thread.calls.items thread.replies.items }
+    ensures { IfOk result (λ t. RepliesAnswer t.0.threads (map (λ v. v.items) t.1.items)) }
+{
+    let Thread { calls, replies } = thread;
+    let threads = Threads::of(vec![in alloc; calls]?);
+    let replies = vec![in alloc; replies]?;
+    Ok((Script { shape, threads }, replies))
+}
+
 /// So it is of a run of one thread, with this pair at its end, on a table of which two blocks are used.
 fn expect_text_of_one(
     rt: &impl Abort,
@@ -155,11 +169,8 @@ fn expect_text_of_one(
 ) -> Result<(), Fail>
     requires { CallsAnswered thread.calls.items thread.replies.items }
 {
-    let Thread { calls, replies } = thread;
-    let threads = Threads::of(vec![in alloc; calls]?);
-    let script = Script { shape, threads };
-    let replies = vec![in alloc; replies]?;
     let finals = vec![in alloc; last]?;
+    let (script, replies) = one_thread(alloc, shape, thread)?;
     let usage = Usage {
         blocks: [2, 0, 0, 0],
         headers: 1,
@@ -182,14 +193,22 @@ headers 1 8192
 chunks 1 256
 ";
 
-#[test]
-fn prints_a_put_and_a_get(rt: HostRuntime) -> Result<(), Fail> {
-    let alloc = rt.alloc();
+/// A put, and a get that finds it.
+fn short_thread(alloc: Global) -> Result<Thread, OutOfMemory>
+    ensures { IfOk result (λ t. CallsAnswered t.calls.items t.replies.items) }
+{
     let mut thread = Thread::new(alloc);
     thread.puts(alloc, b"k1", b"v1", Wrote::New { at: 1 })?;
     thread.gets(alloc, b"k1", b"v1", 1)?;
+    Ok(thread)
+}
+
+#[test]
+fn prints_a_put_and_a_get(rt: HostRuntime) -> Result<(), Fail> {
+    let alloc = rt.alloc();
     let shape = Shape::make(2, 256, 64, 8_192, [16_384, 4_096, 1_024, 512])?;
     let last = pair(alloc, b"k1", b"v1", 1)?;
+    let thread = short_thread(alloc)?;
     expect_text_of_one(&rt, alloc, shape, thread, last, SHORT_TEXT)
 }
 
@@ -226,9 +245,9 @@ chunks 1 4
 #[test]
 fn prints_a_refused_put(rt: HostRuntime) -> Result<(), Fail> {
     let alloc = rt.alloc();
-    let thread = small_thread(alloc)?;
     let shape = Shape::make(2, 4, 4, 16, [2, 0, 0, 0])?;
     let last = pair(alloc, &[0x62], &[2], 3)?;
+    let thread = small_thread(alloc)?;
     expect_text_of_one(&rt, alloc, shape, thread, last, SMALL_TEXT)
 }
 
@@ -405,22 +424,27 @@ chunks 1 9
 fn three_threads(alloc: Global) -> Result<(Script, Vec<Vec<Reply>>), Fail>
     ensures { IfOk result (λ t. RepliesAnswer t.0.threads (map (λ v. v.items) t.1.items)) }
 {
+    let shape = Shape::make(4, 9, 8, 7, [66, 55, 44, 33])?;
     let first = first_thread(alloc)?;
     let second = second_thread(alloc)?;
     let full = full_thread(alloc)?;
     let threads = Threads::of(vec![in alloc; first.calls, second.calls, full.calls]?);
     let replies = vec![in alloc; first.replies, second.replies, full.replies]?;
-    let shape = Shape::make(4, 9, 8, 7, [66, 55, 44, 33])?;
     Ok((Script { shape, threads }, replies))
+}
+
+/// The pairs that the three threads leave.
+fn pairs_of_three(alloc: Global) -> Result<Vec<Pair>, OutOfMemory> {
+    let first = pair(alloc, b"b", &[0x0a, 0xff], 6)?;
+    let second = pair(alloc, b"c", b"", 1)?;
+    pairs(alloc, first, second)
 }
 
 #[test]
 fn prints_every_reply(rt: HostRuntime) -> Result<(), Fail> {
     let alloc = rt.alloc();
+    let finals = pairs_of_three(alloc)?;
     let (script, replies) = three_threads(alloc)?;
-    let first = pair(alloc, b"b", &[0x0a, 0xff], 6)?;
-    let second = pair(alloc, b"c", b"", 1)?;
-    let finals = pairs(alloc, first, second)?;
     let usage = Usage {
         blocks: [6, 5, 4, 3],
         headers: 2,
@@ -444,11 +468,11 @@ fn put_thread(alloc: Global, key: &[u8], value: &[u8]) -> Result<Thread, OutOfMe
 fn two_threads(alloc: Global) -> Result<(Script, Vec<Vec<Reply>>), Fail>
     ensures { IfOk result (λ t. RepliesAnswer t.0.threads (map (λ v. v.items) t.1.items)) }
 {
+    let shape = Shape::make(3, 256, 64, 8_192, [16_384, 4_096, 1_024, 512])?;
     let first = put_thread(alloc, &[0x61], &[1])?;
     let second = put_thread(alloc, &[0x62], &[2])?;
     let threads = Threads::of(vec![in alloc; first.calls, second.calls]?);
     let replies = vec![in alloc; first.replies, second.replies]?;
-    let shape = Shape::make(3, 256, 64, 8_192, [16_384, 4_096, 1_024, 512])?;
     Ok((Script { shape, threads }, replies))
 }
 
@@ -467,13 +491,18 @@ headers 2 8192
 chunks 1 256
 ";
 
+/// The pairs that the two threads leave.
+fn pairs_of_two(alloc: Global) -> Result<Vec<Pair>, OutOfMemory> {
+    let first = pair(alloc, &[0x61], &[1], 1)?;
+    let second = pair(alloc, &[0x62], &[2], 1)?;
+    pairs(alloc, first, second)
+}
+
 #[test]
 fn prints_the_replies_of_two_threads(rt: HostRuntime) -> Result<(), Fail> {
     let alloc = rt.alloc();
+    let finals = pairs_of_two(alloc)?;
     let (script, replies) = two_threads(alloc)?;
-    let first = pair(alloc, &[0x61], &[1], 1)?;
-    let second = pair(alloc, &[0x62], &[2], 1)?;
-    let finals = pairs(alloc, first, second)?;
     let usage = Usage {
         blocks: [4, 0, 0, 0],
         headers: 2,
