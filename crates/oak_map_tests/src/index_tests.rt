@@ -1,5 +1,5 @@
 //! Calls find chunks by the index: where no pass is at work, each at the first try.
-ghost use Rattle.std.specs.Prelude.{◌≡◌, ◌+◌, ◌≤◌, ◌<◌, length};
+ghost use Rattle.std.specs.Prelude.{◌≡◌, ◌+◌, ◌≤◌, ◌<◌};
 ghost use Rattle.oak_core.specs.Passes.{IsPassOf, Stays, call_of as table_call, key as sizes, state as table_state};
 ghost use Rattle.oak_core.specs.PassState.{IsAlone};
 ghost use Rattle.chunk_ops.specs.PinRecords.{HasRoomPin, OnlyMeets};

@@ -12,12 +12,12 @@ ghost use Rattle.point_ops.specs.TestStates.{HasView, IsReady as IsReadyFor, IsR
 ghost use Rattle.scan_cursor.specs.Cursors.{IsCursor, under};
 ghost use Rattle.oak_map.specs.Maps.{IsReady, call_of, sizes, state, table_of};
 
-use crate::test_calls::{put, remove};
+use crate::test_calls::{make, put, remove};
 use oak_core::Pass;
 use oak_map::{
     Cursor, Lent, Looked, MapPass, OakMap, Reading, ValueView, Way, get_of, look_of, scan_of,
 };
-use oak_model::{Shape, Wrote};
+use oak_model::Wrote;
 use point_ops::Got;
 use std::process::Abort;
 use std::sync::Wait;
@@ -150,6 +150,82 @@ fn collects<R: Wait + Drop + Send>(
     cursor.finish();
 }
 
+/// The key has these bytes, by its first write.
+fn has<R: Abort + Wait + Drop + Send>(
+    rt: &R,
+    map: &OakMap<R>,
+    pass: &mut MapPass,
+    key: &[u8],
+    bytes: [u8; 3],
+)
+    requires own { IsReady map.now pass.old }
+    requires ready { IsReadyFor (call_of pass.old) (state pass.old) }
+    requires key { IsKey key.now }
+    ensures own { IsReady map.now pass.new }
+    ensures call { call_of pass.new ≡ call_of pass.old }
+    ensures ready { IsReadyAgain (call_of pass.old) (state pass.old) (state pass.new) }
+{
+    let mut out = [0; 3];
+    let held = copies_of(rt, map, pass.pass_mut(), key, &mut out);
+    assert!(rt; held == Some((1, 3)));
+    assert!(rt; out == bytes);
+}
+
+/// The key has no value.
+fn has_none<R: Abort + Wait + Drop + Send>(rt: &R, map: &OakMap<R>, pass: &mut MapPass, key: &[u8])
+    requires own { IsReady map.now pass.old }
+    requires ready { IsReadyFor (call_of pass.old) (state pass.old) }
+    requires key { IsKey key.now }
+    ensures own { IsReady map.now pass.new }
+    ensures call { call_of pass.new ≡ call_of pass.old }
+    ensures ready { IsReadyAgain (call_of pass.old) (state pass.old) (state pass.new) }
+{
+    let away = copies_of(rt, map, pass.pass_mut(), key, &mut [0; 3]);
+    assert!(rt; away.is_none());
+}
+
+/// The view shows these bytes, with this stamp.
+fn shows<R: Abort + Wait + Drop + Send>(
+    rt: &R,
+    map: &OakMap<R>,
+    pass: &mut MapPass,
+    view: &ValueView,
+    at: u64,
+    bytes: [u8; 3],
+)
+    requires own { IsReady map.now pass.old }
+    requires ready { IsReadyFor (call_of pass.old) (state pass.old) }
+    requires has { HasView (sizes map.now) view.now (state pass.old) }
+    ensures own { IsReady map.now pass.new }
+    ensures call { call_of pass.new ≡ call_of pass.old }
+    ensures ready { IsReadyAgain (call_of pass.old) (state pass.old) (state pass.new) }
+    ensures has { HasView (sizes map.now) view.now (state pass.new) }
+{
+    let mut out = [0; 3];
+    let seen = looks_of(rt, map, pass.pass_mut(), view, &mut out);
+    assert!(rt; seen == Some((at, 3)));
+    assert!(rt; out == bytes);
+}
+
+/// The view shows nothing.
+pub(crate) fn shows_none<R: Abort + Wait + Drop + Send>(
+    rt: &R,
+    map: &OakMap<R>,
+    pass: &mut MapPass,
+    view: &ValueView,
+)
+    requires own { IsReady map.now pass.old }
+    requires ready { IsReadyFor (call_of pass.old) (state pass.old) }
+    requires has { HasView (sizes map.now) view.now (state pass.old) }
+    ensures own { IsReady map.now pass.new }
+    ensures call { call_of pass.new ≡ call_of pass.old }
+    ensures ready { IsReadyAgain (call_of pass.old) (state pass.old) (state pass.new) }
+    ensures has { HasView (sizes map.now) view.now (state pass.new) }
+{
+    let gone = looks_of(rt, map, pass.pass_mut(), view, &mut [0; 3]);
+    assert!(rt; gone.is_none());
+}
+
 /// A view of k, with the value "one", shows what is put over that, and nothing once k was removed, and put anew.
 fn one_life<R: Abort + Wait + Drop + Send>(
     rt: &R,
@@ -164,23 +240,16 @@ fn one_life<R: Abort + Wait + Drop + Send>(
     ensures ready { IsReady map.now pass.new }
     ensures again { IsReadyAgain 5 (state pass.old) (state pass.new) }
 {
-    let mut out = [0; 3];
-    let first = looks_of(rt, map, pass.pass_mut(), view, &mut out);
-    assert!(rt; first == Some((1, 3)));
-    assert!(rt; out == *b"one");
+    shows(rt, map, pass, view, 1, *b"one");
     let over = put(rt, map, pass, 3, b"k", b"six");
     assert!(rt; over == Wrote::Over { at: 2 });
-    let second = looks_of(rt, map, pass.pass_mut(), view, &mut out);
-    assert!(rt; second == Some((2, 3)));
-    assert!(rt; out == *b"six");
+    shows(rt, map, pass, view, 2, *b"six");
     let removed = remove(rt, map, pass, 4, b"k");
     assert!(rt; removed == Wrote::Removed { at: 3 });
-    let gone = looks_of(rt, map, pass.pass_mut(), view, &mut out);
-    assert!(rt; gone.is_none());
+    shows_none(rt, map, pass, view);
     let new = put(rt, map, pass, 5, b"k", b"two");
     assert!(rt; new == Wrote::New { at: 4 });
-    let other = looks_of(rt, map, pass.pass_mut(), view, &mut out);
-    assert!(rt; other.is_none());
+    shows_none(rt, map, pass, view);
 }
 
 /// So does the view that is got of k.
@@ -197,33 +266,47 @@ fn one_view<R: Abort + Wait + Drop + Send>(rt: &R, map: &OakMap<R>, pass: &mut M
     }
 }
 
+/// A scan from the lower bound on gives keys with these first bytes; 0 where there is none left.
+fn scans<R: Abort + Wait + Drop + Send>(
+    rt: &R,
+    map: &OakMap<R>,
+    pass: &mut MapPass,
+    low: Option<&[u8]>,
+    way: Way,
+    firsts: [u8; 3],
+)
+    requires own { IsReady map.now pass.old }
+    requires low { IfSome low (λ k. IsKey k.now) }
+    ensures own { IsReady map.now pass.new }
+    ensures numbers { (state pass.new).numbers ≡ (state pass.old).numbers }
+{
+    let mut out = [0; 3];
+    collects(rt, map, pass.pass_mut(), low, None, way, &mut out);
+    assert!(rt; out == firsts);
+}
+
+/// Two keys are put, and got, viewed and scanned.
+fn are_lent<R: Abort + Wait + Drop + Send>(rt: &R, map: &OakMap<R>, pass: &mut MapPass)
+    requires own { IsReady map.now pass.old }
+    requires first { call_of pass.old ≡ 0 }
+    requires ready { IsReadyFor 0 (state pass.old) }
+    ensures own { IsReady map.now pass.new }
+    ensures numbers { (state pass.new).numbers ≡ (state pass.old).numbers }
+{
+    put(rt, map, pass, 1, b"k", b"one");
+    put(rt, map, pass, 2, b"m", b"ten");
+    has(rt, map, pass, b"m", *b"ten");
+    has_none(rt, map, pass, b"l");
+    one_view(rt, map, pass);
+    scans(rt, map, pass, None, Way::Up, [b'k', b'm', 0]);
+    scans(rt, map, pass, None, Way::Down, [b'm', b'k', 0]);
+    scans(rt, map, pass, Some(b"l"), Way::Up, [b'm', 0, 0]);
+}
+
 #[test]
 fn lent_values(rt: HostRuntime) -> Result<(), Fail> {
-    let shape = Shape::make(1, 4, 4, 16, [16, 0, 0, 0])?;
-    let (map, mut pass) = OakMap::create(&rt, &shape)?;
-    put(&rt, &map, &mut pass, 1, b"k", b"one");
-    put(&rt, &map, &mut pass, 2, b"m", b"ten");
-    let mut out = [0; 3];
-    let held = copies_of(&rt, &map, pass.pass_mut(), b"m", &mut out);
-    assert!(rt; held == Some((1, 3)));
-    assert!(rt; out == *b"ten");
-    let away = copies_of(&rt, &map, pass.pass_mut(), b"l", &mut out);
-    assert!(rt; away.is_none());
-    one_view(&rt, &map, &mut pass);
-    collects(&rt, &map, pass.pass_mut(), None, None, Way::Up, &mut out);
-    assert!(rt; out == [b'k', b'm', 0]);
-    collects(&rt, &map, pass.pass_mut(), None, None, Way::Down, &mut out);
-    assert!(rt; out == [b'm', b'k', 0]);
-    collects(
-        &rt,
-        &map,
-        pass.pass_mut(),
-        Some(b"l"),
-        None,
-        Way::Up,
-        &mut out,
-    );
-    assert!(rt; out == [b'm', 0, 0]);
+    let (map, mut pass) = make(&rt, 1, 4, 4, 16, 16)?;
+    are_lent(&rt, &map, &mut pass);
     map.close(pass);
     Ok(())
 }

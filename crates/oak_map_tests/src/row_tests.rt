@@ -17,7 +17,7 @@ use std::sync::Wait;
 use std::test::Fail;
 
 /// A call on the key of a letter, and its answer. Values have one byte.
-#[derive(Clone, Copy, Debug)]
+#[derive(Clone, Copy)]
 enum Call {
     Put(u8, u8, Wrote),
     Remove(u8, Wrote),

@@ -1,21 +1,50 @@
 //! What the tests ask of a map, each time by one pass.
-ghost use Rattle.std.specs.Prelude.{◌≡◌, ◌<◌};
+ghost use Rattle.std.specs.Prelude.{◌≡◌, ◌<◌, IfOk};
 ghost use Rattle.oak_model.specs.Key.{IsKey};
 ghost use Rattle.oak_model.specs.Value.{IsValue};
 ghost use Rattle.oak_core.specs.MayWrite.{IsNewCall};
 ghost use Rattle.oak_core.specs.Passes.{IsPassOf, Stays, Turns, call_of as table_call, key as table_sizes, state as table_state};
 ghost use Rattle.point_ops.specs.TestStates.{HasView, IsReady as IsReadyFor, IsReadyAgain};
-ghost use Rattle.oak_core.specs.PassState.{HoldsNothing};
+ghost use Rattle.oak_core.specs.PassState.{HoldsNothing, IsAlone};
 ghost use Rattle.scan_cursor.specs.Cursors.{IsCursor};
 ghost use Rattle.oak_map.specs.Maps.{IsReady, call_of, pass_of, state, table_of};
 
 use oak_core::{OakTable, Pass};
 use oak_map::{Cursor, MapPass, OakMap, Way, scan_of};
-use oak_model::Wrote;
+use oak_model::{Shape, Wrote};
 use point_ops::Got;
 use std::process::Abort;
 use std::sync::Wait;
+use std::test::Fail;
 use value_ops::ValueView;
+
+/// A map for so many passes, with so many chunks, entries in each, headers, and blocks of 16; and its pass.
+pub(crate) fn make<R: Wait + Clone + AllocGlobal + Drop + Send>(
+    rt: &R,
+    passes: u32,
+    chunks: u32,
+    entries: u32,
+    headers: u32,
+    blocks: u32,
+) -> Result<(OakMap<R>, MapPass), Fail>
+    ensures own { IfOk result (λ made. IsReady made.0 made.1) }
+    ensures first { IfOk result (λ made. call_of made.1 ≡ 0) }
+    ensures ready { IfOk result (λ made. IsReadyFor 0 (state made.1)) }
+    ensures alone { IfOk result (λ made. IsAlone (state made.1)) }
+{
+    let shape = Shape::make(passes, chunks, entries, headers, [blocks, 0, 0, 0])?;
+    let (map, pass) = OakMap::create(rt, &shape)?;
+    Ok((map, pass))
+}
+
+/// Closes the map, of which one chunk is used.
+pub(crate) fn close<R: Abort + Wait + Drop + Send>(rt: &R, map: OakMap<R>, pass: MapPass)
+    requires own { IsReady map pass }
+    requires alone { IsAlone (state pass) }
+{
+    let usage = map.close(pass).usage();
+    assert_eq!(rt; usage.chunks, 1);
+}
 
 /// The pass's next call.
 pub(crate) fn turn<R: Wait + Drop + Send>(map: &OakMap<R>, pass: &mut MapPass, call: u32)

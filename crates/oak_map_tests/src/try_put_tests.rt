@@ -5,7 +5,7 @@ ghost use Rattle.oak_model.specs.Value.{IsValue};
 ghost use Rattle.point_ops.specs.TestStates.{IsReady as IsReadyFor, IsReadyAgain};
 ghost use Rattle.oak_map.specs.Maps.{IsReady, call_of, state};
 
-use crate::test_calls::{put, turn};
+use crate::test_calls::{make, put, turn};
 use oak_map::{Busy, MapPass, OakMap};
 use oak_model::{Class, Lack, RecipeKind, Shape, Wrote};
 use std::process::Abort;
@@ -82,26 +82,39 @@ fn tries_upsert<R: Wait + Drop + Send>(
     map.try_upsert(pass, key, bytes, recipe, 1)
 }
 
+/// Two keys are put, for one of which there is room, and that one's value is computed then.
+fn answer<R: Abort + Wait + Drop + Send>(
+    rt: &R,
+    map: &OakMap<R>,
+    pass: &mut MapPass,
+    ones: &mut Box<dyn Recipe + Send>,
+)
+    requires own { IsReady map.now pass.old }
+    requires first { call_of pass.old ≡ 0 }
+    requires ready { IsReadyFor 0 (state pass.old) }
+{
+    let new = tries(map, pass, 1, b"k", b"one");
+    assert!(rt; new == Ok(Wrote::New { at: 1 }));
+    let over = tries(map, pass, 2, b"k", b"two");
+    assert!(rt; over == Ok(Wrote::Over { at: 2 }));
+    let kept = tries_if_absent(map, pass, 3, b"k", b"three");
+    assert!(rt; kept == Ok(Wrote::Kept { at: 2 }));
+    let full = tries_if_absent(map, pass, 4, b"l", b"three");
+    assert!(rt; full == Ok(Wrote::Full(Lack::Block(Class::B16))));
+    assert_eq!(rt; ones.calls(), 0);
+    let done = tries_upsert(map, pass, 5, b"k", b"three", ones);
+    assert!(rt; done == Ok(Wrote::Done { at: 3 }));
+    assert_eq!(rt; ones.calls(), 1);
+}
+
 #[test]
 fn by_one_pass(rt: HostRuntime) -> Result<(), Fail> {
     let mut ones: Box<dyn Recipe + Send> = Box::new(rt.alloc(), StepRecipe::make())?;
     ones.tell(RecipeKind::Xor, 1);
-    let shape = Shape::make(1, 1, 4, 1, [2, 0, 0, 0])?;
-    let (map, mut pass) = OakMap::create(&rt, &shape)?;
-    let new = tries(&map, &mut pass, 1, b"k", b"one");
-    let over = tries(&map, &mut pass, 2, b"k", b"two");
-    let kept = tries_if_absent(&map, &mut pass, 3, b"k", b"three");
-    let full = tries_if_absent(&map, &mut pass, 4, b"l", b"three");
-    assert_eq!(rt; ones.calls(), 0);
-    let done = tries_upsert(&map, &mut pass, 5, b"k", b"three", &mut ones);
+    let (map, mut pass) = make(&rt, 1, 1, 4, 1, 2)?;
+    answer(&rt, &map, &mut pass, &mut ones);
     pass.leave();
     drop(map);
-    assert!(rt; new == Ok(Wrote::New { at: 1 }));
-    assert!(rt; over == Ok(Wrote::Over { at: 2 }));
-    assert!(rt; kept == Ok(Wrote::Kept { at: 2 }));
-    assert!(rt; full == Ok(Wrote::Full(Lack::Block(Class::B16))));
-    assert!(rt; done == Ok(Wrote::Done { at: 3 }));
-    assert_eq!(rt; ones.calls(), 1);
     Ok(())
 }
 

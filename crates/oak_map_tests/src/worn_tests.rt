@@ -5,7 +5,7 @@ ghost use Rattle.oak_core.specs.Passes.{IsPassOf, Stays, call_of as table_call, 
 ghost use Rattle.point_ops.specs.TestStates.{HasView, IsReady as IsReadyFor, IsReadyAgain};
 ghost use Rattle.oak_map.specs.Maps.{IsReady, call_of, sizes, state, table_of};
 
-use crate::lending_tests::looks_of;
+use crate::lending_tests::shows_none;
 use crate::test_calls::{put, remove, settle};
 use header_core::LAST_GENERATION;
 use oak_core::{Pass, SplitFault};
@@ -33,8 +33,7 @@ fn wears_out<R: Abort + Wait + Drop + Send>(
 {
     let removed = remove(rt, map, pass, 2, b"a");
     assert!(rt; removed == Wrote::Removed { at: 2 });
-    let gone = looks_of(rt, map, pass.pass_mut(), view, &mut [0; 1]);
-    assert!(rt; gone.is_none());
+    shows_none(rt, map, pass, view);
     let full = put(rt, map, pass, 3, b"a", &[1]);
     assert!(rt; full == Wrote::Full(Lack::Header));
 }
@@ -96,17 +95,28 @@ fn splits_none<R: Abort + Wait + Drop + Send + AllocGlobal>(
     }
 }
 
+/// The key of a map of one old header is put, removed and missed, the map is settled, and splits no pass off.
+fn one_key<R: Abort + Wait + AllocGlobal + Drop + Send>(rt: &R, map: &OakMap<R>, pass: &mut MapPass)
+    requires own { IsReady map.now pass.old }
+    requires first { call_of pass.old ≡ 0 }
+    requires ready { IsReadyFor 0 (state pass.old) }
+    ensures own { IsReady map.now pass.new }
+    ensures numbers { (state pass.new).numbers ≡ (state pass.old).numbers }
+{
+    let new = put(rt, map, pass, 1, b"a", &[1]);
+    assert!(rt; new == Wrote::New { at: 1 });
+    one_life(rt, map, pass);
+    let missed = misses(rt, map, pass.pass_mut(), b"a");
+    assert!(rt; missed == Some(2));
+    settle(rt, map, pass);
+    splits_none(rt, map, pass);
+}
+
 #[test]
 fn one_old_header(rt: HostRuntime) -> Result<(), Fail> {
     let shape = Shape::make(1, 1, 4, 1, [8, 0, 0, 0])?;
     let (map, mut pass) = OakMap::create_aged(&rt, &shape, LAST_GENERATION - 1)?;
-    let new = put(&rt, &map, &mut pass, 1, b"a", &[1]);
-    assert!(rt; new == Wrote::New { at: 1 });
-    one_life(&rt, &map, &mut pass);
-    let missed = misses(&rt, &map, pass.pass_mut(), b"a");
-    assert!(rt; missed == Some(2));
-    settle(&rt, &map, &mut pass);
-    splits_none(&rt, &map, &mut pass);
+    one_key(&rt, &map, &mut pass);
     let used = map.close(pass).usage();
     let worn = Usage {
         blocks: [0, 0, 0, 0],
