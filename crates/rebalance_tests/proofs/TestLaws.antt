@@ -1,18 +1,22 @@
 -- What the rebalancing calls leave of the tests' pass.
-use Rattle.std.proofs.Common.{◌≡◌, ℕ, ◌≤◌, List, None, Result, Ok, Err, refl, sym, ap, ◌∙◌, subst}
+use Rattle.std.proofs.Common.{◌≡◌, ℕ, ◌<◌, ◌≤◌, List, None, Result, Ok, Err, refl, sym, ap, ◌∙◌, subst}
 use Rattle.std.specs.Prelude.{IfErr}
 use Rattle.oak_model.specs.Counts.{Begins, Each}
 use Rattle.oak_model.specs.Limits.{Sizes}
 use Rattle.oak_model.proofs.Lists.{begins_self}
+use Rattle.oak_model.specs.declared.replies.Wrote.{Wrote}
 use Rattle.oak_core.specs.declared.states.KeyedWrite.{KeyedWrite}
 use Rattle.oak_core.specs.declared.states.Knowledge.{Knowledge}
 use Rattle.oak_core.specs.declared.states.Numbers.{Numbers}
 use Rattle.oak_core.specs.declared.states.PassState.{PassState}
+use Rattle.oak_core.specs.MayWrite.{IsNewCall}
 use Rattle.oak_core.specs.PassState.{HoldsNothing}
 use Rattle.chunk_core.specs.Spans.{Span}
 use Rattle.chunk_ops.specs.PinRecords.{UnderPin, with_room_pin}
 use Rattle.chunk_ops.specs.RoomPins.{PinsOpen, Unpins}
 use Rattle.chunk_ops.specs.TestStates.{IsIdleAgain}
+use Rattle.point_ops.specs.declared.halts.Halt.{Halt}
+use Rattle.point_ops.specs.Replies.{Refuses}
 use Rattle.point_ops.specs.TestStates.{IsReady, IsReadyAgain}
 use Rattle.rebalance.specs.Calls.{Leaves, Loosens, Halves, FindsNoRoom}
 use Rattle.rebalance.specs.declared.answers.Split.{Split}
@@ -59,3 +63,8 @@ pinned_ready z call now later r P u v w x p n d y = let numbers : x.numbers ≡ 
         (subst (λ (m : List KeyedWrite). Each (λ (x : KeyedWrite). x.write.call ≤ call) m) (sym n.learns.all.mine) (subst (λ (q : Knowledge). Each (λ (x : KeyedWrite). x.write.call ≤ call) q.mine) (sym p.stands.knowledge) y.wrote));
   };
 }
+
+-- behind a write that was refused another one may be tried in the same call
+pub refused_new : (o : Result Wrote Halt) (halt : Halt) (call : ℕ) (v w : PassState) → o ≡ Err halt → IfErr o (λ _. Refuses call v w) → IsNewCall call v → IsNewCall call w
+refused_new o halt call v w e f new = let r : Refuses call v w = subst (λ (x : Result Wrote Halt). IfErr x (λ _. Refuses call v w)) e f in
+    (new.0, subst (Each (λ (x : KeyedWrite). x.write.call < call)) (sym r.learns.all.mine) new.1)

@@ -3,7 +3,7 @@ ghost use Rattle.std.specs.Prelude.{◌≡◌, ◌<◌, length};
 ghost use Rattle.oak_model.specs.Key.{IsKey};
 ghost use Rattle.oak_model.specs.Value.{IsValue};
 ghost use Rattle.oak_core.specs.MayWrite.{IsNewCall};
-ghost use Rattle.oak_core.specs.Passes.{IsPassOf, state, call_of};
+ghost use Rattle.oak_core.specs.Passes.{IsPassOf, Stays, state, call_of};
 ghost use Rattle.oak_core.specs.Scratch.{StaysButSlots};
 ghost use Rattle.point_ops.specs.TestStates.{IsReady, IsReadyAgain};
 ghost use Rattle.rebalance_tests.specs.declared.random_tests.TheConstants.{KEYS};
@@ -54,8 +54,31 @@ impl Trial {
     }
 }
 
-/// Puts the bytes. Where the chunk of the key is crowded, it is split, and they are put once more, which is
-/// refused for that again just where no room was free.
+/// Splits the chunk of the key, and puts the bytes once more, which is refused since the chunk is crowded just where no room was
+/// free.
+fn split_and_put<R: Abort + Wait>(
+    rt: &R,
+    table: &OakTable,
+    pass: &mut Pass,
+    key: &[u8],
+    bytes: &[u8],
+) -> Said
+    requires own { IsPassOf table.now pass.old }
+    requires key { IsKey key.now }
+    requires value { IsValue bytes.now }
+    requires ready { IsReady (call_of pass.old) (state pass.old) }
+    requires turn { IsNewCall (call_of pass.old) (state pass.old) }
+    ensures own { StaysButSlots pass.old pass.new }
+    ensures ready { IsReadyAgain (call_of pass.old) (state pass.old) (state pass.new) }
+{
+    let split = rebalance(rt, table, pass, Ask::Split, key);
+    let said = put(table, pass, key, bytes);
+    let crowded = matches!(said, Said::Halted(Halt::Crowded));
+    assert!(rt; crowded == matches!(split, Said::NoRoom));
+    said
+}
+
+/// Puts the bytes, once more where the chunk of the key is crowded.
 fn put_or_split<R: Abort + Wait>(
     rt: &R,
     table: &OakTable,
@@ -75,11 +98,7 @@ fn put_or_split<R: Abort + Wait>(
     match put(table, pass, key, bytes) {
         Said::Halted(Halt::Crowded) => {
             trial.crowded = trial.crowded.wrapping_add(1);
-            let split = rebalance(rt, table, pass, Ask::Split, key);
-            let said = put(table, pass, key, bytes);
-            let crowded = said == Said::Halted(Halt::Crowded);
-            assert_eq!(rt; crowded, split == Said::NoRoom);
-            said
+            split_and_put(rt, table, pass, key, bytes)
         }
         said => said,
     }
@@ -109,6 +128,18 @@ fn put_any<R: Abort + Wait>(
     note_put(rt, alloc, &mut trial.map, key, bytes, said)
 }
 
+/// Removes the key, as the pass's present call.
+fn remove_any(rt: &impl Abort, table: &OakTable, pass: &mut Pass, trial: &mut Trial, key: &Key)
+    requires own { IsPassOf table.now pass.old }
+    requires ready { IsReady (call_of pass.old) (state pass.old) }
+    requires turn { IsNewCall (call_of pass.old) (state pass.old) }
+    ensures own { Stays pass.old pass.new }
+    ensures ready { IsReadyAgain (call_of pass.old) (state pass.old) (state pass.new) }
+{
+    let said = remove(table, pass, key.bytes());
+    note_removal(rt, &mut trial.map, key, said);
+}
+
 /// Makes chunks anew. Where all are, all keys are got.
 fn rebalance_any<R: Abort + Wait>(
     rt: &R,
@@ -130,7 +161,7 @@ fn rebalance_any<R: Abort + Wait>(
         _ => Ask::Settle,
     };
     rebalance(rt, table, pass, ask, key.bytes());
-    if ask == Ask::Settle {
+    if let Ask::Settle = ask {
         all_agree(rt, table, pass, &trial.map, keys);
     }
 }
@@ -157,10 +188,7 @@ fn call_any<R: Abort + Wait>(
     let key = &keys[trial.roll(u32::from(KEYS)) as usize];
     match trial.roll(12) {
         0..=5 => put_any(rt, alloc, table, pass, trial, key)?,
-        6..=7 => {
-            let said = remove(table, pass, key.bytes());
-            note_removal(rt, &mut trial.map, key, said);
-        }
+        6..=7 => remove_any(rt, table, pass, trial, key),
         8..=9 => agrees(rt, table, pass, &trial.map, key),
         _ => rebalance_any(rt, table, pass, trial, keys, key),
     }
@@ -213,33 +241,69 @@ fn run_calls<R: Abort + Wait>(
     Ok(trial)
 }
 
-/// Usage can be read off a closed table alone, so each run is made anew up to several settles.
+/// How many random calls the runs make. Usage can be read off a closed table alone, so each run is made anew up to several
+/// settles.
+const TIMES: [u32; 4] = [60, 90, 120, 200];
+
+/// A shape's chunks, and the entries of each.
+const SHAPES: [(u32, u32); 7] = [(1, 4), (2, 4), (2, 8), (3, 5), (4, 4), (4, 6), (4, 8)];
+
+/// The runs on such a shape lack no block and no header: how many puts found their chunk crowded, and were refused for that.
+fn crowd<R: Abort + Wait>(
+    rt: &R,
+    alloc: Global,
+    chunks: u32,
+    entries: u32,
+) -> Result<(u32, u32), Fail> {
+    let shape = Shape::make(1, chunks, entries, 32, [64, 32, 0, 0])?;
+    let mut crowded = 0u32;
+    let mut refused = 0u32;
+    for times in &TIMES {
+        let trial = run_calls(rt, alloc, &shape, entries, *times)?;
+        assert_eq!(rt; trial.lacking, 0, "{chunks} {entries} {times}");
+        crowded = crowded.wrapping_add(trial.crowded);
+        refused = refused.wrapping_add(trial.refused);
+    }
+    Ok((crowded, refused))
+}
+
 #[test]
 fn random_calls_agree_with_an_ordered_map(rt: HostRuntime) -> Result<(), Fail> {
     let mut crowded = 0u32;
     let mut refused = 0u32;
-    for (chunks, entries) in [(1, 4), (2, 4), (2, 8), (3, 5), (4, 4), (4, 6), (4, 8)] {
-        let shape = Shape::make(1, chunks, entries, 32, [64, 32, 0, 0])?;
-        for times in [60, 90, 120, 200] {
-            let trial = run_calls(&rt, rt.alloc(), &shape, entries, times)?;
-            assert_eq!(rt; trial.lacking, 0, "{chunks} {entries} {times}");
-            crowded = crowded.wrapping_add(trial.crowded);
-            refused = refused.wrapping_add(trial.refused);
-        }
+    for (chunks, entries) in &SHAPES {
+        let counts = crowd(&rt, rt.alloc(), *chunks, *entries)?;
+        crowded = crowded.wrapping_add(counts.0);
+        refused = refused.wrapping_add(counts.1);
     }
     assert!(rt; 0 < refused, "{refused} refused");
     assert!(rt; refused < crowded, "{crowded} crowded");
     Ok(())
 }
 
+/// A shape's headers, and its blocks of two classes: few of the one or of the other.
+const FEW: [(u32, u32, u32); 4] = [(5, 64, 32), (32, 12, 32), (32, 64, 2), (8, 16, 4)];
+
+/// Each run on such a shape lacks a block or a header.
+fn lack<R: Abort + Wait>(
+    rt: &R,
+    alloc: Global,
+    headers: u32,
+    small: u32,
+    large: u32,
+) -> Result<(), Fail> {
+    let shape = Shape::make(1, 4, 8, headers, [small, large, 0, 0])?;
+    for times in &TIMES {
+        let trial = run_calls(rt, alloc, &shape, 7, *times)?;
+        assert!(rt; 0 < trial.lacking, "{headers} {small} {large} {times}");
+    }
+    Ok(())
+}
+
 #[test]
 fn random_calls_with_few_blocks_or_headers(rt: HostRuntime) -> Result<(), Fail> {
-    for (headers, small, large) in [(5, 64, 32), (32, 12, 32), (32, 64, 2), (8, 16, 4)] {
-        let shape = Shape::make(1, 4, 8, headers, [small, large, 0, 0])?;
-        for times in [60, 90, 120, 200] {
-            let trial = run_calls(&rt, rt.alloc(), &shape, 7, times)?;
-            assert!(rt; 0 < trial.lacking, "{headers} {small} {large} {times}");
-        }
+    for (headers, small, large) in &FEW {
+        lack(&rt, rt.alloc(), *headers, *small, *large)?;
     }
     Ok(())
 }

@@ -17,7 +17,7 @@ use std::sync::Wait;
 use value_ops::ValueView;
 
 /// What is asked.
-#[derive(Clone, Copy, Debug, PartialEq, Eq)]
+#[derive(Clone, Copy)]
 pub(crate) enum Ask {
     Get,
     Put,
@@ -57,6 +57,11 @@ pub(crate) fn turn(pass: &mut Pass, call: u32)
     ensures ready { IsReadyAgain call (state pass.old) (state pass.new) }
 {
     pass.turn(call);
+}
+
+/// The call has the answer that is due.
+pub(crate) fn is_due(rt: &impl Abort, call: u32, said: Said, due: Said) {
+    assert_eq!(rt; said, due, "call {call}");
 }
 
 /// The answer to a put or a removal.

@@ -30,6 +30,16 @@ pub(crate) fn make_keys(alloc: Global, count: u8) -> Result<Vec<Key>, OutOfMemor
     Ok(keys)
 }
 
+/// A put is answered so where the key had a value, or had none.
+fn is_put(rt: &impl Abort, said: Said, had: bool) {
+    let right = match said {
+        Said::New(_) => !had,
+        Said::Over(_) => had,
+        _ => false,
+    };
+    assert!(rt; right, "{said:?}");
+}
+
 /// A put of the bytes is answered as the map says, and the map has them then; where the put is refused, the
 /// map stays.
 pub(crate) fn note_put(
@@ -46,22 +56,29 @@ pub(crate) fn note_put(
         return Ok(());
     }
     let old = map.insert(key.copy(alloc)?, Value::make(alloc, bytes)?)?;
-    match said {
-        Said::New(_) => assert!(rt; old.is_none()),
-        Said::Over(_) => assert!(rt; old.is_some()),
-        _ => assert!(rt; false, "{said:?}"),
-    }
+    is_put(rt, said, old.is_some());
     Ok(())
 }
 
 /// A removal is answered as the map says, and the map has the key no more.
 pub(crate) fn note_removal(rt: &impl Abort, map: &mut Plain, key: &Key, said: Said) {
-    let old = map.remove(key);
-    match said {
-        Said::Removed(_) => assert!(rt; old.is_some()),
-        Said::Absent(_) => assert!(rt; old.is_none()),
-        _ => assert!(rt; false, "{said:?}"),
-    }
+    let had = map.remove(key).is_some();
+    let right = match said {
+        Said::Removed(_) => had,
+        Said::Absent(_) => !had,
+        _ => false,
+    };
+    assert!(rt; right, "{said:?}");
+}
+
+/// A get is answered so where the key has a value, or has none.
+fn is_got(rt: &impl Abort, said: Said, has: bool) {
+    let right = match said {
+        Said::Holds(_) => has,
+        Said::Absent(_) => !has,
+        _ => false,
+    };
+    assert!(rt; right, "{said:?}");
 }
 
 /// A get of the key gives what the map has.
@@ -74,11 +91,11 @@ pub(crate) fn agrees(rt: &impl Abort, table: &OakTable, pass: &mut Pass, map: &P
     match map.get(key) {
         Some(value) => {
             let said = get(rt, table, pass, key.bytes(), value.bytes());
-            assert!(rt; matches!(said, Said::Holds(_)), "{said:?}");
+            is_got(rt, said, true);
         }
         None => {
             let said = get(rt, table, pass, key.bytes(), &[]);
-            assert!(rt; matches!(said, Said::Absent(_)), "{said:?}");
+            is_got(rt, said, false);
         }
     }
 }

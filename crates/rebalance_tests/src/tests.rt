@@ -5,7 +5,7 @@ ghost use Rattle.oak_core.specs.MayWrite.{IsNewCall};
 ghost use Rattle.oak_core.specs.Passes.{IsPassOf, state, call_of};
 ghost use Rattle.point_ops.specs.TestStates.{IsReady, IsReadyAgain};
 
-use crate::test_calls::{Ask, Said, get, put, rebalance, remove, turn};
+use crate::test_calls::{Ask, Said, get, is_due, put, rebalance, remove, turn};
 use oak_core::{OakTable, Pass};
 use oak_model::{Shape, Usage};
 use point_ops::Halt;
@@ -47,7 +47,7 @@ fn has_answer<R: Abort + Wait>(rt: &R, table: &OakTable, pass: &mut Pass, call: 
     turn(pass, call);
     let (ask, letter, answer) = row;
     let said = ask_of(rt, table, pass, ask, &[letter]);
-    assert_eq!(rt; said, answer, "call {call}");
+    is_due(rt, call, said, answer);
 }
 
 /// Each row has its answer, one call behind another.
@@ -81,56 +81,60 @@ fn run_rows<R: Abort + Wait>(
     Ok(())
 }
 
+/// Asked of a map of two chunks.
+const TWO_CHUNKS: [Row; 17] = [
+    (Ask::Put, 0x61, Said::New(1)),
+    (Ask::Put, 0x62, Said::New(1)),
+    (Ask::Put, 0x63, Said::New(1)),
+    (Ask::Put, 0x64, Said::New(1)),
+    (Ask::Put, 0x65, Said::Halted(Halt::Crowded)),
+    (Ask::Split, 0x64, Said::Halved(1)),
+    (Ask::Put, 0x65, Said::New(1)),
+    (Ask::Merge, 0x61, Said::Apart),
+    (Ask::Remove, 0x61, Said::Removed(2)),
+    (Ask::Compact, 0x61, Said::Dropped(1)),
+    (Ask::Remove, 0x64, Said::Removed(2)),
+    (Ask::Remove, 0x65, Said::Removed(2)),
+    (Ask::Compact, 0x63, Said::Dropped(2)),
+    (Ask::Merge, 0x61, Said::Joined),
+    (Ask::Merge, 0x61, Said::Apart),
+    (Ask::Put, 0x64, Said::New(3)),
+    (Ask::Put, 0x60, Said::New(3)),
+];
+
 #[test]
 fn a_chunk_is_split_merged_and_compacted(rt: HostRuntime) -> Result<(), Fail> {
     let shape = Shape::make(1, 2, 4, 16, [32, 0, 0, 0])?;
-    let rows = [
-        (Ask::Put, 0x61, Said::New(1)),
-        (Ask::Put, 0x62, Said::New(1)),
-        (Ask::Put, 0x63, Said::New(1)),
-        (Ask::Put, 0x64, Said::New(1)),
-        (Ask::Put, 0x65, Said::Halted(Halt::Crowded)),
-        (Ask::Split, 0x64, Said::Halved(1)),
-        (Ask::Put, 0x65, Said::New(1)),
-        (Ask::Merge, 0x61, Said::Apart),
-        (Ask::Remove, 0x61, Said::Removed(2)),
-        (Ask::Compact, 0x61, Said::Dropped(1)),
-        (Ask::Remove, 0x64, Said::Removed(2)),
-        (Ask::Remove, 0x65, Said::Removed(2)),
-        (Ask::Compact, 0x63, Said::Dropped(2)),
-        (Ask::Merge, 0x61, Said::Joined),
-        (Ask::Merge, 0x61, Said::Apart),
-        (Ask::Put, 0x64, Said::New(3)),
-        (Ask::Put, 0x60, Said::New(3)),
-    ];
     let used = Usage {
         blocks: [8, 0, 0, 0],
         headers: 4,
         chunks: 1,
     };
-    run_rows(&rt, rt.alloc(), &shape, &rows, used)
+    run_rows(&rt, rt.alloc(), &shape, &TWO_CHUNKS, used)
 }
+
+/// Asked of a map of one chunk.
+const ONE_CHUNK: [Row; 11] = [
+    (Ask::Put, 0x61, Said::New(1)),
+    (Ask::Put, 0x62, Said::New(1)),
+    (Ask::Put, 0x63, Said::New(1)),
+    (Ask::Put, 0x64, Said::New(1)),
+    (Ask::Split, 0x61, Said::NoRoom),
+    (Ask::Remove, 0x62, Said::Removed(2)),
+    (Ask::Split, 0x61, Said::Loosened),
+    (Ask::Get, 0x61, Said::Holds(1)),
+    (Ask::Get, 0x62, Said::Absent(2)),
+    (Ask::Get, 0x63, Said::Holds(1)),
+    (Ask::Get, 0x64, Said::Holds(1)),
+];
 
 #[test]
 fn a_full_chunk_without_a_room(rt: HostRuntime) -> Result<(), Fail> {
     let shape = Shape::make(1, 1, 4, 16, [32, 0, 0, 0])?;
-    let rows = [
-        (Ask::Put, 0x61, Said::New(1)),
-        (Ask::Put, 0x62, Said::New(1)),
-        (Ask::Put, 0x63, Said::New(1)),
-        (Ask::Put, 0x64, Said::New(1)),
-        (Ask::Split, 0x61, Said::NoRoom),
-        (Ask::Remove, 0x62, Said::Removed(2)),
-        (Ask::Split, 0x61, Said::Loosened),
-        (Ask::Get, 0x61, Said::Holds(1)),
-        (Ask::Get, 0x62, Said::Absent(2)),
-        (Ask::Get, 0x63, Said::Holds(1)),
-        (Ask::Get, 0x64, Said::Holds(1)),
-    ];
     let used = Usage {
         blocks: [6, 0, 0, 0],
         headers: 3,
         chunks: 1,
     };
-    run_rows(&rt, rt.alloc(), &shape, &rows, used)
+    run_rows(&rt, rt.alloc(), &shape, &ONE_CHUNK, used)
 }
