@@ -1,7 +1,10 @@
 //! Scripts of the default shape, each with the text of its run.
 
-use crate::test_runs::{Used, expect, expect_used};
+use crate::test_runs::{Used, expect, expect_used, repeated};
+use std::process::Abort;
+use std::sync::Wait;
 use std::test::Fail;
+use std::thread::Threads;
 
 /// A script without its first two lines and its last, the text of its run up to the final map, and what is
 /// used at its end; with a slash for a line's end.
@@ -93,32 +96,53 @@ const ROWS: [(&str, &str, Used); 16] = [
     ),
 ];
 
+/// Runs a script of one thread of these calls.
+fn expect_calls<R: Threads + Wait + Clone + Drop + Send + Sync + AllocGlobal + Abort>(
+    rt: &R,
+    calls: &str,
+    says: &str,
+    used: Used,
+) -> Result<(), Fail> {
+    let text = format!(in rt.alloc(); "oak 1/thread/{calls}/end/")?;
+    expect_used(rt, text.as_str(), says, used)
+}
+
 #[test]
 fn answers_with_ample_memory(rt: HostRuntime) -> Result<(), Fail> {
-    for (calls, says, used) in ROWS {
-        let text = format!(in rt.alloc(); "oak 1/thread/{calls}/end/")?;
-        expect_used(&rt, text.as_str(), says, used)?;
+    for (calls, says, used) in &ROWS {
+        expect_calls(&rt, calls, says, *used)?;
     }
     expect_used(&rt, "oak 1/thread/end", "map 0", [0, 0, 0, 0, 0, 1])
 }
 
+/// Puts the longest value under the longest key, and gets it.
+fn expect_longest<R: Threads + Wait + Clone + Drop + Send + Sync + AllocGlobal + Abort>(
+    rt: &R,
+    key: &str,
+    value: &str,
+) -> Result<(), Fail> {
+    let calls = format!(in rt.alloc(); "put {key} {value}/get {key}")?;
+    let says = format!(in rt.alloc(); "t1.1 new @1/t1.2 = {value} @1/map 1/{key} {value}")?;
+    expect_calls(rt, calls.as_str(), says.as_str(), [0, 1, 0, 1, 1, 1])
+}
+
+/// Puts an empty value over the longest, and gets it.
+fn expect_emptied<R: Threads + Wait + Clone + Drop + Send + Sync + AllocGlobal + Abort>(
+    rt: &R,
+    key: &str,
+    value: &str,
+) -> Result<(), Fail> {
+    let calls = format!(in rt.alloc(); "put {key} {value}/put {key} -/get {key}")?;
+    let says = format!(in rt.alloc(); "t1.1 new @1/t1.2 over @2/t1.3 = - @2/map 1/{key} -")?;
+    expect_calls(rt, calls.as_str(), says.as_str(), [1, 1, 0, 0, 1, 1])
+}
+
 #[test]
 fn takes_the_longest_key_and_value(rt: HostRuntime) -> Result<(), Fail> {
-    let alloc = rt.alloc();
-    let mut key = String::new(alloc);
-    for _ in 0..64 {
-        key.push_str("61")?;
-    }
-    let mut value = String::new(alloc);
-    for _ in 0..1_024 {
-        value.push_str("62")?;
-    }
-    let text = format!(in alloc; "oak 1/thread/put {key} {value}/get {key}/end/")?;
-    let says = format!(in alloc; "t1.1 new @1/t1.2 = {value} @1/map 1/{key} {value}")?;
-    expect_used(&rt, text.as_str(), says.as_str(), [0, 1, 0, 1, 1, 1])?;
-    let text = format!(in alloc; "oak 1/thread/put {key} {value}/put {key} -/get {key}/end/")?;
-    let says = format!(in alloc; "t1.1 new @1/t1.2 over @2/t1.3 = - @2/map 1/{key} -")?;
-    expect_used(&rt, text.as_str(), says.as_str(), [1, 1, 0, 0, 1, 1])?;
-    let long = format!(in alloc; "oak 1/thread/put {key}61 -/end/")?;
+    let key = repeated(rt.alloc(), "", "61", 64, "")?;
+    let value = repeated(rt.alloc(), "", "62", 1_024, "")?;
+    expect_longest(&rt, key.as_str(), value.as_str())?;
+    expect_emptied(&rt, key.as_str(), value.as_str())?;
+    let long = format!(in rt.alloc(); "oak 1/thread/put {key}61 -/end/")?;
     expect(&rt, long.as_str(), 3, "oakmap: line 3: key")
 }

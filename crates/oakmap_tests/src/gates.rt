@@ -1,7 +1,8 @@
 //! Runs whose threads are held in turn, so that they can't come to their ends one after another.
 
-use crate::test_runs::{Used, expect_under, lines_of, run_of, used_text, written};
+use crate::test_runs::{Used, expect_bytes, expect_under, lines_of, run_of, used_text, written};
 use outside::{FreeGate, Gate};
+use std::alloc::Global;
 use std::hint::spin_loop;
 use std::process::Abort;
 use std::sync::Wait;
@@ -78,10 +79,10 @@ fn expect_held<R: Threads + Wait + Clone + Drop + Send + Sync + AllocGlobal + Ab
     (held, until): (Asked, Asked),
     says: &str,
 ) -> Result<(), Fail> {
-    let alloc = rt.alloc();
+    let wanted = lines_of(rt.alloc(), says)?;
     let gate = HoldingGate::make(held, until);
     let (_ran, text) = run_of(rt, text, &gate)?;
-    assert_eq!(rt; text, lines_of(alloc, says)?);
+    expect_bytes(rt, &text, &wanted, says);
     assert!(rt; gate.has_held(), "{says}");
     Ok(())
 }
@@ -90,9 +91,9 @@ fn expect_held<R: Threads + Wait + Clone + Drop + Send + Sync + AllocGlobal + Ab
 fn threads_run_beside_each_other(rt: HostRuntime) -> Result<(), Fail> {
     let lines = "t1.1 new @1/t2.1 new @1/map 2/61 01/62 02";
     let says = used_text(rt.alloc(), lines, [4, 0, 0, 0, 2, 1])?;
-    for gate in GATES {
+    for gate in &GATES {
         let text = "oak 1/thread/put 61 01/thread/put 62 02/end/";
-        expect_held(&rt, text, gate, says.as_str())?;
+        expect_held(&rt, text, *gate, says.as_str())?;
     }
     Ok(())
 }
@@ -108,14 +109,18 @@ const SCANS: [&str; 2] = [
 
 const USED_BY_SCAN: Used = [2, 0, 0, 0, 1, 1];
 
+/// Whether the text is that of the scan where the lines up to the final map are these.
+fn is_scan(alloc: Global, text: &[u8], lines: &str) -> Result<bool, Fail> {
+    let says = used_text(alloc, lines, USED_BY_SCAN)?;
+    Ok(text == lines_of(alloc, says.as_str())?.as_slice())
+}
+
 #[test]
 fn a_scan_beside_a_put_has_two_texts(rt: HostRuntime) -> Result<(), Fail> {
-    let alloc = rt.alloc();
     let sink = written(&rt, SCAN, &FreeGate, 0)?;
     let mut lawful = false;
-    for says in SCANS {
-        let says = used_text(alloc, says, USED_BY_SCAN)?;
-        lawful = lawful || sink.written() == lines_of(alloc, says.as_str())?.as_slice();
+    for lines in &SCANS {
+        lawful = lawful || is_scan(rt.alloc(), sink.written(), lines)?;
     }
     assert!(rt; lawful);
     Ok(())
@@ -203,14 +208,19 @@ const ASKS: [(&str, u32, u32, u32); 3] = [
     ),
 ];
 
+/// Asserts what a count is in the run of this script.
+fn expect_count(rt: &impl Abort, count: &AtomicU32, wanted: u32, text: &str) {
+    assert_eq!(rt; count.load(Ordering::SeqCst), wanted, "{text}");
+}
+
 #[test]
 fn each_call_and_each_end_asks_the_gate(rt: HostRuntime) -> Result<(), Fail> {
-    for (text, asks, first, second) in ASKS {
+    for (text, asks, first, second) in &ASKS {
         let gate = CountingGate::make();
         written(&rt, text, &gate, 0)?;
-        assert_eq!(rt; gate.asks.load(Ordering::SeqCst), asks, "{text}");
-        assert_eq!(rt; gate.first.load(Ordering::SeqCst), first, "{text}");
-        assert_eq!(rt; gate.second.load(Ordering::SeqCst), second, "{text}");
+        expect_count(&rt, &gate.asks, *asks, text);
+        expect_count(&rt, &gate.first, *first, text);
+        expect_count(&rt, &gate.second, *second, text);
     }
     Ok(())
 }

@@ -18,8 +18,15 @@ fn expect_calls<R: Abort>(rt: &R, recipes: &[Box<dyn Recipe + Send>], calls: [u6
     }
 }
 
+/// Asserts how often the recipes were called by what a run tells.
+fn expect_told<R: Abort>(rt: &R, told: &[u64], calls: [u64; 3]) {
+    for (i, told) in told.iter().enumerate() {
+        assert_eq!(rt; calls.get(i), Some(told));
+    }
+}
+
 /// Runs the text's script by recipes that are lent, and asserts how often they were called.
-fn expect_lent<R: Threads + Wait + Clone + Drop + Send + Sync + AllocGlobal + Abort>(
+fn expect_script_lent<R: Threads + Wait + Clone + Drop + Send + Sync + AllocGlobal + Abort>(
     rt: &R,
     text: &str,
     calls: [u64; 3],
@@ -29,9 +36,17 @@ fn expect_lent<R: Threads + Wait + Clone + Drop + Send + Sync + AllocGlobal + Ab
     let mut recipes = recipes_of(alloc)?;
     let ran = run_script_lent(rt, &script, &FreeGate, &mut recipes)?;
     expect_calls(rt, &recipes, calls);
-    for (i, told) in ran.recipe_calls.iter().enumerate() {
-        assert_eq!(rt; calls.get(i), Some(told));
-    }
+    expect_told(rt, &ran.recipe_calls, calls);
+    Ok(())
+}
+
+/// Runs the program on the text by recipes that are lent, and asserts how often they were called.
+fn expect_top_lent<R: Threads + Wait + Clone + Drop + Send + Sync + AllocGlobal + Abort>(
+    rt: &R,
+    text: &str,
+    calls: [u64; 3],
+) -> Result<(), Fail> {
+    let alloc = rt.alloc();
     let words = words_in(alloc, "run")?;
     let mut source = SureSource::make(bytes_of(alloc, text)?);
     let mut sink = sink_of(alloc, &[])?;
@@ -40,6 +55,16 @@ fn expect_lent<R: Threads + Wait + Clone + Drop + Send + Sync + AllocGlobal + Ab
     assert_eq!(rt; ended.status, 0);
     expect_calls(rt, &recipes, calls);
     Ok(())
+}
+
+/// Both, of one text.
+fn expect_lent<R: Threads + Wait + Clone + Drop + Send + Sync + AllocGlobal + Abort>(
+    rt: &R,
+    text: &str,
+    calls: [u64; 3],
+) -> Result<(), Fail> {
+    expect_script_lent(rt, text, calls)?;
+    expect_top_lent(rt, text, calls)
 }
 
 #[test]

@@ -1,9 +1,14 @@
 //! A script that comes byte by byte, and a text that is taken byte by byte, up to each fault.
 
-use crate::test_runs::{Used, bytes_of, end, sink_of, used_text};
+ghost use Rattle.std.specs.Prelude.{◌≤◌, length};
+
+use crate::test_runs::{Used, bytes_of, end, expect_text, sink_of, used_text};
 use outside::{CutSource, FreeGate, ShortSink, SureSource};
 use std::alloc::{AllocError, Global};
+use std::process::Abort;
+use std::sync::Wait;
 use std::test::Fail;
+use std::thread::Threads;
 
 /// A script, with a slash for a line's end.
 const SCRIPT: &str = "oak 1/thread/put 6b31 7631/get 6b31/end/";
@@ -19,11 +24,10 @@ fn ones(alloc: Global, calls: usize) -> Result<Vec<usize>, AllocError> {
     vec![in alloc; 1usize; calls]
 }
 
-/// The whole text of the run.
-fn text_of_run(alloc: Global) -> Result<Vec<u8>, Fail> {
-    let says = used_text(alloc, SAYS, USED)?;
-    let mut text = bytes_of(alloc, says.as_str())?;
-    text.push(b'\n')?;
+/// The whole text of the run, with a slash for a line's end.
+fn text_of_run(alloc: Global) -> Result<String, Fail> {
+    let mut text = used_text(alloc, SAYS, USED)?;
+    text.push_str("/")?;
     Ok(text)
 }
 
@@ -34,40 +38,59 @@ fn source_failing_at(alloc: Global, read: u64) -> Result<CutSource, Fail> {
     Ok(CutSource::make(bytes, cuts, Vec::from_slice(alloc, &[read])?))
 }
 
+/// Asserts how the program ends and what it writes, on a source that fails at this read.
+fn expect_reads<R: Threads + Wait + Clone + Drop + Send + Sync + AllocGlobal + Abort>(
+    rt: &R,
+    read: u64,
+    status: u8,
+    says: &str,
+) -> Result<(), Fail> {
+    let mut source = source_failing_at(rt.alloc(), read)?;
+    let mut sink = sink_of(rt.alloc(), &[])?;
+    end(rt, "run", &mut source, &mut sink, &FreeGate, status)?;
+    let case = format!(in rt.alloc(); "{read}")?;
+    expect_text(rt, rt.alloc(), sink.written(), says, case.as_str())
+}
+
 #[test]
 fn reads_a_script_byte_by_byte_up_to_a_fault(rt: HostRuntime) -> Result<(), Fail> {
-    let alloc = rt.alloc();
     // each byte takes a read, and its end one more
     let reads = SCRIPT.len() as u64 + 1;
     for read in 1..reads + 1 {
-        let mut source = source_failing_at(alloc, read)?;
-        let mut sink = sink_of(alloc, &[])?;
-        end(&rt, "run", &mut source, &mut sink, &FreeGate, 4)?;
-        assert_eq!(rt;
-            sink.written(),
-            b"oakmap: read fault\n".as_slice(),
-            "{read}"
-        );
+        expect_reads(&rt, read, 4, "oakmap: read fault/")?;
     }
-    let mut source = source_failing_at(alloc, reads + 1)?;
-    let mut sink = sink_of(alloc, &[])?;
-    end(&rt, "run", &mut source, &mut sink, &FreeGate, 0)?;
-    assert_eq!(rt; sink.written(), text_of_run(alloc)?.as_slice());
+    let says = text_of_run(rt.alloc())?;
+    expect_reads(&rt, reads + 1, 0, says.as_str())
+}
+
+/// A sink with room for so many bytes that takes one byte a write, and fails at this one.
+fn sink_failing_at(alloc: Global, room: usize, write: u64) -> Result<ShortSink, Fail> {
+    let bytes = vec![in alloc; 0u8; room]?;
+    let takes = ones(alloc, room)?;
+    Ok(ShortSink::make(bytes, takes, Vec::from_slice(alloc, &[write])?))
+}
+
+/// Asserts that so many bytes of the text are written where the write of the next byte fails.
+fn expect_writes<R: Threads + Wait + Clone + Drop + Send + Sync + AllocGlobal + Abort>(
+    rt: &R,
+    text: &[u8],
+    taken: usize,
+) -> Result<(), Fail>
+    requires { taken ≤ length text.now }
+{
+    let mut source = SureSource::make(bytes_of(rt.alloc(), SCRIPT)?);
+    let mut sink = sink_failing_at(rt.alloc(), text.len(), taken as u64 + 1)?;
+    let status = if taken < text.len() { 5 } else { 0 };
+    end(rt, "run", &mut source, &mut sink, &FreeGate, status)?;
+    assert_eq!(rt; sink.written(), &text[..taken], "{taken}");
     Ok(())
 }
 
 #[test]
 fn writes_a_text_byte_by_byte_up_to_a_fault(rt: HostRuntime) -> Result<(), Fail> {
-    let alloc = rt.alloc();
-    let text = text_of_run(alloc)?;
+    let text = bytes_of(rt.alloc(), text_of_run(rt.alloc())?.as_str())?;
     for taken in 0..text.len() + 1 {
-        let mut source = SureSource::make(bytes_of(alloc, SCRIPT)?);
-        let fails = Vec::from_slice(alloc, &[taken as u64 + 1])?;
-        let room = vec![in alloc; 0u8; text.len()]?;
-        let mut sink = ShortSink::make(room, ones(alloc, text.len())?, fails);
-        let status = if taken < text.len() { 5 } else { 0 };
-        end(&rt, "run", &mut source, &mut sink, &FreeGate, status)?;
-        assert_eq!(rt; sink.written(), &text[..taken], "{taken}");
+        expect_writes(&rt, &text, taken)?;
     }
     Ok(())
 }

@@ -1,7 +1,10 @@
 //! Scripts that ask for a small table, each with the text of its run.
 
 use crate::test_runs::expect;
+use std::process::Abort;
+use std::sync::Wait;
 use std::test::Fail;
+use std::thread::Threads;
 
 /// A script without its first line and its last, and the text of its run; with a slash for a line's end.
 const ROWS: [(&str, &str); 7] = [
@@ -60,11 +63,20 @@ const ROWS: [(&str, &str); 7] = [
     ),
 ];
 
+/// Runs a script of these lines.
+fn expect_lines<R: Threads + Wait + Clone + Drop + Send + Sync + AllocGlobal + Abort>(
+    rt: &R,
+    lines: &str,
+    says: &str,
+) -> Result<(), Fail> {
+    let text = format!(in rt.alloc(); "oak 1/{lines}/end/")?;
+    expect(rt, text.as_str(), 0, says)
+}
+
 #[test]
 fn answers_on_small_shapes(rt: HostRuntime) -> Result<(), Fail> {
-    for (lines, says) in ROWS {
-        let text = format!(in rt.alloc(); "oak 1/{lines}/end/")?;
-        expect(&rt, text.as_str(), 0, says)?;
+    for (lines, says) in &ROWS {
+        expect_lines(&rt, lines, says)?;
     }
     Ok(())
 }

@@ -1,7 +1,8 @@
 //! What is said where no run is printed whole.
 
-use crate::test_runs::{bytes_of, end, expect, sink_of};
-use outside::{FreeGate, MemorySource, SureSource};
+use crate::test_runs::{bytes_of, expect, expect_end, repeated};
+use outside::{MemorySource, SureSource};
+use std::alloc::Global;
 use std::test::Fail;
 
 /// Texts that are no scripts, and the line that tells their first fault.
@@ -60,76 +61,66 @@ const FAULTS: [(&str, &str); 23] = [
 
 #[test]
 fn tells_the_first_fault(rt: HostRuntime) -> Result<(), Fail> {
-    for (text, says) in FAULTS {
+    for (text, says) in &FAULTS {
         expect(&rt, text, 3, says)?;
     }
-    let mut text = String::from_str(rt.alloc(), "oak 1/")?;
-    for _ in 0..17 {
-        text.push_str("thread/")?;
-    }
-    text.push_str("end/")?;
+    let text = repeated(rt.alloc(), "oak 1/", "thread/", 17, "end/")?;
     expect(&rt, text.as_str(), 3, "oakmap: line 18: threads")?;
-    let mut text = String::from_str(rt.alloc(), "oak 1/thread/")?;
-    for _ in 0..33 {
-        text.push_str("scan - -/")?;
-    }
-    text.push_str("end/")?;
+    let text = repeated(rt.alloc(), "oak 1/thread/", "scan - -/", 33, "end/")?;
     expect(&rt, text.as_str(), 3, "oakmap: line 35: scans")
 }
 
+/// Words with which the program is not to be called.
+const WRONG_WORDS: [&str; 16] = [
+    "run x",
+    "ran",
+    "Run",
+    "",
+    "gen",
+    "gen 1 1",
+    "gen 1 1 0 0",
+    "gen 0 1 0",
+    "gen 65537 1 0",
+    "gen 1 0 0",
+    "gen 1 17 0",
+    "gen 65536 5 0",
+    "gen 1 1 65536",
+    "gen 01 1 0",
+    "gen 1 1 -",
+    "Gen 1 1 0",
+];
+
 #[test]
 fn judges_the_words_first(rt: HostRuntime) -> Result<(), Fail> {
-    let alloc = rt.alloc();
-    for words in [
-        "run x",
-        "ran",
-        "Run",
-        "",
-        "gen",
-        "gen 1 1",
-        "gen 1 1 0 0",
-        "gen 0 1 0",
-        "gen 65537 1 0",
-        "gen 1 0 0",
-        "gen 1 17 0",
-        "gen 65536 5 0",
-        "gen 1 1 65536",
-        "gen 01 1 0",
-        "gen 1 1 -",
-        "Gen 1 1 0",
-    ] {
-        let mut source = SureSource::make(Vec::new(alloc));
-        let mut sink = sink_of(alloc, &[])?;
-        end(&rt, words, &mut source, &mut sink, &FreeGate, 2)?;
-        let says = b"oakmap: usage: oakmap run | gen N T S\n";
-        assert_eq!(rt; sink.written(), says.as_slice(), "{words}");
+    let says = "oakmap: usage: oakmap run | gen N T S/";
+    for words in &WRONG_WORDS {
+        let mut source = SureSource::make(Vec::new(rt.alloc()));
+        expect_end(&rt, words, &mut source, &[], 2, says)?;
     }
     Ok(())
+}
+
+/// A lawful script.
+const SCRIPT: &str = "oak 1/thread/put 6b31 7631/get 6b31/end/";
+
+/// A source of it that fails at the first read.
+fn failing_source(alloc: Global) -> Result<MemorySource, Fail> {
+    let bytes = bytes_of(alloc, SCRIPT)?;
+    Ok(MemorySource::make(bytes, Vec::from_slice(alloc, &[1])?))
 }
 
 #[test]
 fn counts_faults_of_the_outside(rt: HostRuntime) -> Result<(), Fail> {
-    let alloc = rt.alloc();
-    let script = "oak 1/thread/put 6b31 7631/get 6b31/end/";
-    let mut source = MemorySource::make(bytes_of(alloc, script)?, Vec::from_slice(alloc, &[1])?);
-    let mut sink = sink_of(alloc, &[])?;
-    end(&rt, "run", &mut source, &mut sink, &FreeGate, 4)?;
-    assert_eq!(rt; sink.written(), b"oakmap: read fault\n".as_slice());
+    let mut source = failing_source(rt.alloc())?;
+    expect_end(&rt, "run", &mut source, &[], 4, "oakmap: read fault/")?;
 
-    let mut source = SureSource::make(bytes_of(alloc, script)?);
-    let mut sink = sink_of(alloc, &[1])?;
-    end(&rt, "run", &mut source, &mut sink, &FreeGate, 5)?;
-    assert_eq!(rt; sink.written(), b"".as_slice());
-    Ok(())
+    let mut source = SureSource::make(bytes_of(rt.alloc(), SCRIPT)?);
+    expect_end(&rt, "run", &mut source, &[1], 5, "")
 }
 
 #[test]
 fn refuses_an_input_that_is_too_long(rt: HostRuntime) -> Result<(), Fail> {
-    let alloc = rt.alloc();
-    let mut source = SureSource::make(vec![in alloc; 97u8; 16_777_217]?);
-    let mut sink = sink_of(alloc, &[])?;
-    end(&rt, "run", &mut source, &mut sink, &FreeGate, 3)?;
-    let says = b"oakmap: input is longer than 16777216 bytes\n";
-    assert_eq!(rt; sink.written(), says.as_slice());
-    Ok(())
+    let mut source = SureSource::make(vec![in rt.alloc(); 97u8; 16_777_217]?);
+    let says = "oakmap: input is longer than 16777216 bytes/";
+    expect_end(&rt, "run", &mut source, &[], 3, says)
 }

@@ -64,6 +64,22 @@ pub(crate) fn script_of(alloc: Global, text: &str) -> Result<Script, Fail>
     }
 }
 
+/// The text of pieces that stand so many times behind a front, and of a back.
+pub(crate) fn repeated(
+    alloc: Global,
+    front: &str,
+    piece: &str,
+    times: usize,
+    back: &str,
+) -> Result<String, Fail> {
+    let mut text = String::from_str(alloc, front)?;
+    for _ in 0..times {
+        text.push_str(piece)?;
+    }
+    text.push_str(back)?;
+    Ok(text)
+}
+
 /// Runs the text's script under the gate: what the run answered, and the text of the run.
 pub(crate) fn run_of<R: Threads + Wait + Clone + Drop + Send + Sync + AllocGlobal, G: Gate>(
     rt: &R,
@@ -101,6 +117,35 @@ pub(crate) fn end<
     Ok(())
 }
 
+/// Asserts that these bytes were written in this case.
+pub(crate) fn expect_bytes(rt: &impl Abort, written: &[u8], wanted: &[u8], case: &str) {
+    assert_eq!(rt; written, wanted, "{case}");
+}
+
+/// Asserts that the text was written in this case; it has a slash for each line feed.
+pub(crate) fn expect_text(
+    rt: &impl Abort,
+    alloc: Global,
+    written: &[u8],
+    says: &str,
+    case: &str,
+) -> Result<(), Fail> {
+    let wanted = bytes_of(alloc, says)?;
+    expect_bytes(rt, written, &wanted, case);
+    Ok(())
+}
+
+/// Calls the program with these words, with a sink that fails at these writes, and asserts the status and the text that
+/// was written.
+pub(crate) fn expect_end<
+    R: Threads + Wait + Clone + Drop + Send + Sync + AllocGlobal + Abort,
+    S: Source,
+>(rt: &R, words: &str, source: &mut S, fails: &[u64], status: u8, says: &str) -> Result<(), Fail> {
+    let mut sink = sink_of(rt.alloc(), fails)?;
+    end(rt, words, source, &mut sink, &FreeGate, status)?;
+    expect_text(rt, rt.alloc(), sink.written(), says, words)
+}
+
 /// Runs `oakmap run` on the text under the gate, and asserts the status: what was written.
 pub(crate) fn written<
     R: Threads + Wait + Clone + Drop + Send + Sync + AllocGlobal + Abort,
@@ -118,9 +163,9 @@ pub(crate) fn expect_under<
     R: Threads + Wait + Clone + Drop + Send + Sync + AllocGlobal + Abort,
     G: Gate,
 >(rt: &R, text: &str, gate: &G, status: u8, says: &str) -> Result<(), Fail> {
-    let alloc = rt.alloc();
+    let wanted = lines_of(rt.alloc(), says)?;
     let sink = written(rt, text, gate, status)?;
-    assert_eq!(rt; sink.written(), lines_of(alloc, says)?.as_slice(), "{text}");
+    expect_bytes(rt, sink.written(), &wanted, text);
     Ok(())
 }
 

@@ -26,23 +26,44 @@ fn own_replies(alloc: Global, name: u8) -> Result<String, Fail> {
     Ok(lines)
 }
 
+/// The script of so many threads that work on keys of their own.
+fn own_script(alloc: Global, threads: u8) -> Result<String, Fail> {
+    let mut text = String::from_str(alloc, "oak 1/")?;
+    for name in 1..=threads {
+        text.push_str(own_lines(alloc, name)?.as_str())?;
+    }
+    text.push_str("end/")?;
+    Ok(text)
+}
+
+/// The line of the final map for each thread's key, with a slash before it.
+fn own_map(alloc: Global, threads: u8) -> Result<String, Fail> {
+    let mut map = String::new(alloc);
+    for name in 1..=threads {
+        let flipped = !name;
+        map.push_str(format!(in alloc; "/6b{name:02x} {flipped:02x}")?.as_str())?;
+    }
+    Ok(map)
+}
+
+/// The text of the run of that script, up to what is used.
+fn own_text(alloc: Global, threads: u8) -> Result<String, Fail> {
+    let mut says = String::new(alloc);
+    for name in 1..=threads {
+        says.push_str(own_replies(alloc, name)?.as_str())?;
+    }
+    let map = own_map(alloc, threads)?;
+    says.push_str(format!(in alloc; "map {threads}{map}")?.as_str())?;
+    Ok(says)
+}
+
 /// Threads that work on keys of their own have one text.
 fn expect_own<R: Threads + Wait + Clone + Drop + Send + Sync + AllocGlobal + Abort>(
     rt: &R,
     threads: u8,
 ) -> Result<(), Fail> {
-    let alloc = rt.alloc();
-    let mut text = String::from_str(alloc, "oak 1/")?;
-    let mut says = String::new(alloc);
-    let mut map = String::new(alloc);
-    for name in 1..=threads {
-        text.push_str(own_lines(alloc, name)?.as_str())?;
-        says.push_str(own_replies(alloc, name)?.as_str())?;
-        let flipped = !name;
-        map.push_str(format!(in alloc; "/6b{name:02x} {flipped:02x}")?.as_str())?;
-    }
-    text.push_str("end/")?;
-    let says = format!(in alloc; "{says}map {threads}{map}")?;
+    let text = own_script(rt.alloc(), threads)?;
+    let says = own_text(rt.alloc(), threads)?;
     let keys = u32::from(threads);
     expect_used(
         rt,

@@ -1,6 +1,6 @@
 //! The words with which the process is called.
 
-use crate::test_runs::{bytes_of, sink_of};
+use crate::test_runs::{bytes_of, expect_text, sink_of};
 use oakmap::program;
 use outside::{FreeGate, SureSource};
 use std::env::{Env, FillError};
@@ -62,17 +62,26 @@ const USAGE: &str = "oakmap: usage: oakmap run | gen N T S/";
 
 const SUMMARY: &str = "gen 4 1 0/calls 4/full 0/keys 4/sum 4/b16 8/";
 
+/// Calls the program with these words, and asserts the status and the text.
+fn expect_called<R: Threads + Wait + Clone + Drop + Send + Sync + AllocGlobal + Abort>(
+    rt: &R,
+    words: &'static [&'static [u8]],
+    status: u8,
+    says: &str,
+) -> Result<(), Fail> {
+    let alloc = rt.alloc();
+    let mut source = SureSource::make(bytes_of(alloc, "oak 1/thread/end/")?);
+    let mut sink = sink_of(alloc, &[])?;
+    let called = Called { rt, words };
+    let ended = program(&(called, alloc), &mut source, &mut sink, &FreeGate);
+    assert!(rt; ended == ExitCode::from(status));
+    expect_text(rt, alloc, sink.written(), says, says)
+}
+
 #[test]
 fn takes_the_words_behind_its_name(rt: HostRuntime) -> Result<(), Fail> {
-    let alloc = rt.alloc();
-    for (words, status, says) in CALLS {
-        let mut source = SureSource::make(bytes_of(alloc, "oak 1/thread/end/")?);
-        let mut sink = sink_of(alloc, &[])?;
-        let called = Called { rt: &rt, words };
-        let ended = program(&(called, alloc), &mut source, &mut sink, &FreeGate);
-        assert!(rt; ended == ExitCode::from(status));
-        let wanted = bytes_of(alloc, says)?;
-        assert_eq!(rt; sink.written(), wanted.as_slice());
+    for (words, status, says) in &CALLS {
+        expect_called(&rt, words, *status, says)?;
     }
     Ok(())
 }

@@ -1,7 +1,7 @@
 //! Generated workloads, each with its summary.
 
-use crate::test_runs::{bytes_of, end, sink_of};
-use outside::{FreeGate, MemorySource};
+use crate::test_runs::expect_end;
+use outside::MemorySource;
 use std::test::Fail;
 
 /// The words of a workload, and its summary, with a slash for a line's end.
@@ -24,12 +24,9 @@ const SUMMARIES: [(&str, &str); 4] = [
 #[test]
 fn sums_up_workloads_and_reads_nothing(rt: HostRuntime) -> Result<(), Fail> {
     let alloc = rt.alloc();
-    for (words, says) in SUMMARIES {
+    for (words, says) in &SUMMARIES {
         let mut source = MemorySource::make(Vec::new(alloc), Vec::from_slice(alloc, &[1])?);
-        let mut sink = sink_of(alloc, &[])?;
-        end(&rt, words, &mut source, &mut sink, &FreeGate, 0)?;
-        let wanted = bytes_of(alloc, says)?;
-        assert_eq!(rt; sink.written(), wanted.as_slice());
+        expect_end(&rt, words, &mut source, &[], 0, says)?;
     }
     Ok(())
 }
@@ -38,8 +35,5 @@ fn sums_up_workloads_and_reads_nothing(rt: HostRuntime) -> Result<(), Fail> {
 fn counts_a_fault_of_the_sink(rt: HostRuntime) -> Result<(), Fail> {
     let alloc = rt.alloc();
     let mut source = MemorySource::make(Vec::new(alloc), Vec::new(alloc));
-    let mut sink = sink_of(alloc, &[1])?;
-    end(&rt, "gen 4 2 0", &mut source, &mut sink, &FreeGate, 5)?;
-    assert_eq!(rt; sink.written(), b"".as_slice());
-    Ok(())
+    expect_end(&rt, "gen 4 2 0", &mut source, &[1], 5, "")
 }
