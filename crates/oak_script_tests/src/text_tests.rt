@@ -267,6 +267,16 @@ fn keeps_and_holds(alloc: Global, thread: &mut Thread) -> Result<(), OutOfMemory
     thread.add(Call::Hold { name, key }, Reply::Held { at: 5 })
 }
 
+/// Adds a look that finds what was held, and a removal.
+fn looks_and_removes(alloc: Global, thread: &mut Thread) -> Result<(), OutOfMemory>
+    requires { CallsAnswered thread.old.calls.items thread.old.replies.items }
+    ensures { OnOk result (CallsAnswered thread.new.calls.items thread.new.replies.items) }
+{
+    let reply = shown(alloc, b"a", &[3], 7)?;
+    thread.looks(alloc, b"h", reply)?;
+    thread.removes(alloc, b"a", 9)
+}
+
 /// Adds looks at what was held, and at what was not.
 fn looks_at_both(alloc: Global, thread: &mut Thread) -> Result<(), OutOfMemory>
     requires { CallsAnswered thread.old.calls.items thread.old.replies.items }
@@ -288,8 +298,7 @@ fn first_thread(alloc: Global) -> Result<Thread, OutOfMemory>
     thread.puts(alloc, b"a", b"", Wrote::New { at: 2 })?;
     thread.gets(alloc, b"a", b"", 2)?;
     keeps_and_holds(alloc, &mut thread)?;
-    thread.looks(alloc, b"h", shown(alloc, b"a", &[3], 7)?)?;
-    thread.removes(alloc, b"a", 9)?;
+    looks_and_removes(alloc, &mut thread)?;
     looks_at_both(alloc, &mut thread)?;
     Ok(thread)
 }
