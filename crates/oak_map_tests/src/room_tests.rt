@@ -185,7 +185,28 @@ fn go_around<R: Abort + Wait + Drop + Send>(rt: &R, map: &OakMap<R>, pass: &mut 
     }
 }
 
-/// A map for these keys has room for each of them, time and again, and for one more only in place of another. Else it lacks this.
+/// There is room for each key, and for one more only in place of another. Else the map lacks this.
+fn fills<R: Abort + Wait + Drop + Send>(
+    rt: &R,
+    map: &OakMap<R>,
+    pass: &mut MapPass,
+    keys: Keys,
+    lack: Lack,
+)
+    requires short { AreShort keys.count keys.bytes keys.first keys.second }
+    requires own { IsReady map.now pass.old }
+    requires call { call_of pass.old ≤ 2000 }
+    requires ready { IsReadyFor (call_of pass.old) (state pass.old) }
+{
+    put_each(rt, map, pass, 2000, keys, keys.first);
+    let more = key_of(keys.count);
+    let full = put(rt, map, pass, 2101, &more[..keys.bytes], b"1");
+    assert!(rt; full == Wrote::Full(lack), "{full:?}");
+    remove_number(rt, map, pass, 2102, keys, 0);
+    put_number(rt, map, pass, 2103, keys, keys.count, keys.second);
+}
+
+/// A map for these keys has room for each of them, time and again, and for no more.
 fn has_just_room<R: Abort + Wait + Clone + AllocGlobal + Drop + Send>(
     rt: &R,
     keys: Keys,
@@ -197,12 +218,7 @@ fn has_just_room<R: Abort + Wait + Clone + AllocGlobal + Drop + Send>(
     let shape = Shape::for_keys(keys.count, keys.bytes, longest, 1)?;
     let (map, mut pass) = OakMap::create(rt, &shape)?;
     go_around(rt, &map, &mut pass, keys);
-    put_each(rt, &map, &mut pass, 2000, keys, keys.first);
-    let more = key_of(keys.count);
-    let full = put(rt, &map, &mut pass, 2101, &more[..keys.bytes], b"1");
-    assert!(rt; full == Wrote::Full(lack), "{full:?}");
-    remove_number(rt, &map, &mut pass, 2102, keys, 0);
-    put_number(rt, &map, &mut pass, 2103, keys, keys.count, keys.second);
+    fills(rt, &map, &mut pass, keys, lack);
     pass.leave();
     drop(map);
     Ok(())

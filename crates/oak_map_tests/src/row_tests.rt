@@ -8,10 +8,10 @@ ghost use Rattle.point_ops.specs.TestStates.{IsReady as IsReadyFor, IsReadyAgain
 ghost use Rattle.scan_cursor.specs.Cursors.{IsCursor, ReadsPair, under};
 ghost use Rattle.oak_map.specs.Maps.{IsReady, call_of, state, table_of};
 
-use crate::test_calls::{get, put, remove, scan_whole, settle};
+use crate::test_calls::{get, make, put, remove, scan_whole, settle};
 use oak_core::Pass;
 use oak_map::{Cursor, MapPass, OakMap, Way};
-use oak_model::{Class, Lack, Shape, Usage, Wrote};
+use oak_model::{Class, Lack, Usage, Wrote};
 use std::process::Abort;
 use std::sync::Wait;
 use std::test::Fail;
@@ -239,6 +239,36 @@ fn scans_both<R: Abort + Wait + Drop + Send>(
     scans(rt, map, pass.pass_mut(), writes, pairs, Way::Down);
 }
 
+/// The map answers the calls of the row so, and holds its pairs then, settled.
+fn answers_row<R: Abort + Wait + Drop + Send>(
+    rt: &R,
+    map: &OakMap<R>,
+    pass: &mut MapPass,
+    row: &Row<'_>,
+)
+    requires own { IsReady map.now pass.old }
+    requires first { call_of pass.old ≡ 0 }
+    requires ready { IsReadyFor 0 (state pass.old) }
+    requires few { length row.now.calls.now ≤ CALLS }
+    ensures own { IsReady map.now pass.new }
+    ensures numbers { (state pass.new).numbers ≡ (state pass.old).numbers }
+{
+    let mut writes = [(0, 0); CALLS];
+    answers_all(rt, map, pass, &mut writes, row.calls);
+    settle(rt, map, pass);
+    scans_both(rt, map, pass, &writes, row.pairs);
+}
+
+/// What is used is what is due.
+fn is_used(rt: &impl Abort, used: Usage, due: (u32, u32, u32)) {
+    let due = Usage {
+        blocks: [due.0, 0, 0, 0],
+        headers: due.1,
+        chunks: due.2,
+    };
+    assert!(rt; used == due, "{used:?}");
+}
+
 /// The row is right.
 fn works<R: Abort + Wait + Clone + Drop + Send + AllocGlobal>(
     rt: &R,
@@ -246,23 +276,9 @@ fn works<R: Abort + Wait + Clone + Drop + Send + AllocGlobal>(
 ) -> Result<(), Fail> {
     assert!(rt; row.calls.len() <= CALLS);
     let (chunks, entries, headers, blocks) = row.shape;
-    let shape = Shape::make(1, chunks, entries, headers, [blocks, 0, 0, 0])?;
-    let (map, mut pass) = OakMap::create(rt, &shape)?;
-    let mut writes = [(0, 0); CALLS];
-    answers_all(rt, &map, &mut pass, &mut writes, row.calls);
-    settle(rt, &map, &mut pass);
-    scans_both(rt, &map, &mut pass, &writes, row.pairs);
-    let used = map.close(pass).usage();
-    let (blocks, headers, chunks) = row.used;
-    let blocks = [blocks, 0, 0, 0];
-    assert!(rt;
-        used == Usage {
-            blocks,
-            headers,
-            chunks
-        },
-        "{used:?}"
-    );
+    let (map, mut pass) = make(rt, 1, chunks, entries, headers, blocks)?;
+    answers_row(rt, &map, &mut pass, row);
+    is_used(rt, map.close(pass).usage(), row.used);
     Ok(())
 }
 
@@ -382,13 +398,20 @@ const MERGED: Row<'static> = Row {
     used: (4, 2, 1),
 };
 
+/// All of them.
+const ROWS: [&Row<'static>; 6] = [
+    &PUT_ANEW,
+    &FALLING,
+    &TWO_BLOCKS,
+    &ONE_ROOM,
+    &ONE_HEADER,
+    &MERGED,
+];
+
 #[test]
 fn worked_rows(rt: HostRuntime) -> Result<(), Fail> {
-    works(&rt, &PUT_ANEW)?;
-    works(&rt, &FALLING)?;
-    works(&rt, &TWO_BLOCKS)?;
-    works(&rt, &ONE_ROOM)?;
-    works(&rt, &ONE_HEADER)?;
-    works(&rt, &MERGED)?;
+    for row in &ROWS {
+        works(&rt, row)?;
+    }
     Ok(())
 }

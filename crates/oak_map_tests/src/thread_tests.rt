@@ -8,10 +8,10 @@ ghost use Rattle.scan_cursor.specs.Cursors.{IsCursor, ReadsPair, under};
 ghost use Rattle.oak_map.specs.Maps.{IsReady, call_of, state, table_of};
 ghost use Rattle.oak_map_tests.specs.declared.thread_tests.TheConstants.{STAY};
 
-use crate::test_calls::{put, remove, scan_whole, settle};
+use crate::test_calls::{make, put, remove, scan_whole, settle};
 use oak_core::Pass;
 use oak_map::{Cursor, MapPass, OakMap, Way};
-use oak_model::{Shape, Wrote};
+use oak_model::Wrote;
 use std::process::Abort;
 use std::sync::Wait;
 use std::test::Fail;
@@ -290,8 +290,7 @@ fn split_and_work<R: Threads + Abort + Wait + Sync + AllocGlobal + Drop + Send>(
 
 #[test]
 fn scans_beside_a_writer(rt: HostRuntime) -> Result<(), Fail> {
-    let shape = Shape::make(2, 16, 4, 48, [128, 0, 0, 0])?;
-    let (map, mut pass) = OakMap::create(&rt, &shape)?;
+    let (map, mut pass) = make(&rt, 2, 16, 4, 48, 128)?;
     fill(&rt, &map, &mut pass);
     split_and_work(&rt, &map, &mut pass);
     map.close(pass);

@@ -206,28 +206,30 @@ fn scan_all<R: Abort + Wait>(rt: &R, table: &OakTable, pass: &mut Pass, rows: &[
     }
 }
 
+/// Scans of what is left then.
+const SCANNED: [Scan<'static>; 14] = [
+    (Way::Up, 0, 0, b"acdeghi"),
+    (Way::Down, 0, 0, b"ihgedca"),
+    (Way::Up, b'c', b'g', b"cdeg"),
+    (Way::Down, b'c', b'g', b"gedc"),
+    (Way::Up, b'b', b'f', b"cde"),
+    (Way::Down, b'b', b'f', b"edc"),
+    (Way::Up, b'A', b'z', b"acdeghi"),
+    (Way::Down, b'A', b'z', b"ihgedca"),
+    (Way::Up, 0, b'd', b"acd"),
+    (Way::Down, b'd', 0, b"ihged"),
+    (Way::Up, b'f', b'f', b""),
+    (Way::Down, b'j', b'z', b""),
+    (Way::Up, b'h', b'c', b""),
+    (Way::Down, b'h', b'c', b""),
+];
+
 #[test]
 fn seven_pairs_in_four_rooms(rt: HostRuntime) -> Result<(), Fail> {
     let shape = Shape::make(1, 4, 4, 16, [32, 0, 0, 0])?;
-    let scanned: [Scan; 14] = [
-        (Way::Up, 0, 0, b"acdeghi"),
-        (Way::Down, 0, 0, b"ihgedca"),
-        (Way::Up, b'c', b'g', b"cdeg"),
-        (Way::Down, b'c', b'g', b"gedc"),
-        (Way::Up, b'b', b'f', b"cde"),
-        (Way::Down, b'b', b'f', b"edc"),
-        (Way::Up, b'A', b'z', b"acdeghi"),
-        (Way::Down, b'A', b'z', b"ihgedca"),
-        (Way::Up, 0, b'd', b"acd"),
-        (Way::Down, b'd', 0, b"ihged"),
-        (Way::Up, b'f', b'f', b""),
-        (Way::Down, b'j', b'z', b""),
-        (Way::Up, b'h', b'c', b""),
-        (Way::Down, b'h', b'c', b""),
-    ];
     let (table, mut pass) = OakTable::create(rt.alloc(), &shape)?;
     write_all(&rt, &table, &mut pass, &WRITTEN);
-    scan_all(&rt, &table, &mut pass, &scanned);
+    scan_all(&rt, &table, &mut pass, &SCANNED);
     table.close(pass);
     Ok(())
 }
