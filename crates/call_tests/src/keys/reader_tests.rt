@@ -5,8 +5,9 @@ ghost use Rattle.oak_core.specs.PassState.{HoldsNothing, IsAlone};
 ghost use Rattle.value_ops.specs.Reading.{IsReading, ReadsOn};
 ghost use Rattle.point_ops.specs.TestStates.{HasView, IsReady, IsReadyAgain};
 
+use crate::calls::shows;
 use crate::keys::test_rows::Said;
-use crate::keys::tests::{gets, is_gone, put_byte, remove_k, shows, view_of_k};
+use crate::keys::tests::{gets, is_gone, put_byte, remove_k, view_of_k};
 use oak_core::{OakTable, Pass};
 use oak_model::Shape;
 use std::alloc::Global;

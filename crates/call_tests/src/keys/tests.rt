@@ -3,11 +3,12 @@ ghost use Rattle.std.specs.Prelude.{◌≡◌, ◌<◌, ◌≤◌, ◌+◌, ◌^
 ghost use Rattle.oak_model.specs.Key.{IsKey};
 ghost use Rattle.oak_model.specs.Value.{IsValue};
 ghost use Rattle.oak_core.specs.MayWrite.{IsNewCall};
-ghost use Rattle.oak_core.specs.Passes.{IsPassOf, Stays, Turns, state, key as sizes, call_of};
+ghost use Rattle.oak_core.specs.Passes.{IsPassOf, Stays, state, key as sizes, call_of};
 ghost use Rattle.oak_core.specs.PassState.{HoldsNothing, IsAlone};
 ghost use Rattle.oak_core.specs.Scratch.{StaysButScratch};
 ghost use Rattle.point_ops.specs.TestStates.{HasView, IsReady, IsReadyAgain};
 
+use crate::calls::{shows, turn};
 use crate::keys::test_rows::{Ask, ROWS, ROWS_OF_FOUR_ENTRIES, ROWS_OF_ONE_HEADER, Row, Said};
 use oak_core::{OakTable, Pass};
 use oak_model::{Class, NO_HINT, RecipeKind, Shape, Usage, Wrote};
@@ -19,17 +20,6 @@ use std::process::Abort;
 use std::test::Fail;
 use std::thread::{Threads, join_mut};
 use value_ops::{NoRead, Recipe, StepRecipe, ValueView};
-
-/// The pass's next call.
-pub(crate) fn turn(pass: &mut Pass, call: u32)
-    requires above { call_of pass.old < call }
-    requires ready { IsReady (call_of pass.old) (state pass.old) }
-    ensures turned { Turns pass.old pass.new call }
-    ensures new { IsNewCall (call_of pass.new) (state pass.new) }
-    ensures ready { IsReadyAgain call (state pass.old) (state pass.new) }
-{
-    pass.turn(call);
-}
 
 /// A refusal as a row has it.
 fn halted(halt: Halt) -> (Said, u64) {
@@ -53,36 +43,6 @@ fn said(reply: Result<Wrote, Halt>) -> (Said, u64) {
         Ok(Wrote::Absent { at }) => (Said::Absent, at),
         Ok(Wrote::Full(_)) => (Said::Busy, 1),
         Err(halt) => halted(halt),
-    }
-}
-
-/// The view shows these bytes, with this number.
-pub(crate) fn shows(
-    rt: &impl Abort,
-    table: &OakTable,
-    pass: &mut Pass,
-    view: &ValueView,
-    bytes: &[u8],
-) -> u64
-    requires own { IsPassOf table.now pass.old }
-    requires has { HasView (sizes table.now) view.now (state pass.old) }
-    requires ready { IsReady (call_of pass.old) (state pass.old) }
-    ensures own { Stays pass.old pass.new }
-    ensures ready { IsReadyAgain (call_of pass.old) (state pass.old) (state pass.new) }
-{
-    match view.pin(table, pass) {
-        Ok(pin) => {
-            let mut reading = pin.reading(table, pass);
-            let same = reading.same(bytes);
-            let at = reading.at();
-            reading.done();
-            assert!(rt; same);
-            at
-        }
-        Err(_) => {
-            assert!(rt; false);
-            0
-        }
     }
 }
 

@@ -4,7 +4,8 @@ ghost use Rattle.oak_model.specs.Key.{IsKey};
 ghost use Rattle.oak_core.specs.Passes.{IsPassOf, Stays, state, call_of};
 ghost use Rattle.point_ops.specs.TestStates.{IsReady, IsReadyAgain};
 
-use crate::rebalancing::test_calls::{Ask, Said, is_due, put, rebalance, turn};
+use crate::calls::turn;
+use crate::rebalancing::test_calls::{Ask, Said, is_due, put, rebalance};
 use chunk_ops::{Found, find, pin_for, unpin};
 use oak_core::{OakTable, Pass};
 use oak_model::{NO_HINT, Shape};

@@ -8,7 +8,8 @@ ghost use Rattle.oak_core.specs.Scratch.{StaysButSlots};
 ghost use Rattle.point_ops.specs.TestStates.{IsReady, IsReadyAgain};
 ghost use Rattle.call_tests.specs.declared.rebalancing.random_tests.TheConstants.{KEYS};
 
-use crate::rebalancing::test_calls::{Ask, Said, put, rebalance, remove, turn};
+use crate::calls::turn;
+use crate::rebalancing::test_calls::{Ask, Said, put, rebalance, remove};
 use crate::rebalancing::test_maps::{
     Plain, agrees, all_agree, ends_as, make_keys, note_put, note_removal,
 };

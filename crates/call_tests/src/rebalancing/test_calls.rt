@@ -1,20 +1,20 @@
 //! What the tests ask of a table, each time by one pass.
-ghost use Rattle.std.specs.Prelude.{◌≡◌, ◌<◌, Err};
+ghost use Rattle.std.specs.Prelude.{◌≡◌, Err};
 ghost use Rattle.oak_model.specs.Key.{IsKey};
 ghost use Rattle.oak_model.specs.Value.{IsValue};
 ghost use Rattle.oak_core.specs.MayWrite.{IsNewCall};
-ghost use Rattle.oak_core.specs.Passes.{IsPassOf, Stays, Turns, state, key as sizes, call_of};
+ghost use Rattle.oak_core.specs.Passes.{IsPassOf, Stays, state, call_of};
 ghost use Rattle.oak_core.specs.Scratch.{StaysButSlots};
-ghost use Rattle.point_ops.specs.TestStates.{HasView, IsReady, IsReadyAgain};
+ghost use Rattle.point_ops.specs.TestStates.{IsReady, IsReadyAgain};
 ghost use Rattle.point_ops.specs.declared.halts.Halt.{Halt};
 
+use crate::calls::shows;
 use oak_core::{OakTable, Pass};
 use oak_model::{NO_HINT, Wrote};
 use point_ops::{Got, Halt, try_get, try_put, try_remove};
 use rebalance::{NoRoom, Split, compact, merge, settle, split};
 use std::process::Abort;
 use std::sync::Wait;
-use value_ops::ValueView;
 
 /// What is asked.
 #[derive(Clone, Copy)]
@@ -48,17 +48,6 @@ pub(crate) enum Said {
     Strange,
 }
 
-/// The pass's next call.
-pub(crate) fn turn(pass: &mut Pass, call: u32)
-    requires above { call_of pass.old < call }
-    requires ready { IsReady (call_of pass.old) (state pass.old) }
-    ensures turned { Turns pass.old pass.new call }
-    ensures new { IsNewCall (call_of pass.new) (state pass.new) }
-    ensures ready { IsReadyAgain call (state pass.old) (state pass.new) }
-{
-    pass.turn(call);
-}
-
 /// The call has the answer that is due.
 pub(crate) fn is_due(rt: &impl Abort, call: u32, said: Said, due: Said) {
     assert_eq!(rt; said, due, "call {call}");
@@ -75,25 +64,6 @@ fn answered(reply: Result<Wrote, Halt>) -> Said
         Ok(Wrote::Absent { at }) => Said::Absent(at),
         Ok(_) => Said::Strange,
         Err(halt) => Said::Halted(halt),
-    }
-}
-
-/// The view shows these bytes.
-fn shows(rt: &impl Abort, table: &OakTable, pass: &mut Pass, view: &ValueView, bytes: &[u8])
-    requires own { IsPassOf table.now pass.old }
-    requires has { HasView (sizes table.now) view.now (state pass.old) }
-    requires ready { IsReady (call_of pass.old) (state pass.old) }
-    ensures own { Stays pass.old pass.new }
-    ensures ready { IsReadyAgain (call_of pass.old) (state pass.old) (state pass.new) }
-{
-    match view.pin(table, pass) {
-        Ok(pin) => {
-            let mut reading = pin.reading(table, pass);
-            let same = reading.same(bytes);
-            reading.done();
-            assert!(rt; same);
-        }
-        Err(_) => assert!(rt; false),
     }
 }
 

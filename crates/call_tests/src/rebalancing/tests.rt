@@ -5,7 +5,8 @@ ghost use Rattle.oak_core.specs.MayWrite.{IsNewCall};
 ghost use Rattle.oak_core.specs.Passes.{IsPassOf, state, call_of};
 ghost use Rattle.point_ops.specs.TestStates.{IsReady, IsReadyAgain};
 
-use crate::rebalancing::test_calls::{Ask, Said, get, is_due, put, rebalance, remove, turn};
+use crate::calls::turn;
+use crate::rebalancing::test_calls::{Ask, Said, get, is_due, put, rebalance, remove};
 use oak_core::{OakTable, Pass};
 use oak_model::{Shape, Usage};
 use point_ops::Halt;

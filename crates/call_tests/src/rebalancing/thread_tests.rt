@@ -9,7 +9,8 @@ ghost use Rattle.oak_core.specs.Scratch.{StaysButSlots};
 ghost use Rattle.point_ops.specs.TestStates.{IsReady, IsReadyAgain};
 ghost use Rattle.point_ops.specs.declared.halts.Halt.{Halt};
 
-use crate::rebalancing::test_calls::{Ask, Said, put, rebalance, remove, turn};
+use crate::calls::turn;
+use crate::rebalancing::test_calls::{Ask, Said, put, rebalance, remove};
 use crate::rebalancing::test_maps::{Plain, ends_as, make_keys, note_put, note_removal};
 use oak_core::{OakTable, Pass};
 use oak_model::{Key, OutOfMemory, Shape};

@@ -1,9 +1,9 @@
 //! What the tests write to a table, by one pass.
-ghost use Rattle.std.specs.Prelude.{◌≡◌, ◌<◌, IfErr};
+ghost use Rattle.std.specs.Prelude.{◌≡◌, IfErr};
 ghost use Rattle.oak_model.specs.Key.{IsKey};
 ghost use Rattle.oak_model.specs.Value.{IsValue};
 ghost use Rattle.oak_core.specs.MayWrite.{IsNewCall};
-ghost use Rattle.oak_core.specs.Passes.{IsPassOf, Stays, Turns, state, call_of};
+ghost use Rattle.oak_core.specs.Passes.{IsPassOf, Stays, state, call_of};
 ghost use Rattle.oak_core.specs.Scratch.{StaysButSlots};
 ghost use Rattle.point_ops.specs.TestStates.{IsReady, IsReadyAgain};
 
@@ -13,17 +13,6 @@ use point_ops::{Halt, try_put, try_remove};
 use rebalance::{Split, split};
 use std::process::Abort;
 use std::sync::Wait;
-
-/// The pass's next call.
-pub(crate) fn turn(pass: &mut Pass, call: u32)
-    requires above { call_of pass.old < call }
-    requires ready { IsReady (call_of pass.old) (state pass.old) }
-    ensures turned { Turns pass.old pass.new call }
-    ensures new { IsNewCall (call_of pass.new) (state pass.new) }
-    ensures ready { IsReadyAgain call (state pass.old) (state pass.new) }
-{
-    pass.turn(call);
-}
 
 /// The stamp of the write; 0 where nothing was written.
 fn stamp_of(reply: Result<Wrote, Halt>) -> u64 {

@@ -7,7 +7,8 @@ ghost use Rattle.oak_core.specs.Scratch.{StaysButSlots};
 ghost use Rattle.point_ops.specs.TestStates.{IsReady, IsReadyAgain};
 ghost use Rattle.scan_cursor.specs.Cursors.{IsCursor, ReadsPair, under};
 
-use crate::scans::test_calls::{put, remove, turn};
+use crate::calls::turn;
+use crate::scans::test_calls::{put, remove};
 use oak_core::{OakTable, Pass};
 use oak_model::Shape;
 use scan_cursor::{Cursor, Way};

@@ -7,7 +7,7 @@ use Rattle.value_ops.specs.PinnedValues.{OnlyLoads}
 use Rattle.value_ops.proofs.ReadRounds.{read_round}
 use Rattle.point_ops.specs.TestStates.{IsReadyAgain}
 use Rattle.point_ops.proofs.TestLaws.{learned_again}
-use Rattle.call_tests.proofs.keys.tests.shows.Goals as goal
+use Rattle.call_tests.proofs.calls.shows.Goals as goal
 
 -- the pin, the reading and the unpin leave what the pass holds
 pub returns-in-Ok-clause-ready : goal.returns-in-Ok-clause-ready
