@@ -25,7 +25,7 @@ const CLASS_ROWS: [(usize, Option<Class>); 8] = [
 
 #[test]
 fn classes_of_lengths(rt: HostRuntime) {
-    for (n, class) in CLASS_ROWS {
+    for &(n, class) in &CLASS_ROWS {
         assert_eq!(rt; class_of(n), class, "at {n}");
     }
     assert_eq!(rt; Class::B256.bytes(), 256);
@@ -103,7 +103,7 @@ fn is_printed(rt: &impl Abort, alloc: Global, answer: Wrote, text: &str) -> Resu
 
 #[test]
 fn answers_for_people(rt: HostRuntime) -> Result<(), Fail> {
-    for (answer, text) in PRINTED {
+    for &(answer, text) in &PRINTED {
         is_printed(&rt, rt.alloc(), answer, text)?;
     }
     Ok(())

@@ -52,7 +52,7 @@ fn has_parts(rt: &impl Abort, word: u64, age: u32, at: u8, pins: u32) {
 
 #[test]
 fn words_of_the_table(rt: HostRuntime) -> Result<(), Fail> {
-    for (age, at, pins, word) in ROWS {
+    for &(age, at, pins, word) in &ROWS {
         packs(&rt, age, at, pins, word);
         has_parts(&rt, word, age, at, pins);
     }
