@@ -3,11 +3,12 @@ ghost use Rattle.std.specs.Prelude.{◌≡◌, length};
 
 use oak_core::Writing;
 use oak_model::RecipeKind;
+use std::process::Abort;
 use std::test::Fail;
 use value_ops::{Recipe, StepRecipe};
 
 /// A recipe that tells how many bytes it was applied to last.
-#[derive(Debug, Drop)]
+#[derive(Drop)]
 struct LengthRecipe {
     step: StepRecipe,
     bytes: usize,
@@ -44,6 +45,13 @@ impl Recipe for LengthRecipe {
     }
 }
 
+/// The recipe was told this kind and argument, and was not called.
+fn is_told(rt: &impl Abort, recipe: &Box<dyn Recipe + Send>, kind: RecipeKind, argument: u64) {
+    assert_eq!(rt; recipe.kind(), kind);
+    assert_eq!(rt; recipe.argument(), argument);
+    assert_eq!(rt; recipe.calls(), 0);
+}
+
 #[test]
 fn a_recipe_that_tells_of_its_bytes_is_boxed(rt: HostRuntime) -> Result<(), Fail> {
     let own = LengthRecipe {
@@ -52,20 +60,15 @@ fn a_recipe_that_tells_of_its_bytes_is_boxed(rt: HostRuntime) -> Result<(), Fail
     };
     let mut recipe: Box<dyn Recipe + Send> = Box::new(rt.alloc(), own)?;
     recipe.tell(RecipeKind::Xor, 15);
-    assert_eq!(rt; recipe.kind(), RecipeKind::Xor);
-    assert_eq!(rt; recipe.argument(), 15);
-    assert_eq!(rt; recipe.calls(), 0);
+    is_told(&rt, &recipe, RecipeKind::Xor, 15);
     Ok(())
 }
 
 #[test]
 fn a_boxed_recipe_is_told_and_not_called(rt: HostRuntime) -> Result<(), Fail> {
     let mut recipe: Box<dyn Recipe + Send> = Box::new(rt.alloc(), StepRecipe::make())?;
-    assert_eq!(rt; recipe.kind(), RecipeKind::Rev);
-    assert_eq!(rt; recipe.argument(), 0);
+    is_told(&rt, &recipe, RecipeKind::Rev, 0);
     recipe.tell(RecipeKind::Xor, 15);
-    assert_eq!(rt; recipe.kind(), RecipeKind::Xor);
-    assert_eq!(rt; recipe.argument(), 15);
-    assert_eq!(rt; recipe.calls(), 0);
+    is_told(&rt, &recipe, RecipeKind::Xor, 15);
     Ok(())
 }
