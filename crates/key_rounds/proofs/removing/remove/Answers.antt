@@ -3,7 +3,8 @@ use Rattle.oak_core.specs.KeyReads.{home_of}
 use Rattle.oak_core.specs.LastReads.{KnowsLifeOf}
 use Rattle.oak_core.specs.Passes.{state, call_of}
 use Rattle.key_rounds.proofs.Calls.{wrote_none}
-use Rattle.key_rounds.proofs.Keeping.{entry_kept, learned_ends}
+use Rattle.chunk_ops.proofs.PinsKept.{entry_kept}
+use Rattle.key_rounds.proofs.Keeping.{learned_ends}
 use Rattle.key_rounds.proofs.removing.remove.Goals as goal
 
 pub remove_at-requires-clause-entry : goal.remove_at-requires-clause-entry

@@ -4,7 +4,7 @@ use Rattle.oak_core.specs.declared.states.PassState.{PassState}
 use Rattle.oak_core.specs.Passes.{state, key, call_of}
 use Rattle.value_ops.specs.HeldValue.{stamp_held, value_locked}
 use Rattle.key_rounds.proofs.Calls.{wrote_none}
-use Rattle.key_rounds.proofs.Keeping.{entry_kept}
+use Rattle.chunk_ops.proofs.PinsKept.{entry_kept}
 use Rattle.key_rounds.proofs.UnderLocks.{HoldsOne, lock_of_own, lock_one}
 use Rattle.key_rounds.proofs.Removals.{locks_life, removed_ends}
 use Rattle.key_rounds.proofs.removing.remove_at.Goals as goal

@@ -1,6 +1,6 @@
 use Rattle.std.proofs.Common.{ap, ◌∙◌}
 use Rattle.oak_core.specs.Passes.{state}
-use Rattle.key_rounds.proofs.Keeping.{entry_kept}
+use Rattle.chunk_ops.proofs.PinsKept.{entry_kept}
 use Rattle.key_rounds.proofs.rounds.life.Goals as goal
 
 pub change-requires-clause-entry : goal.change-requires-clause-entry

@@ -3,7 +3,8 @@ use Rattle.oak_model.specs.declared.writes.Kind.TheVariants.{Put}
 use Rattle.oak_core.specs.Passes.{state, call_of}
 use Rattle.key_rounds.specs.Rounds.{WroteNothing}
 use Rattle.key_rounds.proofs.Calls.{put_new, wrote_none, wrote_same}
-use Rattle.key_rounds.proofs.Keeping.{ends_behind, entry_kept, learned_nothing, nothing_both, nothing_ends}
+use Rattle.chunk_ops.proofs.PinsKept.{entry_kept}
+use Rattle.key_rounds.proofs.Keeping.{ends_behind, learned_nothing, nothing_both, nothing_ends}
 use Rattle.key_rounds.proofs.FreshHeaders.{life_set}
 use Rattle.key_rounds.proofs.setting.set.Goals as goal
 
