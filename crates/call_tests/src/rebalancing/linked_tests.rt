@@ -13,7 +13,7 @@ use std::process::Abort;
 use std::sync::Wait;
 use std::test::Fail;
 
-/// The key is found in the room that has it, or is missing there.
+/// The key is found in the room that has it, or is missing there, behind an entry.
 fn is_found(rt: &impl Abort, table: &OakTable, pass: &mut Pass, key: &[u8], due: bool)
     requires own { IsPassOf table.now pass.old }
     requires key { IsKey key.now }
@@ -27,7 +27,11 @@ fn is_found(rt: &impl Abort, table: &OakTable, pass: &mut Pass, key: &[u8], due:
     };
     let found = find(table, pass, &pin, key);
     unpin(table, pass, pin);
-    assert!(rt; due != matches!(found, Found::Missing));
+    let right = match found {
+        Found::Entry(_) => due,
+        Found::Missing { behind } => !due && behind.is_some(),
+    };
+    assert!(rt; right, "{key:?}");
 }
 
 /// The key is put, which was absent.

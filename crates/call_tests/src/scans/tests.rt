@@ -1,4 +1,4 @@
-//! Scans of a table of four small rooms.
+//! Scans of tables of a few small rooms.
 ghost use Rattle.std.specs.Prelude.{◌≡◌, ◌<◌, ◌^◌, IfSome, IsSome, length};
 ghost use Rattle.oak_model.specs.Key.{IsKey};
 ghost use Rattle.oak_core.specs.PassState.{HoldsNothing};
@@ -73,7 +73,7 @@ fn write_all<R: Abort + Wait>(rt: &R, table: &OakTable, pass: &mut Pass, rows: &
     }
 }
 
-/// The value of the letter in the end, and its stamp.
+/// The value of the letter in the end, and its stamp; of one that only the greater room has, those of its one write.
 fn value_of(letter: u8) -> (u8, u64) {
     match letter {
         b'a' => (11, 1),
@@ -83,7 +83,7 @@ fn value_of(letter: u8) -> (u8, u64) {
         b'g' => (17, 1),
         b'h' => (38, 3),
         b'i' => (19, 1),
-        _ => (0, 0),
+        _ => (1, 1),
     }
 }
 
@@ -267,6 +267,46 @@ fn put_lengths<R: Abort + Wait>(rt: &R, table: &OakTable, pass: &mut Pass)
     for i in 0..LENGTHS {
         puts_key(rt, table, pass, i as u32 + 1, &LONGEST[..i + 1]);
     }
+}
+
+/// The key of each letter is put, in this order.
+fn put_letters<R: Abort + Wait>(rt: &R, table: &OakTable, pass: &mut Pass, letters: &[u8])
+    requires own { IsPassOf table.now pass.old }
+    requires first { call_of pass.old ≡ 0 }
+    requires ready { IsReady 0 (state pass.old) }
+    requires few { length letters.now < 2 ^ 32 }
+    ensures own { IsPassOf table.now pass.new }
+    ensures ready { IsReadyAgain (length letters.now) (state pass.old) (state pass.new) }
+{
+    for i in 0..letters.len() {
+        puts_key(rt, table, pass, i as u32 + 1, &[letters[i]]);
+    }
+}
+
+/// The first 24 keys fill a room, and the next splits it. So the lower room has a sorted prefix of twelve entries, and
+/// behind that eight that were appended, whose keys lie between those of the prefix.
+#[test]
+fn twenty_entries_of_one_room(rt: HostRuntime) -> Result<(), Fail> {
+    let shape = Shape::make(1, 4, 24, 48, [80, 0, 0, 0])?;
+    let scanned: [Scan; 12] = [
+        (Way::Up, 0, 0, b"ABCDEFGHIJKLMNOPQSUWYjklmnopqrst"),
+        (Way::Down, 0, 0, b"tsrqponmlkjYWUSQPONMLKJIHGFEDCBA"),
+        (Way::Up, b'A', b'W', b"ABCDEFGHIJKLMNOPQSUW"),
+        (Way::Down, b'A', b'W', b"WUSQPONMLKJIHGFEDCBA"),
+        (Way::Up, b'N', b'S', b"NOPQS"),
+        (Way::Down, b'N', b'S', b"SQPON"),
+        (Way::Up, b'C', b'C', b"C"),
+        (Way::Down, b'C', b'C', b"C"),
+        (Way::Up, b'F', b'F', b"F"),
+        (Way::Down, b'F', b'F', b"F"),
+        (Way::Up, b'R', b'R', b""),
+        (Way::Down, b'R', b'R', b""),
+    ];
+    let (table, mut pass) = OakTable::create(rt.alloc(), &shape)?;
+    put_letters(&rt, &table, &mut pass, b"ACEGIKMOQSUWYjklmnopqrstBDFHJLNP");
+    scan_all(&rt, &table, &mut pass, &scanned);
+    table.close(pass);
+    Ok(())
 }
 
 /// The next pair is that of the key.

@@ -3,11 +3,12 @@ ghost use Rattle.std.specs.Prelude.{◌≡◌, ℕ, ◌<◌, List, length, Some,
 ghost use Rattle.oak_model.specs.declared.classes.Class.TheVariants.{B16};
 ghost use Rattle.oak_model.specs.Class.{class_of};
 ghost use Rattle.oak_model.specs.Key.{IsKey};
-ghost use Rattle.oak_core.specs.Passes.{IsPassOf, Stays, state, key as sizes};
+ghost use Rattle.oak_core.specs.Passes.{IsPassOf, Stays, state, key as sizes, call_of};
 ghost use Rattle.oak_core.specs.PassState.{HoldsNothing, IsAlone};
 ghost use Rattle.chunk_ops.specs.Adds.{MayAdd};
 ghost use Rattle.chunk_ops.specs.AskedRanges.{IsKeyOrNone, bytes_in_option};
-ghost use Rattle.chunk_ops.specs.PinRecords.{HasRoomPin, HasEntry};
+ghost use Rattle.chunk_ops.specs.Finds.{LiesBehind};
+ghost use Rattle.chunk_ops.specs.PinRecords.{HasRoomPin, HasEntry, UnderPin};
 ghost use Rattle.chunk_ops.specs.TestStates.{HoldsAPin, HoldsKey, IsIdleAgain, StillPinned, but_block};
 
 use crate::chunks::tests::no_pin_left;
@@ -40,6 +41,21 @@ fn key_block(rt: &impl Abort, table: &OakTable, pass: &mut Pass, key: &[u8]) -> 
     Some(block)
 }
 
+/// The entry of the pinned room behind which the key belongs; none, too, where it has one of its own.
+fn place_of(table: &OakTable, pass: &mut Pass, pin: &RoomPin, key: &[u8]) -> Option<EntryNo>
+    requires own { IsPassOf table.now pass.old }
+    requires key { IsKey key.now }
+    requires pinned { HasRoomPin (sizes table.now) pin.now.room (state pass.old) }
+    ensures own { Stays pass.old pass.new }
+    ensures under { UnderPin (sizes table.now) (call_of pass.old) pin.now.room (state pass.old) (state pass.new) }
+    ensures behind { LiesBehind pin.now.room result key.now (state pass.new) }
+{
+    match find(table, pass, pin, key) {
+        Found::Missing { behind } => behind,
+        Found::Entry(_) => None,
+    }
+}
+
 /// Adds an entry of the key in the block to the pinned room, and undoes the pin. The block is given
 /// back where it is handed back.
 fn add_pinned(
@@ -51,12 +67,13 @@ fn add_pinned(
 ) -> Result<EntryNo, AddHalt>
     requires own { IsPassOf table.now pass.old }
     requires pinned { HasRoomPin (sizes table.now) pin.room (state pass.old) }
-    requires may { MayAdd (sizes table.now) block.class block.number (length key.now) key.now (state pass.old) }
+    requires may { MayAdd (sizes table.now) block.class block.number key.now (state pass.old) }
     requires rest { HoldsAPin (but_block block.class block.number (state pass.old)) }
     ensures own { Stays pass.old pass.new }
     ensures idle { IsIdleAgain (state pass.old) (state pass.new) }
 {
-    let added = add(table, pass, &pin, block, key.len());
+    let behind = place_of(table, pass, &pin, key);
+    let added = add(table, pass, &pin, key, block, behind);
     unpin(table, pass, pin);
     match added {
         Ok(entry) => Ok(entry),
@@ -190,11 +207,28 @@ fn found_of(rt: &impl Abort, table: &OakTable, pass: &mut Pass, key: &[u8]) -> F
 {
     let Ok(pin) = pin_for(table, pass, key, NO_HINT) else {
         assert!(rt; false);
-        return Found::Missing;
+        return Found::Missing { behind: None };
     };
     let found = find(table, pass, &pin, key);
     unpin(table, pass, pin);
     found
+}
+
+/// The key of this byte has no entry, and belongs behind that one.
+fn missing_behind(
+    rt: &impl Abort,
+    table: &OakTable,
+    pass: &mut Pass,
+    byte: u8,
+    behind: Option<EntryNo>,
+)
+    requires own { IsPassOf table.now pass.old }
+    requires idle { HoldsNothing (state pass.old) }
+    ensures own { Stays pass.old pass.new }
+    ensures idle { IsIdleAgain (state pass.old) (state pass.new) }
+{
+    let found = found_of(rt, table, pass, &[byte]);
+    assert!(rt; found == Found::Missing { behind });
 }
 
 /// The entry of the key has a floor of 0.
@@ -210,7 +244,7 @@ fn has_no_floor(rt: &impl Abort, table: &OakTable, pass: &mut Pass, pin: &RoomPi
             let found = content(table, pass, pin, entry);
             assert!(rt; found == Content::Floor { stamp: 0 });
         }
-        Found::Missing => assert!(rt; false),
+        Found::Missing { behind: _ } => assert!(rt; false),
     }
 }
 
@@ -255,8 +289,8 @@ fn neighbours(rt: &impl Abort, table: &OakTable, pass: &mut Pass)
     beside_is(rt, table, pass, true, Some(&[0x63]), None);
     beside_is(rt, table, pass, false, None, Some(0x63));
     beside_is(rt, table, pass, false, Some(&[0x61]), None);
-    let found = found_of(rt, table, pass, &[0x64]);
-    assert!(rt; found == Found::Missing);
+    missing_behind(rt, table, pass, 0x64, Some(EntryNo(2)));
+    missing_behind(rt, table, pass, 0x60, None);
     begins_at_none(rt, table, pass, &[0x61]);
 }
 
@@ -317,7 +351,7 @@ fn find_four(rt: &impl Abort, table: &OakTable, pass: &mut Pass, first: u8)
 {
     for i in 0..4 {
         let found = found_of(rt, table, pass, &[first + i]);
-        assert!(rt; found != Found::Missing);
+        assert!(rt; matches!(found, Found::Entry(_)));
     }
 }
 
