@@ -2,12 +2,14 @@
 #
 # home    the top of the repository
 # room    a folder for what the script writes, removed at its end
+# rounds_program  the program of crates/rounds, once build_rounds has built it
 # number  the number that the script was given, or that stands for it
 set -u -o pipefail
 
 home=$(dirname "$(dirname "$(readlink -f "${BASH_SOURCE[0]}")")")
 room=$(mktemp -d) || exit 1
 trap 'rm -rf "$room"' EXIT
+rounds_program=$home/crates/rounds/out/rounds
 
 # Ends the script with what is wrong.
 fail() {
@@ -24,4 +26,12 @@ take_number() {
         printf 'usage: bench/%s [%s]\n' "$(basename "$0")" "$called" >&2
         exit 2
     fi
+}
+
+# Proves and builds crates/rounds, in minutes where nothing is proved yet, by a run of it with these words.
+build_rounds() {
+    (cd "$home/crates/rounds" && rt run -- "$@") >"$room/log" 2>&1 || {
+        cat "$room/log" >&2
+        fail "crates/rounds was not proved and built"
+    }
 }

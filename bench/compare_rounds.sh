@@ -4,7 +4,7 @@
 # usage: bench/compare_rounds.sh [ROUNDS]
 #
 # A round is claim, take, two stores, fill, pin, reading, byte, same, eight, copy, done, withdraw and give: 19
-# atomic steps, by one thread. The Rattle program is crates/value_rounds, proved and built by `rt run` there
+# atomic steps, by one thread. The Rattle program is crates/rounds, proved and built by `rt run` there
 # (minutes, where nothing is proved yet); the C++ program is bench/round.cpp, built by `clang++ -O2`. Each runs
 # seven times, in turn, ROUNDS rounds at a time, or 10000000, and has to print the same line. Printed are, of
 # each, the nanoseconds of processor time of a round in the fastest run, and how many times the C++ round that
@@ -22,14 +22,11 @@ seconds_of() {
     head -n 1 "$room/said" >>"$room/lines"
 }
 
-(cd "$home/crates/value_rounds" && rt run -- 0) >"$room/log" 2>&1 || {
-    cat "$room/log" >&2
-    fail "crates/value_rounds was not proved and built"
-}
+build_rounds value 0
 clang++ -std=c++20 -O2 -march=x86-64-v2 -o "$room/round" "$home/bench/round.cpp" || fail "bench/round.cpp was not built"
 
 for ((run = 0; run < RUNS; run++)); do
-    seconds_of "$home/crates/value_rounds/out/value_rounds" "$rounds" >>"$room/oakmap" || exit 1
+    seconds_of "$rounds_program" value "$rounds" >>"$room/oakmap" || exit 1
     seconds_of "$room/round" "$rounds" >>"$room/cpp" || exit 1
 done
 [[ $(sort -u "$room/lines" | wc -l) -eq 1 ]] || fail "the two programs print different sums"

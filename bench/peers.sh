@@ -3,7 +3,7 @@
 #
 # usage: bench/peers.sh [CALLS [FOLDER]]
 #
-# The maps are OakMap by the calls of crates/oak_caller (crates/peer_rounds, proved and built by `rt run` there, in minutes
+# The maps are OakMap by the calls of crates/oak_caller (crates/rounds, proved and built by `rt run` there, in minutes
 # where nothing is proved yet), std::map under a std::shared_mutex and oneTBB's concurrent_map (bench/peers/peers.cpp,
 # built by `g++ -O3`), and java.util.concurrent's ConcurrentSkipListMap (bench/peers/Peers.java). Nothing is installed: what
 # is missing is named.
@@ -43,10 +43,7 @@ need_packages() {
 }
 
 build() {
-    (cd "$home/crates/peer_rounds" && rt run -- add 1 1 1) >"$room/log" 2>&1 || {
-        cat "$room/log" >&2
-        fail "crates/peer_rounds was not proved and built"
-    }
+    build_rounds peer add 1 1 1
     g++ -O3 -march=x86-64-v2 -std=c++20 -pthread -o "$room/peers" "$home/bench/peers/peers.cpp" -ltbb ||
         fail "bench/peers/peers.cpp was not built"
     javac -d "$room" "$home/bench/peers/Peers.java" || fail "bench/peers/Peers.java was not built"
@@ -57,7 +54,7 @@ run_map() {
     local map=$1
     shift
     case $map in
-    oakmap) "$home/crates/peer_rounds/out/peer_rounds" "$@" ;;
+    oakmap) "$rounds_program" peer "$@" ;;
     java) java -cp "$room" Peers "$@" ;;
     *) "$room/peers" "$map" "$@" ;;
     esac

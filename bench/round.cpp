@@ -1,4 +1,4 @@
-// The round of `crates/value_rounds` in C++, to compare its speed with: the same atomic steps on the same
+// The round of `crates/rounds` in C++, to compare its speed with: the same atomic steps on the same
 // words, by one thread, with nothing proved.
 //
 // usage: round ROUNDS

@@ -6,7 +6,7 @@
 #
 # The table has one room with one key, three bytes long, whose value has eight: so a get is the pins of the room
 # and of the header with their undoing, the room's bounds, a search of one entry, and the words of the value; a
-# put over it stores the bytes under the header's lock. The program is crates/point_rounds, proved and built by
+# put over it stores the bytes under the header's lock. The program is crates/rounds, proved and built by
 # `rt run` there (minutes, where nothing is proved yet). It makes CALLS calls a run, or 5000000, and seven runs
 # of each kind. Printed are the nanoseconds of processor time of a call in the fastest run.
 #
@@ -28,7 +28,7 @@ GETS_AN_INSERT=10
 fewest_seconds() {
     local TIMEFORMAT=%U run
     for ((run = 0; run < RUNS; run++)); do
-        { time "$home/crates/point_rounds/out/point_rounds" "$@" >"$room/said"; } 2>&1 || fail "a run failed"
+        { time "$rounds_program" point "$@" >"$room/said"; } 2>&1 || fail "a run failed"
         head -n 2 "$room/said" | cmp -s - "$room/due" || fail "a run by $* told other numbers"
     done | sort -n | head -n 1
 }
@@ -64,10 +64,7 @@ time_chunk() {
     }'
 }
 
-(cd "$home/crates/point_rounds" && rt run -- 0 0) >"$room/log" 2>&1 || {
-    cat "$room/log" >&2
-    fail "crates/point_rounds was not proved and built"
-}
+build_rounds point 0 0
 got=$(time_key "$calls" 0) || exit 1
 told=$(time_key 0 "$calls") || exit 1
 awk -v calls="$calls" -v got="$got" -v told="$told" 'BEGIN {

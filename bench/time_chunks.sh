@@ -8,7 +8,7 @@
 # were put in a scrambled order: so 1, 50, 200 and 800 chunks are open. A run gets each key, or scans the whole map up or
 # down and reads each value, again and again, until it has read READS values, or 2000000; or it settles the map of 200 or
 # 800 chunks 2,000 times, which merges none of them, as no two neighbours have few entries. The program is
-# crates/scan_rounds, proved and built by `rt run` there (minutes, where nothing is proved yet), and makes seven runs of
+# crates/rounds, proved and built by `rt run` there (minutes, where nothing is proved yet), and makes seven runs of
 # each kind. Printed are the nanoseconds of processor time of a get and of a pair, and the microseconds of settling once, in
 # the fastest run, without the time of filling the map.
 #
@@ -33,7 +33,7 @@ RISING_KEYS=3200
 fewest_seconds() {
     local keys=$1 rounds=$2 work=$3 pairs=$4 chunks=$5 TIMEFORMAT='%U %S' run
     for ((run = 0; run < RUNS; run++)); do
-        { time "$home/crates/scan_rounds/out/scan_rounds" "$keys" "$rounds" "$work" "$entries" >"$room/said"; } 2>&1 ||
+        { time "$rounds_program" scan "$keys" "$rounds" "$work" "$entries" >"$room/said"; } 2>&1 ||
             fail "a run failed"
         grep -qx "$keys keys" "$room/said" || fail "not all keys were new"
         grep -qx "$pairs pairs, sum $((pairs * (keys - 1) / 2))" "$room/said" || fail "other values were read"
@@ -68,10 +68,7 @@ write_rising() {
     printf 'end\n'
 }
 
-(cd "$home/crates/scan_rounds" && rt run -- 0 0 up) >"$room/log" 2>&1 || {
-    cat "$room/log" >&2
-    fail "crates/scan_rounds was not proved and built"
-}
+build_rounds scan 0 0 up
 "$home/bin/oakmap" run <"$home/examples/first.oak" >"$room/text" || fail "the program does not run"
 cmp -s "$room/text" "$home/examples/first.txt" || fail "the first example has another text"
 

@@ -5,7 +5,7 @@
 #
 # The map has the default shape and, in turn, 1,000, 4,000 and 8,000 keys, each of eight bytes with a value of eight,
 # which were put in a scrambled order. A scan goes over the whole map and reads each value. The program is
-# crates/scan_rounds, proved and built by `rt run` there (minutes, where nothing is proved yet). It makes SCANS scans
+# crates/rounds, proved and built by `rt run` there (minutes, where nothing is proved yet). It makes SCANS scans
 # of 8,000 keys, or 100, of fewer keys as many more, so that each run gives as many pairs; and seven runs of each
 # kind. Printed are the nanoseconds of processor time of a pair in the fastest run, without the time of filling the
 # map, and how many times as much a pair costs down as up.
@@ -20,16 +20,13 @@ RUNS=7
 fewest_seconds() {
     local TIMEFORMAT='%U %S' run pairs=$(($1 * $2))
     for ((run = 0; run < RUNS; run++)); do
-        { time "$home/crates/scan_rounds/out/scan_rounds" "$1" "$2" "$3" >"$room/said"; } 2>&1 || fail "a run failed"
+        { time "$rounds_program" scan "$1" "$2" "$3" >"$room/said"; } 2>&1 || fail "a run failed"
         grep -qx "$1 keys" "$room/said" || fail "not all keys were new"
         grep -qx "$pairs pairs, sum $((pairs * ($1 - 1) / 2))" "$room/said" || fail "the scans gave other pairs"
     done | awk '{ print $1 + $2 }' | sort -n | head -n 1
 }
 
-(cd "$home/crates/scan_rounds" && rt run -- 0 0 up) >"$room/log" 2>&1 || {
-    cat "$room/log" >&2
-    fail "crates/scan_rounds was not proved and built"
-}
+build_rounds scan 0 0 up
 for keys in 1000 4000 8000; do
     count=$((scans * 8000 / keys))
     filled=$(fewest_seconds "$keys" 0 up) || exit 1

@@ -1,5 +1,5 @@
 // java.util.concurrent's ConcurrentSkipListMap, which a user might take instead of OakMap, on the workloads of
-// crates/peer_rounds: the same keys in the same order, the same values, and the same bytes of them read. It prints what
+// crates/rounds: the same keys in the same order, the same values, and the same bytes of them read. It prints what
 // that program prints, which has to be the same text.
 //
 // usage: java Peers.java WORK KEYS ROUNDS THREADS BYTES

@@ -1,4 +1,4 @@
-// What a user might take instead of OakMap, on the workloads of crates/peer_rounds: the same keys in the same order, the
+// What a user might take instead of OakMap, on the workloads of crates/rounds: the same keys in the same order, the
 // same values, and the same bytes of them read. It prints what that program prints, which has to be the same text.
 //
 // usage: peers MAP WORK KEYS ROUNDS THREADS BYTES

@@ -8,7 +8,7 @@ use Rattle.chunk_core.specs.declared.holds.PinnedRoom.{PinnedRoom}
 use Rattle.chunk_core.specs.declared.holds.RoomHolds.{RoomHolds}
 use Rattle.chunk_core.specs.LinkWords.{link_spot}
 use Rattle.chunk_core.specs.PinnedRooms.{span_of}
-use Rattle.chunk_core.specs.RoomStep.{claim_entry, link_entry}
+use Rattle.chunk_core.specs.RoomStep.{claim_entry}
 use Rattle.chunk_core.specs.Rooms.{at_count, at_key}
 use Rattle.chunk_core.specs.Spans.{Span, within}
 use Rattle.link_search.specs.Adds as added
@@ -20,11 +20,11 @@ use Rattle.oak_core.specs.CallSteps.{MetMore}
 use Rattle.oak_core.specs.Memory.{in_rooms, index}
 use Rattle.oak_core.specs.Passes.{state, key as sizes, call_of}
 use Rattle.oak_core.specs.QuietSteps.{CountsByOne, IsQuiet, MetOnly, Quiet, StoredNone}
-use Rattle.oak_core.specs.Step.{Step, load, on_rooms, spot, Told}
+use Rattle.oak_core.specs.Step.{load, on_rooms, spot, Told}
 use Rattle.oak_core.proofs.calls.CallSteps.{learns_both, met_both, met_none, stands_learns, stands_none}
 use Rattle.oak_core.proofs.calls.QuietCalls.{only_both, only_map}
 use Rattle.chunk_ops.specs.declared.pinned_table.PinnedTable.{PinnedTable}
-use Rattle.chunk_ops.specs.Adds.{FoundCrowded, FoundOther, LeavesCount}
+use Rattle.chunk_ops.specs.Adds.{FoundCrowded, FoundOther, LeavesCount, Look, claims, links, loads, look_step}
 use Rattle.chunk_ops.specs.AskedRanges.{CoversKey}
 use Rattle.chunk_ops.specs.Finds.{FoundAbsent}
 use Rattle.chunk_ops.specs.LinkedTable.{DoesMet, HoldsKey, MeetsInTable}
@@ -49,7 +49,7 @@ quiet_leaves z r v w q = only_map IsQuiet (LeavesCount z r) v w (λ f is. record
     stored_none : (f : Finding) → IsQuiet f → (word : ℕ) → StoredNone word f
     stored_none f is word e none = ⊎_elim (λ (h : f.found ≡ Some f.left). let g : Some f.left ≡ None = sym h ∙ none in absurd cc) (λ (h : (n : ℕ) × (f.found ≡ Some n) × CountsByOne n f.left). let g : Some h.0 ≡ None = sym h.1 ∙ none in absurd cc) is.1
 
--- u is the state of the pass before the loads
+-- u is the state of the pass before the load of the room's base
 module _ (s t : PinnedTable) (k : List ℕ) (u : PassState) (o : OnlyMeets (call_of s.pass.now) u (state s.pass.now)) (p : HasRoomPin (sizes s.table.now) s.room u) (holds : HoldsKey s k) where
   abbrev z : Sizes
   z = sizes s.table.now
@@ -84,21 +84,21 @@ module _ (s t : PinnedTable) (k : List ℕ) (u : PassState) (o : OnlyMeets (call
     abbrev c : PassState
     c = state f.counted.pass.now
 
-    abbrev l : Looked MeetsInTable f.misses.from f.misses.link f.counted t
+    abbrev l : Looked MeetsInTable f.from f.misses.link f.counted t
     l = f.misses.over.looked
 
     -- what came behind the load of the count
     abbrev behind : List Met
-    behind = l.before ++ met_link f.misses.from f.misses.link ∷ l.between
+    behind = l.before ++ met_link f.from f.misses.link ∷ l.between
 
     behind_on : MeetsInTable f.counted t behind
-    behind_on = meets_then f.counted l.moment t l.before (met_link f.misses.from f.misses.link ∷ l.between) l.start l.on
+    behind_on = meets_then f.counted l.moment t l.before (met_link f.from f.misses.link ∷ l.between) l.start l.on
 
     first : LoadsUnder z call r v c
     first = each_under z call r s.base s.place (met_count f.word ∷ []) v c has (tt, tt) f.on.does
 
     then : LoadsUnder z call r c w
-    then = each_under z call r s.base s.place behind c w first.under.pin.has (each_append IsLoad l.before (met_link f.misses.from f.misses.link ∷ l.between) f.misses.over.loads (tt, others_load l.between f.misses.over.still)) (does_since s f.counted t (met_count f.word ∷ []) behind f.on behind_on)
+    then = each_under z call r s.base s.place behind c w first.under.pin.has (each_append IsLoad l.before (met_link f.from f.misses.link ∷ l.between) f.misses.over.loads (tt, others_load l.between f.misses.over.still)) (does_since s f.counted t (met_count f.word ∷ []) behind f.on behind_on)
 
     quiet_all : Quiet u w
     quiet_all = only_both IsQuiet u v w o.quiet (each_under z call r s.base s.place f.met v w has f.loads f.whole.does).quiet
@@ -121,11 +121,11 @@ module _ (s t : PinnedTable) (k : List ℕ) (u : PassState) (o : OnlyMeets (call
 
   -- the count was changed
 
-  second_step : (m : Met) (n : ℕ) (x y : PassState) → TellsCount n m → DoesMet z call r s.base s.place m x y → (kind : Step) × (spot kind ≡ in_rooms (at_count r)) × Told z call kind x n y
-  second_step (met_count c) n x y e d = (load (in_rooms (at_count r)), refl, subst (λ (j : ℕ). Told z call (load (in_rooms (at_count r))) x j y) e d)
+  second_step : (m : Met) (n : ℕ) (x y : PassState) → TellsCount n m → DoesMet z call r s.base s.place m x y → (look : Look) × (spot (look_step r (at_count r) look) ≡ in_rooms (at_count r)) × Told z call (look_step r (at_count r) look) x n y
+  second_step (met_count c) n x y e d = (loads, refl, subst (λ (j : ℕ). Told z call (load (in_rooms (at_count r))) x j y) e d)
   second_step (met_link f l) n x y e d = absurd e
   second_step (met_key i) n x y e d = absurd e
-  second_step (tried_count old c) n x y e d = (on_rooms (claim_entry r old), refl, subst (λ (j : ℕ). Told z call (on_rooms (claim_entry r old)) x j y) e d)
+  second_step (tried_count old c) n x y e d = (claims old, refl, subst (λ (j : ℕ). Told z call (on_rooms (claim_entry r old)) x j y) e d)
   second_step (tried_link f i old l) n x y e d = absurd e
   second_step (stored_value i) n x y e d = absurd e
   second_step (stored_link i l) n x y e d = absurd e
@@ -141,7 +141,7 @@ module _ (s t : PinnedTable) (k : List ℕ) (u : PassState) (o : OnlyMeets (call
           place = at_count r;
           is = inl refl;
           first = record { from = x; to = d.0; number = c.old; told = d.1; begun = met_to c.moment c.before c.start; ended = met_both call d.0 y w (each_met z call r s.base s.place c.between d.0 y d.2) (each_met z call r s.base s.place (c.second ∷ []) y w e) };
-          kind = n.0;
+          look = n.0;
           names = n.1;
           second = record { from = y; to = e.0; number = c.number; told = n.2; begun = each_met z call r s.base s.place c.between d.0 y d.2; ended = subst (MetMore call e.0) (sym e.2) (met_none call e.0) };
           other = c.other;
@@ -162,7 +162,7 @@ module _ (s t : PinnedTable) (k : List ℕ) (u : PassState) (o : OnlyMeets (call
           place = link_spot r c.from;
           is = inr (c.from, refl);
           first = record { from = x; to = d.0; number = c.old; told = d.1; begun = met_to c.moment c.before c.start; ended = met_both call d.0 y w (each_met z call r s.base s.place c.between d.0 y d.2) (met_both call y b w (each_met z call r s.base s.place tried y b e) rest) };
-          kind = on_rooms (link_entry r c.from c.entry c.old);
+          look = links c.from c.entry c.old;
           names = refl;
           second = record { from = y; to = e.0; number = c.number; told = e.1; begun = each_met z call r s.base s.place c.between d.0 y d.2; ended = subst (λ (q : PassState). MetMore call q w) e.2 rest };
           other = c.other;

@@ -1,4 +1,4 @@
--- What a call leaves that adds an entry of a key, behind loads of the bytes of the block and of the room's base.
+-- What a call leaves that adds an entry of a key, behind the load of the room's base.
 use Rattle.std.proofs.Common.{◌≡◌, ℕ, List, [], ◌∷◌, sym, refl, ap, ◌∙◌, subst, None}
 use Rattle.oak_model.specs.declared.classes.Class.{Class}
 use Rattle.oak_model.specs.Limits.{Sizes}
@@ -58,7 +58,7 @@ module _ (s : PinnedTable) where
   abbrev pub block_at : ℕ
   block_at = block_in s.place
 
--- u is the state of the pass before the loads
+-- u is the state of the pass before that load
 module _ (s t : PinnedTable) (k : List ℕ) (u : PassState) (o : OnlyMeets (call_of s.pass.now) u (state s.pass.now)) (p : HasRoomPin (sizes s.table.now) s.room u) (holds : HoldsKey s k) (ms : List Met) (whole : MeetsInTable s t ms) where
   abbrev z : Sizes
   z = sizes s.table.now

@@ -1,21 +1,16 @@
 -- The key of an entry by its key word and the words of its block, and an entry as a pin finds it.
-use Rattle.std.proofs.Common.{◌≡◌, ℕ, ◌<◌, ◌≤◌, ◌&&◌, nat_lt, nat_le, Bool, List, [], ◌∷◌, take, sym, refl, ap, ◌∙◌, inl, inr, Some, eq-eqb}
+use Rattle.std.proofs.Common.{◌≡◌, ℕ, ◌<◌, ◌≤◌, ◌&&◌, nat_lt, nat_le, Bool, List, [], ◌∷◌, sym, refl, ap, ◌∙◌, inl, inr, Some, eq-eqb}
 use Rattle.std.proofs.lemmas.Bool.{lt-ltb, le-leb}
 use Rattle.oak_model.specs.declared.classes.Class.{Class}
 use Rattle.oak_model.specs.declared.limits.TheConstants.{GREATEST_KEY}
 use Rattle.oak_model.specs.Class.{class_number, class_of}
 use Rattle.oak_model.specs.Counts.{one_if, Each, Has}
 use Rattle.oak_model.specs.KeyNumber.{key_number}
-use Rattle.oak_model.specs.Limits.{Sizes}
-use Rattle.oak_model.specs.WordBytes.{bytes_of}
 use Rattle.oak_model.proofs.Counting.{true_both}
-use Rattle.arena_core.specs.Blocks.{words_held}
 use Rattle.arena_core.specs.Place.{class_in, length_in}
 use Rattle.chunk_core.specs.declared.holds.FoundEntry.{FoundEntry}
 use Rattle.chunk_core.specs.KeyWords.{key_length, key_bytes, key_in}
-use Rattle.oak_core.specs.declared.states.PassState.{PassState}
 use Rattle.oak_core.specs.EntryOwners.{is_class, is_key_word}
-use Rattle.chunk_ops.specs.Adds.{MayAdd}
 
 pub each_has : {A : Type 0} (P : A → Type 0) (xs : List A) → ((x : A) → Has x xs → P x) → Each P xs
 each_has P [] f = tt
@@ -35,11 +30,6 @@ key_length-is word = refl
 pub key_in-is : (word : ℕ) (words key : List ℕ) → key_bytes word words ≡ key → key_in word words ≡ key_number key
 unfolding key_in
 key_in-is word words key e = ap key_number e
-
--- the key in such a block is one
-pub one_key : (z : Sizes) (c : Class) (b len : ℕ) (k l : List ℕ) (v : PassState) → MayAdd z c b len k v → MayAdd z c b len l v → k ≡ l
-one_key z c b len k l v m n = let ws : List ℕ = words_held (class_number c) b v.blocks.held in
-    sym m.block.bytes_are ∙ (ap (λ (j : ℕ). take j (bytes_of ws)) (m.long ∙ sym n.long) ∙ n.block.bytes_are)
 
 -- an entry as it is found
 

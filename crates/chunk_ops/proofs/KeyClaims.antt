@@ -43,7 +43,7 @@ unfolding length_in
 some_place z place k n = let l = n.long in let a = n.is_key.0 in omega arith
 
 -- a place word names the block that it is of
-module _ (z : Sizes) (place : ℕ) (c : Class) (b : ℕ) (k : List ℕ) (v : PassState) (limits : IsInLimits z) (may : MayAdd z c b (length k) k v) (e : place ≡ place_word (class_number c) b (length k)) where
+module _ (z : Sizes) (place : ℕ) (c : Class) (b : ℕ) (k : List ℕ) (v : PassState) (limits : IsInLimits z) (may : MayAdd z c b k v) (e : place ≡ place_word (class_number c) b (length k)) where
   small_block : b < 2 ^ 32
   small_block = let a = may.block.block.inside in let l = limits.blocks_greatest (class_number c) (class_below c) in let g = greatest_blocks (class_number c) in omega arith
 
@@ -64,7 +64,7 @@ module _ (z : Sizes) (place : ℕ) (c : Class) (b : ℕ) (k : List ℕ) (v : Pas
   begins_holding base none is = record {
     none = none;
     base = is;
-    may = subst (λ (q : Class × ℕ). MayAdd z q.0 q.1 (length k) k v) (λ j. (sym class_is j, sym block_is j)) may;
+    may = subst (λ (q : Class × ℕ). MayAdd z q.0 q.1 k v) (λ j. (sym class_is j, sym block_is j)) may;
     names = record {
       is_key = may.is_key;
       long = ap length_in e ∙ length_in-word (class_number c) b (length k) small_length;

@@ -91,6 +91,6 @@ module _ (z : Sizes) (call r i base place : ℕ) (k : List ℕ) (v : PassState) 
   holds_again = record {
     none = ap (λ (a : RoomHolds). a.claim) drop_rooms;
     base = h.base ∙ ap (λ (q : PinnedRoom). q.base) (sym (pin_stays z r v w None drop_rooms));
-    may = record { is_key = h.names.is_key; long = refl; block = has_bytes; covers = subst (λ (q : PinnedRoom). CoversKey k (span_of q)) (sym (pin_stays z r v w None drop_rooms)) h.covers };
+    may = record { is_key = h.names.is_key; block = has_bytes; covers = subst (λ (q : PinnedRoom). CoversKey k (span_of q)) (sym (pin_stays z r v w None drop_rooms)) h.covers };
     names = h.names;
   }

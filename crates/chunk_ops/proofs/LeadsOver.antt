@@ -1,19 +1,18 @@
 -- A link that was loaded in a call on a pinned room, with loads alone before it, and behind it loads of other words than links: what it tells is so of the whole call.
-use Rattle.std.proofs.Common.{◌≡◌, ◌≢◌, ℕ, ◌-◌, ◌<◌, true, List, ◌∷◌, ◌++◌, sym, refl, ap, ◌∙◌, subst, Option, Some, None}
+use Rattle.std.proofs.Common.{◌≡◌, ◌≢◌, ℕ, ◌-◌, ◌<◌, List, ◌∷◌, ◌++◌, sym, refl, ap, ◌∙◌, subst, Option, Some, None, MatchOption}
 use Rattle.oak_model.specs.Counts.{Each}
 use Rattle.oak_model.specs.Key.{IsKey, AreBytes}
 use Rattle.oak_model.specs.KeyNumber.{key_number}
 use Rattle.oak_model.specs.Limits.{Sizes}
 use Rattle.chunk_core.specs.declared.holds.PinnedRoom.{PinnedRoom}
-use Rattle.chunk_core.specs.FoundLinks.{leads}
 use Rattle.chunk_core.specs.KeyWords.{high_number, low_number}
 use Rattle.chunk_core.specs.LinkWords.{link_spot}
-use Rattle.chunk_core.specs.PinnedRooms.{span_of, found_in}
+use Rattle.chunk_core.specs.PinnedRooms.{span_of}
 use Rattle.chunk_core.specs.Spans.{Span, within}
 use Rattle.link_search.specs.Linked.{Grown, IsFound, IsCut}
 use Rattle.link_search.specs.Met.{Met, met_link, IsLoad, LoadsNoLink}
 use Rattle.link_search.specs.Walks.{StepsOver}
-use Rattle.link_search.proofs.WalkLaws.{from_found}
+use Rattle.link_search.proofs.StepLaws.{cut_leads}
 use Rattle.oak_core.specs.declared.states.PassState.{PassState}
 use Rattle.oak_core.specs.AloneWords.{Moment, Runs}
 use Rattle.oak_core.specs.Memory.{in_rooms, memory}
@@ -22,7 +21,7 @@ use Rattle.oak_core.specs.Step.{load, Told}
 use Rattle.chunk_ops.specs.declared.pinned_table.PinnedTable.{PinnedTable}
 use Rattle.chunk_ops.specs.Finds.{FoundAbsent}
 use Rattle.chunk_ops.specs.FindsAlone.{IsLinked, linked_key}
-use Rattle.chunk_ops.specs.FoundNumbers.{counted_some, pinned_room}
+use Rattle.chunk_ops.specs.FoundNumbers.{pinned_room}
 use Rattle.chunk_ops.specs.LinkedTable.{DoesEach, MeetsInTable}
 use Rattle.chunk_ops.specs.PinRecords.{HasRoomPin, PinStays, room_pin}
 use Rattle.chunk_ops.specs.RoomLoads.{linked_in, view_of}
@@ -31,7 +30,7 @@ use Rattle.chunk_ops.proofs.AbsentReads.{absent_around, others_load, others_stan
 use Rattle.chunk_ops.proofs.FoundViews.{view_grown}
 use Rattle.chunk_ops.proofs.FoundWords.{StandsAt, found_stands_at, load_moment, none_stands}
 use Rattle.chunk_ops.proofs.LeftTables.{load_finds}
-use Rattle.chunk_ops.proofs.LinkedPins.{IsAboveAt, IsBelowAt, LinksNow, links_now}
+use Rattle.chunk_ops.proofs.LinkedPins.{IsAboveAt, IsBelowAt, LinksNow, leads_found, links_now}
 use Rattle.chunk_ops.proofs.MeetingCalls.{stays_then, then_stays}
 use Rattle.chunk_ops.proofs.PinLoads.{LoadsUnder, each_under}
 
@@ -52,16 +51,12 @@ above_same p q (Some i) k g f a = subst (λ (key : List ℕ). key_number key < k
 below_same : (p q : PinnedRoom) (link k : ℕ) → Grown (linked_in p) (linked_in q) → (link ≢ 0 → IsFound (linked_in p) (link - 1)) → IsBelowAt q link k → IsBelowAt p link k
 below_same p q link k g f b ne = subst (λ (key : List ℕ). k < key_number key) (g.key (link - 1) (f ne)) (b ne)
 
-leads_found : (p : PinnedRoom) (from : Option ℕ) → ((i : ℕ) → from ≡ Some i → IsFound (linked_in p) i) → leads from p ≡ true
-leads_found p None f = refl
-leads_found p (Some i) f = counted_some i (found_in p) (f i refl)
-
 -- the ranges of pins of which the later has found no less
 pub span_stays : (p q : PinnedRoom) → PinStays p q → span_of q ≡ span_of p
 span_stays p q s = λ i. record { low = low_number (s.low i); high = high_number (s.high i); base = s.base i }
 
 module _ (z : Sizes) (call r base place : ℕ) (from : Option ℕ) (link : ℕ) (v x y w : PassState) (before between : List Met) (p : HasRoomPin z r v) (loads : Each IsLoad before) (still : Each LoadsNoLink between) (start : DoesEach z call r base place before v x)
-    (t : Told z call (load (in_rooms (link_spot r from))) x link y) (behind : DoesEach z call r base place between y w) (found : (i : ℕ) → from ≡ Some i → IsFound (linked_in (room_pin x)) i) where
+    (t : Told z call (load (in_rooms (link_spot r from))) x link y) (behind : DoesEach z call r base place between y w) (found : MatchOption from (Unit {0}) (λ i. IsFound (linked_in (room_pin x)) i)) where
   first : LoadsUnder z call r v x
   first = each_under z call r base place before v x p loads start
 
@@ -75,7 +70,7 @@ module _ (z : Sizes) (call r base place : ℕ) (from : Option ℕ) (link : ℕ) 
   grown = view_grown (room_pin y) (room_pin w) last.under.pin.stays last.under.pin.has.alike
 
   found_behind : (i : ℕ) → from ≡ Some i → IsFound (linked_in (room_pin y)) i
-  found_behind i e = (view_grown (room_pin x) (room_pin y) now.under.pin.stays now.under.pin.has.alike).found i (found i e)
+  found_behind i e = (view_grown (room_pin x) (room_pin y) now.under.pin.stays now.under.pin.has.alike).found i (subst (λ (o : Option ℕ). MatchOption o (Unit {0}) (λ j. IsFound (linked_in (room_pin x)) j)) e found)
 
   moment : Moment z t.table.words y
   moment = load_moment z call (in_rooms (link_spot r from)) x link y t
@@ -107,7 +102,7 @@ module _ (z : Sizes) (call r base place : ℕ) (from : Option ℕ) (link : ℕ) 
 pub leads_over : (s m t : PinnedTable) (ms : List Met) → MeetsInTable s m ms → HasRoomPin (sizes s.table.now) s.room (state m.pass.now) → (P Q : List ℕ → Type 0) (from : Option ℕ) (link : ℕ) → StepsOver view_of MeetsInTable P Q from link m t
     → LeadsOver (sizes s.table.now) (call_of s.pass.now) s.room from link (state m.pass.now) (state t.pass.now)
 leads_over s m t ms on p P Q from link o = let k = o.looked in let d = does_since s k.moment t (ms ++ k.before) (met_link from link ∷ k.between) (meets_then s m k.moment ms k.before on k.start) k.on in
-    leads_on (sizes s.table.now) (call_of s.pass.now) s.room s.base s.place from link (state m.pass.now) (state k.moment.pass.now) d.0 (state t.pass.now) k.before k.between p o.loads o.still (does_since s m k.moment ms k.before on k.start) d.1 d.2 (from_found (view_of k.moment) from P o.cut)
+    leads_on (sizes s.table.now) (call_of s.pass.now) s.room s.base s.place from link (state m.pass.now) (state k.moment.pass.now) d.0 (state t.pass.now) k.before k.between p o.loads o.still (does_since s m k.moment ms k.before on k.start) d.1 d.2 (cut_leads (view_of k.moment) from P o.cut)
 
 -- a number above all keys with P, and below those with Q, lies between
 

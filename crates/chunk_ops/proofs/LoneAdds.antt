@@ -25,10 +25,10 @@ use Rattle.oak_core.specs.Passes.{state, key as sizes, call_of}
 use Rattle.oak_core.specs.Step.{Step, load, on_rooms, Told}
 use Rattle.oak_core.proofs.calls.CallSteps.{met_both}
 use Rattle.oak_core.proofs.seats.AloneRuns.{Then, moment_after, runs_as, runs_then}
-use Rattle.chunk_ops.specs.declared.entries.Found.TheVariants.{Entry, Missing}
+use Rattle.chunk_ops.specs.declared.entries.Found.TheVariants.{Entry}
 use Rattle.chunk_ops.specs.declared.pinned_table.PinnedTable.{PinnedTable}
 use Rattle.chunk_ops.specs.AddsAlone.{AddsIn, AddsNext, CrowdedIn, IsLinkOf, Never, put_entry}
-use Rattle.chunk_ops.specs.FindsAlone.{FindsIn, HasKeyAt}
+use Rattle.chunk_ops.specs.FindsAlone.{FindsIn, HasKeyAt, LacksIn, LacksKeyAt}
 use Rattle.chunk_ops.specs.FoundNumbers.{found_numbered}
 use Rattle.chunk_ops.specs.LinkedTable.{HoldsKey, MeetsInTable}
 use Rattle.chunk_ops.specs.PinRecords.{HasRoomPin, IsFoundWell, OnlyMeets, WordsStay, room_pin}
@@ -80,7 +80,7 @@ runs_and P Q v w ne q h = record {
 met_moved : (call : ℕ) (v x w : PassState) (f : Finding) → MetMore call v x → w.findings.met ≡ x.findings.met ++ f ∷ [] → v ≢ w
 met_moved call v x w f m e same = let a = ap length e in let b = length-append x.findings.met (f ∷ []) in let c = ap length m.met in let d = length-append v.findings.met m.more in let g = ap (λ (y : PassState). length y.findings.met) same in absurd (omega arith)
 
--- u is the state of the pass before the loads of the bytes and of the base
+-- u is the state of the pass before the load of the room's base
 module _ (s t : PinnedTable) (k : List ℕ) (u : PassState) (o : OnlyMeets (call_of s.pass.now) u (state s.pass.now)) (p : HasRoomPin (sizes s.table.now) s.room u) (holds : HoldsKey s k) (small : AreBytes k) where
   abbrev z : Sizes
   z = sizes s.table.now
@@ -109,9 +109,9 @@ module _ (s t : PinnedTable) (k : List ℕ) (u : PassState) (o : OnlyMeets (call
   -- the room was full
   pub crowded_lone : (f : added.FoundFull view_of MeetsInTable k (sizes s.table.now).entries s t) → HasRoomPin (sizes s.table.now) s.room (state t.pass.now) → Runs (CrowdedIn (sizes s.table.now) s.room k) u (state t.pass.now)
   crowded_lone f q = let c : PassState = state f.counted.pass.now in let d = f.on.does in let told : Told z call (load (in_rooms (at_count r))) v f.word c = subst (λ (y : PassState). Told z call (load (in_rooms (at_count r))) v f.word y) (sym d.2) d.1 in let now = counts_now z call r v f.word c has told in
-      let F : List ℕ → List ℕ → Type 0 = (λ a b. (a ≡ told.table.words) × (b ≡ a)) in let G : List ℕ → List ℕ → Type 0 = FindsIn z r k Missing in let C : List ℕ → List ℕ → Type 0 = CrowdedIn z r k in
+      let F : List ℕ → List ℕ → Type 0 = (λ a b. (a ≡ told.table.words) × (b ≡ a)) in let G : List ℕ → List ℕ → Type 0 = LacksIn z r k in let C : List ℕ → List ℕ → Type 0 = CrowdedIn z r k in
       stays_then C u v w o.still (runs_as (Then F G) C v w
-      (λ a b x. (x.2.0 ∙ x.1.1, ap (λ (ws : List ℕ). entries_in ((memory z ws).rooms.count r)) x.1.0 ∙ (ap entries_in now.count ∙ f.full), subst (λ (ws : List ℕ). HasKeyAt (memory z ws) r k Missing) x.1.1 x.2.1))
+      (λ a b x. (x.2.0 ∙ x.1.1, ap (λ (ws : List ℕ). entries_in ((memory z ws).rooms.count r)) x.1.0 ∙ (ap entries_in now.count ∙ f.full), subst (λ (ws : List ℕ). LacksKeyAt (memory z ws) r k) x.1.1 x.2.1))
       (runs_then F G v c w (load_finds z call (in_rooms (at_count r)) v f.word c told) (missing_alone s f.counted t (met_count f.word ∷ []) f.on k holds.names.is_key small now.under.pin.has q f.misses)))
 
   -- it was added at the first try
@@ -122,8 +122,8 @@ module _ (s t : PinnedTable) (k : List ℕ) (u : PassState) (o : OnlyMeets (call
     first : LoadsUnder z call r v x
     first = each_under z call r s.base s.place a.loads v x has a.are a.start.does
 
-    abbrev misses : search.Misses view_of MeetsInTable k s a.moment
-    misses = record { from = a.from; link = a.link; over = a.over; none = a.none }
+    abbrev misses : search.Misses view_of MeetsInTable k a.from s a.moment
+    misses = record { link = a.link; over = a.over; none = a.none }
 
     abbrev over : LeadsOver z call r a.from a.link v x
     over = over_key s s a.moment [] (meets_nothing s) k holds.names.is_key small has first.under.pin.has misses
@@ -151,7 +151,7 @@ module _ (s t : PinnedTable) (k : List ℕ) (u : PassState) (o : OnlyMeets (call
         (λ y n d. record {
           next = a.number ∙ (ap entries_in (sym d.2.count) ∙ ap (λ (ws : List ℕ). entries_in ((memory z ws).rooms.count r)) d.1.1);
           room = room;
-          none = subst (λ (ws : List ℕ). HasKeyAt (memory z ws) r k Missing) (sym d.1.0) (missing_there s s a.moment [] (meets_nothing s) k holds.names.is_key small has first.under.pin.has misses);
+          none = subst (λ (ws : List ℕ). LacksKeyAt (memory z ws) r k) (sym d.1.0) (missing_there s s a.moment [] (meets_nothing s) k holds.names.is_key small has first.under.pin.has misses);
           from = a.from;
           link = subst (IsLinkOf z r a.from) (sym d.1.0) (is_link a.from over.was few_from);
           becomes = d.2.becomes ∙ ap (put_entry z r a.from i (class_at s) (block_at s) (length k)) d.1.1;

@@ -1,11 +1,14 @@
 -- A pin that a call keeps is kept over several calls.
-use Rattle.std.proofs.Common.{ℕ, sym, refl, ap, ◌∙◌, subst, Option, Some}
+use Rattle.std.proofs.Common.{◌≡◌, ℕ, List, sym, refl, ap, ◌∙◌, subst, Option, Some, None}
 use Rattle.oak_model.specs.Limits.{Sizes}
 use Rattle.chunk_core.specs.declared.holds.PinnedRoom.{PinnedRoom}
 use Rattle.chunk_core.specs.declared.holds.RoomHolds.{RoomHolds}
+use Rattle.chunk_core.specs.MayOnRooms.{FindsEntry}
 use Rattle.oak_core.specs.declared.states.PassState.{PassState}
 use Rattle.oak_core.proofs.calls.CallSteps.{learns_both, stands_learns}
-use Rattle.chunk_ops.specs.PinRecords.{HasRoomPin, RoomPinned, PinKept, PinStays, OnlyMeets, UnderPin, pin_or, with_room_pin}
+use Rattle.chunk_ops.specs.declared.entries.EntryNo.{EntryNo}
+use Rattle.chunk_ops.specs.Finds.{BelongsBehind, LiesBehind}
+use Rattle.chunk_ops.specs.PinRecords.{HasEntry, HasRoomPin, RoomPinned, PinKept, PinStays, OnlyMeets, UnderPin, pin_or, with_room_pin}
 
 pub pins_same : (p : PinnedRoom) → PinStays p p
 pins_same p = record { room = refl; found = refl; base = refl; low = refl; high = refl; entries = λ e has. has }
@@ -42,3 +45,14 @@ under_both z call r u v w a b = record {
   headers = b.headers ∙ a.headers;
   pin = kept_both z r u.rooms v.rooms w.rooms a.pin b.pin;
 }
+
+-- what a pin found is found while the pass has the same of rooms: an entry, and the place of a key
+pub entry_kept : (r i : ℕ) (key : List ℕ) (v w : PassState) → w.rooms ≡ v.rooms → HasEntry r i key v → HasEntry r i key w
+entry_kept r i key v w same h = record { entry = h.entry; finds = subst (λ (a : RoomHolds). FindsEntry r i a (pin_or a.pin) h.entry) (sym same) h.finds; key_is = h.key_is }
+
+pub lies_kept : (r : ℕ) (behind : Option EntryNo) (key : List ℕ) (v w : PassState) → w.rooms ≡ v.rooms → LiesBehind r behind key v → LiesBehind r behind key w
+lies_kept r None key v w same h = tt
+lies_kept r (Some i) key v w same h = (h.0, entry_kept r i.0 h.0 v w same h.1, h.2)
+
+pub belongs_kept : (r : ℕ) (behind : Option EntryNo) (key : List ℕ) (v w : PassState) → w.rooms ≡ v.rooms → BelongsBehind r behind key v → BelongsBehind r behind key w
+belongs_kept r behind key v w same b = record { above = lies_kept r behind key v w same b.above; next = λ i other e l before. b.next i other (entry_kept r i other w v (sym same) e) (lies_kept r behind other w v (sym same) l) before }

@@ -68,7 +68,7 @@ module _ (z : Sizes) (call r : ℕ) (inside : r < z.chunks) where
     met_findings (stored_key i) v w l d = absurd l
     met_findings (gave_up i) v w l d = absurd l
 
-    each_findings : (ms : List Met) (v w : PassState) → Each IsLoad ms → DoesEach z call r base place ms v w → FindsFew z r (key_loads ms) (Each IsEntryLoad ms) v w
+    pub each_findings : (ms : List Met) (v w : PassState) → Each IsLoad ms → DoesEach z call r base place ms v w → FindsFew z r (key_loads ms) (Each IsEntryLoad ms) v w
     unfolding total
     each_findings [] v w l d = record { more = []; met = ap (λ (y : PassState). y.findings.met) d ∙ sym (append-nil v.findings.met); few = omega arith; beside = λ q. tt }
     each_findings (m ∷ ms) v w l d = let a = met_findings m v d.0 l.0 d.1 in let b = each_findings ms d.0 w l.1 d.2 in record {

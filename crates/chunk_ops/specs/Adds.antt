@@ -1,5 +1,5 @@
 -- What a call that adds an entry finds and leaves. v is the state of the pass at the call, w the one at its end.
-use Rattle.std.specs.Prelude.{◌≡◌, ◌≢◌, ℕ, ◌⊎◌, List, length, Option, Some}
+use Rattle.std.specs.Prelude.{◌≡◌, ◌≢◌, ℕ, ◌⊎◌, List, Option, Some}
 use Rattle.oak_model.specs.declared.classes.Class.{Class}
 use Rattle.oak_model.specs.Counts.{Has}
 use Rattle.oak_model.specs.Key.{IsKey}
@@ -9,13 +9,14 @@ use Rattle.chunk_core.specs.declared.holds.FoundEntry.{FoundEntry}
 use Rattle.chunk_core.specs.LinkWords.{link_spot}
 use Rattle.chunk_core.specs.LinkedEntries.{entries_in}
 use Rattle.chunk_core.specs.PinnedRooms.{span_of, found_in, found_key}
+use Rattle.chunk_core.specs.RoomStep.{claim_entry, link_entry}
 use Rattle.chunk_core.specs.Rooms.{RoomSpot, at_count, at_key}
 use Rattle.oak_core.specs.declared.states.Finding.{Finding}
 use Rattle.oak_core.specs.declared.states.PassState.{PassState}
 use Rattle.oak_core.specs.CallSteps.{Learns, StepOfCall}
 use Rattle.oak_core.specs.Memory.{in_rooms, index}
 use Rattle.oak_core.specs.QuietSteps.{MetOnly, Quiet, StoredNone}
-use Rattle.oak_core.specs.Step.{Step, load, spot}
+use Rattle.oak_core.specs.Step.{Step, load, on_rooms, spot}
 use Rattle.chunk_ops.specs.declared.entries.AddHalt.{AddHalt}
 use Rattle.chunk_ops.specs.declared.entries.AddHalt.TheVariants.{Crowded, Busy}
 use Rattle.chunk_ops.specs.AskedRanges.{CoversKey}
@@ -23,10 +24,9 @@ use Rattle.chunk_ops.specs.Finds.{FoundAbsent}
 use Rattle.arena_ops.specs.Storing.{HasBytes, given}
 use Rattle.chunk_ops.specs.PinRecords.{PinStays, room_pin, HasEntry, KeepsPin}
 
--- the key may be added: it is one of the pinned room's range, in such a block
-pub record MayAdd (z : Sizes) (c : Class) (b len : ℕ) (key : List ℕ) (v : PassState) : Type 0 where
+-- the key may be added: it is one of the pinned room's range, and in such a block
+pub record MayAdd (z : Sizes) (c : Class) (b : ℕ) (key : List ℕ) (v : PassState) : Type 0 where
   pub is_key : IsKey key
-  pub long : length key ≡ len
   pub block : HasBytes z c b key v
   pub covers : CoversKey key (span_of (room_pin v))
 
@@ -70,14 +70,25 @@ pub record FoundCrowded (z : Sizes) (call r : ℕ) (key : List ℕ) (v w : PassS
 abbrev pub IsCountOrLink : ℕ → RoomSpot → Type 0
 IsCountOrLink r p = (p ≡ at_count r) ⊎ ((from : Option ℕ) × (p ≡ link_spot r from))
 
+-- how a count or a link is looked at again: by a load, by the exchange of the count that claims an entry, or by that of a link for one that names an entry
+pub data Look : Type 0 where
+  loads : Look
+  claims : ℕ → Look
+  links : Option ℕ → ℕ → ℕ → Look
+
+abbrev pub look_step : ℕ → RoomSpot → Look → Step
+look_step r place loads = load (in_rooms place)
+look_step r place (claims old) = on_rooms (claim_entry r old)
+look_step r place (links from i old) = on_rooms (link_entry r from i old)
+
 -- The count or a link of the room was found other than it was loaded before in the call, with no step of the call between that changed it.
 pub record FoundOther (z : Sizes) (call r : ℕ) (v w : PassState) : Type 0 where
   pub place : RoomSpot
   pub is : IsCountOrLink r place
   pub first : StepOfCall z call (load (in_rooms place)) v w
-  pub kind : Step
-  pub names : spot kind ≡ in_rooms place
-  pub second : StepOfCall z call kind first.to w
+  pub look : Look
+  pub names : spot (look_step r place look) ≡ in_rooms place
+  pub second : StepOfCall z call (look_step r place look) first.to w
   pub other : second.number ≢ first.number
   pub left : MetOnly (LeavesWord z place) first.to second.from
 

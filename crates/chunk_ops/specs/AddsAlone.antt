@@ -12,8 +12,8 @@ use Rattle.oak_core.specs.Memory.{in_rooms, index, memory}
 use Rattle.chunk_ops.specs.declared.entries.AddHalt.{AddHalt}
 use Rattle.chunk_ops.specs.declared.entries.AddHalt.TheVariants.{Crowded, Busy}
 use Rattle.chunk_ops.specs.declared.entries.EntryNo.{EntryNo}
-use Rattle.chunk_ops.specs.declared.entries.Found.TheVariants.{Entry, Missing}
-use Rattle.chunk_ops.specs.FindsAlone.{HasKeyAt, IsLinked}
+use Rattle.chunk_ops.specs.declared.entries.Found.TheVariants.{Entry}
+use Rattle.chunk_ops.specs.FindsAlone.{HasKeyAt, IsLinked, LacksKeyAt}
 
 -- of a pass that is alone: that it came to this
 abbrev pub Never : List ℕ → List ℕ → Type 0
@@ -33,7 +33,7 @@ IsLinkOf z r from words = MatchOption from (Unit {0}) (λ q. (q < z.entries) × 
 
 -- the words stay, and in them the room has as many entries as it may, and none of the key
 abbrev pub CrowdedIn : Sizes → ℕ → List ℕ → List ℕ → List ℕ → Type 0
-CrowdedIn z r key before after = (after ≡ before) × (entries_in ((memory z before).rooms.count r) ≡ z.entries) × HasKeyAt (memory z before) r key Missing
+CrowdedIn z r key before after = (after ≡ before) × (entries_in ((memory z before).rooms.count r) ≡ z.entries) × LacksKeyAt (memory z before) r key
 
 -- the entry of the key was there, and the block was given back: its bit was cleared, and no other word changed
 abbrev pub KeepsEntry : Sizes → ℕ → EntryNo → Class → ℕ → List ℕ → List ℕ → List ℕ → Type 0
@@ -43,7 +43,7 @@ KeepsEntry z r i c b key before after = HasKeyAt (memory z before) r key (Entry 
 pub record AddsNext (z : Sizes) (r : ℕ) (i : EntryNo) (c : Class) (b len : ℕ) (key before after : List ℕ) : Type 0 where
   pub next : i.0 ≡ entries_in ((memory z before).rooms.count r)
   pub room : i.0 < z.entries
-  pub none : HasKeyAt (memory z before) r key Missing
+  pub none : LacksKeyAt (memory z before) r key
   pub from : Option ℕ
   pub link : IsLinkOf z r from before
   pub becomes : after ≡ put_entry z r from i.0 c b len before

@@ -103,10 +103,9 @@ span_agrees : (a b : RoomHolds) → RoomsAgree a b → span_of (pin_or b.pin) �
 span_agrees a b s = λ i. record { low = low_number (s.pin.low i); high = high_number (s.pin.high i); base = s.pin.base i }
 
 -- the key may be added as long as the pass holds what it held, and its pin has the range that it had
-pub add_still : (z : Sizes) (c : Class) (b len : ℕ) (key : List ℕ) (v w : PassState) → w.blocks ≡ v.blocks → span_of (room_pin w) ≡ span_of (room_pin v) → MayAdd z c b len key v → MayAdd z c b len key w
-add_still z c b len key v w blocks span m = record {
+pub add_still : (z : Sizes) (c : Class) (b : ℕ) (key : List ℕ) (v w : PassState) → w.blocks ≡ v.blocks → span_of (room_pin w) ≡ span_of (room_pin v) → MayAdd z c b key v → MayAdd z c b key w
+add_still z c b key v w blocks span m = record {
   is_key = m.is_key;
-  long = m.long;
   block = let h : HasBytes z c b key v = m.block in record { block = subst (HoldsBlock z (class_number c) b) (sym blocks) h.block; bytes_are = (λ i. take (length key) (bytes_of (words_held (class_number c) b (blocks i).held))) ∙ h.bytes_are; fits = h.fits };
   covers = subst (CoversKey key) (sym span) m.covers;
 }
@@ -116,7 +115,7 @@ module _ (z : Sizes) (base place : ℕ) (k : List ℕ) (v w : PassState) where
   holds_agree s blocks h = record {
     none = s.claim ∙ h.none;
     base = h.base ∙ sym s.pin.base;
-    may = add_still z _ _ (length k) k v w blocks (span_agrees v.rooms w.rooms s) h.may;
+    may = add_still z _ _ k v w blocks (span_agrees v.rooms w.rooms s) h.may;
     names = h.names;
   }
 

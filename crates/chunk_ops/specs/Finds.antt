@@ -1,6 +1,7 @@
 -- What searches in a pinned room find. v is the state of the pass at the call, w the one at its end.
 use Rattle.std.specs.Prelude.{◌≡◌, ◌≢◌, ℕ, ◌+◌, ◌-◌, ◌<◌, ◌≤◌, List, ◌∷◌, ◌++◌, Option, Some, None}
 use Rattle.oak_model.specs.Counts.{Each, one_at, below, total, Has}
+use Rattle.oak_model.specs.Key.{IsKeyBefore}
 use Rattle.oak_model.specs.KeyNumber.{key_number}
 use Rattle.oak_model.specs.Limits.{Sizes}
 use Rattle.chunk_core.specs.declared.holds.FoundEntry.{FoundEntry}
@@ -13,6 +14,7 @@ use Rattle.oak_core.specs.declared.states.Finding.{Finding}
 use Rattle.oak_core.specs.declared.states.PassState.{PassState}
 use Rattle.oak_core.specs.CountReads.{ReadAbsent, EndsAbsent}
 use Rattle.oak_core.specs.Memory.{in_rooms, index}
+use Rattle.chunk_ops.specs.declared.entries.EntryNo.{EntryNo}
 use Rattle.chunk_ops.specs.declared.entries.Found.{Found}
 use Rattle.chunk_ops.specs.declared.entries.Found.TheVariants.{Entry, Missing}
 use Rattle.chunk_ops.specs.Ways.{Way, Up, Down}
@@ -34,9 +36,24 @@ pub record FindsMissing (z : Sizes) (call r : ℕ) (key : List ℕ) (v w : PassS
   pub none : (e : FoundEntry) → Has e (found_in (room_pin w)) → found_key e ≢ key_number key
   pub read : CoversKey key (span_of (room_pin v)) → FoundAbsent call (key_number key) (room_pin v).base v w
 
+-- the key is above that of the entry, which the pin found; each key lies behind none
+abbrev pub LiesBehind : ℕ → Option EntryNo → List ℕ → PassState → Type 0
+LiesBehind r None key v = Unit {0}
+LiesBehind r (Some i) key v = (first : List ℕ) × HasEntry r i.0 first v × IsKeyBefore first key
+
+-- The key belongs right behind the entry, or before all where there is none: no entry that the pin found lies between.
+pub record BelongsBehind (r : ℕ) (behind : Option EntryNo) (key : List ℕ) (v : PassState) : Type 0 where
+  pub above : LiesBehind r behind key v
+  pub next : (i : ℕ) (other : List ℕ) → HasEntry r i other v → LiesBehind r behind other v → IsKeyBefore other key → ⊥
+
 abbrev pub Finds : Found → Sizes → ℕ → ℕ → List ℕ → PassState → PassState → Type 0
 Finds (Entry i) z call r key v w = FindsKey z call r i.0 key v w
-Finds Missing z call r key v w = FindsMissing z call r key v w
+Finds (Missing behind) z call r key v w = FindsMissing z call r key v w × BelongsBehind r behind key w
+
+-- the number of an entry, where there is one
+abbrev pub number_in : Option EntryNo → Option ℕ
+number_in None = None
+number_in (Some i) = Some i.0
 
 -- the nearest entry that way of a bound
 

@@ -21,19 +21,22 @@ IsLinked m r i = total (λ j. one_at j i) (linked m.rooms r) ≡ 1
 abbrev pub linked_key : Memory → ℕ → ℕ → List ℕ
 linked_key m r i = key_bytes (m.rooms.key r i) (content m.arena.bytes (m.rooms.key r i))
 
+-- no entry that is linked has the key
+abbrev pub LacksKeyAt : Memory → ℕ → List ℕ → Type 0
+LacksKeyAt m r key = (i : ℕ) → IsLinked m r i → linked_key m r i ≢ key
+
 -- the entry is linked and has the key, or none that is linked has it
 abbrev pub HasKeyAt : Memory → ℕ → List ℕ → Found → Type 0
 HasKeyAt m r key (Entry i) = IsLinked m r i.0 × (linked_key m r i.0 ≡ key)
-HasKeyAt m r key Missing = (i : ℕ) → IsLinked m r i → linked_key m r i ≢ key
+HasKeyAt m r key (Missing behind) = LacksKeyAt m r key
 
 -- the words stay, and say so
 abbrev pub FindsIn : Sizes → ℕ → List ℕ → Found → List ℕ → List ℕ → Type 0
 FindsIn z r key found before after = (after ≡ before) × HasKeyAt (memory z before) r key found
 
--- an entry's number as what was found
-abbrev pub as_found : Option ℕ → Found
-as_found None = Missing
-as_found (Some i) = Entry (record { 0 = i })
+-- or that the room lacks the key
+abbrev pub LacksIn : Sizes → ℕ → List ℕ → List ℕ → List ℕ → Type 0
+LacksIn z r key before after = (after ≡ before) × LacksKeyAt (memory z before) r key
 
 -- the entry is linked and lies that way of the bound, and none that is linked does that is nearer; or none that is linked lies there
 abbrev pub HasNearest : Memory → ℕ → Way → Option (List ℕ) → Option EntryNo → Type 0

@@ -72,7 +72,7 @@ pub record NamesKey (z : Sizes) (place : ℕ) (k : List ℕ) : Type 0 where
 pub record HoldsIn (z : Sizes) (floor place : ℕ) (k : List ℕ) (v : PassState) : Type 0 where
   pub none : v.rooms.claim ≡ None
   pub base : floor ≡ (room_pin v).base
-  pub may : MayAdd z (class_from (class_in place)) (block_in place) (length k) k v
+  pub may : MayAdd z (class_from (class_in place)) (block_in place) k v
   pub names : NamesKey z place k
 
 abbrev pub HoldsKey : PinnedTable → List ℕ → Type 0

@@ -1,15 +1,40 @@
 //! What calls on a room find of its entries.
+ghost use Rattle.std.specs.Prelude.{◌≡◌};
+ghost use Rattle.chunk_ops.specs.Finds.{number_in};
+ghost use Rattle.chunk_ops.specs.FindsAlone.{as_entry};
+
 use oak_core::Block;
 
 /// An entry's number within its room.
 #[derive(Clone, Copy, Debug, PartialEq, Eq)]
 pub struct EntryNo(pub u32);
 
-/// Whether a room has an entry of a key.
+/// The number of an entry, where there is one.
+pub(crate) fn number_in(entry: Option<EntryNo>) -> Option<u32>
+    ensures { result ≡ number_in entry }
+{
+    match entry {
+        Some(EntryNo(number)) => Some(number),
+        None => None,
+    }
+}
+
+/// The entry of a number, where there is one.
+pub(crate) fn as_entry(number: Option<u32>) -> Option<EntryNo>
+    ensures { result ≡ as_entry number }
+{
+    match number {
+        Some(number) => Some(EntryNo(number)),
+        None => None,
+    }
+}
+
+/// Whether a room has an entry of a key; where it has none, behind which entry the key belongs, `None` where
+/// that is before all.
 #[derive(Clone, Copy, Debug, PartialEq, Eq)]
 pub enum Found {
     Entry(EntryNo),
-    Missing,
+    Missing { behind: Option<EntryNo> },
 }
 
 /// What an entry's value word says: the header at a generation that has the key's value, or the stamp

@@ -10,15 +10,16 @@ ghost use Rattle.chunk_ops.specs.FindsAlone.{FindsIn, NearestIn};
 ghost use Rattle.chunk_ops.specs.PinRecords.{HasRoomPin, UnderPin};
 ghost use Rattle.chunk_ops.specs.Ways.{Up, Down};
 
-use crate::entries::{EntryNo, Found};
+use crate::entries::{EntryNo, Found, as_entry};
 use crate::pinned_table::PinnedTable;
 use crate::room_pins::RoomPin;
-use link_search::Tie;
+use link_search::{Sought, Tie};
 use oak_core::{OakTable, Pass};
 
 /// The entry of a key: the sorted prefix is halved, and from there the links are walked. Where it is missing,
-/// a link that was loaded in this call steps over it: a key of the room's range was absent then. The call
-/// makes loads alone.
+/// a link that was loaded in this call steps over it: a key of the room's range was absent then. That link is
+/// of the entry behind which the key belongs, or the first one, and no entry that was found lies between. The
+/// call makes loads alone.
 pub fn find(table: &OakTable, pass: &mut Pass, pin: &RoomPin, key: &[u8]) -> Found
     requires own { IsPassOf table.now pass.old }
     requires key { IsKey key.now }
@@ -38,8 +39,10 @@ pub fn find(table: &OakTable, pass: &mut Pass, pin: &RoomPin, key: &[u8]) -> Fou
         place: 0,
     };
     match link_search::find(&mut room, key) {
-        Some(entry) => Found::Entry(EntryNo(entry)),
-        None => Found::Missing,
+        Sought::Entry(entry) => Found::Entry(EntryNo(entry)),
+        Sought::Missing { behind } => Found::Missing {
+            behind: as_entry(behind),
+        },
     }
 }
 

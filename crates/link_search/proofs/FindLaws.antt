@@ -11,13 +11,13 @@ use Rattle.link_search.specs.declared.ties.Tie.{Tie}
 use Rattle.link_search.specs.declared.ties.Tie.TheVariants.{Passed, Reached}
 use Rattle.link_search.specs.Bits.{bits}
 use Rattle.link_search.specs.Finds.{IsAt, IsBetween, LoadsFew}
-use Rattle.link_search.specs.Linked.{Linked, IsFound, IsFront, IsCut, IsBare, IsSplit}
+use Rattle.link_search.specs.Linked.{Linked, Later, FrontStands, IsAboveFrom, IsFound, IsFront, IsCut, IsBare, IsSplit}
 use Rattle.link_search.specs.Met.{Met, met_count, met_link, key_loads, IsLoad, IsEntryLoad}
 use Rattle.link_search.specs.Ties.{passes, lower_at, IsPassed}
 use Rattle.link_search.specs.Walks.{Walks}
 use Rattle.link_search.proofs.OrderLaws.{before_trans, not_before, not_both, turned_back, tied}
 use Rattle.link_search.proofs.StepLaws.{entries_load}
-use Rattle.link_search.proofs.WalkLaws.{loads_append, no_loads, later_same, passed_later, passed_few}
+use Rattle.link_search.proofs.WalkLaws.{above_sooner, cut_grown, from_found, grown_later, loads_append, no_loads, later_same, passed_later, passed_few}
 
 one_count : (n : ℕ) (ms : List Met) → key_loads (met_count n ∷ ms) ≡ key_loads ms
 unfolding key_loads
@@ -83,6 +83,15 @@ module _ (r : Linked) (front : IsFront r) (k : List ℕ) (i : ℕ) (at_i : IsAt 
     upper = λ j a l p. dite (ℕ_discrete j i) (λ e. not_both (passes Reached (key_cmp k (r.key j))) p (ap (passes Reached) (at_itself j e))) (λ ne. upper_not Reached k (r.key j) (behind_i j (omega arith) l) p);
   }
 
+-- so it stays, as the prefix does
+module _ (r s : Linked) (l : Later r s) where
+  bare_later : (from : Option ℕ) (P : List ℕ → Type 0) → FrontStands r → ((i : ℕ) → from ≡ Some i → IsFound r i) → IsBare r from P → IsBare s from P
+  bare_later from P front f b j lt a c = let lj : j < r.prefix = subst (λ (p : ℕ). j < p) l.prefix lt in let e = l.key j (front j lj) in
+      b j lj (subst (IsAboveFrom r from) e (above_sooner r s l from (s.key j) f a)) (subst P e c)
+
+  front_later : FrontStands r → FrontStands s
+  front_later front j lt = l.found j (front j (subst (λ (p : ℕ). j < p) l.prefix lt))
+
 -- the loads of a search, a walk and of the count before and behind
 module _ {S : Type 0} (pinned : S → Type 0) (view : S → Linked) (meets : S → S → List Met → Type 0) (both : (s t u : S) (a b : List Met) → meets s t a → meets t u b → meets s u (a ++ b)) where
   pub few_at : (s t u : S) (c n : ℕ) (ms : List Met) → meets s t (met_count c ∷ []) → meets t u ms → Each IsEntryLoad ms → key_loads ms ≤ bits n → n ≡ (view u).prefix → LoadsFew meets (view u) s u
@@ -91,8 +100,8 @@ module _ {S : Type 0} (pinned : S → Type 0) (view : S → Linked) (meets : S �
   pub few_linked : (s t u : S) (c : ℕ) (from : Option ℕ) (n : ℕ) → meets s t (met_count c ∷ []) → meets t u (met_link from n ∷ []) → LoadsFew meets (view u) s u
   few_linked s t u c from n a b = record { word = c; before = []; behind = met_link from n ∷ []; on = both s t u (met_count c ∷ []) (met_link from n ∷ []) a b; loads = tt; last = (tt, tt); few = let o = one_count c (met_link from n ∷ []) in let p = link_loads from n [] in let z = no_loads in omega arith }
 
-  pub few_walked : (s t u v x : S) (c d n : ℕ) (ms : List Met) → meets s t (met_count c ∷ []) → meets t u ms → Each IsEntryLoad ms → key_loads ms ≤ bits n → (w : Walks pinned view meets 1 u v) → meets v x (met_count d ∷ []) → view x ≡ view v → ((i : ℕ) → IsFound (view x) i → i < entries_in d) → n ≡ (view x).prefix → LoadsFew meets (view x) s x
-  few_walked s t u v x c d n ms a b loads few w on same within e = record {
+  pub few_walked : (from : Option ℕ) (P : List ℕ → Type 0) (s t u v x : S) (c d n : ℕ) (ms : List Met) → meets s t (met_count c ∷ []) → meets t u ms → Each IsEntryLoad ms → key_loads ms ≤ bits n → FrontStands (view u) → IsCut (view u) from P → IsBare (view u) from P → (w : Walks pinned view meets from P 1 u v) → meets v x (met_count d ∷ []) → view x ≡ view v → ((i : ℕ) → IsFound (view x) i → i < entries_in d) → n ≡ (view x).prefix → LoadsFew meets (view x) s x
+  few_walked from P s t u v x c d n ms a b loads few front cut bare w on same within e = record {
     word = d;
     before = (met_count c ∷ ms) ++ w.met;
     behind = [];
@@ -100,5 +109,7 @@ module _ {S : Type 0} (pinned : S → Type 0) (view : S → Linked) (meets : S �
     loads = each_append IsLoad (met_count c ∷ ms) w.met (tt, entries_load ms loads) (entries_load w.met w.loads);
     last = tt;
     few = let o = one_count c ms in let q = one_count d [] in let z = no_loads in let l = loads_append ((met_count c ∷ ms) ++ w.met) (met_count d ∷ []) in let k = loads_append (met_count c ∷ ms) w.met in let f = w.few in
-        let g = passed_few (view x) (entries_in d) within w.passed (passed_later (view v) (view x) (later_same (view v) (view x) same) w.passed w.are) in let p = ap bits e in omega arith;
+        let none = bare_later (view v) (view x) (later_same (view v) (view x) same) from P (front_later (view u) (view v) w.later front) (from_found (view v) from P (cut_grown (view u) (view v) from P (grown_later (view u) (view v) w.later) cut))
+        (bare_later (view u) (view v) w.later from P front (from_found (view u) from P cut) bare) in
+        let g = passed_few (view x) from P (view x).prefix none (entries_in d) within w.passed (passed_later (view v) (view x) (later_same (view v) (view x) same) from P w.passed w.are) in let p = ap bits e in omega arith;
   }

@@ -6,13 +6,14 @@ use Rattle.oak_model.specs.Counts.{Each}
 use Rattle.oak_model.specs.Key.{IsKeyBefore}
 use Rattle.oak_model.proofs.Lists.{each_append, each_map}
 use Rattle.link_search.specs.declared.ties.Tie.TheVariants.{Reached}
+use Rattle.link_search.specs.declared.finding.Sought.TheVariants.{Missing}
 use Rattle.link_search.specs.Finds.{IsEntryOf, Misses, Finds}
-use Rattle.link_search.specs.Linked.{Linked, Grown, Later, IsFound, FrontStands, IsAboveFrom, IsBelowTo, IsCut, IsBare, IsPlaced, SkipsNone}
+use Rattle.link_search.specs.Linked.{Linked, Grown, Later, BelongsBehind, IsFound, IsAboveFrom, IsBelowTo, IsCut, IsPlaced, SkipsNone}
 use Rattle.link_search.specs.Met.{Met, met_count, met_link, met_key, tried_count, tried_link, stored_value, stored_link, stored_key, gave_up, IsLoad, IsEntryLoad, LoadsNoLink, LeavesLink, Looked}
 use Rattle.link_search.specs.Ties.{IsPassed, IsReached}
 use Rattle.link_search.specs.Walks.{StepsOver, TellsOrder, IsTied}
-use Rattle.link_search.proofs.OrderLaws.{passed_below, reached_above, same_order, less_is_no}
-use Rattle.link_search.proofs.WalkLaws.{grown_both, grown_same, grown_later, cut_grown, front_later, bare_later, from_found}
+use Rattle.link_search.proofs.OrderLaws.{before_trans, below_passed, passed_below, reached_above, same_order, less_is_no}
+use Rattle.link_search.proofs.WalkLaws.{above_later, grown_both, grown_same, cut_grown}
 
 entry_leaves_link : (from : Option ℕ) (m : Met) → IsEntryLoad m → LeavesLink from m
 entry_leaves_link from (met_count n) h = tt
@@ -70,11 +71,14 @@ cut_below r (Some i) k h = h
 pub cut_is_above : (r : Linked) (from : Option ℕ) (k : List ℕ) → IsCut r from (IsPassed Reached (Some k)) → IsAboveFrom r from k
 cut_is_above r from k h = cut_below r from k (cut_as r from (IsPassed Reached (Some k)) (λ (q : List ℕ). IsKeyBefore q k) (passed_below k) h)
 
+-- a key above an entry is sought behind it
+pub above_is_cut : (r : Linked) (from : Option ℕ) (k : List ℕ) → IsAboveFrom r from k → IsCut r from (IsPassed Reached (Some k))
+above_is_cut r None k h = tt
+above_is_cut r (Some i) k h = (h.0, below_passed k (r.key i) h.1)
+
 pub placed_later : (r s : Linked) (from : Option ℕ) (link : ℕ) (k : List ℕ) → Later r s → IsPlaced r from link k → IsPlaced s from link k
 placed_later r s from link k l p = record {
-  front = front_later r s l p.front;
-  cut = cut_grown r s from (IsPassed Reached (Some k)) (grown_later r s l) p.cut;
-  bare = bare_later r s l from (IsPassed Reached (Some k)) p.front (from_found r from (IsPassed Reached (Some k)) p.cut) p.bare;
+  behind = above_later r s l from k p.behind;
   before = λ ne. let h = p.before ne in (l.found (link - 1) h.0, subst (IsKeyBefore k) (sym (l.key (link - 1) h.0)) h.1);
 }
 
@@ -164,13 +168,20 @@ module _ {S : Type 0} (view : S → Linked) (meets : S → S → List Met → Ty
     below_link e ne = let h = o.leads ne in (h.0, reached_above k ((view t).key (link - 1)) order h.1 (tells.named ne) e)
 
     -- a new key belongs there
-    pub placed_here : FrontStands (view t) → IsBare (view t) from (IsPassed Reached (Some k)) → is_eq order ≡ false → IsPlaced (view t) from link k
-    placed_here front bare e = record { front = front; cut = over_cut (IsPassed Reached (Some k)) (IsReached Reached (Some k)) from link s t o; bare = bare; before = below_link e }
+    above_here : IsAboveFrom (view t) from k
+    above_here = cut_is_above (view t) from k (over_cut (IsPassed Reached (Some k)) (IsReached Reached (Some k)) from link s t o)
+
+    pub placed_here : is_eq order ≡ false → IsPlaced (view t) from link k
+    placed_here e = record { behind = above_here; before = below_link e }
+
+    -- and none of the entries found lies between
+    belongs_here : is_eq order ≡ false → BelongsBehind (view t) from k
+    belongs_here e = record { above = above_here; next = λ j f a l. o.none j f a (λ ne. let h = below_link e ne in (h.0, before_trans ((view t).key j) k ((view t).key (link - 1)) l h.1)) }
 
     -- none of the entries found has the key
     pub none_has : is_eq order ≡ false → (j : ℕ) → IsFound (view t) j → (view t).key j ≢ k
     none_has e j f q = o.none j f
-        (subst (IsAboveFrom (view t) from) (sym q) (cut_is_above (view t) from k (over_cut (IsPassed Reached (Some k)) (IsReached Reached (Some k)) from link s t o)))
+        (subst (IsAboveFrom (view t) from) (sym q) above_here)
         (λ ne. let h = below_link e ne in (h.0, subst (λ (x : List ℕ). IsKeyBefore x ((view t).key (link - 1))) (sym q) h.1))
 
     -- the link leads over the key
@@ -185,12 +196,12 @@ module _ {S : Type 0} (view : S → Linked) (meets : S → S → List Met → Ty
       none = o.none;
     }
 
-    pub missed : is_eq order ≡ false → Misses view meets k s t
-    missed e = record { from = from; link = link; over = over_key e; none = none_has e }
+    pub missed : is_eq order ≡ false → Misses view meets k from s t
+    missed e = record { link = link; over = over_key e; none = none_has e }
+
+    -- so it is missing, and belongs behind that entry
+    pub finds_none : is_eq order ≡ false → Finds view meets (Missing from) k s t
+    finds_none e = (missed e, belongs_here e)
 
     pub tied_here : (i : ℕ) → IsTied order i link → IsEntryOf (view t) k i
     tied_here i e = tied_entry (view t) k order i link (λ ne. (o.leads ne).0) tells e
-
-    pub finds_here : (x : Option ℕ) → MatchOption x (is_eq order ≡ false) (λ i. IsTied order i link) → Finds view meets x k s t
-    finds_here None e = missed e
-    finds_here (Some i) e = tied_here i e

@@ -1,8 +1,6 @@
 -- What a pin found of a room whose entries are linked.
 use Rattle.std.specs.Prelude.{◌≡◌, ◌≢◌, ℕ, ◌-◌, ◌<◌, ◌≤◌, List, Option, Some, None}
 use Rattle.oak_model.specs.Key.{IsKeyBefore}
-use Rattle.link_search.specs.declared.ties.Tie.TheVariants.{Reached}
-use Rattle.link_search.specs.Ties.{IsPassed}
 
 -- more than 0 where the count was found, the length of the prefix that it told, how often an entry of each number was found, and the keys of those
 pub record Linked : Type 0 where
@@ -72,7 +70,10 @@ pub record IsSplit (r : Linked) (P : List ℕ → Type 0) (n : ℕ) : Type 0 whe
 
 -- a new key belongs between the entry and the one that the link names
 pub record IsPlaced (r : Linked) (from : Option ℕ) (link : ℕ) (k : List ℕ) : Type 0 where
-  pub front : FrontStands r
-  pub cut : IsCut r from (IsPassed Reached (Some k))
-  pub bare : IsBare r from (IsPassed Reached (Some k))
+  pub behind : IsAboveFrom r from k
   pub before : IsBelowTo r link k
+
+-- The key belongs right behind the entry, or before all where there is none: the entry's key is smaller, and no entry that was found lies between.
+pub record BelongsBehind (r : Linked) (from : Option ℕ) (k : List ℕ) : Type 0 where
+  pub above : IsAboveFrom r from k
+  pub next : (j : ℕ) → IsFound r j → IsAboveFrom r from (r.key j) → IsKeyBefore (r.key j) k → ⊥

@@ -5,24 +5,24 @@ use Rattle.std.specs.declared.cmp.Ordering.{Ordering}
 use Rattle.std.specs.declared.cmp.Ordering.TheVariants.{Less}
 use Rattle.oak_model.specs.Counts.{Each}
 use Rattle.oak_model.specs.Key.{IsKeyBefore}
-use Rattle.link_search.specs.Linked.{Linked, Grown, Later, IsFound, IsCut, SkipsNone}
+use Rattle.link_search.specs.Linked.{Linked, Grown, Later, IsFound, IsAboveFrom, IsCut, SkipsNone}
 use Rattle.link_search.specs.Met.{Met, key_loads, IsLoad, IsEntryLoad, LoadsNoLink, Looked}
 use Rattle.link_search.specs.Ties.{order_to}
 
--- entries that were passed, the last first: each behind the prefix, and its key above that of those before it
-abbrev pub ArePassed : Linked → List ℕ → Type 0
-ArePassed r [] = Unit {0}
-ArePassed r (i ∷ is) = (IsFound r i × (r.prefix ≤ i)) × (Each (λ j. IsKeyBefore (r.key j) (r.key i)) is × ArePassed r is)
+-- entries that a walk passed from one to a place, the last first: each lies between the two, and its key is above that of those before it
+abbrev pub ArePassed : Linked → Option ℕ → (List ℕ → Type 0) → List ℕ → Type 0
+ArePassed r from P [] = Unit {0}
+ArePassed r from P (i ∷ is) = (IsFound r i × IsAboveFrom r from (r.key i) × P (r.key i)) × (Each (λ j. IsKeyBefore (r.key j) (r.key i)) is × ArePassed r from P is)
 
 -- From s to t links and key words were loaded, n key words of which all but `rest` are of entries that were passed.
-pub record Walks {S : Type 0} (pinned : S → Type 0) (view : S → Linked) (meets : S → S → List Met → Type 0) (rest : ℕ) (s t : S) : Type 0 where
+pub record Walks {S : Type 0} (pinned : S → Type 0) (view : S → Linked) (meets : S → S → List Met → Type 0) (from : Option ℕ) (P : List ℕ → Type 0) (rest : ℕ) (s t : S) : Type 0 where
   pub pin : pinned t
   pub later : Later (view s) (view t)
   pub met : List Met
   pub on : meets s t met
   pub loads : Each IsEntryLoad met
   pub passed : List ℕ
-  pub are : ArePassed (view t) passed
+  pub are : ArePassed (view t) from P passed
   pub few : key_loads met ≤ length passed + rest
 
 -- Between s and t a link was loaded that leads from a key with P, or from the low bound, to a key with Q, or to the high bound. Loads alone were made before, and behind it loads of other words than links. None of the entries found lies between.

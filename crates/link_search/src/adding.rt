@@ -1,14 +1,13 @@
 //! Entries are added along the links.
 ghost use Rattle.std.specs.Prelude.{◌≡◌, List, [], ◌∷◌};
 ghost use Rattle.link_search.specs.Adds.{AddedAs, LinkedAs, LinkedStraight, StraightAs, IfBusy};
-ghost use Rattle.link_search.specs.Linked.{Grown, Later, IsPlaced};
+ghost use Rattle.link_search.specs.Linked.{Grown, Later, IsAboveFrom, IsPlaced};
 ghost use Rattle.link_search.specs.Met.{Met, Looked, gave_up};
 
-use crate::finding::before;
-use crate::room::{LinkedRoom, Sorted};
+use crate::room::LinkedRoom;
 use crate::ties::Tie;
 use crate::walking::{Place, walk};
-use chunk_core::count_word::{entries_in, prefix_in};
+use chunk_core::count_word::entries_in;
 
 /// What became of an entry that was to be added: one of the key was found, or it is linked; or the room
 /// has as many as it may, or its count or a link was changed.
@@ -74,16 +73,18 @@ fn link_claimed<R: LinkedRoom>(
     }
 }
 
-/// Adds an entry of the key, for which the pass has a block, unless the room has one: it is claimed by the
+/// Adds an entry of the key, for which the pass has a block, unless the room has one: the links are walked
+/// from the entry `from`, as a search found it before, or from the first. The entry is claimed by the
 /// count, stored, and linked in the order of the keys. `Full` comes only where the count was found at the
 /// most that the room may have, before the link that leads over the key was loaded, and the call made
 /// loads alone. `Busy` comes only where the count or a link was found other than it was loaded before,
 /// with no step of the call between that changed it, and never to a pass that is alone, which adds an entry
 /// straight: by loads, the claim, the three words and the link, each at the first try. But where an entry is
 /// added the pass has the block still, and no claim.
-pub fn add<R: LinkedRoom>(room: &mut R, key: &[u8], most: u32) -> Outcome
+pub fn add<R: LinkedRoom>(room: &mut R, key: &[u8], from: Option<u32>, most: u32) -> Outcome
     requires pinned { R.pinned room.old }
     requires holds { R.holds room.old key.now }
+    requires behind { IsAboveFrom (R.view room.old) from key.now }
     requires most { most ≡ R.most room.old }
     ensures pinned { R.pinned room.new }
     ensures grown { Grown (R.view room.old) (R.view room.new) }
@@ -93,26 +94,20 @@ pub fn add<R: LinkedRoom>(room: &mut R, key: &[u8], most: u32) -> Outcome
     ensures straight { R.lone room.old → StraightAs R.view R.meets result key.now room.old room.new }
 {
     let first = room.count();
-    match room.search(key, prefix_in(first)) {
-        Sorted::At(entry) => Outcome::Found(entry),
-        Sorted::Between(many) => {
-            let from = before(many);
-            let place = walk(room, Some(key), Tie::Reached, from);
-            if let Some(found) = place.entry_of_key() {
-                return Outcome::Found(found);
-            }
-            if entries_in(first) == most {
-                return Outcome::Full;
-            }
-            let count = room.count();
-            let entry = entries_in(count);
-            if entry == most {
-                return Outcome::Busy;
-            }
-            if !room.claim(key, count, place.link) {
-                return Outcome::Busy;
-            }
-            link_claimed(room, key, place, entry, most)
-        }
+    let place = walk(room, Some(key), Tie::Reached, from);
+    if let Some(found) = place.entry_of_key() {
+        return Outcome::Found(found);
     }
+    if entries_in(first) == most {
+        return Outcome::Full;
+    }
+    let count = room.count();
+    let entry = entries_in(count);
+    if entry == most {
+        return Outcome::Busy;
+    }
+    if !room.claim(key, count, place.link) {
+        return Outcome::Busy;
+    }
+    link_claimed(room, key, place, entry, most)
 }

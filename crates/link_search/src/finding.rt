@@ -1,6 +1,5 @@
 //! The entry of a key.
-ghost use Rattle.std.specs.Prelude.{◌≡◌, ℕ, ◌<◌, ◌+◌, MatchOption};
-ghost use Rattle.chunk_core.specs.LinkedEntries.{prefix_in};
+ghost use Rattle.std.specs.Prelude.{◌≡◌, ◌+◌, MatchOption};
 ghost use Rattle.link_search.specs.Finds.{Finds, LoadsFew};
 ghost use Rattle.link_search.specs.Linked.{Grown};
 
@@ -8,6 +7,14 @@ use crate::room::{LinkedRoom, Sorted};
 use crate::ties::Tie;
 use crate::walking::walk;
 use chunk_core::count_word::prefix_in;
+
+/// What a search along the links finds: the entry of the key, or behind which entry it belongs, `None`
+/// where that is before all.
+#[derive(Clone, Copy, Debug)]
+pub enum Sought {
+    Entry(u32),
+    Missing { behind: Option<u32> },
+}
 
 /// The last entry of the prefix that lies before a place, where the first `many` do.
 pub(crate) fn before(many: u32) -> Option<u32>
@@ -19,8 +26,9 @@ pub(crate) fn before(many: u32) -> Option<u32>
 /// The entry of the key: the sorted prefix is halved, and the links from there are walked. The count is
 /// loaded behind the walk, too, so that all entries that were passed are below it. It is missing only
 /// where a link that was loaded in the call leads from a smaller key, or from the low bound, to a greater
-/// one, or to the high bound, and no entry that was found has the key. The call makes loads alone.
-pub fn find<R: LinkedRoom>(room: &mut R, key: &[u8]) -> Option<u32>
+/// one, or to the high bound, and no entry that was found has the key. That link is of the entry behind
+/// which the key belongs, and none that was found lies between the two. The call makes loads alone.
+pub fn find<R: LinkedRoom>(room: &mut R, key: &[u8]) -> Sought
     requires pinned { R.pinned room.old }
     ensures pinned { R.pinned room.new }
     ensures grown { Grown (R.view room.old) (R.view room.new) }
@@ -29,12 +37,15 @@ pub fn find<R: LinkedRoom>(room: &mut R, key: &[u8]) -> Option<u32>
 {
     let count = room.count();
     match room.search(key, prefix_in(count)) {
-        Sorted::At(entry) => Some(entry),
+        Sorted::At(entry) => Sought::Entry(entry),
         Sorted::Between(many) => {
             let from = before(many);
             let place = walk(room, Some(key), Tie::Reached, from);
             room.count();
-            place.entry_of_key()
+            match place.entry_of_key() {
+                Some(entry) => Sought::Entry(entry),
+                None => Sought::Missing { behind: place.from },
+            }
         }
     }
 }

@@ -9,7 +9,7 @@ mod ties;
 mod walking;
 
 pub use adding::{Outcome, add};
-pub use finding::find;
+pub use finding::{Sought, find};
 pub use nearest::{above, below};
 pub use room::{LinkedRoom, Sorted};
 pub use ties::Tie;

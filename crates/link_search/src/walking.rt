@@ -2,7 +2,7 @@
 ghost use Rattle.std.specs.Prelude.{◌≡◌, ℕ, ◌<◌, MatchOption, false};
 ghost use Rattle.std.specs.Ordering.{is_eq};
 ghost use Rattle.std.specs.declared.cmp.Ordering.TheVariants.{Less};
-ghost use Rattle.link_search.specs.Linked.{IsFound, FrontStands, IsCut, IsBare};
+ghost use Rattle.link_search.specs.Linked.{IsFound, IsCut};
 ghost use Rattle.link_search.specs.Met.{LoadsOneKey};
 ghost use Rattle.link_search.specs.Ties.{order_to, IsPassed, IsReached, bytes_in_option};
 ghost use Rattle.link_search.specs.Walks.{Walks, StepsOver, TellsOrder, IsTied};
@@ -60,13 +60,10 @@ pub(crate) fn walk<R: LinkedRoom>(
     from: Option<u32>,
 ) -> Place
     requires pinned { R.pinned room.old }
-    requires front { FrontStands (R.view room.old) }
     requires behind { IsCut (R.view room.old) from (IsPassed tie (bytes_in_option bound)) }
-    requires bare { IsBare (R.view room.old) from (IsPassed tie (bytes_in_option bound)) }
-    ensures walks { Walks R.pinned R.view R.meets 1 room.old room.new }
+    ensures walks { Walks R.pinned R.view R.meets from (IsPassed tie (bytes_in_option bound.entry)) 1 room.old room.new }
     ensures over { StepsOver R.view R.meets (IsPassed tie (bytes_in_option bound.entry)) (IsReached tie (bytes_in_option bound.entry)) result.from result.link room.old room.new }
     ensures order { TellsOrder result.order (R.view room.new) (bytes_in_option bound.entry) result.link }
-    ensures bare { IsBare (R.view room.new) result.from (IsPassed tie (bytes_in_option bound.entry)) }
 {
     let mut before = from;
     let mut passed = 0u32;

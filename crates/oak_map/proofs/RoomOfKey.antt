@@ -15,9 +15,8 @@ use Rattle.chunk_core.specs.Covers.{key_at}
 use Rattle.chunk_core.specs.Spans.{within}
 use Rattle.oak_core.specs.declared.states.PassState.{PassState}
 use Rattle.oak_core.specs.Memory.{memory}
-use Rattle.chunk_ops.specs.declared.entries.Found.TheVariants.{Missing}
 use Rattle.chunk_ops.specs.AskedRanges.{CoversKey}
-use Rattle.chunk_ops.specs.FindsAlone.{HasKeyAt, IsLinked, linked_key}
+use Rattle.chunk_ops.specs.FindsAlone.{IsLinked, LacksKeyAt, linked_key}
 use Rattle.chunk_core.specs.Covers.{span_in}
 use Rattle.lone_counts.specs.LoneTable.{HasValue, LoneTable}
 use Rattle.point_ops.specs.LoneInserts.{SpareOnly}
@@ -45,7 +44,7 @@ pub linked_number : (z : Sizes) (words : List ℕ) (v : PassState) (r i : ℕ) �
 linked_number z words v r i l o used = (linked_is_key z words v l.moment r i o.inside (weighs_one ((memory z words).rooms.pin r) o.state) used).number
 
 -- where no entry of the room had the key before words changed that nobody has, the key has no value behind it
-pub missing_valueless : (z : Sizes) (key : List ℕ) (w : PassState) (b c : List ℕ) (r : ℕ) → is_key key ≡ true → LoneTable z c w → SpareOnly z b c → IsOpenIn z r b → CoversKey key (span_in (memory z b).rooms r) → HasKeyAt (memory z b) r key Missing → HasValue z c key → ⊥
+pub missing_valueless : (z : Sizes) (key : List ℕ) (w : PassState) (b c : List ℕ) (r : ℕ) → is_key key ≡ true → LoneTable z c w → SpareOnly z b c → IsOpenIn z r b → CoversKey key (span_in (memory z b).rooms r) → LacksKeyAt (memory z b) r key → HasValue z c key → ⊥
 missing_valueless z key w b c r is table spare o covers none h = none h.entry linked_before key_same
   where
     stays : RoomsStay z b c

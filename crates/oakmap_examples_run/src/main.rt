@@ -32,7 +32,7 @@ fn writes_its_text<R: Threads + Wait + Clone + Drop + Send + Sync + Env + Files 
 }
 
 fn main(rt: HostRuntime) -> anyhow::Result<ExitCode> {
-    for name in SCRIPTS {
+    for &name in &SCRIPTS {
         if !writes_its_text(&rt, name)? {
             println!(rt; "{name}: another text")?;
             return Ok(ExitCode::FAILURE);

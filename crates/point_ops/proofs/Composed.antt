@@ -96,7 +96,7 @@ module _ (call : ℕ) (u v w t : PassState) (a : MetMore call u v) (b : MetMore 
       place = f.place;
       is = f.is;
       first = step_in z call _ u v w t a b f.first;
-      kind = f.kind;
+      look = f.look;
       names = f.names;
       second = step_until z call _ f.first.to w t b f.second;
       other = f.other;

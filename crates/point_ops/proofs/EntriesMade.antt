@@ -1,5 +1,5 @@
 -- An entry that is added for a key, or is not.
-use Rattle.std.proofs.Common.{◌≡◌, ℕ, List, length, sym, refl, ap, ◌∙◌, subst}
+use Rattle.std.proofs.Common.{◌≡◌, ℕ, List, sym, ap, ◌∙◌, subst}
 use Rattle.oak_model.specs.declared.classes.Class.{Class}
 use Rattle.oak_model.specs.Key.{IsKey}
 use Rattle.oak_model.specs.Limits.{Sizes}
@@ -60,8 +60,8 @@ module _ (z : Sizes) (call r : ℕ) (c : Class) (b : ℕ) (key : List ℕ) (v u 
   covers_still covers = subst (λ (a : RoomHolds). CoversKey key (span_of (pin_or a.pin))) (sym m.rooms) covers
 
   -- it may be added to the pinned room
-  pub may_add : IsKey key → CoversKey key (span_of (room_pin v)) → MayAdd z c b (length key) key u
-  may_add is covers = record { is_key = is; long = refl; block = m.has; covers = covers_still covers }
+  pub may_add : IsKey key → CoversKey key (span_of (room_pin v)) → MayAdd z c b key u
+  may_add is covers = record { is_key = is; block = m.has; covers = covers_still covers }
 
   -- and passed to an entry, or not needed
   pub added_under : (i : ℕ) → AddsEntry z at r i c b key u w → UnderPin z call r v w

@@ -19,8 +19,10 @@ use Rattle.chunk_ops.specs.PinRecords.{HasEntry, OnlyLearns, OnlyMeets, PinKept,
 use Rattle.chunk_ops.specs.RoomWords.{FindsBase}
 use Rattle.chunk_ops.specs.declared.entries.Content.TheVariants.{Value, Floor}
 use Rattle.chunk_ops.specs.declared.entries.EntryNo.{EntryNo}
-use Rattle.chunk_ops.proofs.PinsKept.{kept_same, under_both, under_only}
-use Rattle.point_ops.specs.Spots.{FoundAway, FoundNamed}
+use Rattle.chunk_ops.specs.declared.entries.Found.{Found}
+use Rattle.chunk_ops.specs.declared.entries.Found.TheVariants.{Entry, Missing}
+use Rattle.chunk_ops.proofs.PinsKept.{belongs_kept, entry_kept, kept_same, under_both, under_only}
+use Rattle.point_ops.specs.Spots.{FoundAway, FoundNamed, IsPlaceOf}
 use Rattle.point_ops.proofs.Composed.{last_in}
 use Rattle.value_ops.proofs.LoadedViews.{known_loaded, names_home}
 
@@ -35,6 +37,11 @@ last_until call k at s u v w x r = last_in call k at s u u v w (learns_none call
 -- an entry that the pin found is one still
 pub entry_under : (z : Sizes) (call r i : ℕ) (key : List ℕ) (v w : PassState) → UnderPin z call r v w → HasEntry r i key v → HasEntry r i key w
 entry_under z call r i key v w u x = record { entry = x.entry; finds = record { pin = u.pin.has.pin; there = u.pin.stays.entries x.entry x.finds.there; number = x.finds.number }; key_is = x.key_is }
+
+-- so is the place of a key, while the pass has the same of rooms
+pub place_kept : (r : ℕ) (found : Found) (key : List ℕ) (v w : PassState) → w.rooms ≡ v.rooms → IsPlaceOf r found key v → IsPlaceOf r found key w
+place_kept r (Entry i) key v w same h = entry_kept r i.0 key v w same h
+place_kept r (Missing behind) key v w same h = belongs_kept r behind key v w same h
 
 module _ (z : Sizes) (call r : ℕ) (v u w : PassState) (first : UnderPin z call r v u) (later : ℕ) (same : later ≡ call) where
   -- behind the search comes what leaves the pin

@@ -13,9 +13,8 @@ use Rattle.oak_core.specs.AloneWords.{Runs}
 use Rattle.oak_core.specs.Memory.{IsInside, in_rooms, memory}
 use Rattle.oak_core.proofs.seats.AloneRuns.{Then, runs_then, runs_as}
 use Rattle.chunk_ops.specs.declared.entries.EntryNo.{EntryNo}
-use Rattle.chunk_ops.specs.declared.entries.Found.TheVariants.{Missing}
 use Rattle.chunk_ops.specs.AskedRanges.{CoversKey}
-use Rattle.chunk_ops.specs.FindsAlone.{HasKeyAt}
+use Rattle.chunk_ops.specs.FindsAlone.{LacksKeyAt}
 use Rattle.chunk_ops.specs.PinRecords.{HasEntry, HasRoomPin, pin_or}
 use Rattle.chunk_ops.specs.Setting.{LeavesIn, SetsIn}
 use Rattle.chunk_ops.proofs.WordLoads.{found_inside}
@@ -40,7 +39,7 @@ base_kept (Some i) floor v u same is = tt
 pub entry_there : (z : Sizes) (r i : ℕ) (k : List ℕ) (v : PassState) → HasRoomPin z r v → HasEntry r i k v → IsInside z (in_rooms (at_value r i))
 entry_there z r i k v pin h = (pin.inside, found_inside z r i k v pin h)
 
-missing_of : (z : Sizes) (r floor : ℕ) (key a : List ℕ) (entry : Option EntryNo) → entry ≡ None → AwayIn entry floor z r key a a → HasKeyAt (memory z a) r key Missing
+missing_of : (z : Sizes) (r floor : ℕ) (key a : List ℕ) (entry : Option EntryNo) → entry ≡ None → AwayIn entry floor z r key a a → LacksKeyAt (memory z a) r key
 missing_of z r floor key a entry e away = let w : AwayIn None floor z r key a a = subst (λ (o : Option EntryNo). AwayIn o floor z r key a a) e away in w.1
 
 -- the value word was another number, and the value is given back

@@ -12,8 +12,8 @@ use Rattle.chunk_core.specs.Rooms.{at_count, at_first, at_key, at_next}
 use Rattle.chunk_core.proofs.RoomLinks.{linked_same}
 use Rattle.oak_core.specs.Memory.{Spot, in_arena, in_rooms, memory}
 use Rattle.chunk_ops.specs.declared.entries.EntryNo.{EntryNo}
-use Rattle.chunk_ops.specs.declared.entries.Found.TheVariants.{Entry, Missing}
-use Rattle.chunk_ops.specs.FindsAlone.{HasKeyAt, IsLinked}
+use Rattle.chunk_ops.specs.declared.entries.Found.TheVariants.{Entry}
+use Rattle.chunk_ops.specs.FindsAlone.{HasKeyAt, IsLinked, LacksKeyAt}
 use Rattle.point_ops.specs.LoneInserts.{KeepsBut, KeysStay}
 use Rattle.point_ops.proofs.LoneWords.{but_same}
 
@@ -44,10 +44,10 @@ module _ (z : Sizes) (r : ℕ) (a d : List ℕ) (k : KeysStay z r a d) where
   key_before i key h = let was = linked_before i.0 h.0 in (was, sym (k.keys i.0 was) ∙ h.1)
 
   -- and a key without one has none, and had none
-  pub missing_still : (key : List ℕ) → HasKeyAt (memory z a) r key Missing → HasKeyAt (memory z d) r key Missing
+  pub missing_still : (key : List ℕ) → LacksKeyAt (memory z a) r key → LacksKeyAt (memory z d) r key
   missing_still key none = λ i once same. let was = linked_before i once in none i was (sym (k.keys i was) ∙ same)
 
-  pub missing_before : (key : List ℕ) → HasKeyAt (memory z d) r key Missing → HasKeyAt (memory z a) r key Missing
+  pub missing_before : (key : List ℕ) → LacksKeyAt (memory z d) r key → LacksKeyAt (memory z a) r key
   missing_before key none = λ i once same. none i (linked_still i once) (k.keys i once ∙ same)
 
   -- so it is over two changes

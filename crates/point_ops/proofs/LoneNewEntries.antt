@@ -16,9 +16,8 @@ use Rattle.oak_core.specs.AloneWords.{Runs}
 use Rattle.oak_core.specs.Memory.{Spot, at_given, in_arena, in_headers, in_rooms, memory, word_count}
 use Rattle.oak_core.proofs.seats.AloneRuns.{Then, runs_as, runs_none, runs_then}
 use Rattle.chunk_ops.specs.declared.entries.EntryNo.{EntryNo}
-use Rattle.chunk_ops.specs.declared.entries.Found.TheVariants.{Missing}
 use Rattle.chunk_ops.specs.AddsAlone.{AddsIn, AddsNext, KeepsEntry}
-use Rattle.chunk_ops.specs.FindsAlone.{HasKeyAt}
+use Rattle.chunk_ops.specs.FindsAlone.{LacksKeyAt}
 use Rattle.point_ops.specs.LoneInserts.{IsOfBlock, KeepsBut, MakesBlockIn, MakesBlockUnder}
 use Rattle.point_ops.specs.LonePutLeft.{AddsKeyIn, GetsFor, IsNewEntry, with_bit}
 use Rattle.point_ops.proofs.LoneKeys.{missing_still}
@@ -72,7 +71,7 @@ link_new r i None c b = (refl, refl)
 link_new r i (Some q) c b = (refl, inr refl)
 
 module _ (z : Sizes) (r : ℕ) (span : Span) (inside : r < z.chunks) (c : Class) (b : ℕ) (key : List ℕ) (fits : class_of (length key) ≡ Some c) (a m : List ℕ) (made : MakesBlockUnder z r span c b a m) where
-  module _ (i : EntryNo) (len : ℕ) (d : List ℕ) (s : AddsIn z r i c b len key m d) (n : AddsNext z r i c b len key m d) (missing : HasKeyAt (memory z a) r key Missing) where
+  module _ (i : EntryNo) (len : ℕ) (d : List ℕ) (s : AddsIn z r i c b len key m d) (n : AddsNext z r i c b len key m d) (missing : LacksKeyAt (memory z a) r key) where
     abbrev E : Spot → Type 0
     E = IsOfEntry r i.0 n.from c b
 

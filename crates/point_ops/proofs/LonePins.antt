@@ -24,8 +24,7 @@ use Rattle.oak_core.specs.Usage.{is_free}
 use Rattle.oak_core.proofs.seats.AloneRuns.{Then, runs_as, runs_then}
 use Rattle.oak_core.proofs.memory.Words.{memory_read}
 use Rattle.chunk_ops.specs.AskedRanges.{CoversKey}
-use Rattle.chunk_ops.specs.declared.entries.Found.TheVariants.{Missing}
-use Rattle.chunk_ops.specs.FindsAlone.{HasKeyAt}
+use Rattle.chunk_ops.specs.FindsAlone.{LacksKeyAt}
 use Rattle.chunk_ops.specs.RoomPins.{AddsRoomPin, DropsRoomPin}
 use Rattle.point_ops.specs.LoneInserts.{FitsValue, InsertHaltsIn, IsClearIn, IsFreeIn, IsSpare, KeepsBut, KeysStay, LacksKeyBlock, LacksRoom, SpareOnly}
 use Rattle.point_ops.specs.LonePuts.{IsPut, KeepsRooms, LoneHalts, PutsIn, PutsUnder}
@@ -78,7 +77,7 @@ module _ (z : Sizes) (r : ℕ) (inside : r < z.chunks) (a b : List ℕ) (up : Ad
   pub keys_were : KeysStay z r a b
   keys_were = keys_stay z r (IsPinOf r) a b pinned (λ e. e) (λ e. e) (λ i e. e) (λ i e. e) (λ i once k e. e)
 
-  pub missing_was : (key : List ℕ) → HasKeyAt (memory z b) r key Missing → HasKeyAt (memory z a) r key Missing
+  pub missing_was : (key : List ℕ) → LacksKeyAt (memory z b) r key → LacksKeyAt (memory z a) r key
   missing_was key none = missing_before z r a b keys_were key none
 
   pub span_was : span_in (memory z b).rooms r ≡ span_in (memory z a).rooms r

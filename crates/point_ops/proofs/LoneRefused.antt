@@ -10,9 +10,8 @@ use Rattle.arena_core.proofs.PlaceLaws.{same_class}
 use Rattle.arena_ops.specs.Looking.{IsSetIn}
 use Rattle.chunk_core.specs.Covers.{span_in}
 use Rattle.oak_core.specs.Memory.{in_arena, memory}
-use Rattle.chunk_ops.specs.declared.entries.Found.TheVariants.{Missing}
 use Rattle.chunk_ops.specs.AskedRanges.{CoversKey}
-use Rattle.chunk_ops.specs.FindsAlone.{HasKeyAt}
+use Rattle.chunk_ops.specs.FindsAlone.{LacksKeyAt}
 use Rattle.point_ops.specs.LoneInserts.{AddingHaltsIn, FitsValue, GivesBackIn, InsertHaltsIn, IsClearIn, IsOfHeader, LacksKeyBlock, MakesFreshIn, MakingHaltsIn, SpareOnly, IsSpare}
 use Rattle.point_ops.specs.declared.halts.Halt.{Halt}
 use Rattle.point_ops.specs.declared.halts.Halt.TheVariants.{Busy, Moved, Crowded, NoBlock, NoHeader}
@@ -30,7 +29,7 @@ unmade_refused z r c key value a d fits (NoBlock e) h = subst (λ (k : Class). S
 unmade_refused z r c key value a d fits NoHeader h = (h.0, h.1, (c, fits, h.2))
 
 -- a value was made, and the key was given no entry
-module _ (z : Sizes) (r h : ℕ) (c : Class) (b : ℕ) (key value a m : List ℕ) (fits : class_of (length value) ≡ Some c) (f : MakesFreshIn z r h c b a m) (covers : CoversKey key (span_in (memory z a).rooms r)) (missing : HasKeyAt (memory z a) r key Missing) where
+module _ (z : Sizes) (r h : ℕ) (c : Class) (b : ℕ) (key value a m : List ℕ) (fits : class_of (length value) ≡ Some c) (f : MakesFreshIn z r h c b a m) (covers : CoversKey key (span_in (memory z a).rooms r)) (missing : LacksKeyAt (memory z a) r key) where
   abbrev mid : List ℕ
   mid = f.0
 

@@ -1,5 +1,5 @@
 -- Where a key is found by a pass that is alone: the words that its search and the load behind it find stay.
-use Rattle.std.proofs.Common.{◌≡◌, ℕ, List, sym, ap, ◌∙◌, subst, Some, None}
+use Rattle.std.proofs.Common.{◌≡◌, ℕ, List, sym, ap, ◌∙◌, subst}
 use Rattle.oak_model.specs.Limits.{Sizes}
 use Rattle.chunk_core.specs.declared.holds.RoomHolds.{RoomHolds}
 use Rattle.oak_core.specs.declared.states.PassState.{PassState}
@@ -12,7 +12,7 @@ use Rattle.chunk_ops.specs.declared.entries.Content.{Content}
 use Rattle.chunk_ops.specs.declared.entries.EntryNo.{EntryNo}
 use Rattle.chunk_ops.specs.declared.entries.Found.TheVariants.{Entry, Missing}
 use Rattle.chunk_ops.specs.Contents.{Says, SaysIn}
-use Rattle.chunk_ops.specs.FindsAlone.{FindsIn}
+use Rattle.chunk_ops.specs.FindsAlone.{FindsIn, LacksIn}
 use Rattle.chunk_ops.specs.PinRecords.{HasRoomPin, OnlyMeets, WordsStay, pin_or, room_pin}
 use Rattle.chunk_ops.specs.RoomWords.{FindsBase}
 use Rattle.chunk_ops.proofs.MeetingCalls.{then_stays}
@@ -22,8 +22,8 @@ use Rattle.point_ops.specs.declared.spots.Spot.TheVariants.{Absent, Present}
 use Rattle.point_ops.specs.LoneLives.{EntrySays, SpotIn}
 
 module _ (z : Sizes) (r : ℕ) (key : List ℕ) (v u w : PassState) where
-  pub missing_alone : (call : ℕ) → Runs (FindsIn z r key Missing) v u → OnlyMeets call u w → Runs (FindsIn z r key Missing) v w
-  missing_alone call a o = then_stays (FindsIn z r key Missing) v u w a o.still
+  pub missing_alone : (call : ℕ) → Runs (LacksIn z r key) v u → OnlyMeets call u w → Runs (LacksIn z r key) v w
+  missing_alone call a o = then_stays (LacksIn z r key) v u w a o.still
 
   pub says_alone : (i : EntryNo) (c : Content) → Runs (FindsIn z r key (Entry i)) v u → Runs (SaysIn c z r i.0) u w → Runs (EntrySays i c z r key) v w
   says_alone i c a b = runs_as (Then (FindsIn z r key (Entry i)) (SaysIn c z r i.0)) (EntrySays i c z r key) v w
@@ -35,8 +35,8 @@ pub spot_stays : (z : Sizes) (r : ℕ) (key : List ℕ) (s : Spot) (v u : PassSt
 spot_stays z r key s v u a = runs_as (SpotIn s z r key) WordsStay v u (stays s) a
   where
     stays : (t : Spot) (x y : List ℕ) → SpotIn t z r key x y → y ≡ x
-    stays (Absent None floor) x y d = d.0
-    stays (Absent (Some i) floor) x y d = d.0.0
+    stays (Absent (Missing behind) floor) x y d = d.0
+    stays (Absent (Entry i) floor) x y d = d.0.0
     stays (Present i o) x y d = d.0.0
 
 -- the base that was loaded is that of the pin that the pass has behind the load

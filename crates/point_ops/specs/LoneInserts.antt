@@ -20,9 +20,8 @@ use Rattle.header_core.specs.Headers.{header_at, at_place, at_stamp}
 use Rattle.oak_core.specs.declared.states.PassState.{PassState}
 use Rattle.oak_core.specs.Memory.{Spot, at_given, in_arena, in_headers, in_rooms, memory, read, word_count}
 use Rattle.oak_core.specs.Usage.{is_free}
-use Rattle.chunk_ops.specs.declared.entries.Found.TheVariants.{Missing}
 use Rattle.chunk_ops.specs.AskedRanges.{CoversKey}
-use Rattle.chunk_ops.specs.FindsAlone.{HasKeyAt, IsLinked, linked_key}
+use Rattle.chunk_ops.specs.FindsAlone.{IsLinked, LacksKeyAt, linked_key}
 use Rattle.value_ops.specs.Filling.{FreesPin}
 use Rattle.point_ops.specs.declared.halts.Halt.{Halt}
 use Rattle.point_ops.specs.declared.halts.Halt.TheVariants.{Busy, Moved, Crowded, NoBlock, NoHeader}
@@ -194,7 +193,7 @@ pub record FitsValue (z : Sizes) (len : ℕ) (words : List ℕ) : Type 0 where
 pub record LacksKeyBlock (z : Sizes) (r : ℕ) (key value : List ℕ) (c : Class) (words : List ℕ) : Type 0 where
   pub class_is : class_of (length key) ≡ Some c
   pub covers : CoversKey key (span_in (memory z words).rooms r)
-  pub missing : HasKeyAt (memory z words) r key Missing
+  pub missing : LacksKeyAt (memory z words) r key
   pub fits : FitsValue z (length value) words
   pub others : (b : ℕ) → b < blocks z (class_number c) → ((fits.class ≡ c) × (fits.block ≡ b) → ⊥) → IsSetIn z c b words
 
@@ -202,7 +201,7 @@ pub record LacksKeyBlock (z : Sizes) (r : ℕ) (key value : List ℕ) (c : Class
 pub record LacksRoom (z : Sizes) (r : ℕ) (key value words : List ℕ) : Type 0 where
   pub full : IsFull z r words
   pub covers : CoversKey key (span_in (memory z words).rooms r)
-  pub missing : HasKeyAt (memory z words) r key Missing
+  pub missing : LacksKeyAt (memory z words) r key
   pub fits : FitsValue z (length value) words
   pub class : Class
   pub class_is : class_of (length key) ≡ Some class

@@ -11,9 +11,9 @@ use Rattle.oak_core.specs.PassState.{IsAlone}
 use Rattle.chunk_ops.specs.declared.entries.Content.{Content}
 use Rattle.chunk_ops.specs.declared.entries.Content.TheVariants.{Value, Floor}
 use Rattle.chunk_ops.specs.declared.entries.EntryNo.{EntryNo}
-use Rattle.chunk_ops.specs.declared.entries.Found.TheVariants.{Entry, Missing}
+use Rattle.chunk_ops.specs.declared.entries.Found.TheVariants.{Entry}
 use Rattle.chunk_ops.specs.Contents.{Says}
-use Rattle.chunk_ops.specs.FindsAlone.{FindsIn}
+use Rattle.chunk_ops.specs.FindsAlone.{FindsIn, LacksIn}
 use Rattle.chunk_ops.specs.PinRecords.{room_pin}
 use Rattle.chunk_ops.specs.AddsAlone.{Never}
 use Rattle.value_ops.specs.AloneLocks.{pin_in}
@@ -26,6 +26,7 @@ use Rattle.point_ops.specs.declared.lives.Life.TheVariants.{Live, Dead}
 use Rattle.point_ops.specs.declared.spots.Spot.{Spot}
 use Rattle.point_ops.specs.declared.spots.Spot.TheVariants.{Absent, Present}
 use Rattle.point_ops.specs.LoneInserts.{KeepsBut}
+use Rattle.point_ops.specs.Spots.{entry_in}
 
 -- the entry of the key is linked, and its value word says so
 abbrev pub EntrySays : EntryNo → Content → Sizes → (r : ℕ) → (key before after : List ℕ) → Type 0
@@ -33,12 +34,12 @@ EntrySays i c z r key before after = FindsIn z r key (Entry i) before after × S
 
 -- the key has no linked entry, or one whose value word is the floor
 abbrev pub AwayIn : Option EntryNo → ℕ → Sizes → (r : ℕ) → (key before after : List ℕ) → Type 0
-AwayIn None floor z r key before after = FindsIn z r key Missing before after
+AwayIn None floor z r key before after = LacksIn z r key before after
 AwayIn (Some i) floor z r key before after = EntrySays i (Floor floor) z r key before after
 
 -- or its value word names the header at the generation
 abbrev pub SpotIn : Spot → Sizes → (r : ℕ) → (key before after : List ℕ) → Type 0
-SpotIn (Absent entry floor) z r key before after = AwayIn entry floor z r key before after
+SpotIn (Absent entry floor) z r key before after = AwayIn (entry_in entry) floor z r key before after
 SpotIn (Present i o) z r key before after = EntrySays i (Value o.header o.generation) z r key before after
 
 -- a key without an entry is absent at the base that the pass's pin of the room has
@@ -47,7 +48,7 @@ FloorIsBase None floor w = floor ≡ (room_pin w).base
 FloorIsBase (Some i) floor w = Unit {0}
 
 abbrev pub SpotBase : Spot → PassState → Type 0
-SpotBase (Absent entry floor) w = FloorIsBase entry floor w
+SpotBase (Absent entry floor) w = FloorIsBase (entry_in entry) floor w
 SpotBase (Present i o) w = Unit {0}
 
 -- the pass was alone in the state v, at a moment at which the rule held, and the words, which stay, are those of that moment; the pin word of the header has P in them

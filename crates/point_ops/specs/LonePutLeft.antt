@@ -17,9 +17,9 @@ use Rattle.header_core.specs.Headers.{at_place, at_stamp}
 use Rattle.oak_core.specs.KeyReads.{home_of}
 use Rattle.oak_core.specs.Memory.{Spot, in_arena, in_headers, in_rooms, memory}
 use Rattle.chunk_ops.specs.declared.entries.EntryNo.{EntryNo}
-use Rattle.chunk_ops.specs.declared.entries.Found.TheVariants.{Entry, Missing}
+use Rattle.chunk_ops.specs.declared.entries.Found.TheVariants.{Entry}
 use Rattle.chunk_ops.specs.AskedRanges.{CoversKey}
-use Rattle.chunk_ops.specs.FindsAlone.{HasKeyAt}
+use Rattle.chunk_ops.specs.FindsAlone.{HasKeyAt, LacksKeyAt}
 use Rattle.value_ops.specs.AloneLocks.{pin_in, place_in, stamp_in}
 use Rattle.point_ops.specs.LoneInserts.{IsClearIn, IsFreeIn, IsOfBlock, IsOfHeader, KeepsBut}
 use Rattle.point_ops.specs.LoneLeft.{ClearsBlockIn, KeyNames, RewritesKey}
@@ -117,7 +117,7 @@ pub record AddsKeyIn (z : Sizes) (r : ℕ) (i : EntryNo) (key before after : Lis
   pub bits : (d j : ℕ) → (memory z after).arena.bits d j ≡ with_bit class block d j ((memory z before).arena.bits d j)
   pub next : i.0 ≡ entries_in ((memory z before).rooms.count r)
   pub room : i.0 < z.entries
-  pub missing : HasKeyAt (memory z before) r key Missing
+  pub missing : LacksKeyAt (memory z before) r key
   pub count : (memory z after).rooms.count r ≡ (memory z before).rooms.count r + 1
   pub has : HasKeyAt (memory z after) r key (Entry i)
 
@@ -143,7 +143,7 @@ pub record GotEntryIn (z : Sizes) (r : ℕ) (i : EntryNo) (h : ℕ) (c : Class) 
   pub fits : class_of (length key) ≡ Some class
   pub block : ℕ
   pub clear : IsClearIn z (class_number class) block before
-  pub missing : HasKeyAt (memory z before) r key Missing
+  pub missing : LacksKeyAt (memory z before) r key
   pub next : i.0 ≡ entries_in ((memory z before).rooms.count r)
   pub room : i.0 < z.entries
   pub count : (memory z after).rooms.count r ≡ (memory z before).rooms.count r + 1

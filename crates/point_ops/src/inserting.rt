@@ -1,6 +1,6 @@
 //! Insertion: a value is made, the key gets an entry where it has none, and the entry the value. What was
 //! taken is given back where a step is refused.
-ghost use Rattle.std.specs.Prelude.{◌≡◌, ◌<◌, ◌≤◌, ◌+◌, ◌^◌, ℕ, List, length, IfOk, IfErr, IfSome, None, Some};
+ghost use Rattle.std.specs.Prelude.{◌≡◌, ◌<◌, ◌≤◌, ◌+◌, ◌^◌, ℕ, List, length, IfOk, IfErr, None, Some};
 ghost use Rattle.oak_model.specs.declared.classes.Class.{Class};
 ghost use Rattle.oak_model.specs.declared.limits.TheConstants.{GREATEST_VALUE};
 ghost use Rattle.oak_model.specs.Class.{class_of};
@@ -20,6 +20,7 @@ ghost use Rattle.oak_core.specs.MayWrite.{IsNewCall};
 ghost use Rattle.oak_core.specs.Passes.{IsPassOf, Stays, state, key as sizes, call_of};
 ghost use Rattle.oak_core.specs.QuietSteps.{MetOnly, Quiet};
 ghost use Rattle.chunk_ops.specs.AskedRanges.{CoversKey};
+ghost use Rattle.chunk_ops.specs.Finds.{BelongsBehind};
 ghost use Rattle.chunk_ops.specs.PinRecords.{HasEntry, HasRoomPin, UnderPin, room_pin};
 ghost use Rattle.chunk_ops.specs.Setting.{FoundSet, SetsIn};
 ghost use Rattle.value_ops.specs.OneHeader.{IsOneHeader};
@@ -30,11 +31,12 @@ ghost use Rattle.point_ops.specs.LoneLives.{FloorIsBase};
 ghost use Rattle.point_ops.specs.LonePuts.{EntersFor, InsertsFor};
 ghost use Rattle.point_ops.specs.LonePutLeft.{GetsFor, InsertsKeyFor};
 ghost use Rattle.point_ops.specs.Parts.{KeepsUnder};
+ghost use Rattle.point_ops.specs.Spots.{IsPlaceOf, entry_in};
 ghost use Rattle.point_ops.specs.declared.halts.Halt.TheVariants as halts;
 
 use crate::halts::Halt;
 use arena_ops::{NoBlock, give, store_bytes, take};
-use chunk_ops::{AddHalt, EntryNo, NotAdded, RoomPin, add, set_value};
+use chunk_ops::{AddHalt, EntryNo, Found, NotAdded, RoomPin, add, set_value};
 use oak_core::{Block, Fresh, OakTable, Pass};
 use oak_model::{Class, Kind, class_of};
 use value_ops::{NoHeader, claim, fill, withdraw};
@@ -171,14 +173,21 @@ fn halt_of(why: AddHalt) -> Halt
     }
 }
 
-/// Gives the key an entry in the pinned room.
-fn add_entry(table: &OakTable, pass: &mut Pass, pin: &RoomPin, key: &[u8]) -> Result<EntryNo, Halt>
+/// Gives the key an entry in the pinned room, which belongs behind the one that was found so.
+fn add_entry(
+    table: &OakTable,
+    pass: &mut Pass,
+    pin: &RoomPin,
+    key: &[u8],
+    behind: Option<EntryNo>,
+) -> Result<EntryNo, Halt>
     requires own { IsPassOf table.now pass.old }
     requires key { IsKey key.now }
     requires covers { CoversKey key.now (span_of (room_pin (state pass.old))) }
     requires pinned { HasRoomPin (sizes table.now) pin.now.room (state pass.old) }
     requires claim { (state pass.old).rooms.claim ≡ None }
     requires none { (state pass.old).blocks ≡ no_blocks }
+    requires behind { BelongsBehind pin.now.room behind key.now (state pass.old) }
     ensures own { Stays pass.old pass.new }
     ensures under { UnderPin (sizes table.now) (call_of pass.old) pin.now.room (state pass.old) (state pass.new) }
     ensures added { IfOk result (λ i. HasEntry pin.now.room i.0 key.now (state pass.new)) }
@@ -190,7 +199,7 @@ fn add_entry(table: &OakTable, pass: &mut Pass, pin: &RoomPin, key: &[u8]) -> Re
     ensures alone_halted { IfErr result (λ why. Runs (AddingHaltsIn why (sizes table.now) pin.now.room key.now) (state pass.old) (state pass.new)) }
 {
     let block = take_block(table, pass, class_for(key.len()), key)?;
-    match add(table, pass, pin, block, key.len()) {
+    match add(table, pass, pin, key, block, behind) {
         Ok(entry) => Ok(entry),
         Err(NotAdded { why, block }) => {
             give(table, pass, block);
@@ -204,7 +213,7 @@ fn entry_for(
     table: &OakTable,
     pass: &mut Pass,
     pin: &RoomPin,
-    entry: Option<EntryNo>,
+    entry: Found,
     key: &[u8],
 ) -> Result<EntryNo, Halt>
     requires own { IsPassOf table.now pass.old }
@@ -213,21 +222,21 @@ fn entry_for(
     requires pinned { HasRoomPin (sizes table.now) pin.now.room (state pass.old) }
     requires claim { (state pass.old).rooms.claim ≡ None }
     requires none { (state pass.old).blocks ≡ no_blocks }
-    requires entry { IfSome entry (λ i. HasEntry pin.now.room i.0 key.now (state pass.old)) }
+    requires entry { IsPlaceOf pin.now.room entry key.now (state pass.old) }
     ensures own { Stays pass.old pass.new }
     ensures under { UnderPin (sizes table.now) (call_of pass.old) pin.now.room (state pass.old) (state pass.new) }
     ensures added { IfOk result (λ i. HasEntry pin.now.room i.0 key.now (state pass.new)) }
-    ensures halted { IfErr result (λ why. (entry ≡ None) × AddingHalts why (sizes table.now)
+    ensures halted { IfErr result (λ why. (entry_in entry ≡ None) × AddingHalts why (sizes table.now)
         (call_of pass.old) key.now (state pass.old) (state pass.new)) }
-    ensures alone { IfOk result (λ i. (floor : ℕ) → FloorIsBase entry floor (state pass.old)
-        → Runs (EntersFor (sizes table.now) pin.now.room entry floor key.now i) (state pass.old) (state pass.new)) }
+    ensures alone { IfOk result (λ i. (floor : ℕ) → FloorIsBase (entry_in entry) floor (state pass.old)
+        → Runs (EntersFor (sizes table.now) pin.now.room (entry_in entry) floor key.now i) (state pass.old) (state pass.new)) }
     ensures alone_gets { IfOk result (λ i. (floor : ℕ)
-        → Runs (GetsFor entry floor (sizes table.now) pin.now.room i key.now) (state pass.old) (state pass.new)) }
+        → Runs (GetsFor (entry_in entry) floor (sizes table.now) pin.now.room i key.now) (state pass.old) (state pass.new)) }
     ensures alone_halted { IfErr result (λ why. Runs (AddingHaltsIn why (sizes table.now) pin.now.room key.now) (state pass.old) (state pass.new)) }
 {
     match entry {
-        Some(entry) => Ok(entry),
-        None => add_entry(table, pass, pin, key),
+        Found::Entry(entry) => Ok(entry),
+        Found::Missing { behind } => add_entry(table, pass, pin, key, behind),
     }
 }
 
@@ -283,7 +292,7 @@ pub(crate) fn insert(
     table: &OakTable,
     pass: &mut Pass,
     pin: &RoomPin,
-    entry: Option<EntryNo>,
+    entry: Found,
     floor: u64,
     key: &[u8],
     value: &[u8],
@@ -297,7 +306,7 @@ pub(crate) fn insert(
     requires claim { (state pass.old).rooms.claim ≡ None }
     requires blocks { (state pass.old).blocks ≡ no_blocks }
     requires headers { (state pass.old).headers ≡ no_headers }
-    requires entry { IfSome entry (λ i. HasEntry pin.now.room i.0 key.now (state pass.old)) }
+    requires entry { IsPlaceOf pin.now.room entry key.now (state pass.old) }
     requires floor { floor < 2 ^ 63 }
     requires kind { MakesWrite kind None (Some value.now) }
     requires turn { IsNewCall (call_of pass.old) (state pass.old) }
@@ -306,13 +315,13 @@ pub(crate) fn insert(
     ensures stamp { IfOk result (λ s. s ≡ floor + 1) }
     ensures wrote { IfOk result (λ s. Writes (call_of pass.old) key.now kind None (Some value.now) s (state pass.old) (state pass.new)) }
     ensures learns { IfErr result (λ _. Learns (call_of pass.old) (state pass.old) (state pass.new)) }
-    ensures halted { IfErr result (λ why. InsertHalts why (sizes table.now) (call_of pass.old) key.now value.now entry
-        floor (state pass.old) (state pass.new)) }
-    ensures alone { FloorIsBase entry floor (state pass.old)
-        → Runs (InsertsFor result (sizes table.now) pin.now.room entry floor key.now value.now) (state pass.old)
+    ensures halted { IfErr result (λ why. InsertHalts why (sizes table.now) (call_of pass.old) key.now value.now
+        (entry_in entry) floor (state pass.old) (state pass.new)) }
+    ensures alone { FloorIsBase (entry_in entry) floor (state pass.old)
+        → Runs (InsertsFor result (sizes table.now) pin.now.room (entry_in entry) floor key.now value.now) (state pass.old)
         (state pass.new) }
     ensures alone_inserts { IfOk result (λ _. Runs
-        (InsertsKeyFor (sizes table.now) pin.now.room entry floor key.now value.now) (state pass.old)
+        (InsertsKeyFor (sizes table.now) pin.now.room (entry_in entry) floor key.now value.now) (state pass.old)
         (state pass.new)) }
 {
     let fresh = make_fresh(table, pass, class_for(value.len()), value, floor + 1)?;

@@ -6,7 +6,7 @@ mod RoomReads
 mod FilledPasses
 mod FilledRooms
 mod FilledSlots
-mod FoundRanges
+mod BatchStarts
 mod GatherViews
 mod KeysBehind
 mod RoomRanges

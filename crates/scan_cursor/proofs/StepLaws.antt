@@ -82,11 +82,11 @@ module _ (way : Way) (lo hi : ℕ) (z : Sizes) (w x : Walk) (p : Pass) (slot : S
   slot_is_known = taken_known way lo hi (course_of way z w p) (in_slot slot) left (view_at z p) i going past has taken
 
   -- its key is beyond the bound of the scan
-  pub slot_ends : HoldsNothing (state p) → IsBeyond way lo hi (in_slot slot).key → WalkSteps Ended way lo hi (course_of way z w p) (course_of way z (record { mark = record x.mark { ended = true }; gathered = false; from = x.from; to = x.to; bound = x.bound }) p)
+  pub slot_ends : HoldsNothing (state p) → IsBeyond way lo hi (in_slot slot).key → WalkSteps Ended way lo hi (course_of way z w p) (course_of way z (record { mark = record x.mark { ended = true }; gathered = false; from = x.from; to = x.to; bound = x.bound; asked = x.asked }) p)
   slot_ends idle n = (
     idle,
-    subst (WalkPasses way lo hi (course_of way z w p)) (λ j. course_of way z (record { mark = record (sym mark_is j) { ended = true }; gathered = false; from = x.from; to = x.to; bound = sym bound_is j }) p)
-        (take_beyond way lo hi (course_of way z w p) (in_slot slot) left (view_at z p) i going past has taken x.from x.to left n few),
+    subst (WalkPasses way lo hi (course_of way z w p)) (λ j. course_of way z (record { mark = record (sym mark_is j) { ended = true }; gathered = false; from = x.from; to = x.to; bound = sym bound_is j; asked = x.asked }) p)
+        (take_beyond way lo hi (course_of way z w p) (in_slot slot) left (view_at z p) i going past has taken x.from x.to x.asked left n few),
     refl,
   )
 
@@ -96,11 +96,11 @@ module _ (way : Way) (lo hi : ℕ) (z : Sizes) (w x : Walk) (p : Pass) (slot : S
 
     -- the scan is at its key
     abbrev pub at_slot : Bool → Walk
-    at_slot at = record { mark = record { key = key; past = at; ended = x.mark.ended }; gathered = x.gathered; from = x.from; to = x.to; bound = x.bound }
+    at_slot at = record { mark = record { key = key; past = at; ended = x.mark.ended }; gathered = x.gathered; from = x.from; to = x.to; bound = x.bound; asked = x.asked }
 
-    same_at : (at bt : Bool) → at ≡ bt → at_taken way lo hi (course_of way z w p) (in_slot slot) left (view_at z q) i going past has taken at x.from x.to ≡ course_of way z (at_slot bt) q
+    same_at : (at bt : Bool) → at ≡ bt → at_taken way lo hi (course_of way z w p) (in_slot slot) left (view_at z q) i going past has taken at x.from x.to x.asked ≡ course_of way z (at_slot bt) q
     same_at at bt e = λ j. record {
-      walk = record { mark = record { key = sym key_is j; past = e j; ended = (sym mark_is j).ended }; gathered = sym gathered_is j; from = x.from; to = x.to; bound = sym bound_is j };
+      walk = record { mark = record { key = sym key_is j; past = e j; ended = (sym mark_is j).ended }; gathered = sym gathered_is j; from = x.from; to = x.to; bound = sym bound_is j; asked = x.asked };
       left = slots_ahead way x.from x.to (sym own.sorting j);
       view = view_at z q;
     }
@@ -118,14 +118,14 @@ module _ (way : Way) (lo hi : ℕ) (z : Sizes) (w x : Walk) (p : Pass) (slot : S
     slot_given y f = let k = slot_is_known in (
       (told (Present y) f k.key k.moment k.knows k.since).0,
       subst (WalkGives way lo hi (course_of way z w p)) (same_at w.mark.past x.mark.past still_past)
-          (take_present way lo hi (course_of way z w p) (in_slot slot) left (view_at z q) i going past has taken x.from x.to few n then (λ k m last since. (told (Present y) f k m last since).1)),
+          (take_present way lo hi (course_of way z w p) (in_slot slot) left (view_at z q) i going past has taken x.from x.to x.asked few n then (λ k m last since. (told (Present y) f k m last since).1)),
     )
 
     pub slot_passed : ((k : List ℕ) (m : View) → KnowsLast k (header_in slot.value) (generation_in slot.value) m → Later m (view_at z p) → ReadsHere Absent k m (view_of z (call_of p) (state q))) → WalkSteps Passed way lo hi (course_of way z w p) (course_of way z (at_slot x.mark.past) q)
     slot_passed f = let k = slot_is_known in (
       (told Absent f k.key k.moment k.knows k.since).0,
       subst (WalkPasses way lo hi (course_of way z w p)) (same_at w.mark.past x.mark.past still_past)
-          (take_absent way lo hi (course_of way z w p) (in_slot slot) left (view_at z q) i going past has taken x.from x.to few n then (λ k m last since. (told Absent f k m last since).1)),
+          (take_absent way lo hi (course_of way z w p) (in_slot slot) left (view_at z q) i going past has taken x.from x.to x.asked few n then (λ k m last since. (told Absent f k m last since).1)),
       still_going,
     )
 
@@ -133,6 +133,6 @@ module _ (way : Way) (lo hi : ℕ) (z : Sizes) (w x : Walk) (p : Pass) (slot : S
     slot_waits f = let k = slot_is_known in (
       told Again f k.key k.moment k.knows k.since,
       subst (WalkPasses way lo hi (course_of way z w p)) (same_at false false refl)
-          (take_stays way lo hi (course_of way z w p) (in_slot slot) left (view_at z q) i going past has taken x.from x.to few n then),
+          (take_stays way lo hi (course_of way z w p) (in_slot slot) left (view_at z q) i going past has taken x.from x.to x.asked few n then),
       still_going,
     )

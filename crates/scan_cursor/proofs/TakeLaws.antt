@@ -59,22 +59,22 @@ module _ (way : Way) (lo hi : ℕ) (c : Course) (x : Loaded) (xs : List Loaded) 
   taken_known = record { key = x.key; moment = taken_first.knew.0; knows = taken_first.knew.3; since = taken_first.knew.2 }
 
   -- it is beyond the bound of the scan
-  pub take_beyond : (from to : ℕ) (ys : List Loaded) → IsBeyond way lo hi x.key → to ≤ GREATEST_ENTRIES → WalkPasses way lo hi c (record { walk = record { mark = record c.walk.mark { ended = true }; gathered = false; from = from; to = to; bound = c.walk.bound }; left = ys; view = c.view })
-  take_beyond from to ys n few = record {
+  pub take_beyond : (from to asked : ℕ) (ys : List Loaded) → IsBeyond way lo hi x.key → to ≤ GREATEST_ENTRIES → WalkPasses way lo hi c (record { walk = record { mark = record c.walk.mark { ended = true }; gathered = false; from = from; to = to; bound = c.walk.bound; asked = asked }; left = ys; view = c.view })
+  take_beyond from to asked ys n few = record {
     walk = record { bounds = λ _. i.bounds going; bound = i.bound; few = few; ahead = λ e. absurd cc };
     later = later_self c.view;
     goes = λ a ps h. record { come = next_ends way lo hi a c.view c.walk.mark.key c.walk.mark.past c.walk.bound x xs ps (i.bounds going) n (gathers a ps h) (come a ps h); ahead = λ e. absurd cc };
   }
 
   -- the walk at its key
-  abbrev pub at_taken : Bool → ℕ → ℕ → Course
-  at_taken at from to = record { walk = record { mark = record { key = x.key; past = at; ended = c.walk.mark.ended }; gathered = c.walk.gathered; from = from; to = to; bound = c.walk.bound }; left = xs; view = u }
+  abbrev pub at_taken : Bool → ℕ → ℕ → ℕ → Course
+  at_taken at from to asked = record { walk = record { mark = record { key = x.key; past = at; ended = c.walk.mark.ended }; gathered = c.walk.gathered; from = from; to = to; bound = c.walk.bound; asked = asked }; left = xs; view = u }
 
-  module _ (from to : ℕ) (few : to ≤ GREATEST_ENTRIES) (n : IsBeyond way lo hi x.key → ⊥) (l : Later c.view u) where
+  module _ (from to asked : ℕ) (few : to ≤ GREATEST_ENTRIES) (n : IsBeyond way lo hi x.key → ⊥) (l : Later c.view u) where
     inside : InBounds lo hi x.key
     inside = next_bounds way lo hi ahead.moment c.view c.walk.mark.key c.walk.bound x xs (i.bounds going) ahead.gathers n
 
-    walks : (at : Bool) → IsWalk way lo hi (at_taken at from to)
+    walks : (at : Bool) → IsWalk way lo hi (at_taken at from to asked)
     walks at = record { bounds = λ _. inside; bound = i.bound; few = few; ahead = λ _. ahead_stays way c.view u x.key c.walk.bound xs l (next_reach way c.view c.walk.mark.key c.walk.bound x xs ahead) }
 
     behind : (a : View) (ps : List Pair) → HasWalked way lo hi c a ps → Gathers way a u x.key c.walk.bound xs
@@ -84,7 +84,7 @@ module _ (way : Way) (lo hi : ℕ) (c : Course) (x : Loaded) (xs : List Loaded) 
     come_to a ps h = next_come way lo hi a c.view c.walk.mark.key c.walk.bound x xs ps (gathers a ps h) (come a ps h)
 
     -- its value is being written, or was written anew: it is to be read again
-    pub take_stays : WalkPasses way lo hi c (at_taken false from to)
+    pub take_stays : WalkPasses way lo hi c (at_taken false from to asked)
     take_stays = record {
       walk = walks false;
       later = l;
@@ -92,7 +92,7 @@ module _ (way : Way) (lo hi : ℕ) (c : Course) (x : Loaded) (xs : List Loaded) 
     }
 
     -- its life was removed
-    pub take_absent : ((k : List ℕ) (m : View) → KnowsLast k x.header x.generation m → Later m c.view → (at : ℕ) × ReadsKey m u k at None) → WalkPasses way lo hi c (at_taken c.walk.mark.past from to)
+    pub take_absent : ((k : List ℕ) (m : View) → KnowsLast k x.header x.generation m → Later m c.view → (at : ℕ) × ReadsKey m u k at None) → WalkPasses way lo hi c (at_taken c.walk.mark.past from to asked)
     take_absent f = record {
       walk = walks c.walk.mark.past;
       later = l;
@@ -104,7 +104,7 @@ module _ (way : Way) (lo hi : ℕ) (c : Course) (x : Loaded) (xs : List Loaded) 
     }
 
     -- it was read present
-    pub take_present : ((k : List ℕ) (m : View) → KnowsLast k x.header x.generation m → Later m c.view → ReadsKey m u k (stamp_under u.state) (Some (value_under u.state))) → WalkGives way lo hi c (at_taken c.walk.mark.past from to)
+    pub take_present : ((k : List ℕ) (m : View) → KnowsLast k x.header x.generation m → Later m c.view → ReadsKey m u k (stamp_under u.state) (Some (value_under u.state))) → WalkGives way lo hi c (at_taken c.walk.mark.past from to asked)
     take_present f = record {
       walk = walks c.walk.mark.past;
       going = going;

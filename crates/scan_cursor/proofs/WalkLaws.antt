@@ -61,12 +61,12 @@ real_bound Up r i = i.high
 real_bound Down r i = i.low
 
 -- the walk with these entries loaded, up to a bound
-abbrev pub filled_course : ℕ → Option (List ℕ) → List Loaded → View → Course → Course
-filled_course to b xs u c = record { walk = record { mark = c.walk.mark; gathered = true; from = 0; to = to; bound = b }; left = xs; view = u }
+abbrev pub filled_course : ℕ → ℕ → Option (List ℕ) → List Loaded → View → Course → Course
+filled_course to asked b xs u c = record { walk = record { mark = c.walk.mark; gathered = true; from = 0; to = to; bound = b; asked = asked }; left = xs; view = u }
 
-pub walk_fills : (way : Way) (lo hi : ℕ) (c : Course) (to : ℕ) (r : Room) (xs : List Loaded) (p t u : View) → IsWalk way lo hi c → IsRoom r → Covers way true c.walk.mark.key r → to ≤ GREATEST_ENTRIES
-    → Later c.view p → Later p t → Later t u → Gathers way p t c.walk.mark.key (bound_in way r) xs → WalkPasses way lo hi c (filled_course to (bound_in way r) xs u c)
-walk_fills way lo hi c to r xs p t u i real covers few cp pt tu g =
+pub walk_fills : (way : Way) (lo hi : ℕ) (c : Course) (to asked : ℕ) (r : Room) (xs : List Loaded) (p t u : View) → IsWalk way lo hi c → IsRoom r → Covers way true c.walk.mark.key r → to ≤ GREATEST_ENTRIES
+    → Later c.view p → Later p t → Later t u → Gathers way p t c.walk.mark.key (bound_in way r) xs → WalkPasses way lo hi c (filled_course to asked (bound_in way r) xs u c)
+walk_fills way lo hi c to asked r xs p t u i real covers few cp pt tu g =
     let k = c.walk.mark.key in
     let b = bound_in way r in
     let pu = later_both p t u pt tu in

@@ -70,6 +70,12 @@ abbrev pub Covers : Way → Bool → List ℕ → Room → Type 0
 Covers Down true k r = (low_end r.low < key_number k) × (key_number k ≤ high_end r.high)
 Covers way past k r = (low_end r.low ≤ key_number k) × (key_number k < high_end r.high)
 
+-- the room up to a nearer bound in the direction of the scan; none is the room's own
+abbrev pub cut_room : Way → Room → Option (List ℕ) → Room
+cut_room way r None = r
+cut_room Up r (Some b) = record { low = r.low; high = Some b }
+cut_room Down r (Some b) = record { low = Some b; high = r.high }
+
 -- the room is pinned in which the scan goes on
 pub record IsAhead (z : Sizes) (r : ℕ) (way : Way) (past : Bool) (k : List ℕ) (v : PassState) : Type 0 where
   pub has : HasRoom z r v

@@ -11,3 +11,4 @@ pub mod Walks
 pub mod Remaining
 pub mod Leaving
 pub mod Cursors
+pub mod Batches

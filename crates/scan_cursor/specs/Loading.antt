@@ -1,5 +1,5 @@
 -- What a scan loads from an entry of a pinned room.
-use Rattle.std.specs.Prelude.{ℕ, ◌<◌, List, Option, Some, None}
+use Rattle.std.specs.Prelude.{◌≡◌, ℕ, ◌<◌, Bool, true, List, Option, Some, None}
 use Rattle.oak_model.specs.Key.{IsKey}
 use Rattle.oak_model.specs.KeyNumber.{key_number}
 use Rattle.chunk_core.specs.ValueWord.{header_in, generation_in}
@@ -14,6 +14,11 @@ use Rattle.scan_cursor.specs.Views.{KnowsLast, ReadsKey, View}
 abbrev pub IsBehind : Way → List ℕ → List ℕ → Type 0
 IsBehind Up k q = key_number k < key_number q
 IsBehind Down k q = key_number q < key_number k
+
+-- A batch ends before an entry of the key q: up it has as many pairs as it wants and q is ahead of k, and down q is not.
+abbrev pub IsEnd : Way → Bool → List ℕ → List ℕ → Type 0
+IsEnd Up full k q = (full ≡ true) × IsBehind Up k q
+IsEnd Down full k q = IsBehind Down k q → ⊥
 
 -- the key of a slot
 abbrev pub stored_in : SortSlot → StoredKey

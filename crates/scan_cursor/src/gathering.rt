@@ -1,22 +1,38 @@
-//! The entries of a pinned room, loaded once into the slots of the pass, along the room's links.
-ghost use Rattle.std.specs.Prelude.{◌≡◌, ◌≤◌, ℕ, List, true, false};
-ghost use Rattle.oak_model.specs.declared.limits.TheConstants.{GREATEST_ENTRIES};
+//! The entries of a pinned room, loaded once into the slots of the pass, along the room's links, in batches.
+ghost use Rattle.std.specs.Prelude.{◌≡◌, ◌+◌, ◌<◌, ◌≤◌, ℕ, List, MatchOption, true, false};
+ghost use Rattle.oak_model.specs.declared.limits.TheConstants.{GREATEST_ENTRIES, GREATEST_KEY};
 ghost use Rattle.oak_model.specs.Key.{IsKey, is_key};
 ghost use Rattle.oak_core.specs.AloneWords.{Runs};
 ghost use Rattle.oak_core.specs.Passes.{IsPassOf, Stays, state, key as sizes, call_of, slots_of};
 ghost use Rattle.oak_core.specs.Scratch.{StaysButSlots};
 ghost use Rattle.chunk_ops.specs.PinRecords.{HasEntry, HasRoomPin, OnlyLearns, WordsStay};
 ghost use Rattle.chunk_ops.specs.Stored.{IsStored};
+ghost use Rattle.scan_cursor.specs.Batches.{IsFull, Starts, end_bound};
 ghost use Rattle.scan_cursor.specs.Gathered.{IsGathered, slots_ahead};
-ghost use Rattle.scan_cursor.specs.Holding.{HasRoom, IsAhead, ahead_from, ahead_past, bound_in, room_at};
-ghost use Rattle.scan_cursor.specs.Loading.{IsBehind, LoadsSlot};
+ghost use Rattle.scan_cursor.specs.Holding.{Covers, HasRoom, IsAhead, IsRoom, ahead_from, ahead_past, bound_in, cut_room, room_at};
+ghost use Rattle.scan_cursor.specs.Loading.{IsBehind, IsEnd, LoadsSlot};
 ghost use Rattle.scan_cursor.specs.Views.{Later, view_of};
 
 use crate::ways::Way;
 use chunk_ops::{
-    Content, EntryNo, RoomPin, StoredKey, content_of, entry_key, next_entry, value_word,
+    Content, EntryNo, KeyBytes, RoomPin, StoredKey, content_of, entry_key, next_entry,
+    prefix_below, value_word,
 };
 use oak_core::{OakTable, Pass, SortSlot};
+
+/// How many slots a batch has filled, and its bound in the direction of the scan: none is the room's own.
+#[derive(Debug, Drop)]
+pub(crate) struct Batch {
+    pub(crate) filled: usize,
+    pub(crate) bound: Option<KeyBytes>,
+}
+
+/// The entry that a batch loads first, and its bound where it goes down: none is the room's own.
+#[derive(Debug, Drop)]
+struct Start {
+    first: Option<EntryNo>,
+    near: Option<KeyBytes>,
+}
 
 /// Whether `key` lies behind `from` in the direction of the scan.
 fn is_behind(key: &StoredKey, from: &StoredKey, way: Way) -> bool
@@ -29,27 +45,51 @@ fn is_behind(key: &StoredKey, from: &StoredKey, way: Way) -> bool
     }
 }
 
-/// Loads the key of an entry, and its value word where that key lies behind `from`: the slot of one that has a value. A
-/// scan needs no key words, so none is kept in its slots.
+/// Whether a batch ends before an entry of this key: one up that has as many pairs as it wants, and one down at the key
+/// that it began below.
+fn ends_batch(key: &StoredKey, from: &StoredKey, full: bool, way: Way) -> bool
+    ensures { (k q : List ℕ) → IsStored from.now k → IsStored key.now q → IsKey k → IsKey q → result ≡ true → IsEnd way full k q }
+{
+    let behind = is_behind(key, from, way);
+    match way {
+        Way::Up => full && behind,
+        Way::Down => !behind,
+    }
+}
+
+/// The bound of a batch that ends before an entry of this key.
+fn bound_at(key: &StoredKey, near: Option<KeyBytes>, way: Way) -> Option<KeyBytes>
+    requires { key.now.length ≤ GREATEST_KEY }
+    ensures { (q : List ℕ) → IsStored key.now q → result ≡ end_bound way q near }
+{
+    match way {
+        Way::Up => Some(KeyBytes::of(key)),
+        Way::Down => near,
+    }
+}
+
+/// Loads the value word of an entry whose key lies behind `from`: the slot of one that has a value. A scan needs no key
+/// words, so none is kept in its slots.
 fn load_slot(
     table: &OakTable,
     pass: &mut Pass,
     pin: &RoomPin,
     entry: EntryNo,
+    key: &StoredKey,
     from: &StoredKey,
     way: Way,
 ) -> Option<SortSlot>
     requires own { IsPassOf table.now pass.old }
     requires pinned { HasRoomPin (sizes table.now) pin.now.room (state pass.old) }
     requires entry { (q : List ℕ) × HasEntry pin.now.room entry.0 q (state pass.old) }
+    requires key { (q : List ℕ) → HasEntry pin.now.room entry.0 q (state pass.old) → IsStored key.now q × IsKey q }
     ensures own { Stays pass.old pass.new }
     ensures only { OnlyLearns (call_of pass.old) (state pass.old) (state pass.new) }
     ensures loads { let z = sizes table.now in let call = call_of pass.old in (k q : List ℕ) → IsStored from.now k
         → IsKey k → HasEntry pin.now.room entry.0 q (state pass.old) → LoadsSlot result way k q
         (view_of z call (state pass.old)) (view_of z call (state pass.new)) }
 {
-    let key = entry_key(table, pass, pin, entry);
-    if !is_behind(&key, from, way) {
+    if !is_behind(key, from, way) {
         return None;
     }
     let value = value_word(table, pass, pin, entry);
@@ -70,46 +110,135 @@ fn load_slot(
     }
 }
 
-/// Loads the entries of the pinned room whose keys lie behind this one in the direction of the scan, each with its key
-/// and its value word once, into the first slots, those with a value alone. It goes along the room's links, so the keys
-/// of the slots rise. The answer is how many there are.
+/// The entry so many places before this one of a prefix, if it has so many.
+fn before(place: u32, many: u32) -> Option<EntryNo>
+    ensures { MatchOption result (place < many) (λ i. i.0 + many ≡ place) }
+{
+    if place < many {
+        None
+    } else {
+        Some(EntryNo(place - many))
+    }
+}
+
+/// Where a batch up begins: behind the last entry of the sorted prefix that lies below the key, or at the room's first
+/// link.
+fn start_up(table: &OakTable, pass: &mut Pass, pin: &RoomPin, key: &[u8]) -> Start
+    requires own { IsPassOf table.now pass.old }
+    requires key { is_key key.now ≡ true }
+    requires ahead { IsAhead (sizes table.now) pin.now.room Way.Up true key.now (state pass.old) }
+    ensures own { Stays pass.old pass.new }
+    ensures starts { Starts (sizes table.now) (call_of pass.old) pin.now.room Way.Up key.now result.near result.first (state pass.old) (state pass.new) }
+{
+    let below = prefix_below(table, pass, pin, key);
+    let from = before(below, 1);
+    let first = next_entry(table, pass, pin, from);
+    Start { first, near: None }
+}
+
+/// Where a batch down begins: at the entry of the sorted prefix so many places before the key, which is its bound, so that
+/// the entries appended behind it are loaded too; at the room's first link where the prefix has no such entry.
+fn start_down(table: &OakTable, pass: &mut Pass, pin: &RoomPin, key: &[u8], many: u32) -> Start
+    requires own { IsPassOf table.now pass.old }
+    requires key { is_key key.now ≡ true }
+    requires some { 0 < many }
+    requires ahead { IsAhead (sizes table.now) pin.now.room Way.Down true key.now (state pass.old) }
+    ensures own { Stays pass.old pass.new }
+    ensures starts { Starts (sizes table.now) (call_of pass.old) pin.now.room Way.Down key.now result.near result.first (state pass.old) (state pass.new) }
+{
+    let below = prefix_below(table, pass, pin, key);
+    match before(below, many) {
+        Some(entry) => {
+            let least = entry_key(table, pass, pin, entry);
+            let bound = KeyBytes::of(&least);
+            Start {
+                first: Some(entry),
+                near: Some(bound),
+            }
+        }
+        None => {
+            let first = next_entry(table, pass, pin, None);
+            Start { first, near: None }
+        }
+    }
+}
+
+/// Where a batch begins.
+fn start_of(
+    table: &OakTable,
+    pass: &mut Pass,
+    pin: &RoomPin,
+    key: &[u8],
+    many: u32,
+    way: Way,
+) -> Start
+    requires own { IsPassOf table.now pass.old }
+    requires key { is_key key.now ≡ true }
+    requires some { 0 < many }
+    requires ahead { IsAhead (sizes table.now) pin.now.room way true key.now (state pass.old) }
+    ensures own { Stays pass.old pass.new }
+    ensures starts { Starts (sizes table.now) (call_of pass.old) pin.now.room way key.now result.near result.first (state pass.old) (state pass.new) }
+{
+    match way {
+        Way::Up => start_up(table, pass, pin, key),
+        Way::Down => start_down(table, pass, pin, key, many),
+    }
+}
+
+/// Loads the next of the entries of the pinned room whose keys lie behind this one in the direction of the scan, each
+/// with its key, and of those that lie behind it its value word, into the first slots, those with a value alone. It goes
+/// along the room's links, so the keys of the slots rise. A batch up ends before the entry behind so many pairs; one down
+/// has the entries from so many places of the sorted prefix on. None is told twice, and none left out up to the bound.
 pub(crate) fn gather(
     table: &OakTable,
     pass: &mut Pass,
     pin: &RoomPin,
     key: &[u8],
+    many: u32,
     way: Way,
-) -> usize
+) -> Batch
     requires own { IsPassOf table.now pass.old }
     requires key { is_key key.now ≡ true }
+    requires some { 0 < many }
     requires ahead { IsAhead (sizes table.now) pin.now.room way true key.now (state pass.old) }
     ensures own { StaysButSlots pass.old pass.new }
-    ensures few { result ≤ GREATEST_ENTRIES }
+    ensures few { result.filled ≤ GREATEST_ENTRIES }
+    ensures full { IsFull way many result.bound result.filled }
     ensures has { HasRoom (sizes table.now) pin.now.room (state pass.new) }
     ensures room { room_at (state pass.new) ≡ room_at (state pass.old) }
     ensures later { let z = sizes table.now in let call = call_of pass.old in Later (view_of z call (state pass.old))
         (view_of z call (state pass.new)) }
+    ensures real { IsRoom (cut_room way (room_at (state pass.old)) result.bound) }
+    ensures covers { Covers way true key.now (cut_room way (room_at (state pass.old)) result.bound) }
     ensures gathered { let z = sizes table.now in let call = call_of pass.old in let bound = bound_in way
-        (room_at (state pass.old)) in IsGathered way (view_of z call (state pass.old))
+        (cut_room way (room_at (state pass.old)) result.bound) in IsGathered way (view_of z call (state pass.old))
         (view_of z call (state pass.new)) (ahead_from way key.now bound) (ahead_past way key.now bound)
-        (slots_ahead way 0 result (slots_of pass.new)) }
+        (slots_ahead way 0 result.filled (slots_of pass.new)) }
     ensures still { Runs WordsStay (state pass.old) (state pass.new) }
 {
     // Reading the slots shows how many there are.
     let _slots = pass.sorting().slots();
     let from = StoredKey::of(key);
-    let mut at = None;
+    let start = start_of(table, pass, pin, key, many, way);
+    let mut next = start.first;
     let mut passed = 0u32;
-    let mut n = 0;
+    let mut filled = 0;
     loop {
-        let Some(entry) = next_entry(table, pass, pin, at) else {
-            return n;
+        let Some(entry) = next else {
+            let bound = start.near;
+            return Batch { filled, bound };
         };
-        if let Some(slot) = load_slot(table, pass, pin, entry, &from, way) {
-            pass.sorting_mut().set(n, slot);
-            n += 1;
+        let this = entry_key(table, pass, pin, entry);
+        let full = filled >= many as usize;
+        if ends_batch(&this, &from, full, way) {
+            let bound = bound_at(&this, start.near, way);
+            return Batch { filled, bound };
         }
-        at = Some(entry);
+        if let Some(slot) = load_slot(table, pass, pin, entry, &this, &from, way) {
+            pass.sorting_mut().set(filled, slot);
+            filled += 1;
+        }
+        next = next_entry(table, pass, pin, Some(entry));
         passed += 1;
     }
 }

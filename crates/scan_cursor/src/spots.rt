@@ -7,7 +7,7 @@ ghost use Rattle.oak_core.specs.Passes.{IsPassOf, Stays, state, key as sizes, ca
 ghost use Rattle.chunk_ops.specs.PinRecords.{OnlyMeets, WordsStay};
 ghost use Rattle.chunk_ops.specs.RoomPins.{AddsRoomPin};
 ghost use Rattle.scan_cursor.specs.Busy.{LooksInVain};
-ghost use Rattle.scan_cursor.specs.Holding.{HasRoom, IsAhead, bound_in, room_at};
+ghost use Rattle.scan_cursor.specs.Holding.{HasRoom, IsAhead, bound_in, cut_room, room_at};
 ghost use Rattle.scan_cursor.specs.Views.{Later, view_of};
 
 use crate::hinted::{pin_below, pin_covering};
@@ -45,12 +45,7 @@ pub(crate) fn pin_ahead(
 }
 
 /// The bound of the pinned room in the direction of the scan; none where no room is beyond it.
-pub(crate) fn bound_ahead(
-    table: &OakTable,
-    pass: &mut Pass,
-    pin: &RoomPin,
-    way: Way,
-) -> Option<KeyBytes>
+fn bound_ahead(table: &OakTable, pass: &mut Pass, pin: &RoomPin, way: Way) -> Option<KeyBytes>
     requires own { IsPassOf table.now pass.old }
     requires pinned { HasRoom (sizes table.now) pin.now.room (state pass.old) }
     ensures own { Stays pass.old pass.new }
@@ -64,5 +59,25 @@ pub(crate) fn bound_ahead(
     match bound {
         Some(bound) => Some(KeyBytes::of(&bound)),
         None => None,
+    }
+}
+
+/// The bound of a batch of the pinned room in the direction of the scan, which is the room's where it has none of its own.
+pub(crate) fn batch_bound(
+    table: &OakTable,
+    pass: &mut Pass,
+    pin: &RoomPin,
+    near: Option<KeyBytes>,
+    way: Way,
+) -> Option<KeyBytes>
+    requires own { IsPassOf table.now pass.old }
+    requires pinned { HasRoom (sizes table.now) pin.now.room (state pass.old) }
+    ensures own { Stays pass.old pass.new }
+    ensures bound { result ≡ bound_in way (cut_room way (room_at (state pass.old)) near) }
+    ensures only { OnlyMeets (call_of pass.old) (state pass.old) (state pass.new) }
+{
+    match near {
+        Some(bound) => Some(bound),
+        None => bound_ahead(table, pass, pin, way),
     }
 }

@@ -1,5 +1,5 @@
-//! A scan that loads the entries of each room once.
-ghost use Rattle.std.specs.Prelude.{◌≡◌, ◌≢◌, ◌-◌, ◌<◌, ◌≤◌, ℕ, suc, IfErr, IfOk, MatchBool, None, Some, [], true, false};
+//! A scan that loads the entries of each room once, in batches.
+ghost use Rattle.std.specs.Prelude.{◌≡◌, ◌≢◌, ◌*◌, ◌-◌, ◌<◌, ◌≤◌, ℕ, suc, IfErr, IfOk, MatchBool, None, Some, [], true, false};
 ghost use Rattle.oak_model.specs.declared.limits.TheConstants.{GREATEST_ENTRIES};
 ghost use Rattle.oak_model.specs.Key.{is_key};
 ghost use Rattle.oak_model.specs.KeyNumber.{key_number};
@@ -20,17 +20,21 @@ use crate::busy::Busy;
 use crate::gathering::gather;
 use crate::marks::Mark;
 use crate::reading::{Here, read_key, read_life};
-use crate::spots::{bound_ahead, pin_ahead};
+use crate::spots::{batch_bound, pin_ahead};
 use crate::ways::Way;
 use chunk_core::value_word::{generation_in, header_in};
 use chunk_ops::{KeyBytes, unpin};
 use oak_core::{OakTable, Pass, SortSlot};
-use oak_model::{GREATEST_KEY, cmp_keys};
+use oak_model::{GREATEST_ENTRIES, GREATEST_KEY, cmp_keys};
 use value_ops::PinnedValue;
 
-/// How far a scan has come, and what it keeps of the room that it is in. Where it has loaded the entries, those that are
-/// left stand in the slots of its pass, from one number on and below another, and the room's bound in the direction of
-/// the scan is kept.
+/// How many pairs a scan asks of its first batch. A scan of one pair pays for that many loads of entries at most, and so
+/// costs little more than a get; each batch asks for twice as many as the one before, so a long scan makes few.
+const FIRST_BATCH: u32 = 4;
+
+/// How far a scan has come, and what it keeps of the room that it is in. Where it has loaded a batch of the entries, those
+/// that are left stand in the slots of its pass, from one number on and below another, and the batch's bound in the
+/// direction of the scan is kept. The last batch was asked for so many pairs; for none, where there was none.
 #[derive(Drop)]
 pub(crate) struct Walk {
     pub(crate) mark: Mark,
@@ -38,6 +42,7 @@ pub(crate) struct Walk {
     pub(crate) from: usize,
     pub(crate) to: usize,
     pub(crate) bound: Option<KeyBytes>,
+    pub(crate) asked: u32,
 }
 
 impl Walk {
@@ -69,6 +74,7 @@ impl Walk {
             from: 0,
             to: 0,
             bound: None,
+            asked: 0,
         }
     }
 }
@@ -106,7 +112,7 @@ fn is_beyond(way: Way, key: &[u8], low: &[u8], high: &[u8]) -> bool
     }
 }
 
-/// Goes on at a room's bound, or ends where that is none of the scan's range.
+/// Goes on at the bound of a room or a batch, or ends where that is none of the scan's range.
 fn go_to_bound(mark: &mut Mark, bound: KeyBytes, low: &[u8], high: &[u8], way: Way)
     requires bound { is_key bound ≡ true }
     requires low { is_key low.now ≡ true }
@@ -126,7 +132,7 @@ fn go_to_bound(mark: &mut Mark, bound: KeyBytes, low: &[u8], high: &[u8], way: W
     }
 }
 
-/// Leaves the room, of whose entries none is left, at its bound.
+/// Leaves the batch, of whose entries none is left, at its bound.
 fn leave_room(walk: &mut Walk, low: &[u8], high: &[u8], way: Way)
     requires low { is_key low.now ≡ true }
     requires high { is_key high.now ≡ true }
@@ -145,7 +151,16 @@ fn leave_room(walk: &mut Walk, low: &[u8], high: &[u8], way: Way)
     }
 }
 
-/// Loads the entries that lie behind the mark in the room in which the scan goes on.
+/// How many pairs the next batch is asked for, behind one that was asked for so many: no more than a room may have.
+fn next_batch(asked: u32) -> u32
+    ensures some { 0 < result }
+    ensures few { result ≤ GREATEST_ENTRIES }
+    ensures twice { result < GREATEST_ENTRIES → 2 * asked ≤ result }
+{
+    asked.saturating_mul(2).clamp(FIRST_BATCH, GREATEST_ENTRIES)
+}
+
+/// Loads the next batch of the entries that lie behind the mark in the room in which the scan goes on.
 fn refill(table: &OakTable, pass: &mut Pass, walk: &mut Walk, way: Way) -> Stepped
     requires own { IsPassOf table.now pass.old }
     requires idle { HoldsNothing (state pass.old) }
@@ -165,9 +180,11 @@ fn refill(table: &OakTable, pass: &mut Pass, walk: &mut Walk, way: Way) -> Stepp
     let Ok(pin) = pin_ahead(table, pass, &walk.mark, way) else {
         return Stepped::Again;
     };
-    walk.to = gather(table, pass, &pin, walk.mark.key.as_slice(), way);
+    walk.asked = next_batch(walk.asked);
+    let batch = gather(table, pass, &pin, walk.mark.key.as_slice(), walk.asked, way);
     walk.from = 0;
-    walk.bound = bound_ahead(table, pass, &pin, way);
+    walk.to = batch.filled;
+    walk.bound = batch_bound(table, pass, &pin, batch.bound, way);
     walk.gathered = true;
     unpin(table, pass, pin);
     Stepped::Passed
@@ -278,7 +295,7 @@ fn take_slot(
     }
 }
 
-/// Goes on in the room whose entries are loaded: to the next of them, or where none is left to its bound.
+/// Goes on in the batch of entries that is loaded: to the next of them, or where none is left to its bound.
 fn go_ahead(
     table: &OakTable,
     pass: &mut Pass,

@@ -5,8 +5,8 @@ use Rattle.link_search.specs.Met.{Met, met_link, tried_link, stored_link, gave_u
 use Rattle.link_search.specs.Ties.{IsPassed, IsReached}
 use Rattle.link_search.specs.declared.walking.Place.{Place}
 use Rattle.link_search.proofs.AddLaws.{link_holds}
-use Rattle.link_search.proofs.StepLaws.{cut_is_above, placed_later, placed_here, tied_here, entry_grown, looked_still, looked_since, looked_whole, over_cut}
-use Rattle.link_search.proofs.WalkLaws.{grown_both, grown_none, grown_later, cut_grown, front_later, bare_later, from_found}
+use Rattle.link_search.proofs.StepLaws.{above_is_cut, placed_later, placed_here, tied_here, entry_grown, looked_still, looked_since, looked_whole, over_cut}
+use Rattle.link_search.proofs.WalkLaws.{above_later, grown_both, grown_none, grown_later, from_found}
 use Rattle.link_search.proofs.adding.link_claimed.Goals as goal
 
 pub loop-place-init : goal.loop-place-init
@@ -22,7 +22,7 @@ loop-place-init g c = record {
 }
 
 pub link_to-requires-clause-behind : goal.link_to-requires-clause-behind
-link_to-requires-clause-behind g c = let i = c.loop-place.invariant in cut_is_above (g.R.LinkedRoom.view c.loop-place.room) c.loop-place.place.from c.args.key.now i.placed.cut
+link_to-requires-clause-behind g c = c.loop-place.invariant.placed.behind
 
 pub link_to-requires-clause-before : goal.link_to-requires-clause-before
 link_to-requires-clause-before g c = c.loop-place.invariant.placed.before
@@ -97,16 +97,9 @@ returns-then-left-eq0-clause-straight g c = let l = c.loop-place.room in let p =
 
 -- the walk goes on
 
-pub walk-next-requires-clause-front : goal.walk-next-requires-clause-front
-walk-next-requires-clause-front g c = let V = g.R.LinkedRoom.view in let k = c.link_to in front_later (V c.loop-place.room) (V k.new.self) k.ensures.later c.loop-place.invariant.placed.front
-
 pub walk-next-requires-clause-behind : goal.walk-next-requires-clause-behind
 walk-next-requires-clause-behind g c = let V = g.R.LinkedRoom.view in let k = c.link_to in let l = c.loop-place.room in
-    cut_grown (V l) (V k.new.self) c.loop-place.place.from (IsPassed Reached (Some c.args.key.now)) (grown_later (V l) (V k.new.self) k.ensures.later) c.loop-place.invariant.placed.cut
-
-pub walk-next-requires-clause-bare : goal.walk-next-requires-clause-bare
-walk-next-requires-clause-bare g c = let V = g.R.LinkedRoom.view in let k = c.link_to in let l = c.loop-place.room in let p = c.loop-place.invariant.placed in let from = c.loop-place.place.from in let P = IsPassed Reached (Some c.args.key.now) in
-    bare_later (V l) (V k.new.self) k.ensures.later from P p.front (from_found (V l) from P p.cut) p.bare
+    above_is_cut (V k.new.self) c.loop-place.place.from c.args.key.now (above_later (V l) (V k.new.self) k.ensures.later c.loop-place.place.from c.args.key.now c.loop-place.invariant.placed.behind)
 
 pub entry_of_key-requires : goal.entry_of_key-requires
 entry_of_key-requires g c = c.walk-next.ensures.order.none
@@ -142,13 +135,12 @@ pub loop-place-preserved : goal.loop-place-preserved
 loop-place-preserved g c = let V = g.R.LinkedRoom.view in let M = g.R.LinkedRoom.meets in let both = g.met.R.LinkedRoom.meets_both in let l = c.loop-place.room in let p = c.loop-place.place in let i = c.loop-place.invariant in let k = c.link_to in let t = k.new.self in let v = c.walk-next.new.room in let z = c.point.new.self in
     let key = c.args.key.now in let entry = c.args.entry in let n = c.walk-next.result in let w = c.walk-next.ensures in let P = IsPassed Reached (Some key) in let Q = IsReached Reached (Some key) in
     let lost = k.ensures.lost c.if-link_to.false in let claims = g.met.R.LinkedRoom.claims_on t v w.walks.met entry key w.walks.on w.walks.loads (k.ensures.claimed c.if-link_to.false) in
-    let front = front_later (V t) (V v) w.walks.later (front_later (V l) (V t) k.ensures.later i.placed.front) in
     let cut : IsCut (V v) n.from P = over_cut V M both P Q n.from n.link t v w.over in
     let apart : n.from ≢ Some entry = (λ e. g.met.R.LinkedRoom.apart v entry key claims (from_found (V v) n.from P cut entry e)) in record {
       pinned = c.point.ensures.pinned;
       claimed = c.point.ensures.claimed;
       points = c.point.ensures.points;
-      placed = placed_later (V v) (V z) n.from n.link key c.point.ensures.later (placed_here V M both t v key n.from n.link n.order w.over w.order front w.bare c.in_default.ensures);
+      placed = placed_later (V v) (V z) n.from n.link key c.point.ensures.later (placed_here V M both t v key n.from n.link n.order w.over w.order c.in_default.ensures);
       grown = grown_both (V c.args.room.now) (V v) (V z) (grown_both (V c.args.room.now) (V t) (V v) (grown_both (V c.args.room.now) (V l) (V t) i.grown (grown_later (V l) (V t) k.ensures.later)) (grown_later (V t) (V v) w.walks.later)) (grown_later (V v) (V z) c.point.ensures.later);
       looked = λ s h. let lk = i.looked s h in let ms : List Met = lk.before ++ met_link p.from p.link ∷ lk.between in let tried : List Met = tried_link p.from entry p.link lost.0 ∷ [] in
           looked_still V M both n.from n.link s v z (stored_link entry n.link ∷ []) (looked_since V M both n.from n.link s t v (ms ++ tried) (both s l t ms tried (looked_whole V M both p.from p.link s l lk) lost.2) w.over.looked) c.point.ensures.meets (apart, tt);

@@ -3,13 +3,13 @@ use Rattle.oak_model.specs.declared.limits.TheConstants.{GREATEST_ENTRIES}
 use Rattle.oak_model.specs.Counts.{Each}
 use Rattle.oak_model.specs.Key.{IsKeyBefore}
 use Rattle.oak_model.proofs.Lists.{each_append}
-use Rattle.link_search.specs.Linked.{Linked, IsFound, FrontStands, IsAboveFrom, IsCut, IsBare, SkipsNone}
+use Rattle.link_search.specs.Linked.{Linked, IsFound, IsAboveFrom, IsCut, SkipsNone}
 use Rattle.link_search.specs.Met.{Met, met_link, IsEntryLoad}
 use Rattle.link_search.specs.Ties.{passes, order_to, IsPassed, IsReached, bytes_in_option}
 use Rattle.link_search.specs.Walks.{ArePassed}
 use Rattle.link_search.proofs.FindLaws.{link_loads}
 use Rattle.link_search.proofs.StepLaws.{cut_leads, entries_leave, entries_load}
-use Rattle.link_search.proofs.WalkLaws.{later_none, later_both, later_same, grown_later, loads_append, no_loads, above_sooner, bare_later, front_later, passed_later, tops_later, passed_more, passed_few, tops_more, bare_more, from_found, walks_on}
+use Rattle.link_search.proofs.WalkLaws.{later_none, later_both, later_same, grown_later, loads_append, no_loads, above_later, above_sooner, passed_later, tops_later, passed_more, passed_fewer, above_more, from_found, walks_on}
 use Rattle.link_search.proofs.walking.walk.Goals as goal
 
 pub loop-tie-init : goal.loop-tie-init
@@ -17,8 +17,7 @@ loop-tie-init g c = let s = c.args.room.now in record {
   walks = record { pin = c.requires.pinned; later = later_none (g.R.LinkedRoom.view s); met = []; on = g.met.R.LinkedRoom.meets_none s; loads = tt; passed = []; are = tt; few = let n = no_loads in omega arith };
   many = refl;
   cut = c.requires.behind;
-  bare = c.requires.bare;
-  front = c.requires.front;
+  since = λ q h. h;
   tops = λ q h. tt;
 }
 
@@ -44,10 +43,6 @@ returns-then-link-eq0-clause-over g c = let V = g.R.LinkedRoom.view in let k = c
 
 pub returns-then-link-eq0-clause-order : goal.returns-then-link-eq0-clause-order
 returns-then-link-eq0-clause-order g c = record { named = λ ne. absurd (ne c.if-link-eq0.true); none = λ z. refl }
-
-pub returns-then-link-eq0-clause-bare : goal.returns-then-link-eq0-clause-bare
-returns-then-link-eq0-clause-bare g c = let V = g.R.LinkedRoom.view in let k = c.link-link in let r : Linked = V c.loop-tie.room in let i = c.loop-tie.invariant in let from = c.loop-tie.before in let P = IsPassed c.args.tie (bytes_in_option c.args.bound) in
-    bare_later r (V k.new.self) k.ensures.later from P i.front (from_found r from P i.cut) i.bare
 
 -- the entry that it names is not passed
 
@@ -76,32 +71,29 @@ returns-then-not-passes-clause-order g c = let V = g.R.LinkedRoom.view in let k 
   none = λ z. let f = c.if-link-eq0.false in absurd (omega arith);
 }
 
-pub returns-then-not-passes-clause-bare : goal.returns-then-not-passes-clause-bare
-returns-then-not-passes-clause-bare g c = let V = g.R.LinkedRoom.view in let k = c.link-link in let o = c.order_to-order in let r : Linked = V c.loop-tie.room in let i = c.loop-tie.invariant in let from = c.loop-tie.before in let P = IsPassed c.args.tie (bytes_in_option c.args.bound) in
-    subst (λ (x : Linked). IsBare x from P) (sym o.ensures.same) (bare_later r (V k.new.self) k.ensures.later from P i.front (from_found r from P i.cut) i.bare)
-
 -- it is passed
 
 pub overflow_add-passed : goal.overflow_add-passed
-overflow_add-passed g c = let V = g.R.LinkedRoom.view in let i = c.loop-tie.invariant in let f = passed_few (V c.loop-tie.room) GREATEST_ENTRIES (g.met.R.LinkedRoom.few c.loop-tie.room i.walks.pin) i.walks.passed i.walks.are in let m = i.many in omega arith
+overflow_add-passed g c = let V = g.R.LinkedRoom.view in let i = c.loop-tie.invariant in let f = passed_fewer (V c.loop-tie.room) c.args.from (IsPassed c.args.tie (bytes_in_option c.args.bound)) GREATEST_ENTRIES (g.met.R.LinkedRoom.few c.loop-tie.room i.walks.pin) i.walks.passed i.walks.are in let m = i.many in omega arith
 
 pub loop-tie-smaller : goal.loop-tie-smaller
 loop-tie-smaller g c = let V = g.R.LinkedRoom.view in let i = c.loop-tie.invariant in let k = c.link-link in let o = c.order_to-order in let t = k.new.self in let r : Linked = V c.loop-tie.room in let q : Linked = V t in let n : ℕ = k.result - 1 in let from = c.loop-tie.before in
     let tie = c.args.tie in let b = bytes_in_option c.args.bound in let P = IsPassed tie b in
     let ne : k.result ≢ 0 = (λ e. let f = c.if-link-eq0.false in absurd (omega arith)) in let ff = from_found r from P i.cut in
     let here : P (q.key n) = ap (passes tie) (sym o.ensures.order) ∙ (sym c.passes.ensures ∙ c.if-not-passes.false) in
-    let more = passed_more q from P n i.walks.passed (k.ensures.named ne) (k.ensures.above ne) here (bare_later r q k.ensures.later from P i.front ff i.bare)
-    (λ z h. tops_later r q k.ensures.later z i.walks.passed i.walks.are (i.tops z (above_sooner r q k.ensures.later from z ff h))) (passed_later r q k.ensures.later i.walks.passed i.walks.are) in
-    let f = passed_few q GREATEST_ENTRIES (g.met.R.LinkedRoom.few t k.ensures.pinned) (n ∷ i.walks.passed) more in let m = i.many in omega arith
+    let more = passed_more q c.args.from from P n i.walks.passed (k.ensures.named ne) (k.ensures.above ne) here (λ z h. above_later r q k.ensures.later c.args.from z (i.since z (above_sooner r q k.ensures.later from z ff h)))
+    (λ z h. tops_later r q k.ensures.later c.args.from P z i.walks.passed i.walks.are (i.tops z (above_sooner r q k.ensures.later from z ff h))) (passed_later r q k.ensures.later c.args.from P i.walks.passed i.walks.are) in
+    let f = passed_fewer q c.args.from P GREATEST_ENTRIES (g.met.R.LinkedRoom.few t k.ensures.pinned) (n ∷ i.walks.passed) more in let m = i.many in omega arith
 
 pub loop-tie-preserved : goal.loop-tie-preserved
 loop-tie-preserved g c = let V = g.R.LinkedRoom.view in let i = c.loop-tie.invariant in let k = c.link-link in let o = c.order_to-order in let s = c.args.room.now in let l = c.loop-tie.room in let t = k.new.self in let u = o.new.room in let r : Linked = V l in let q : Linked = V t in let n : ℕ = k.result - 1 in let from = c.loop-tie.before in
     let tie = c.args.tie in let b = bytes_in_option c.args.bound in let P : List ℕ → Type 0 = IsPassed tie b in let ms = o.ensures.loads in
     let ne : k.result ≢ 0 = (λ e. let f = c.if-link-eq0.false in absurd (omega arith)) in let ff = from_found r from P i.cut in
     let here : P (q.key n) = ap (passes tie) (sym o.ensures.order) ∙ (sym c.passes.ensures ∙ c.if-not-passes.false) in
-    let bare = bare_later r q k.ensures.later from P i.front ff i.bare in let above = k.ensures.above ne in let found = k.ensures.named ne in
-    let tops : (z : List ℕ) → IsAboveFrom q from z → Each (λ j. IsKeyBefore (q.key j) z) i.walks.passed = (λ z h. tops_later r q k.ensures.later z i.walks.passed i.walks.are (i.tops z (above_sooner r q k.ensures.later from z ff h))) in
-    let more = passed_more q from P n i.walks.passed found above here bare tops (passed_later r q k.ensures.later i.walks.passed i.walks.are) in
+    let above = k.ensures.above ne in let found = k.ensures.named ne in
+    let since : (z : List ℕ) → IsAboveFrom q from z → IsAboveFrom q c.args.from z = (λ z h. above_later r q k.ensures.later c.args.from z (i.since z (above_sooner r q k.ensures.later from z ff h))) in
+    let tops : (z : List ℕ) → IsAboveFrom q from z → Each (λ j. IsKeyBefore (q.key j) z) i.walks.passed = (λ z h. tops_later r q k.ensures.later c.args.from P z i.walks.passed i.walks.are (i.tops z (above_sooner r q k.ensures.later from z ff h))) in
+    let more = passed_more q c.args.from from P n i.walks.passed found above here since tops (passed_later r q k.ensures.later c.args.from P i.walks.passed i.walks.are) in
     let same = sym o.ensures.same in let steps : List Met = met_link from k.result ∷ ms.0 in let a = loads_append i.walks.met steps in let one = link_loads from k.result ms.0 in let two = ms.3 in let few = i.walks.few in let many = i.many in record {
       walks = record {
         pin = o.ensures.pinned;
@@ -110,12 +102,11 @@ loop-tie-preserved g c = let V = g.R.LinkedRoom.view in let i = c.loop-tie.invar
         on = g.met.R.LinkedRoom.meets_both s l u i.walks.met steps i.walks.on (g.met.R.LinkedRoom.meets_both l t u (met_link from k.result ∷ []) ms.0 k.ensures.meets ms.1);
         loads = each_append IsEntryLoad i.walks.met steps i.walks.loads (tt, ms.2);
         passed = n ∷ i.walks.passed;
-        are = subst (λ (x : Linked). ArePassed x (n ∷ i.walks.passed)) same more;
+        are = subst (λ (x : Linked). ArePassed x c.args.from P (n ∷ i.walks.passed)) same more;
         few = omega arith;
       };
       many = omega arith;
       cut = subst (λ (x : Linked). IsCut x (Some n) P) same (found, here);
-      bare = subst (λ (x : Linked). IsBare x (Some n) P) same (bare_more q from P n above bare);
-      front = subst FrontStands same (front_later r q k.ensures.later i.front);
-      tops = subst (λ (x : Linked). (z : List ℕ) → IsAboveFrom x (Some n) z → Each (λ j. IsKeyBefore (x.key j) z) (n ∷ i.walks.passed)) same (tops_more q from n i.walks.passed above tops);
+      since = subst (λ (x : Linked). (z : List ℕ) → IsAboveFrom x (Some n) z → IsAboveFrom x c.args.from z) same (λ z h. since z (above_more q from n z above h));
+      tops = subst (λ (x : Linked). (z : List ℕ) → IsAboveFrom x (Some n) z → Each (λ j. IsKeyBefore (x.key j) z) (n ∷ i.walks.passed)) same (λ z h. (h.1, tops z (above_more q from n z above h)));
     }

@@ -10,6 +10,7 @@ use Rattle.oak_core.specs.Passes.{state, key as sizes, call_of}
 use Rattle.oak_core.proofs.calls.CallSteps.{stands_learns}
 use Rattle.point_ops.proofs.SpotLaws.{held_under, inserted, looked_held, looked_learns, rewrote, uninserted, unlocked}
 use Rattle.std.specs.Prelude.{Ok, Err}
+use Rattle.point_ops.specs.Spots.{entry_in}
 use Rattle.point_ops.specs.declared.halts.Halt.TheVariants.{Busy}
 use Rattle.point_ops.proofs.LoneUnderPins.{away_inserts, inserted_keeps, life_keeps, lock_refused}
 use Rattle.point_ops.proofs.computes.upsert_pinned.Goals as goal
@@ -27,13 +28,13 @@ pub returns-in-Err-clause-held : goal.returns-in-Err-clause-held
 returns-in-Err-clause-held g c = looked_held (sizes c.args.table.now) (call_of c.args.pass.now) c.args.pin.now.room (state c.args.pass.now) (state c.look_up.new.pass) (state c.insert.new.pass) c.look_up.ensures.under c.insert.ensures.held
 
 pub returns-in-Ok-clause-got : goal.returns-in-Ok-clause-got
-returns-in-Ok-clause-got g c = let o = c.args.recipe.now in let k = (goal.Recipe-dyn g (o.vtable, o.value)).told_kind o.value in let n = (goal.Recipe-dyn g (o.vtable, o.value)).told_argument o.value in inserted (sizes c.args.table.now) (call_of c.args.pass.now) c.args.key.now (state c.args.pass.now) (state c.look_up.new.pass) (state c.insert.new.pass) _ c.look_up.ensures.own.call c.look_up.ensures.under.learns c.args.pin.now.room c.in-Absent.entry c.in-Absent.floor c.in-Absent.ensures.spot c.args.value.now (Upsert c.args.value.now k n) refl c.upsert_kind-kind.result replies.New c.in-Ok.at (ap Some (sym c.upsert_kind-kind.ensures)) refl c.in-Ok.ensures.stamp c.in-Ok.ensures.wrote
+returns-in-Ok-clause-got g c = let o = c.args.recipe.now in let k = (goal.Recipe-dyn g (o.vtable, o.value)).told_kind o.value in let n = (goal.Recipe-dyn g (o.vtable, o.value)).told_argument o.value in inserted (sizes c.args.table.now) (call_of c.args.pass.now) c.args.key.now (state c.args.pass.now) (state c.look_up.new.pass) (state c.insert.new.pass) _ c.look_up.ensures.own.call c.look_up.ensures.under.learns c.args.pin.now.room (entry_in c.in-Absent.entry) c.in-Absent.floor c.in-Absent.ensures.spot c.args.value.now (Upsert c.args.value.now k n) refl c.upsert_kind-kind.result replies.New c.in-Ok.at (ap Some (sym c.upsert_kind-kind.ensures)) refl c.in-Ok.ensures.stamp c.in-Ok.ensures.wrote
 
 pub returns-in-Err-clause-learns : goal.returns-in-Err-clause-learns
 returns-in-Err-clause-learns g c = looked_learns (sizes c.args.table.now) (call_of c.args.pass.now) c.args.key.now (state c.args.pass.now) (state c.look_up.new.pass) (state c.insert.new.pass) _ c.look_up.ensures.own.call c.look_up.ensures.under.learns c.in-Err.ensures.learns
 
 pub returns-in-Err-clause-halted : goal.returns-in-Err-clause-halted
-returns-in-Err-clause-halted g c = let o = c.args.recipe.now in let k = (goal.Recipe-dyn g (o.vtable, o.value)).told_kind o.value in let n = (goal.Recipe-dyn g (o.vtable, o.value)).told_argument o.value in uninserted (sizes c.args.table.now) (call_of c.args.pass.now) c.args.key.now (state c.args.pass.now) (state c.look_up.new.pass) (state c.insert.new.pass) _ c.look_up.ensures.own.call c.look_up.ensures.under.learns c.args.pin.now.room c.in-Absent.entry c.in-Absent.floor c.in-Absent.ensures.spot c.args.value.now (Upsert c.args.value.now k n) refl tt c.look_up.ensures.quiet c.in-Err.ensures.learns c.in-Err.halt c.in-Err.ensures.halted
+returns-in-Err-clause-halted g c = let o = c.args.recipe.now in let k = (goal.Recipe-dyn g (o.vtable, o.value)).told_kind o.value in let n = (goal.Recipe-dyn g (o.vtable, o.value)).told_argument o.value in uninserted (sizes c.args.table.now) (call_of c.args.pass.now) c.args.key.now (state c.args.pass.now) (state c.look_up.new.pass) (state c.insert.new.pass) _ c.look_up.ensures.own.call c.look_up.ensures.under.learns c.args.pin.now.room (entry_in c.in-Absent.entry) c.in-Absent.floor c.in-Absent.ensures.spot c.args.value.now (Upsert c.args.value.now k n) refl tt c.look_up.ensures.quiet c.in-Err.ensures.learns c.in-Err.halt c.in-Err.ensures.halted
 
 pub returns-in-Ok-compute_life-clause-got : goal.returns-in-Ok-compute_life-clause-got
 returns-in-Ok-compute_life-clause-got g c = let o = c.args.recipe.now in let k = (goal.Recipe-dyn g (o.vtable, o.value)).told_kind o.value in let n = (goal.Recipe-dyn g (o.vtable, o.value)).told_argument o.value in let x = c.in-Ok-compute_life.ensures.wrote c.args.key.now c.in-Present.ensures.spot.life in rewrote (sizes c.args.table.now) (call_of c.args.pass.now) c.args.key.now (state c.args.pass.now) (state c.look_up.new.pass) (state c.compute_life.new.pass) _ c.look_up.ensures.own.call c.look_up.ensures.under.learns c.args.pin.now.room c.in-Present.entry.0 c.in-Present.home.header c.in-Present.home.generation c.in-Present.ensures.spot c.upsert_kind-kind.result (Upsert c.args.value.now k n) replies.Done c.in-Ok-compute_life.at x.0 (Some (recipe_result k n x.0)) (ap Some (sym c.upsert_kind-kind.ensures)) refl refl x.1
@@ -52,11 +53,11 @@ returns-in-Err-compute_life-clause-halted g c = let o = c.args.recipe.now in let
 
 pub returns-in-Ok-clause-alone : goal.returns-in-Ok-clause-alone
 returns-in-Ok-clause-alone g c = let z = sizes c.args.table.now in let r = c.args.pin.now.room in let v = state c.args.pass.now in let u = state c.look_up.new.pass in let w = state c.insert.new.pass in
-    inserted_keeps z r v w (away_inserts z r c.args.key.now c.args.value.now c.in-Absent.entry c.in-Absent.floor v u w (Ok c.in-Ok.at) c.in-Absent.ensures.alone (c.in-Ok.ensures.alone c.in-Absent.ensures.base))
+    inserted_keeps z r v w (away_inserts z r c.args.key.now c.args.value.now (entry_in c.in-Absent.entry) c.in-Absent.floor v u w (Ok c.in-Ok.at) c.in-Absent.ensures.alone (c.in-Ok.ensures.alone c.in-Absent.ensures.base))
 
 pub returns-in-Err-clause-alone : goal.returns-in-Err-clause-alone
 returns-in-Err-clause-alone g c = let z = sizes c.args.table.now in let r = c.args.pin.now.room in let v = state c.args.pass.now in let u = state c.look_up.new.pass in let w = state c.insert.new.pass in
-    away_inserts z r c.args.key.now c.args.value.now c.in-Absent.entry c.in-Absent.floor v u w (Err c.in-Err.halt) c.in-Absent.ensures.alone (c.in-Err.ensures.alone c.in-Absent.ensures.base)
+    away_inserts z r c.args.key.now c.args.value.now (entry_in c.in-Absent.entry) c.in-Absent.floor v u w (Err c.in-Err.halt) c.in-Absent.ensures.alone (c.in-Err.ensures.alone c.in-Absent.ensures.base)
 
 pub returns-in-Ok-compute_life-clause-alone : goal.returns-in-Ok-compute_life-clause-alone
 returns-in-Ok-compute_life-clause-alone g c = let z = sizes c.args.table.now in let r = c.args.pin.now.room in let v = state c.args.pass.now in let u = state c.look_up.new.pass in let w = state c.compute_life.new.pass in
@@ -72,7 +73,7 @@ returns-in-Ok-compute_life-clause-fed g c = c.in-Ok-compute_life.ensures.fed c.a
 
 pub returns-in-Ok-clause-alone_left : goal.returns-in-Ok-clause-alone_left
 returns-in-Ok-clause-alone_left g c = let z = sizes c.args.table.now in let r = c.args.pin.now.room in let v = state c.args.pass.now in let u = state c.look_up.new.pass in let w = state c.insert.new.pass in
-    away_gets z r c.args.key.now c.args.value.now c.in-Absent.entry c.in-Absent.floor v u w c.in-Absent.ensures.alone c.in-Ok.ensures.alone_inserts
+    away_gets z r c.args.key.now c.args.value.now (entry_in c.in-Absent.entry) c.in-Absent.floor v u w c.in-Absent.ensures.alone c.in-Ok.ensures.alone_inserts
 
 pub returns-in-Ok-compute_life-clause-alone_left : goal.returns-in-Ok-compute_life-clause-alone_left
 returns-in-Ok-compute_life-clause-alone_left g c = let z = sizes c.args.table.now in let r = c.args.pin.now.room in let v = state c.args.pass.now in let u = state c.look_up.new.pass in let w = state c.compute_life.new.pass in

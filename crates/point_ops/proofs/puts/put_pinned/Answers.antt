@@ -14,6 +14,7 @@ use Rattle.point_ops.specs.Halting.{Halts}
 use Rattle.point_ops.specs.LonePutLeft.{PutLeavesUnder}
 use Rattle.point_ops.specs.Parts.{Answers, WroteSo}
 use Rattle.point_ops.specs.PutKinds.{put_by}
+use Rattle.point_ops.specs.Spots.{entry_in}
 use Rattle.point_ops.specs.declared.puts.Puts.{Puts}
 use Rattle.point_ops.specs.declared.halts.Halt.{Halt}
 use Rattle.point_ops.specs.declared.spots.Spot.TheVariants.{Present}
@@ -33,13 +34,13 @@ pub returns-in-Err-clause-held : goal.returns-in-Err-clause-held
 returns-in-Err-clause-held c = looked_held (sizes c.args.table.now) (call_of c.args.pass.now) c.args.pin.now.room (state c.args.pass.now) (state c.look_up.new.pass) (state c.insert.new.pass) c.look_up.ensures.under c.insert.ensures.held
 
 pub returns-in-Ok-clause-got : goal.returns-in-Ok-clause-got
-returns-in-Ok-clause-got c = inserted (sizes c.args.table.now) (call_of c.args.pass.now) c.args.key.now (state c.args.pass.now) (state c.look_up.new.pass) (state c.insert.new.pass) _ c.look_up.ensures.own.call c.look_up.ensures.under.learns c.args.pin.now.room c.in-Absent.entry c.in-Absent.floor c.in-Absent.ensures.spot c.args.value.now (put_by c.args.puts c.args.value.now) (leaves_value c.args.value.now c.args.puts) _ replies.New c.in-Ok.at (puts_kind c.args.value.now c.args.puts _ c.kind.ensures) (says_new c.args.value.now c.args.puts) c.in-Ok.ensures.stamp c.in-Ok.ensures.wrote
+returns-in-Ok-clause-got c = inserted (sizes c.args.table.now) (call_of c.args.pass.now) c.args.key.now (state c.args.pass.now) (state c.look_up.new.pass) (state c.insert.new.pass) _ c.look_up.ensures.own.call c.look_up.ensures.under.learns c.args.pin.now.room (entry_in c.in-Absent.entry) c.in-Absent.floor c.in-Absent.ensures.spot c.args.value.now (put_by c.args.puts c.args.value.now) (leaves_value c.args.value.now c.args.puts) _ replies.New c.in-Ok.at (puts_kind c.args.value.now c.args.puts _ c.kind.ensures) (says_new c.args.value.now c.args.puts) c.in-Ok.ensures.stamp c.in-Ok.ensures.wrote
 
 pub returns-in-Err-clause-learns : goal.returns-in-Err-clause-learns
 returns-in-Err-clause-learns c = looked_learns (sizes c.args.table.now) (call_of c.args.pass.now) c.args.key.now (state c.args.pass.now) (state c.look_up.new.pass) (state c.insert.new.pass) _ c.look_up.ensures.own.call c.look_up.ensures.under.learns c.in-Err.ensures.learns
 
 pub returns-in-Err-clause-halted : goal.returns-in-Err-clause-halted
-returns-in-Err-clause-halted c = uninserted (sizes c.args.table.now) (call_of c.args.pass.now) c.args.key.now (state c.args.pass.now) (state c.look_up.new.pass) (state c.insert.new.pass) _ c.look_up.ensures.own.call c.look_up.ensures.under.learns c.args.pin.now.room c.in-Absent.entry c.in-Absent.floor c.in-Absent.ensures.spot c.args.value.now (put_by c.args.puts c.args.value.now) (leaves_value c.args.value.now c.args.puts) (sets_value c.args.value.now c.args.puts) c.look_up.ensures.quiet c.in-Err.ensures.learns c.in-Err.halt c.in-Err.ensures.halted
+returns-in-Err-clause-halted c = uninserted (sizes c.args.table.now) (call_of c.args.pass.now) c.args.key.now (state c.args.pass.now) (state c.look_up.new.pass) (state c.insert.new.pass) _ c.look_up.ensures.own.call c.look_up.ensures.under.learns c.args.pin.now.room (entry_in c.in-Absent.entry) c.in-Absent.floor c.in-Absent.ensures.spot c.args.value.now (put_by c.args.puts c.args.value.now) (leaves_value c.args.value.now c.args.puts) (sets_value c.args.value.now c.args.puts) c.look_up.ensures.quiet c.in-Err.ensures.learns c.in-Err.halt c.in-Err.ensures.halted
 
 pub returns-in-Ok-overwrite-clause-got : goal.returns-in-Ok-overwrite-clause-got
 returns-in-Ok-overwrite-clause-got c = let x = c.in-Ok-overwrite.ensures.wrote c.args.key.now c.in-Present.ensures.spot.life in subst (λ (p : Puts). WroteSo (call_of c.args.pass.now) c.args.key.now (put_by p c.args.value.now) replies.Over c.in-Ok-overwrite.at (state c.args.pass.now) (state c.overwrite.new.pass)) (sym c.in-Always.is) (rewrote (sizes c.args.table.now) (call_of c.args.pass.now) c.args.key.now (state c.args.pass.now) (state c.look_up.new.pass) (state c.overwrite.new.pass) _ c.look_up.ensures.own.call c.look_up.ensures.under.learns c.args.pin.now.room c.in-Present.entry.0 c.in-Present.home.header c.in-Present.home.generation c.in-Present.ensures.spot kinds.Put (Put c.args.value.now) replies.Over c.in-Ok-overwrite.at x.0 (Some c.args.value.now) refl refl refl x.1)
@@ -56,11 +57,11 @@ returns-in-Err-overwrite-clause-halted c = subst (λ (p : Puts). Halts c.in-Err-
 
 pub returns-in-Ok-clause-alone : goal.returns-in-Ok-clause-alone
 returns-in-Ok-clause-alone c = let z = sizes c.args.table.now in let r = c.args.pin.now.room in let v = state c.args.pass.now in let u = state c.look_up.new.pass in let w = state c.insert.new.pass in
-    inserted_keeps z r v w (away_inserts z r c.args.key.now c.args.value.now c.in-Absent.entry c.in-Absent.floor v u w (Ok c.in-Ok.at) c.in-Absent.ensures.alone (c.in-Ok.ensures.alone c.in-Absent.ensures.base))
+    inserted_keeps z r v w (away_inserts z r c.args.key.now c.args.value.now (entry_in c.in-Absent.entry) c.in-Absent.floor v u w (Ok c.in-Ok.at) c.in-Absent.ensures.alone (c.in-Ok.ensures.alone c.in-Absent.ensures.base))
 
 pub returns-in-Err-clause-alone : goal.returns-in-Err-clause-alone
 returns-in-Err-clause-alone c = let z = sizes c.args.table.now in let r = c.args.pin.now.room in let v = state c.args.pass.now in let u = state c.look_up.new.pass in let w = state c.insert.new.pass in
-    away_inserts z r c.args.key.now c.args.value.now c.in-Absent.entry c.in-Absent.floor v u w (Err c.in-Err.halt) c.in-Absent.ensures.alone (c.in-Err.ensures.alone c.in-Absent.ensures.base)
+    away_inserts z r c.args.key.now c.args.value.now (entry_in c.in-Absent.entry) c.in-Absent.floor v u w (Err c.in-Err.halt) c.in-Absent.ensures.alone (c.in-Err.ensures.alone c.in-Absent.ensures.base)
 
 pub returns-in-Ok-overwrite-clause-alone : goal.returns-in-Ok-overwrite-clause-alone
 returns-in-Ok-overwrite-clause-alone c = let z = sizes c.args.table.now in let r = c.args.pin.now.room in let v = state c.args.pass.now in let u = state c.look_up.new.pass in let w = state c.overwrite.new.pass in
@@ -73,7 +74,7 @@ returns-in-Err-overwrite-clause-alone c = let z = sizes c.args.table.now in let 
 
 pub returns-in-Ok-clause-alone_left : goal.returns-in-Ok-clause-alone_left
 returns-in-Ok-clause-alone_left c = let z = sizes c.args.table.now in let r = c.args.pin.now.room in let v = state c.args.pass.now in let u = state c.look_up.new.pass in let w = state c.insert.new.pass in
-    away_gets z r c.args.key.now c.args.value.now c.in-Absent.entry c.in-Absent.floor v u w c.in-Absent.ensures.alone c.in-Ok.ensures.alone_inserts
+    away_gets z r c.args.key.now c.args.value.now (entry_in c.in-Absent.entry) c.in-Absent.floor v u w c.in-Absent.ensures.alone c.in-Ok.ensures.alone_inserts
 
 pub returns-in-Ok-overwrite-clause-alone_left : goal.returns-in-Ok-overwrite-clause-alone_left
 returns-in-Ok-overwrite-clause-alone_left c = let z = sizes c.args.table.now in let r = c.args.pin.now.room in let v = state c.args.pass.now in let u = state c.look_up.new.pass in let w = state c.overwrite.new.pass in

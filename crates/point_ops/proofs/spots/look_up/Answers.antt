@@ -4,6 +4,7 @@ use Rattle.oak_core.specs.Passes.{state, key as sizes, call_of}
 use Rattle.oak_core.specs.QuietSteps.{IsQuiet}
 use Rattle.oak_core.proofs.calls.QuietCalls.{only_both}
 use Rattle.point_ops.proofs.FoundSpots.{away_at_base, away_at_floor, named_life, under_learns, under_meets}
+use Rattle.chunk_ops.proofs.PinsKept.{belongs_kept, entry_kept}
 use Rattle.point_ops.proofs.spots.look_up.Goals as goal
 
 pub returns-in-Missing-clause-under : goal.returns-in-Missing-clause-under
@@ -11,7 +12,10 @@ returns-in-Missing-clause-under c = under_meets (sizes c.args.table.now) (call_o
 
 pub returns-in-Missing-clause-spot : goal.returns-in-Missing-clause-spot
 returns-in-Missing-clause-spot c = away_at_base (sizes c.args.table.now) (call_of c.args.pass.now) c.args.pin.now.room (state c.args.pass.now) (state c.find.new.pass) (state c.base_of.new.pass) c.find.ensures.under (call_of c.find.new.pass) c.find.ensures.own.call
-    c.args.key.now c.base_of.result c.requires.covers c.in-Missing.ensures.found c.base_of.ensures.base c.base_of.ensures.only
+    c.args.key.now c.base_of.result c.requires.covers c.in-Missing.ensures.found.0 c.base_of.ensures.base c.base_of.ensures.only
+
+pub returns-in-Missing-clause-place : goal.returns-in-Missing-clause-place
+returns-in-Missing-clause-place c = belongs_kept c.args.pin.now.room c.in-Missing.behind c.args.key.now (state c.find.new.pass) (state c.base_of.new.pass) c.base_of.ensures.only.rooms c.in-Missing.ensures.found.1
 
 pub returns-in-Floor-clause-under : goal.returns-in-Floor-clause-under
 returns-in-Floor-clause-under c = under_learns (sizes c.args.table.now) (call_of c.args.pass.now) c.args.pin.now.room (state c.args.pass.now) (state c.find.new.pass) (state c.content.new.pass) c.find.ensures.under (call_of c.find.new.pass) c.find.ensures.own.call c.content.ensures.only
@@ -19,6 +23,9 @@ returns-in-Floor-clause-under c = under_learns (sizes c.args.table.now) (call_of
 pub returns-in-Floor-clause-spot : goal.returns-in-Floor-clause-spot
 returns-in-Floor-clause-spot c = away_at_floor (sizes c.args.table.now) (call_of c.args.pass.now) c.args.pin.now.room (state c.args.pass.now) (state c.find.new.pass) (state c.content.new.pass) c.find.ensures.under (call_of c.find.new.pass) c.find.ensures.own.call
     c.args.key.now c.in-Entry.entry c.in-Entry.ensures.found c.content.ensures.only c.in-Floor.stamp c.in-Floor.ensures.content (c.in-Floor.ensures.tells c.args.key.now c.in-Entry.ensures.found.entry)
+
+pub returns-in-Floor-clause-place : goal.returns-in-Floor-clause-place
+returns-in-Floor-clause-place c = entry_kept c.args.pin.now.room c.in-Entry.entry.0 c.args.key.now (state c.find.new.pass) (state c.content.new.pass) c.content.ensures.only.rooms c.in-Entry.ensures.found.entry
 
 pub returns-in-Value-clause-under : goal.returns-in-Value-clause-under
 returns-in-Value-clause-under c = under_learns (sizes c.args.table.now) (call_of c.args.pass.now) c.args.pin.now.room (state c.args.pass.now) (state c.find.new.pass) (state c.content.new.pass) c.find.ensures.under (call_of c.find.new.pass) c.find.ensures.own.call c.content.ensures.only

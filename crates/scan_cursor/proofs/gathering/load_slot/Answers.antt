@@ -2,42 +2,32 @@ use Rattle.std.proofs.Common.{◌≡◌, ℕ, sym, subst}
 use Rattle.oak_model.specs.Limits.{Sizes}
 use Rattle.oak_core.specs.Passes.{state, key as sizes, call_of}
 use Rattle.chunk_ops.specs.declared.entries.Content.{Content}
-use Rattle.chunk_ops.specs.declared.entries.Content.TheVariants.{Value}
-use Rattle.chunk_ops.specs.Contents.{FindsContent, FindsLife, Says, TellsOf}
+use Rattle.chunk_ops.specs.Contents.{FindsContent, Says, TellsOf}
 use Rattle.chunk_ops.specs.declared.stored.StoredKey.{StoredKey}
 use Rattle.chunk_ops.specs.Stored.{IsStored}
-use Rattle.oak_core.proofs.calls.CallSteps.{stands_learns}
 use Rattle.scan_cursor.specs.Views.{KnowsLast, view_of}
-use Rattle.scan_cursor.proofs.GatherViews.{entry_kept, knows_last, last_read, later_of, learned_both, learned_in, learns_only, read_from}
+use Rattle.scan_cursor.proofs.GatherViews.{knows_last, last_read}
 use Rattle.scan_cursor.proofs.gathering.load_slot.Goals as goal
 
-pub returns-in-Floor-clause-only : goal.returns-in-Floor-clause-only
-returns-in-Floor-clause-only c = let call = call_of c.args.pass.now in let now = call_of c.entry_key-key.new.pass in let v = state c.args.pass.now in let w = state c.entry_key-key.new.pass in let x = state c.value_word-value.new.pass in
-    learned_both call v w x (learns_only call v w c.entry_key-key.ensures.only) (learned_in call now w x c.entry_key-key.ensures.own.call c.value_word-value.ensures.only)
-
 pub returns-in-Floor-clause-loads : goal.returns-in-Floor-clause-loads
-returns-in-Floor-clause-loads c k q s is h behind = let z : Sizes = sizes c.args.table.now in let r = c.args.pin.now.room in let i = c.args.entry.0 in let call = call_of c.args.pass.now in let now = call_of c.entry_key-key.new.pass in
-    let v = state c.args.pass.now in let w = state c.entry_key-key.new.pass in let x = state c.value_word-value.new.pass in let o = c.entry_key-key.ensures.only in
-    let tells = c.value_word-value.ensures.tells c.content_of.result q c.content_of.ensures (entry_kept r i q v w o.rooms h) in
-    let reads = subst (λ (a : Content). TellsOf a z now r i q w x) c.in-Floor.is tells in
-    (c.in-Floor.stamp, read_from z call v w x q c.in-Floor.stamp _ (later_of z call v w (stands_learns call v w o.stands) o.quiet) (last_read z call w x q c.in-Floor.stamp _ reads))
-
-pub returns-in-Value-clause-only : goal.returns-in-Value-clause-only
-returns-in-Value-clause-only c = let call = call_of c.args.pass.now in let now = call_of c.entry_key-key.new.pass in let v = state c.args.pass.now in let w = state c.entry_key-key.new.pass in let x = state c.value_word-value.new.pass in
-    learned_both call v w x (learns_only call v w c.entry_key-key.ensures.only) (learned_in call now w x c.entry_key-key.ensures.own.call c.value_word-value.ensures.only)
+returns-in-Floor-clause-loads c k q s is h behind = let z : Sizes = sizes c.args.table.now in let r = c.args.pin.now.room in let i = c.args.entry.0 in let call = call_of c.args.pass.now in
+    let v = state c.args.pass.now in let x = state c.value_word-value.new.pass in
+    let tells = c.value_word-value.ensures.tells c.content_of.result q c.content_of.ensures h in
+    let reads = subst (λ (a : Content). TellsOf a z call r i q v x) c.in-Floor.is tells in
+    (c.in-Floor.stamp, last_read z call v x q c.in-Floor.stamp _ reads)
 
 pub returns-in-Value-clause-loads : goal.returns-in-Value-clause-loads
-returns-in-Value-clause-loads c k q s is h = let z : Sizes = sizes c.args.table.now in let r = c.args.pin.now.room in let i = c.args.entry.0 in let call = call_of c.args.pass.now in let now = call_of c.entry_key-key.new.pass in
-    let v = state c.args.pass.now in let w = state c.entry_key-key.new.pass in let x = state c.value_word-value.new.pass in let o = c.entry_key-key.ensures.only in
-    let stored = c.entry_key-key.ensures.key q h in let there = entry_kept r i q v w o.rooms h in let head = c.in-Value.header in let gen = c.in-Value.generation in
-    let finds = subst (λ (a : Content). FindsContent z now r i a w x) c.in-Value.is (c.value_word-value.ensures.content c.content_of.result c.content_of.ensures) in
-    let life = subst (λ (a : Content). TellsOf a z now r i q w x) c.in-Value.is (c.value_word-value.ensures.tells c.content_of.result q c.content_of.ensures there) in
+returns-in-Value-clause-loads c k q s is h = let z : Sizes = sizes c.args.table.now in let r = c.args.pin.now.room in let i = c.args.entry.0 in let call = call_of c.args.pass.now in
+    let v = state c.args.pass.now in let x = state c.value_word-value.new.pass in
+    let stored = c.requires.key q h in let head = c.in-Value.header in let gen = c.in-Value.generation in
+    let finds = subst (λ (a : Content). FindsContent z call r i a v x) c.in-Value.is (c.value_word-value.ensures.content c.content_of.result c.content_of.ensures) in
+    let life = subst (λ (a : Content). TellsOf a z call r i q v x) c.in-Value.is (c.value_word-value.ensures.tells c.content_of.result q c.content_of.ensures h) in
     let says = subst (λ (a : Content). Says a c.value_word-value.result) c.in-Value.is c.content_of.ensures in
-    let parts : record { words = c.parts-length.result.1; length = c.parts-length.result.0 } ≡ c.entry_key-key.result = λ j. record { words = (c.parts-length.ensures j).1; length = (c.parts-length.ensures j).0 } in (
+    let parts : record { words = c.parts-length.result.1; length = c.parts-length.result.0 } ≡ c.args.key.now = λ j. record { words = (c.parts-length.ensures j).1; length = (c.parts-length.ensures j).0 } in (
       (c.is_behind.ensures k q s stored.0 is stored.1).0 c.if-not-is_behind.false,
       record {
         stored = subst (λ (a : StoredKey). IsStored a q) (sym parts) stored.0;
         key = stored.1;
-        knows = subst (λ (p : ℕ × ℕ). KnowsLast q p.0 p.1 (view_of z call x)) (λ j. (sym says.1 j, sym says.2 j)) (knows_last z call r i head gen q w x (subst (λ (n : ℕ). FindsContent z n r i (Value head gen) w x) c.entry_key-key.ensures.own.call finds) (subst (λ (n : ℕ). FindsLife z n r i q head gen w x) c.entry_key-key.ensures.own.call life));
+        knows = subst (λ (p : ℕ × ℕ). KnowsLast q p.0 p.1 (view_of z call x)) (λ j. (sym says.1 j, sym says.2 j)) (knows_last z call r i head gen q v x finds life);
       },
     )

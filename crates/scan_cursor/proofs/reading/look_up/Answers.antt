@@ -13,7 +13,7 @@ use Rattle.scan_cursor.proofs.RoomReads.{floor_up, found_stays, life_up, missing
 use Rattle.scan_cursor.proofs.reading.look_up.Goals as goal
 
 pub returns-in-Missing-clause-found : goal.returns-in-Missing-clause-found
-returns-in-Missing-clause-found c = missing_up (sizes c.args.table.now) (call_of c.args.pass.now) c.args.pin.now.room c.args.key.now (state c.args.pass.now) (state c.find.new.pass) c.find.ensures.under c.requires.covers c.in-Missing.ensures.found
+returns-in-Missing-clause-found c = missing_up (sizes c.args.table.now) (call_of c.args.pass.now) c.args.pin.now.room c.args.key.now (state c.args.pass.now) (state c.find.new.pass) c.find.ensures.under c.requires.covers c.in-Missing.ensures.found.0
 
 pub returns-in-Missing-clause-still : goal.returns-in-Missing-clause-still
 returns-in-Missing-clause-still c = found_stays (sizes c.args.table.now) c.args.pin.now.room c.args.key.now _ (state c.args.pass.now) (state c.find.new.pass) c.find.ensures.alone

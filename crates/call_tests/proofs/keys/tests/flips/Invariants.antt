@@ -1,0 +1,12 @@
+use Rattle.std.proofs.Common.{◌≡◌, ◌≤◌, ◌+◌}
+use Rattle.oak_core.specs.Passes.{IsPassOf, state, call_of}
+use Rattle.point_ops.specs.TestStates.{IsReadyAgain}
+use Rattle.call_tests.proofs.keys.tests.flips.Given as goal
+
+abbrev pub invariant-loop-i : goal.invariant-loop-i
+invariant-loop-i g l = record {
+  own : IsPassOf l.table l.pass;
+  call : call_of l.pass ≡ l.i + 1;
+  ready : IsReadyAgain (l.i + 1) (state l.fn.pass) (state l.pass);
+  few : (goal.Recipe-dyn g (l.recipe.vtable, l.recipe.value)).calls l.recipe.value ≤ l.i;
+}

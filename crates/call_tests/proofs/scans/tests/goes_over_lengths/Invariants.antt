@@ -1,0 +1,13 @@
+use Rattle.std.proofs.Common.{◌≡◌}
+use Rattle.oak_core.specs.Scratch.{StaysButSlots}
+use Rattle.scan_cursor.specs.Cursors.{IsCursor, under}
+use Rattle.call_tests.proofs.scans.tests.goes_over_lengths.Given as goal
+
+abbrev pub invariant-loop-i : goal.invariant-loop-i
+invariant-loop-i g l = record {
+  same_reference : l.cursor.pass.ghost_name ≡ l.fn.cursor.pass.ghost_name;
+  table : l.cursor.table ≡ l.fn.cursor.table;
+  own : StaysButSlots l.fn.cursor.pass.now l.cursor.pass.now;
+  cursor : IsCursor l.cursor;
+  numbers : (under l.cursor).numbers ≡ (under l.fn.cursor).numbers;
+}

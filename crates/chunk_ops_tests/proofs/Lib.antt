@@ -1,4 +1,0 @@
--- Proofs of the tests.
-mod AddedKeys
-mod FoundEntries
-mod StillPinned

@@ -1,5 +1,0 @@
-pub mod Calls
-pub mod Keeping
-pub mod UnderLocks
-pub mod FreshHeaders
-pub mod Removals

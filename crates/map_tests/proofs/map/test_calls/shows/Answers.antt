@@ -1,0 +1,22 @@
+use Rattle.std.proofs.Common.{rules, ◌≡◌, ℕ, None, ap, ◌∙◌, subst}
+use Rattle.oak_model.specs.Limits.{Sizes}
+use Rattle.oak_core.specs.declared.states.PassState.{PassState}
+use Rattle.oak_core.specs.Passes.{state, key as sizes, call_of}
+use Rattle.value_ops.specs.Pinning.{with_pin, MeetsMore, OnlyLearns}
+use Rattle.value_ops.specs.PinnedValues.{OnlyLoads}
+use Rattle.value_ops.proofs.ReadRounds.{read_round}
+use Rattle.point_ops.specs.TestStates.{IsReadyAgain}
+use Rattle.point_ops.proofs.TestLaws.{learned_again}
+use Rattle.map_tests.proofs.map.test_calls.shows.Goals as goal
+
+-- the pin, the reading and the unpin leave what the pass holds
+pub returns-in-Ok-clause-ready : goal.returns-in-Ok-clause-ready
+returns-in-Ok-clause-ready c = let z : Sizes = sizes c.args.table.now in let call = call_of c.args.pass.now in let v = state c.args.pass.now in let w = state c.pin.new.pass in
+    let first = c.reading-reading.result in let whole = c.same-same.new.self in let q = state first.pass.now in let x = state whole.pass.now in let u = state c.done.new.self.1.0 in
+    let table : sizes first.table.now ≡ z = ap (λ t. sizes t.now) c.reading-reading.ensures.table in
+    let now : call_of first.pass.now ≡ call = c.reading-reading.ensures.own.call ∙ c.pin.ensures.own.call in
+    let only : OnlyLearns z call w q = subst (λ (i : ℕ). OnlyLearns z i w q) c.pin.ensures.own.call c.reading-reading.ensures.only.only in
+    let loads : OnlyLoads z call q x = subst (λ (i : Sizes × ℕ). OnlyLoads i.0 i.1 q x) (λ i. (table i, now i)) c.same-same.ensures.reads.only in
+    let undone : MeetsMore z call (with_pin None x) u = subst (λ (i : Sizes × ℕ). MeetsMore i.0 i.1 (with_pin None x) u) (λ i. ((ap (λ t. sizes t.now) c.same-same.ensures.reads.table ∙ table) i, (c.same-same.ensures.reads.stays.call ∙ now) i)) c.done.ensures.undone.meets in
+    let all : OnlyLearns z call v u = read_round z call c.args.view.now.header c.args.view.now.generation v w q x u (search rules) c.in-Ok.ensures.good.2 only loads undone in
+    subst (λ (y : PassState). IsReadyAgain call v y) (search rules) (learned_again z call v u all c.requires.ready)

@@ -1,5 +1,0 @@
-use Rattle.oak_core.proofs.seats.Alone.{numbers_alone}
-use Rattle.oak_core_tests.proofs.pass_tests.slots_of_a_pass.Goals as goal
-
-pub close-requires-clause-alone : goal.close-requires-clause-alone
-close-requires-clause-alone g c = numbers_alone _ (λ i. (c.in_ok-table.ensures.first.0 i).numbers)

@@ -1,6 +1,0 @@
-use Rattle.oak_map.specs.Maps.{state}
-use Rattle.oak_map_tests.proofs.TestLaws.{alone_still}
-use Rattle.oak_map_tests.proofs.lending_tests.lent_values.Goals as goal
-
-pub close-requires-clause-alone : goal.close-requires-clause-alone
-close-requires-clause-alone g c κs = alone_still (state c.in_ok-map.pass) (state c.are_lent.new.pass) c.are_lent.ensures.numbers c.in_ok-map.ensures.alone

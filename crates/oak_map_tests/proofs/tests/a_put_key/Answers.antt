@@ -1,7 +1,0 @@
-use Rattle.std.proofs.Common.{◌∙◌}
-use Rattle.oak_map.specs.Maps.{state}
-use Rattle.oak_map_tests.proofs.TestLaws.{alone_still}
-use Rattle.oak_map_tests.proofs.tests.a_put_key.Goals as goal
-
-pub close-requires-clause-alone : goal.close-requires-clause-alone
-close-requires-clause-alone g c κs = alone_still (state c.in_ok-map.pass) (state c.is_computed.new.pass) (c.is_computed.ensures.ready.numbers ∙ c.is_put.ensures.ready.numbers) c.in_ok-map.ensures.alone

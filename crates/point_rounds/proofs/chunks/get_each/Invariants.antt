@@ -1,9 +1,0 @@
-use Rattle.oak_core.specs.Passes.{Stays, state, call_of}
-use Rattle.point_ops.specs.TestStates.{IsReadyAgain}
-use Rattle.point_rounds.proofs.chunks.get_each.Given as goal
-
-abbrev pub invariant-loop-number : goal.invariant-loop-number
-invariant-loop-number l = record {
-  own : Stays l.fn.pass l.pass;
-  ready : IsReadyAgain (call_of l.fn.pass) (state l.fn.pass) (state l.pass);
-}

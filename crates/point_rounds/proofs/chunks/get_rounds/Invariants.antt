@@ -1,9 +1,0 @@
-use Rattle.oak_core.specs.Passes.{Stays, state, call_of}
-use Rattle.point_ops.specs.TestStates.{IsReadyAgain}
-use Rattle.point_rounds.proofs.chunks.get_rounds.Given as goal
-
-abbrev pub invariant-loop : goal.invariant-loop
-invariant-loop l = record {
-  own : Stays l.fn.pass l.pass;
-  ready : IsReadyAgain (call_of l.fn.pass) (state l.fn.pass) (state l.pass);
-}

@@ -1,9 +1,0 @@
-use Rattle.std.proofs.Common.{sym, subst}
-use Rattle.oak_core.specs.Passes.{state, key as sizes, call_of}
-use Rattle.oak_core.specs.PassState.{IsAlone}
-use Rattle.oak_core.proofs.seats.Alone.{alone_again}
-use Rattle.rebalance_tests.proofs.busy_tests.split_and_try.Goals as goal
-
-pub returns-clause-alone : goal.returns-clause-alone
-returns-clause-alone g c = subst IsAlone (sym c.join.ensures.joined) (alone_again (sizes c.args.table.now) (call_of c.args.pass.now) (state c.args.pass.now) (state c.split.new.self) (state c.in-Ok.other) (state c.is_busy_while_pinned.new.holder) (state c.is_busy_while_pinned.new.other) c.requires.alone c.in-Ok.ensures.split
-    c.is_busy_while_pinned.ensures.idle.0.numbers c.is_busy_while_pinned.ensures.idle.1.numbers)

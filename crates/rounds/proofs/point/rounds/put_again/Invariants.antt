@@ -1,0 +1,11 @@
+use Rattle.std.proofs.Common.{◌≡◌, ◌+◌}
+use Rattle.oak_core.specs.Passes.{IsPassOf, state, call_of}
+use Rattle.point_ops.specs.TestStates.{IsReadyAgain}
+use Rattle.rounds.proofs.point.rounds.put_again.Given as goal
+
+abbrev pub invariant-loop-number : goal.invariant-loop-number
+invariant-loop-number l = record {
+  own : IsPassOf l.fn.table l.pass;
+  call : call_of l.pass ≡ l.number + 1;
+  ready : IsReadyAgain (l.number + 1) (state l.fn.pass) (state l.pass);
+}

@@ -1,0 +1,3 @@
+mod AddedKeys
+mod FoundEntries
+mod StillPinned

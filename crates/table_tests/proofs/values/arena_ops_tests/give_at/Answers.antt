@@ -1,0 +1,10 @@
+use Rattle.std.proofs.Common.{slice_index}
+use Rattle.oak_core.specs.Passes.{state, key, call_of}
+use Rattle.arena_ops.proofs.StackLaws.{stack_top, stack_less}
+use Rattle.table_tests.proofs.values.arena_ops_tests.give_at.Goals as goal
+
+pub give-requires-clause-held : goal.give-requires-clause-held
+give-requires-clause-held c = stack_top (key c.args.table.now) c.args.class (λ k. slice_index c.args.numbers.now k) c.args.i (state c.args.pass.now).blocks c.requires.stack
+
+pub returns-clause-stack : goal.returns-clause-stack
+returns-clause-stack c = stack_less (key c.args.table.now) (call_of c.args.pass.now) c.args.class (λ k. slice_index c.args.numbers.now k) c.args.i (state c.args.pass.now) (state c.give.new.pass) c.requires.stack c.give.ensures.given

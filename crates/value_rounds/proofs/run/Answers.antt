@@ -1,7 +1,0 @@
-use Rattle.std.proofs.Common.{◌∙◌}
-use Rattle.oak_core.specs.Passes.{state}
-use Rattle.oak_core.proofs.seats.Alone.{numbers_alone}
-use Rattle.value_rounds.proofs.run.Goals as goal
-
-pub close-requires-clause-alone : goal.close-requires-clause-alone
-close-requires-clause-alone c = numbers_alone (state c.rounds-sum.new.pass) (c.rounds-sum.ensures.rest.numbers ∙ (λ i. (c.in_ok-table.ensures.first.0 i).numbers))
