@@ -1,8 +1,11 @@
 //! Bytes as they stand in words: eight in each, the first of them highest.
 ghost use Rattle.std.specs.Prelude.{◌≡◌, ◌≢◌, ◌≤◌, MatchBool, ◌+◌, ◌-◌, ◌*◌, ◌^◌, ◌<◌, ◌++◌, length, take, drop};
 ghost use Rattle.std.specs.Int.{w64, from_be_bytes};
+ghost use Rattle.oak_model.specs.declared.limits.TheConstants.{GREATEST_KEY};
 ghost use Rattle.oak_model.specs.WordBytes.{word_bytes};
 ghost use Rattle.arena_core.specs.Words.{bytes_in, word_at, word_of};
+
+use oak_model::GREATEST_KEY;
 
 /// The bytes of a word.
 pub const WORD: usize = 8;
@@ -95,4 +98,18 @@ pub fn put_word(out: &mut [u8], i: usize, word: u64)
     for j in from..out.len() {
         out[j] = ((word >> (BITS * (from + WORD - 1 - j) as u32)) % BYTE) as u8;
     }
+}
+
+/// The bytes of a key, in place, with others behind them. Its words are copied, eight bytes at once, and no length is
+/// handed on.
+#[inline(always)]
+pub fn key_in_place(key: &[u8]) -> [u8; GREATEST_KEY]
+    requires { length key.now ≤ GREATEST_KEY }
+    ensures { take (length key.now) result ≡ key.now }
+{
+    let mut bytes = [0; GREATEST_KEY];
+    for i in 0..key.len().div_ceil(WORD) {
+        put_word(&mut bytes, i, word_from(key, i));
+    }
+    bytes
 }

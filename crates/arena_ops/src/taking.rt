@@ -19,6 +19,7 @@ pub struct NoBlock(pub Class);
 
 /// Takes a block that had no owner, one whose bit was found clear, and no other. `NoBlock` comes only where
 /// every bit of the class was found set in this call; to a pass that is alone all of them are set then.
+#[inline(always)] // an answer goes through memory at a call
 pub fn take(table: &OakTable, pass: &mut Pass, class: Class) -> Result<Block, NoBlock>
     requires own { IsPassOf table.now pass.old }
     ensures own { Stays pass.old pass.new }

@@ -4,6 +4,7 @@ ghost use Rattle.oak_core.specs.MayWrite.{IsNewCall};
 ghost use Rattle.oak_core.specs.Passes.{IsPassOf, Stays, Turns, key as sizes, state, call_of};
 ghost use Rattle.point_ops.specs.TestStates.{HasView, IsReady, IsReadyAgain};
 
+use crate::found::is_so;
 use oak_core::{OakTable, Pass};
 use std::process::Abort;
 use value_ops::ValueView;
@@ -33,18 +34,13 @@ pub(crate) fn shows(
     ensures own { Stays pass.old pass.new }
     ensures ready { IsReadyAgain (call_of pass.old) (state pass.old) (state pass.new) }
 {
-    match view.pin(table, pass) {
-        Ok(pin) => {
-            let mut reading = pin.reading(table, pass);
-            let same = reading.same(bytes);
-            let at = reading.at();
-            reading.done();
-            assert!(rt; same);
-            at
-        }
-        Err(_) => {
-            assert!(rt; false);
-            0
-        }
-    }
+    let Ok(pin) = view.pin(table, pass) else {
+        panic!(rt; "no pin");
+    };
+    let mut reading = pin.reading(table, pass);
+    let same = reading.same(bytes);
+    let at = reading.at();
+    reading.done();
+    is_so(rt, "the bytes of a view", same);
+    at
 }

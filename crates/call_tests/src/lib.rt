@@ -4,6 +4,8 @@
 #[cfg(test)]
 mod calls;
 #[cfg(test)]
+mod found;
+#[cfg(test)]
 mod keys;
 #[cfg(test)]
 mod rebalancing;

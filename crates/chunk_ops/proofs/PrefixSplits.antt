@@ -1,8 +1,7 @@
 -- How a key splits a sorted prefix, by what the search of it found and loaded.
-use Rattle.std.proofs.Common.{◌≡◌, ℕ, ◌<◌, ◌≤◌, List, [], ◌∷◌, refl, ap, ◌∙◌, sym, subst, arith, Option, Some}
+use Rattle.std.proofs.Common.{◌≡◌, ℕ, ◌<◌, ◌≤◌, List, [], ◌∷◌, ap, ◌∙◌, sym, subst, arith, Option, Some}
 use mathlib.Core.Logic.{dite}
 use native.Mathlib.Decide.{dec_lt}
-use Rattle.oak_model.specs.Counts.{Each}
 use Rattle.oak_model.specs.Key.{AreBytes, IsKey, IsKeyBefore}
 use Rattle.oak_model.specs.KeyNumber.{key_number}
 use Rattle.oak_model.specs.Limits.{Sizes}
@@ -14,7 +13,7 @@ use Rattle.chunk_core.specs.Spans.{within}
 use Rattle.link_search.specs.Bits.{bits}
 use Rattle.link_search.specs.Finds as search
 use Rattle.link_search.specs.Linked.{Linked, IsFront}
-use Rattle.link_search.specs.Met.{IsEntryLoad, IsLoad, LoadsKeys, Met, key_loads, met_count}
+use Rattle.link_search.specs.Met.{LoadsKeys, key_loads, met_count}
 use Rattle.link_search.proofs.StepLaws.{entries_load}
 use Rattle.oak_core.specs.declared.states.PassState.{PassState}
 use Rattle.oak_core.specs.AloneWords.{Moment}

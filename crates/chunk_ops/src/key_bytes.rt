@@ -6,7 +6,7 @@ ghost use Rattle.oak_model.specs.WordBytes.{bytes_of};
 ghost use Rattle.chunk_ops.specs.Stored.{IsStored};
 
 use crate::stored::{KEY_WORDS, StoredKey};
-use arena_core::words::{WORD, put_word};
+use arena_core::words::{WORD, key_in_place, put_word};
 use oak_model::GREATEST_KEY;
 use std::marker::Model;
 
@@ -55,10 +55,8 @@ impl KeyBytes {
         requires { IsKey key.now }
         ensures { result ≡ key.now }
     {
-        let mut bytes = [0; GREATEST_KEY];
-        bytes[..key.len()].copy_from_slice(key);
         KeyBytes {
-            bytes,
+            bytes: key_in_place(key),
             len: key.len(),
         }
     }

@@ -6,6 +6,7 @@ ghost use Rattle.scan_cursor.specs.Cursors.{IsCursor, key_of, value_of};
 ghost use Rattle.oak_caller.specs.Given.{FindsEnd, FindsPair, GivesAll, GivesUntil};
 ghost use Rattle.oak_caller.specs.Scans.{GivesOn, GoesOn, KeepsPair, present};
 
+use arena_core::words::key_in_place;
 use oak_map::Cursor;
 use oak_model::{GREATEST_KEY, GREATEST_VALUE};
 use std::sync::Wait;
@@ -66,7 +67,7 @@ fn copy_key(cursor: &Cursor<'_>, out: &mut [u8; GREATEST_KEY]) -> usize
     ensures key { take result out.new ≡ key_of cursor.now }
 {
     let key = cursor.key();
-    out[..key.len()].copy_from_slice(key);
+    *out = key_in_place(key);
     key.len()
 }
 

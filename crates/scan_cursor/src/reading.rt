@@ -27,6 +27,7 @@ pub(crate) enum Here {
 }
 
 /// Pins the value of a life that an entry named, and reads the key of that.
+#[inline(always)] // once for each pair of a scan, and an answer goes through memory at a call
 pub(crate) fn read_life(table: &OakTable, pass: &mut Pass, header: u32, generation: u32) -> Here
     requires own { IsPassOf table.now pass.old }
     requires idle { HoldsNothing (state pass.old) }

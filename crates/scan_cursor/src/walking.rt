@@ -1,5 +1,5 @@
 //! A scan that loads the entries of each room once, in batches.
-ghost use Rattle.std.specs.Prelude.{◌≡◌, ◌≢◌, ◌*◌, ◌-◌, ◌<◌, ◌≤◌, ℕ, suc, IfErr, IfOk, MatchBool, None, Some, [], true, false};
+ghost use Rattle.std.specs.Prelude.{◌≡◌, ◌≢◌, ◌*◌, ◌-◌, ◌<◌, ◌≤◌, ℕ, suc, IfErr, IfOk, MatchBool, None, Some, [], max, min, true, false};
 ghost use Rattle.oak_model.specs.declared.limits.TheConstants.{GREATEST_ENTRIES};
 ghost use Rattle.oak_model.specs.Key.{is_key};
 ghost use Rattle.oak_model.specs.KeyNumber.{key_number};
@@ -28,8 +28,9 @@ use oak_core::{OakTable, Pass, SortSlot};
 use oak_model::{GREATEST_ENTRIES, GREATEST_KEY, cmp_keys};
 use value_ops::PinnedValue;
 
-/// How many pairs a scan asks of its first batch. A scan of one pair pays for that many loads of entries at most, and so
-/// costs little more than a get; each batch asks for twice as many as the one before, so a long scan makes few.
+/// How many pairs a scan asks of its first batch. A scan of one pair loads that many, and what has a floor or was appended
+/// between them, and so costs little more than a get; each batch asks for twice as many as the one before, so a long scan
+/// makes few.
 const FIRST_BATCH: u32 = 4;
 
 /// How far a scan has come, and what it keeps of the room that it is in. Where it has loaded a batch of the entries, those
@@ -155,7 +156,7 @@ fn leave_room(walk: &mut Walk, low: &[u8], high: &[u8], way: Way)
 fn next_batch(asked: u32) -> u32
     ensures some { 0 < result }
     ensures few { result ≤ GREATEST_ENTRIES }
-    ensures twice { result < GREATEST_ENTRIES → 2 * asked ≤ result }
+    ensures twice { result ≡ min GREATEST_ENTRIES (max 4 (2 * asked)) }
 {
     asked.saturating_mul(2).clamp(FIRST_BATCH, GREATEST_ENTRIES)
 }

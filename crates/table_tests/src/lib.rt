@@ -4,6 +4,8 @@
 #[cfg(test)]
 mod chunks;
 #[cfg(test)]
+mod found;
+#[cfg(test)]
 mod table;
 #[cfg(test)]
 mod values;

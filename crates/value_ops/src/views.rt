@@ -10,6 +10,7 @@ ghost use Rattle.value_ops.specs.Views.{Viewed, KnowsView, NotRead, RestsUnread,
 use crate::home::Home;
 use crate::pinning::{BadPin, HeaderPin, pin_at};
 use crate::reading::Reading;
+use arena_core::words::key_in_place;
 use oak_core::{OakTable, Pass};
 use oak_model::GREATEST_KEY;
 use std::marker::Model;
@@ -69,10 +70,8 @@ impl ValueView {
         requires { IsKey key.now }
         ensures { result ≡ record { key = key.now; header = home.header; generation = home.generation; at = at } }
     {
-        let mut bytes = [0; GREATEST_KEY];
-        bytes[..key.len()].copy_from_slice(key);
         ValueView {
-            bytes,
+            bytes: key_in_place(key),
             len: key.len(),
             home,
             at,

@@ -6,8 +6,9 @@ ghost use Rattle.value_ops.specs.Reading.{IsReading, ReadsOn};
 ghost use Rattle.point_ops.specs.TestStates.{HasView, IsReady, IsReadyAgain};
 
 use crate::calls::shows;
+use crate::found::{is_so, number_is};
 use crate::keys::test_rows::Said;
-use crate::keys::tests::{gets, is_gone, put_byte, remove_k, view_of_k};
+use crate::keys::tests::{gets, is_gone, is_said, put_byte, remove_k, view_of_k};
 use oak_core::{OakTable, Pass};
 use oak_model::Shape;
 use std::alloc::Global;
@@ -29,11 +30,11 @@ fn stands(rt: &impl Abort, table: &OakTable, reading: &mut Reading<'_>, other: &
     ensures ready { IsReadyAgain 2 (state other.old) (state other.new) }
 {
     let busy = put_byte(table, other, 2, 2);
-    assert!(rt; busy == (Said::Busy, 0));
+    is_said(rt, 2, busy, Said::Busy, 0);
     let seen = gets(rt, table, other, b"k", &[1]);
-    assert!(rt; seen == (Said::Holds, 1));
+    is_said(rt, 2, seen, Said::Holds, 1);
     let same = reading.same(&[1]);
-    assert!(rt; same);
+    is_so(rt, "the bytes of the reading", same);
 }
 
 /// The one pass reads its view, beside the other's calls.
@@ -53,14 +54,12 @@ fn reads_beside(
     ensures call { call_of other.new ≤ 2 }
     ensures other { IsReadyAgain (call_of other.new) (state other.old) (state other.new) }
 {
-    match view.pin(table, pass) {
-        Ok(pin) => {
-            let mut reading = pin.reading(table, pass);
-            stands(rt, table, &mut reading, other);
-            reading.done();
-        }
-        Err(_) => assert!(rt; false),
-    }
+    let Ok(pin) = view.pin(table, pass) else {
+        panic!(rt; "no pin");
+    };
+    let mut reading = pin.reading(table, pass);
+    stands(rt, table, &mut reading, other);
+    reading.done();
 }
 
 /// Behind it the other pass puts over the value, and removes it. Its calls 3 and 4.
@@ -81,14 +80,14 @@ fn follows_other(
     ensures other { IsReadyAgain 4 (state other.old) (state other.new) }
 {
     let over = put_byte(table, other, 3, 2);
-    assert!(rt; over == (Said::Over, 2));
+    is_said(rt, 3, over, Said::Over, 2);
     let at = shows(rt, table, pass, view, &[2]);
-    assert_eq!(rt; at, 2);
+    number_is(rt, "the second stamp", at, 2);
     let removed = remove_k(table, other, 4);
-    assert!(rt; removed == (Said::Removed, 3));
+    is_said(rt, 4, removed, Said::Removed, 3);
     is_gone(rt, table, pass, view);
     let absent = gets(rt, table, pass, b"k", &[]);
-    assert!(rt; absent == (Said::Absent, 3));
+    is_said(rt, 1, absent, Said::Absent, 3);
 }
 
 /// The other pass puts a value, and the one views it.
@@ -101,15 +100,11 @@ fn reads_what_another_put(rt: &impl Abort, table: &OakTable, pass: &mut Pass, ot
     ensures other { IsReadyAgain 4 (state other.old) (state other.new) }
 {
     let new = put_byte(table, other, 1, 1);
-    assert!(rt; new == (Said::New, 1));
-    match view_of_k(rt, table, pass, 1) {
-        Some(view) => {
-            assert_eq!(rt; view.at(), 1);
-            reads_beside(rt, table, pass, other, &view);
-            follows_other(rt, table, pass, other, &view);
-        }
-        None => assert!(rt; false),
-    }
+    is_said(rt, 1, new, Said::New, 1);
+    let view = view_of_k(rt, table, pass, 1);
+    number_is(rt, "the stamp of the view", view.at(), 1);
+    reads_beside(rt, table, pass, other, &view);
+    follows_other(rt, table, pass, other, &view);
 }
 
 fn split_and_read(rt: &impl Abort, alloc: Global, table: &OakTable, pass: &mut Pass)
@@ -122,8 +117,7 @@ fn split_and_read(rt: &impl Abort, alloc: Global, table: &OakTable, pass: &mut P
     ensures alone { IsAlone (state pass.new) }
 {
     let Ok(mut other) = pass.split(alloc, table) else {
-        assert!(rt; false);
-        return;
+        panic!(rt; "no other pass");
     };
     reads_what_another_put(rt, table, pass, &mut other);
     pass.join(table, other);
@@ -135,6 +129,6 @@ fn a_reading_stands_beside_a_put(rt: HostRuntime) -> Result<(), Fail> {
     let (table, mut pass) = OakTable::create(rt.alloc(), &shape)?;
     split_and_read(&rt, rt.alloc(), &table, &mut pass);
     let usage = table.close(pass).usage();
-    assert_eq!(rt; usage.blocks[0], 1);
+    number_is(&rt, "blocks", u64::from(usage.blocks[0]), 1);
     Ok(())
 }

@@ -1,5 +1,5 @@
 //! The six calls by one pass, and by two threads.
-ghost use Rattle.std.specs.Prelude.{◌≡◌, ◌<◌, ◌≤◌, ◌+◌, ◌^◌, ◌-◌, length, IfSome};
+ghost use Rattle.std.specs.Prelude.{◌≡◌, ◌<◌, ◌≤◌, ◌+◌, ◌^◌, ◌-◌, length};
 ghost use Rattle.oak_model.specs.Key.{IsKey};
 ghost use Rattle.oak_model.specs.Value.{IsValue};
 ghost use Rattle.oak_core.specs.MayWrite.{IsNewCall};
@@ -9,6 +9,7 @@ ghost use Rattle.oak_core.specs.Scratch.{StaysButScratch};
 ghost use Rattle.point_ops.specs.TestStates.{HasView, IsReady, IsReadyAgain};
 
 use crate::calls::{shows, turn};
+use crate::found::{is_used, number_is};
 use crate::keys::test_rows::{Ask, ROWS, ROWS_OF_FOUR_ENTRIES, ROWS_OF_ONE_HEADER, Row, Said};
 use oak_core::{OakTable, Pass};
 use oak_model::{Class, NO_HINT, RecipeKind, Shape, Usage, Wrote};
@@ -64,7 +65,7 @@ pub(crate) fn gets(
         Ok(Got::Absent { at }) => (Said::Absent, at),
         Ok(Got::View(view)) => {
             let at = shows(rt, table, pass, &view, bytes);
-            assert_eq!(rt; at, view.at());
+            number_is(rt, "the stamp of a view", at, view.at());
             (Said::Holds, at)
         }
         Err(halt) => halted(halt),
@@ -114,6 +115,19 @@ fn key_of(letter: &[u8; 20]) -> &[u8]
     }
 }
 
+/// The argument of the call for its recipe.
+fn argument_of(asked: Ask, byte: u8) -> u8 {
+    match asked {
+        Ask::Upsert => 15,
+        _ => byte,
+    }
+}
+
+/// The call replied this, with this number.
+pub(crate) fn is_said(rt: &impl Abort, call: u32, found: (Said, u64), said: Said, at: u64) {
+    assert_eq!(rt; found, (said, at), "call {call}");
+}
+
 /// The call of the row has its reply.
 fn has_reply(
     rt: &impl Abort,
@@ -134,11 +148,7 @@ fn has_reply(
 {
     turn(pass, call);
     let (asked, letter, byte, len, reply, at) = row;
-    let argument = if matches!(asked, Ask::Upsert) {
-        15
-    } else {
-        byte
-    };
+    let argument = argument_of(asked, byte);
     let letters = [letter; 20];
     let bytes = [byte; 1024];
     let bytes = &bytes[..len.min(1024)];
@@ -152,7 +162,7 @@ fn has_reply(
         bytes,
         argument,
     );
-    assert_eq!(rt; found, (reply, at), "call {call}");
+    is_said(rt, call, found, reply, at);
 }
 
 /// Each row has its reply, one call behind another.
@@ -202,7 +212,7 @@ fn run_by_recipe(
     let (table, mut pass) = OakTable::create(alloc, shape)?;
     have_replies(rt, &table, &mut pass, recipe, rows);
     let usage = table.close(pass).usage();
-    assert_eq!(rt; usage, used);
+    is_used(rt, usage, used);
     Ok(())
 }
 
@@ -219,7 +229,7 @@ fn run_rows(
     let mut recipe: Box<dyn Recipe + Send> = Box::new(alloc, StepRecipe::make())?;
     run_by_recipe(rt, alloc, shape, &mut recipe, rows, used)?;
     let done = done_rows(rows);
-    assert_eq!(rt; recipe.calls(), done);
+    number_is(rt, "the calls of the recipe", recipe.calls(), done);
     Ok(())
 }
 
@@ -256,6 +266,11 @@ fn four_entries(rt: HostRuntime) -> Result<(), Fail> {
     run_rows(&rt, rt.alloc(), &shape, &ROWS_OF_FOUR_ENTRIES, used)
 }
 
+/// A pin was refused since the life is over.
+fn is_over(rt: &impl Abort, why: NoRead) {
+    assert!(rt; why == NoRead::Gone);
+}
+
 /// The view's life is over.
 pub(crate) fn is_gone(rt: &impl Abort, table: &OakTable, pass: &mut Pass, view: &ValueView)
     requires own { IsPassOf table.now pass.old }
@@ -267,9 +282,9 @@ pub(crate) fn is_gone(rt: &impl Abort, table: &OakTable, pass: &mut Pass, view: 
     match view.pin(table, pass) {
         Ok(pin) => {
             pin.reading(table, pass).done();
-            assert!(rt; false);
+            panic!(rt; "not gone");
         }
-        Err(why) => assert!(rt; why == NoRead::Gone),
+        Err(why) => is_over(rt, why),
     }
 }
 
@@ -300,29 +315,20 @@ pub(crate) fn remove_k(table: &OakTable, pass: &mut Pass, call: u32) -> (Said, u
 }
 
 /// The view of k, as the call.
-pub(crate) fn view_of_k(
-    rt: &impl Abort,
-    table: &OakTable,
-    pass: &mut Pass,
-    call: u32,
-) -> Option<ValueView>
+pub(crate) fn view_of_k(rt: &impl Abort, table: &OakTable, pass: &mut Pass, call: u32) -> ValueView
     requires own { IsPassOf table.now pass.old }
     requires above { call_of pass.old < call }
     requires ready { IsReady (call_of pass.old) (state pass.old) }
     ensures own { IsPassOf table.now pass.new }
     ensures call { call_of pass.new ≡ call }
     ensures ready { IsReadyAgain call (state pass.old) (state pass.new) }
-    ensures has { IfSome result (λ x. HasView (sizes table.now) x (state pass.new)) }
+    ensures has { HasView (sizes table.now) result (state pass.new) }
 {
     turn(pass, call);
-    match try_get(table, pass, NO_HINT, b"k") {
-        Ok(Got::View(view)) => Some(view),
-        Ok(Got::Absent { at: _ }) => None,
-        Err(_) => {
-            assert!(rt; false);
-            None
-        }
-    }
+    let Ok(Got::View(view)) = try_get(table, pass, NO_HINT, b"k") else {
+        panic!(rt; "no value of k");
+    };
+    view
 }
 
 /// The view shows what is put over its value, and is gone with it, whatever is put then. Calls 3 to 5.
@@ -335,16 +341,16 @@ fn follow(rt: &impl Abort, table: &OakTable, pass: &mut Pass, view: &ValueView)
     ensures ready { IsReadyAgain 5 (state pass.old) (state pass.new) }
 {
     let first = shows(rt, table, pass, view, &[1]);
-    assert_eq!(rt; first, 1);
+    number_is(rt, "the first stamp", first, 1);
     let over = put_byte(table, pass, 3, 2);
-    assert!(rt; over == (Said::Over, 2));
+    is_said(rt, 3, over, Said::Over, 2);
     let second = shows(rt, table, pass, view, &[2]);
-    assert_eq!(rt; second, 2);
+    number_is(rt, "the second stamp", second, 2);
     let removed = remove_k(table, pass, 4);
-    assert!(rt; removed == (Said::Removed, 3));
+    is_said(rt, 4, removed, Said::Removed, 3);
     is_gone(rt, table, pass, view);
     let new = put_byte(table, pass, 5, 3);
-    assert!(rt; new == (Said::New, 4));
+    is_said(rt, 5, new, Said::New, 4);
     is_gone(rt, table, pass, view);
 }
 
@@ -357,14 +363,10 @@ fn a_life_and_the_next(rt: &impl Abort, table: &OakTable, pass: &mut Pass)
     ensures ready { IsReadyAgain 5 (state pass.old) (state pass.new) }
 {
     let new = put_byte(table, pass, 1, 1);
-    assert!(rt; new == (Said::New, 1));
-    match view_of_k(rt, table, pass, 2) {
-        Some(view) => {
-            assert_eq!(rt; view.at(), 1);
-            follow(rt, table, pass, &view);
-        }
-        None => assert!(rt; false),
-    }
+    is_said(rt, 1, new, Said::New, 1);
+    let view = view_of_k(rt, table, pass, 2);
+    number_is(rt, "the stamp of the view", view.at(), 1);
+    follow(rt, table, pass, &view);
 }
 
 #[test]
@@ -373,8 +375,18 @@ fn a_view_is_of_one_life(rt: HostRuntime) -> Result<(), Fail> {
     let (table, mut pass) = OakTable::create(rt.alloc(), &shape)?;
     a_life_and_the_next(&rt, &table, &mut pass);
     let usage = table.close(pass).usage();
-    assert_eq!(rt; usage.blocks[0], 2);
+    number_is(&rt, "blocks", u64::from(usage.blocks[0]), 2);
     Ok(())
+}
+
+/// The value was computed.
+fn is_done(rt: &impl Abort, wrote: Wrote) {
+    assert!(rt; matches!(wrote, Wrote::Done { at: _ }));
+}
+
+/// Another pass was at work on it.
+fn is_busy(rt: &impl Abort, why: Halt) {
+    assert!(rt; why == Halt::Busy);
 }
 
 /// Computes the value of k, as often as another pass is at work on it.
@@ -390,13 +402,13 @@ fn flip(rt: &impl Abort, table: &OakTable, pass: &mut Pass, recipe: &mut Box<dyn
     for _ in 0..10_000_000 {
         match try_compute(table, pass, NO_HINT, b"k", recipe) {
             Ok(wrote) => {
-                assert!(rt; matches!(wrote, Wrote::Done { at: _ }));
+                is_done(rt, wrote);
                 return;
             }
-            Err(why) => assert!(rt; why == Halt::Busy),
+            Err(why) => is_busy(rt, why),
         }
     }
-    assert!(rt; false);
+    panic!(rt; "busy");
 }
 
 /// Computes it so many times, each by a call of its own. The recipe was not called before.
@@ -482,8 +494,7 @@ fn split_and_flip<R: Threads + Abort + Sync>(
     ensures alone { IsAlone (state pass.new) }
 {
     let Ok(mut other) = pass.split(alloc, table) else {
-        assert!(rt; false);
-        return;
+        panic!(rt; "no other pass");
     };
     other.turn(1);
     flip_together(rt, table, pass, &mut other, ones, twos);
@@ -499,7 +510,7 @@ fn ends_as(rt: &impl Abort, table: &OakTable, pass: &mut Pass, at: u64, byte: u8
     ensures idle { HoldsNothing (state pass.new) }
 {
     let found = gets(rt, table, pass, b"k", &[byte]);
-    assert!(rt; found == (Said::Holds, at));
+    is_said(rt, 0, found, Said::Holds, at);
 }
 
 /// Two threads compute the value of k on a new table, and it is as both leave it.
@@ -515,7 +526,7 @@ fn compute_one_value<R: Threads + Abort + Sync>(
     split_and_flip(rt, alloc, &table, &mut pass, ones, twos);
     ends_as(rt, &table, &mut pass, 602, 1);
     table.close(pass);
-    assert!(rt; new == (Said::New, 1));
+    is_said(rt, 1, new, Said::New, 1);
     Ok(())
 }
 

@@ -5,6 +5,7 @@ ghost use Rattle.oak_core.specs.Passes.{IsPassOf, state};
 ghost use Rattle.oak_core.specs.PassState.{HoldsNothing, IsAlone};
 ghost use Rattle.chunk_ops.specs.TestStates.{IsIdleAgain};
 
+use crate::found::{is_so, number_is};
 use chunk_ops::{pin_for, unpin};
 use oak_core::{OakTable, Pass};
 use oak_model::{NO_HINT, Shape};
@@ -27,7 +28,7 @@ fn splits(rt: &impl Abort, table: &OakTable, pass: &mut Pass, key: &[u8], busy: 
 {
     match try_split(table, pass, key, LOOKS) {
         Ok(split) => assert!(rt; !busy && split == Ok(Split::Loosened)),
-        Err(Busy) => assert!(rt; busy),
+        Err(Busy) => is_so(rt, "busy", busy),
     }
 }
 
@@ -39,8 +40,8 @@ fn settles(rt: &impl Abort, table: &OakTable, pass: &mut Pass, busy: bool)
     ensures idle { IsIdleAgain (state pass.old) (state pass.new) }
 {
     match try_settle(table, pass, LOOKS) {
-        Ok(()) => assert!(rt; !busy),
-        Err(Busy) => assert!(rt; busy),
+        Ok(()) => is_so(rt, "not busy", !busy),
+        Err(Busy) => is_so(rt, "busy", busy),
     }
 }
 
@@ -54,7 +55,7 @@ fn takes_a_pin(rt: &impl Abort, table: &OakTable, pass: &mut Pass, key: &[u8])
 {
     match pin_for(table, pass, key, NO_HINT) {
         Ok(pin) => unpin(table, pass, pin),
-        Err(_) => assert!(rt; false),
+        Err(_) => panic!(rt; "moved"),
     }
 }
 
@@ -115,8 +116,7 @@ fn is_busy_while_pinned<R: Threads + Abort + Sync>(
     ensures idle { IsIdleAgain (state holder.old) (state holder.new) × IsIdleAgain (state other.old) (state other.new) }
 {
     let Ok(pin) = pin_for(table, holder, key, NO_HINT) else {
-        assert!(rt; false);
-        return;
+        panic!(rt; "moved");
     };
     is_busy(rt, table, other, key);
     is_busy_to_a_thread(rt, table, other, key);
@@ -142,8 +142,7 @@ fn split_and_try<R: Threads + Abort + Sync>(
     ensures alone { IsAlone (state pass.new) }
 {
     let Ok(mut other) = pass.split(alloc, table) else {
-        assert!(rt; false);
-        return;
+        panic!(rt; "no other pass");
     };
     is_busy_while_pinned(rt, table, pass, &mut other, key);
     pass.join(table, other);
@@ -154,6 +153,7 @@ fn a_pinned_chunk_is_busy(rt: HostRuntime) -> Result<(), Fail> {
     let shape = Shape::make(2, 2, 4, 16, [32, 0, 0, 0])?;
     let (table, mut pass) = OakTable::create(rt.alloc(), &shape)?;
     split_and_try(&rt, rt.alloc(), &table, &mut pass, &[0x61]);
-    assert_eq!(rt; table.close(pass).usage().chunks, 1);
+    let usage = table.close(pass).usage();
+    number_is(&rt, "chunks", u64::from(usage.chunks), 1);
     Ok(())
 }

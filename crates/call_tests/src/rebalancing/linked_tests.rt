@@ -5,6 +5,7 @@ ghost use Rattle.oak_core.specs.Passes.{IsPassOf, Stays, state, call_of};
 ghost use Rattle.point_ops.specs.TestStates.{IsReady, IsReadyAgain};
 
 use crate::calls::turn;
+use crate::found::number_is;
 use crate::rebalancing::test_calls::{Ask, Said, is_due, put, rebalance};
 use chunk_ops::{Found, find, pin_for, unpin};
 use oak_core::{OakTable, Pass};
@@ -12,6 +13,15 @@ use oak_model::{NO_HINT, Shape};
 use std::process::Abort;
 use std::sync::Wait;
 use std::test::Fail;
+
+/// An entry of the key was found, or none and one behind which it belongs.
+fn is_right(rt: &impl Abort, key: &[u8], found: Found, due: bool) {
+    let right = match found {
+        Found::Entry(_) => due,
+        Found::Missing { behind } => !due && behind.is_some(),
+    };
+    assert!(rt; right, "{key:?}");
+}
 
 /// The key is found in the room that has it, or is missing there, behind an entry.
 fn is_found(rt: &impl Abort, table: &OakTable, pass: &mut Pass, key: &[u8], due: bool)
@@ -22,16 +32,11 @@ fn is_found(rt: &impl Abort, table: &OakTable, pass: &mut Pass, key: &[u8], due:
     ensures ready { IsReadyAgain (call_of pass.old) (state pass.old) (state pass.new) }
 {
     let Ok(pin) = pin_for(table, pass, key, NO_HINT) else {
-        assert!(rt; false);
-        return;
+        panic!(rt; "moved");
     };
     let found = find(table, pass, &pin, key);
     unpin(table, pass, pin);
-    let right = match found {
-        Found::Entry(_) => due,
-        Found::Missing { behind } => !due && behind.is_some(),
-    };
-    assert!(rt; right, "{key:?}");
+    is_right(rt, key, found, due);
 }
 
 /// The key is put, which was absent.
@@ -111,6 +116,6 @@ fn keys_are_found_in_a_compacted_room(rt: HostRuntime) -> Result<(), Fail> {
     are_found(&rt, &table, &mut pass);
     still_are_found(&rt, &table, &mut pass);
     let usage = table.close(pass).usage();
-    assert_eq!(rt; usage.headers, 16);
+    number_is(&rt, "headers", u64::from(usage.headers), 16);
     Ok(())
 }

@@ -52,9 +52,15 @@ impl Trial {
             Halt::Crowded => self.refused = self.refused.wrapping_add(1),
             Halt::NoBlock(_) => self.lacking = self.lacking.wrapping_add(1),
             Halt::NoHeader => self.lacking = self.lacking.wrapping_add(1),
-            halt => assert!(rt; false, "{halt}"),
+            halt => panic!(rt; "{halt}"),
         }
     }
+}
+
+/// A put behind a split is refused since the chunk is crowded just where there was no room for the split.
+fn is_crowded(rt: &impl Abort, split: Said, said: Said) {
+    let crowded = matches!(said, Said::Halted(Halt::Crowded));
+    assert!(rt; crowded == matches!(split, Said::NoRoom));
 }
 
 /// Splits the chunk of the key, and puts the bytes once more, which is refused since the chunk is crowded just where no room was
@@ -76,8 +82,7 @@ fn split_and_put<R: Abort + Wait>(
 {
     let split = rebalance(rt, table, pass, Ask::Split, key);
     let said = put(table, pass, key, bytes);
-    let crowded = matches!(said, Said::Halted(Halt::Crowded));
-    assert!(rt; crowded == matches!(split, Said::NoRoom));
+    is_crowded(rt, split, said);
     said
 }
 
@@ -251,6 +256,11 @@ const TIMES: [u32; 4] = [60, 90, 120, 200];
 /// A shape's chunks, and the entries of each.
 const SHAPES: [(u32, u32); 7] = [(1, 4), (2, 4), (2, 8), (3, 5), (4, 4), (4, 6), (4, 8)];
 
+/// The run of so many calls on such a shape lacked no block and no header.
+fn lacks_none(rt: &impl Abort, lacking: u32, chunks: u32, entries: u32, times: u32) {
+    assert!(rt; lacking == 0, "{chunks} {entries} {times}");
+}
+
 /// The runs on such a shape lack no block and no header: how many puts found their chunk crowded, and were refused for that.
 fn crowd<R: Abort + Wait>(
     rt: &R,
@@ -263,11 +273,17 @@ fn crowd<R: Abort + Wait>(
     let mut refused = 0u32;
     for times in &TIMES {
         let trial = run_calls(rt, alloc, &shape, entries, *times)?;
-        assert_eq!(rt; trial.lacking, 0, "{chunks} {entries} {times}");
+        lacks_none(rt, trial.lacking, chunks, entries, *times);
         crowded = crowded.wrapping_add(trial.crowded);
         refused = refused.wrapping_add(trial.refused);
     }
     Ok((crowded, refused))
+}
+
+/// Some puts were refused, and some were not for which a chunk was split.
+fn some_were_refused(rt: &impl Abort, crowded: u32, refused: u32) {
+    assert!(rt; 0 < refused, "{refused} refused");
+    assert!(rt; refused < crowded, "{crowded} crowded");
 }
 
 #[test]
@@ -279,13 +295,17 @@ fn random_calls_agree_with_an_ordered_map(rt: HostRuntime) -> Result<(), Fail> {
         crowded = crowded.wrapping_add(counts.0);
         refused = refused.wrapping_add(counts.1);
     }
-    assert!(rt; 0 < refused, "{refused} refused");
-    assert!(rt; refused < crowded, "{crowded} crowded");
+    some_were_refused(&rt, crowded, refused);
     Ok(())
 }
 
 /// A shape's headers, and its blocks of two classes: few of the one or of the other.
 const FEW: [(u32, u32, u32); 4] = [(5, 64, 32), (32, 12, 32), (32, 64, 2), (8, 16, 4)];
+
+/// The run of so many calls on such a shape lacked one.
+fn lacks_some(rt: &impl Abort, lacking: u32, headers: u32, small: u32, large: u32, times: u32) {
+    assert!(rt; 0 < lacking, "{headers} {small} {large} {times}");
+}
 
 /// Each run on such a shape lacks a block or a header.
 fn lack<R: Abort + Wait>(
@@ -298,7 +318,7 @@ fn lack<R: Abort + Wait>(
     let shape = Shape::make(1, 4, 8, headers, [small, large, 0, 0])?;
     for times in &TIMES {
         let trial = run_calls(rt, alloc, &shape, 7, *times)?;
-        assert!(rt; 0 < trial.lacking, "{headers} {small} {large} {times}");
+        lacks_some(rt, trial.lacking, headers, small, large, *times);
     }
     Ok(())
 }

@@ -4,9 +4,10 @@ ghost use Rattle.oak_core.specs.Passes.{IsPassOf, Stays, state, call_of};
 ghost use Rattle.oak_core.specs.PassState.{IsAlone};
 ghost use Rattle.point_ops.specs.TestStates.{IsReady, IsReadyAgain};
 
+use crate::found::number_is;
 use crate::rebalancing::test_calls::{Said, get};
 use oak_core::{OakTable, Pass};
-use oak_model::{CLASSES, Key, OutOfMemory, Value, class_of};
+use oak_model::{CLASSES, Key, OutOfMemory, Usage, Value, class_of};
 use rebalance::settle;
 use std::alloc::Global;
 use std::collections::BTreeMap;
@@ -136,6 +137,12 @@ fn blocks_of(map: &Plain) -> [u32; CLASSES] {
     blocks
 }
 
+/// What was used is what the map needs.
+fn is_used_for(rt: &impl Abort, usage: Usage, map: &Plain) {
+    assert!(rt; usage.blocks == blocks_of(map));
+    number_is(rt, "headers", u64::from(usage.headers), map.len() as u64);
+}
+
 /// The table is settled and closed. It holds what the map has, and what is used is counted off the map.
 pub(crate) fn ends_as<R: Abort + Wait>(
     rt: &R,
@@ -150,8 +157,5 @@ pub(crate) fn ends_as<R: Abort + Wait>(
 {
     settle(rt, &table, &mut pass);
     all_agree(rt, &table, &mut pass, map, keys);
-    let usage = table.close(pass).usage();
-    let blocks = blocks_of(map);
-    assert_eq!(rt; usage.blocks, blocks);
-    assert_eq!(rt; usage.headers as usize, map.len());
+    is_used_for(rt, table.close(pass).usage(), map);
 }

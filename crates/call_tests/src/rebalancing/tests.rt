@@ -6,6 +6,7 @@ ghost use Rattle.oak_core.specs.Passes.{IsPassOf, state, call_of};
 ghost use Rattle.point_ops.specs.TestStates.{IsReady, IsReadyAgain};
 
 use crate::calls::turn;
+use crate::found::is_used;
 use crate::rebalancing::test_calls::{Ask, Said, get, is_due, put, rebalance, remove};
 use oak_core::{OakTable, Pass};
 use oak_model::{Shape, Usage};
@@ -78,7 +79,7 @@ fn run_rows<R: Abort + Wait>(
     let (table, mut pass) = OakTable::create(alloc, shape)?;
     have_answers(rt, &table, &mut pass, rows);
     let usage = table.close(pass).usage();
-    assert_eq!(rt; usage, used);
+    is_used(rt, usage, used);
     Ok(())
 }
 

@@ -62,6 +62,33 @@ fn try_write(table: &OakTable, pass: &mut Pass, key: &[u8], bytes: Option<&[u8]>
     }
 }
 
+/// Why the write was given up, where it may be tried again.
+fn given_up(said: Said) -> Option<Halt>
+    ensures { IfSome result (λ halt. said ≡ Said.Halted halt) }
+{
+    match said {
+        Said::Halted(Halt::Crowded) => Some(Halt::Crowded),
+        Said::Halted(Halt::Busy) => Some(Halt::Busy),
+        Said::Halted(Halt::Moved) => Some(Halt::Moved),
+        _ => None,
+    }
+}
+
+/// Makes way for the next try: by a split where the chunk of the key was crowded.
+fn make_way<R: Wait>(rt: &R, table: &OakTable, pass: &mut Pass, key: &[u8], halt: Halt)
+    requires own { IsPassOf table.now pass.old }
+    requires key { IsKey key.now }
+    requires ready { IsReady (call_of pass.old) (state pass.old) }
+    ensures own { StaysButSlots pass.old pass.new }
+    ensures ready { IsReadyAgain (call_of pass.old) (state pass.old) (state pass.new) }
+    ensures knows { (state pass.new).knowledge ≡ (state pass.old).knowledge }
+{
+    match halt {
+        Halt::Crowded => make_place(rt, table, pass, key),
+        _ => thread::yield_now(),
+    }
+}
+
 /// Does that as often as it is given up.
 fn write<R: Abort + Wait>(
     rt: &R,
@@ -79,11 +106,10 @@ fn write<R: Abort + Wait>(
     ensures ready { IsReadyAgain (call_of pass.old) (state pass.old) (state pass.new) }
 {
     for _ in rt.forever() {
-        match try_write(table, pass, key, bytes) {
-            Said::Halted(Halt::Crowded) => make_place(rt, table, pass, key),
-            Said::Halted(Halt::Busy) => thread::yield_now(),
-            Said::Halted(Halt::Moved) => thread::yield_now(),
-            said => return said,
+        let said = try_write(table, pass, key, bytes);
+        match given_up(said) {
+            Some(halt) => make_way(rt, table, pass, key, halt),
+            None => return said,
         }
     }
     unreachable!()
@@ -94,6 +120,11 @@ fn write<R: Abort + Wait>(
 fn is_removal(number: u32) -> bool {
     let round = number / u32::from(KEYS);
     round % 2 == 1 && (number % 3 + round) % 3 == 0
+}
+
+/// The put was not refused.
+fn is_answered(rt: &impl Abort, said: Said) {
+    assert!(rt; !matches!(said, Said::Halted(_)), "{said:?}");
 }
 
 /// The write of this number, which is answered as the map says.
@@ -122,7 +153,7 @@ fn write_one<R: Abort + Wait>(
     let bytes = [(number % 256) as u8; 20];
     let bytes = &bytes[..1 + number as usize % 20];
     let said = write(rt, table, pass, key.bytes(), Some(bytes));
-    assert!(rt; !matches!(said, Said::Halted(_)), "{said:?}");
+    is_answered(rt, said);
     note_put(rt, alloc, map, key, bytes, said)
 }
 
@@ -229,8 +260,7 @@ fn split_and_work<R: Threads + Abort + Wait + Sync>(
     ensures alone { IsAlone (state pass.new) }
 {
     let Ok(mut other) = pass.split(alloc, table) else {
-        assert!(rt; false);
-        return Ok(());
+        panic!(rt; "no other pass");
     };
     let wrote = work_together(rt, alloc, table, pass, &mut other, map, keys);
     pass.join(table, other);

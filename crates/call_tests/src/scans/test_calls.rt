@@ -10,7 +10,7 @@ ghost use Rattle.point_ops.specs.TestStates.{IsReady, IsReadyAgain};
 use oak_core::{OakTable, Pass};
 use oak_model::{NO_HINT, Wrote};
 use point_ops::{Halt, try_put, try_remove};
-use rebalance::{Split, split};
+use rebalance::{NoRoom, Split, split};
 use std::process::Abort;
 use std::sync::Wait;
 
@@ -38,6 +38,11 @@ fn put_once(table: &OakTable, pass: &mut Pass, key: &[u8], bytes: &[u8]) -> Resu
     try_put(table, pass, NO_HINT, key, bytes)
 }
 
+/// The chunk was split in two.
+fn is_halved(rt: &impl Abort, split: Result<Split, NoRoom>) {
+    assert!(rt; matches!(split, Ok(Split::Halved { room: _ })));
+}
+
 /// Splits the full chunk of the key.
 fn halve<R: Abort + Wait>(rt: &R, table: &OakTable, pass: &mut Pass, key: &[u8])
     requires own { IsPassOf table.now pass.old }
@@ -48,7 +53,7 @@ fn halve<R: Abort + Wait>(rt: &R, table: &OakTable, pass: &mut Pass, key: &[u8])
     ensures knows { (state pass.new).knowledge ≡ (state pass.old).knowledge }
 {
     let halved = split(rt, table, pass, key);
-    assert!(rt; matches!(halved, Ok(Split::Halved { room: _ })));
+    is_halved(rt, halved);
 }
 
 /// Puts the value of the key, whose chunk is split where it is full. The answer is the stamp of that.

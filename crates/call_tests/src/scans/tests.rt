@@ -8,10 +8,11 @@ ghost use Rattle.point_ops.specs.TestStates.{IsReady, IsReadyAgain};
 ghost use Rattle.scan_cursor.specs.Cursors.{IsCursor, ReadsPair, under};
 
 use crate::calls::turn;
+use crate::found::{is_so, number_is, stamp_is};
 use crate::scans::test_calls::{put, remove};
 use oak_core::{OakTable, Pass};
 use oak_model::Shape;
-use scan_cursor::{Cursor, Way};
+use scan_cursor::{Busy, Cursor, Way};
 use std::alloc::Global;
 use std::process::Abort;
 use std::sync::Wait;
@@ -56,7 +57,7 @@ fn writes<R: Abort + Wait>(rt: &R, table: &OakTable, pass: &mut Pass, call: u32,
         Some(byte) => put(rt, table, pass, &[letter], &[byte]),
         None => remove(table, pass, &[letter]),
     };
-    assert_eq!(rt; stamp, at, "call {call}");
+    stamp_is(rt, call, stamp, at);
 }
 
 /// Each of them has it, one call behind another.
@@ -87,6 +88,11 @@ fn value_of(letter: u8) -> (u8, u64) {
     }
 }
 
+/// The key is this one.
+fn key_is(rt: &impl Abort, key: &[u8], due: &[u8]) {
+    assert!(rt; *key == *due);
+}
+
 /// The cursor is at the pair of this letter.
 fn is_at(rt: &impl Abort, cursor: &mut Cursor<'_>, letter: u8)
     requires cursor { IsCursor cursor.old }
@@ -95,16 +101,13 @@ fn is_at(rt: &impl Abort, cursor: &mut Cursor<'_>, letter: u8)
     ensures reads { ReadsPair cursor.old cursor.new }
 {
     let (value, stamp) = value_of(letter);
-    let len = cursor.key_len();
-    assert_eq!(rt; len, 1);
+    assert!(rt; cursor.key_len() == 1);
     let key = cursor.key_byte(0);
-    assert_eq!(rt; key, letter);
-    let whole = cursor.key() == [letter].as_slice();
-    assert!(rt; whole);
-    let at = cursor.at();
-    assert_eq!(rt; at, stamp);
+    number_is(rt, "byte", u64::from(key), u64::from(letter));
+    key_is(rt, cursor.key(), &[letter]);
+    number_is(rt, "stamp", cursor.at(), stamp);
     let same = cursor.same(&[value]);
-    assert!(rt; same);
+    is_so(rt, "value", same);
 }
 
 /// The next pair is that of the letter.
@@ -131,9 +134,15 @@ fn tries_to(rt: &impl Abort, cursor: &mut Cursor<'_>, letter: u8)
     ensures cursor { IsCursor cursor.new }
     ensures numbers { (under cursor.new).numbers ≡ (under cursor.old).numbers }
 {
-    let more = cursor.try_advance(1);
-    assert!(rt; more == Ok(true));
+    let Ok(true) = cursor.try_advance(1) else {
+        panic!(rt; "busy, or no more");
+    };
     is_at(rt, cursor, letter);
+}
+
+/// There was no other pair.
+fn is_end(rt: &impl Abort, more: Result<bool, Busy>) {
+    assert!(rt; more == Ok(false));
 }
 
 /// So are all of them, one behind the other.
@@ -149,7 +158,7 @@ fn tries_all(rt: &impl Abort, cursor: &mut Cursor<'_>, letters: &[u8])
         tries_to(rt, cursor, *letter);
     }
     let more = cursor.try_advance(1);
-    assert!(rt; more == Ok(false));
+    is_end(rt, more);
 }
 
 /// The pairs are those of the letters, and there are no others.
@@ -165,7 +174,7 @@ fn goes_over<R: Abort + Wait>(rt: &R, cursor: &mut Cursor<'_>, letters: &[u8])
         goes_to(rt, cursor, *letter);
     }
     let more = cursor.advance(rt);
-    assert!(rt; !more);
+    is_so(rt, "no more", !more);
 }
 
 /// The key of a letter; none of 0.
@@ -253,7 +262,7 @@ fn puts_key<R: Abort + Wait>(rt: &R, table: &OakTable, pass: &mut Pass, call: u3
 {
     turn(pass, call);
     let stamp = put(rt, table, pass, key, &[1]);
-    assert_eq!(rt; stamp, 1, "call {call}");
+    stamp_is(rt, call, stamp, 1);
 }
 
 /// A key of each length is put, the shortest first.
@@ -283,28 +292,30 @@ fn put_letters<R: Abort + Wait>(rt: &R, table: &OakTable, pass: &mut Pass, lette
     }
 }
 
+/// Scans of those keys.
+const SCANNED_OF_TWENTY: [Scan<'static>; 12] = [
+    (Way::Up, 0, 0, b"ABCDEFGHIJKLMNOPQSUWYjklmnopqrst"),
+    (Way::Down, 0, 0, b"tsrqponmlkjYWUSQPONMLKJIHGFEDCBA"),
+    (Way::Up, b'A', b'W', b"ABCDEFGHIJKLMNOPQSUW"),
+    (Way::Down, b'A', b'W', b"WUSQPONMLKJIHGFEDCBA"),
+    (Way::Up, b'N', b'S', b"NOPQS"),
+    (Way::Down, b'N', b'S', b"SQPON"),
+    (Way::Up, b'C', b'C', b"C"),
+    (Way::Down, b'C', b'C', b"C"),
+    (Way::Up, b'F', b'F', b"F"),
+    (Way::Down, b'F', b'F', b"F"),
+    (Way::Up, b'R', b'R', b""),
+    (Way::Down, b'R', b'R', b""),
+];
+
 /// The first 24 keys fill a room, and the next splits it. So the lower room has a sorted prefix of twelve entries, and
 /// behind that eight that were appended, whose keys lie between those of the prefix.
 #[test]
 fn twenty_entries_of_one_room(rt: HostRuntime) -> Result<(), Fail> {
     let shape = Shape::make(1, 4, 24, 48, [80, 0, 0, 0])?;
-    let scanned: [Scan; 12] = [
-        (Way::Up, 0, 0, b"ABCDEFGHIJKLMNOPQSUWYjklmnopqrst"),
-        (Way::Down, 0, 0, b"tsrqponmlkjYWUSQPONMLKJIHGFEDCBA"),
-        (Way::Up, b'A', b'W', b"ABCDEFGHIJKLMNOPQSUW"),
-        (Way::Down, b'A', b'W', b"WUSQPONMLKJIHGFEDCBA"),
-        (Way::Up, b'N', b'S', b"NOPQS"),
-        (Way::Down, b'N', b'S', b"SQPON"),
-        (Way::Up, b'C', b'C', b"C"),
-        (Way::Down, b'C', b'C', b"C"),
-        (Way::Up, b'F', b'F', b"F"),
-        (Way::Down, b'F', b'F', b"F"),
-        (Way::Up, b'R', b'R', b""),
-        (Way::Down, b'R', b'R', b""),
-    ];
     let (table, mut pass) = OakTable::create(rt.alloc(), &shape)?;
     put_letters(&rt, &table, &mut pass, b"ACEGIKMOQSUWYjklmnopqrstBDFHJLNP");
-    scan_all(&rt, &table, &mut pass, &scanned);
+    scan_all(&rt, &table, &mut pass, &SCANNED_OF_TWENTY);
     table.close(pass);
     Ok(())
 }
@@ -319,9 +330,8 @@ fn goes_to_key<R: Abort + Wait>(rt: &R, cursor: &mut Cursor<'_>, key: &[u8])
     ensures numbers { (under cursor.new).numbers ≡ (under cursor.old).numbers }
 {
     let more = cursor.advance(rt);
-    assert!(rt; more);
-    let whole = cursor.key() == key;
-    assert!(rt; whole);
+    is_so(rt, "more", more);
+    key_is(rt, cursor.key(), key);
 }
 
 /// The pairs are those of the keys of each length, the shortest first.
@@ -338,13 +348,17 @@ fn goes_over_lengths<R: Abort + Wait>(rt: &R, cursor: &mut Cursor<'_>)
     }
 }
 
+/// The text of such a cursor.
+fn text_is(rt: &impl Abort, shown: &str) {
+    assert_eq!(rt; shown, "Cursor { way: Up, value: None, .. }");
+}
+
 /// A cursor that has given no pair is shown by its way.
 fn is_shown(rt: &impl Abort, alloc: Global, cursor: &Cursor<'_>) {
     let Ok(shown) = format!(in alloc; "{cursor:?}") else {
-        assert!(rt; false);
-        return;
+        panic!(rt; "no memory");
     };
-    assert_eq!(rt; shown.as_str(), "Cursor { way: Up, value: None, .. }");
+    text_is(rt, shown.as_str());
 }
 
 /// A scan of all keys gives them.

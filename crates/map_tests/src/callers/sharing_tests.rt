@@ -37,6 +37,11 @@ impl<R: Wait + Drop + Send> Drop for Sharer<R> {
     }
 }
 
+/// What was asked is so.
+fn holds(rt: &impl Abort, so: bool) {
+    assert!(rt; so);
+}
+
 /// Puts the letter as its own value, and tells whether it was new.
 fn puts<R: Wait + Drop + Send>(rt: &R, caller: &mut Caller<'_, R>, letter: u8) -> bool {
     let said = caller.put(rt, &[letter], &[letter]);
@@ -74,7 +79,26 @@ fn share<R: Wait + Drop + Send + AllocGlobal>(
     }
 }
 
-/// This thread puts a meanwhile, and sees b once the other has ended. A caller is dropped with its pass.
+/// This thread puts a while the other puts b, and sees b once that has ended.
+fn put_both<R: Threads + Abort + Wait + AllocGlobal + Drop + Copy + Send + Sync + 'static>(
+    rt: R,
+    caller: &mut Caller<'_, R>,
+    sharer: Sharer<R>,
+) {
+    match thread::spawn(&rt, move || sharer.puts_b(&rt)) {
+        Ok(child) => {
+            holds(&rt, puts(&rt, caller, b'a'));
+            holds(&rt, child.join(&rt));
+            holds(&rt, caller.contains(&rt, b"b"));
+        }
+        Err(refused) => {
+            (refused.value)();
+            assert!(rt; false);
+        }
+    }
+}
+
+/// Two threads share the map. A caller is dropped with its pass.
 fn shares<R: Threads + Abort + Wait + AllocGlobal + Drop + Copy + Send + Sync + 'static>(
     rt: R,
     map: &Arc<OakMap<R>, Global>,
@@ -90,17 +114,7 @@ fn shares<R: Threads + Abort + Wait + AllocGlobal + Drop + Copy + Send + Sync + 
         assert!(rt; false);
         return;
     };
-    match thread::spawn(&rt, move || sharer.puts_b(&rt)) {
-        Ok(child) => {
-            assert!(rt; puts(&rt, &mut caller, b'a'));
-            assert!(rt; child.join(&rt));
-            assert!(rt; caller.contains(&rt, b"b"));
-        }
-        Err(refused) => {
-            (refused.value)();
-            assert!(rt; false);
-        }
-    }
+    put_both(rt, &mut caller, sharer);
 }
 
 #[test]

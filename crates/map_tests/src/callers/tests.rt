@@ -13,9 +13,17 @@ fn is_due<T: Debug + PartialEq + Drop>(rt: &impl Abort, told: T, due: T) {
     assert_eq!(rt; told, due);
 }
 
-/// A store for two passes, in small rooms.
-fn small_store<R: Wait + Clone + Drop + Send + AllocGlobal>(rt: &R) -> Result<Store<R>, Fail> {
-    Ok(Store::create(rt, &Shape::make(2, 4, 4, 16, [16, 0, 0, 0])?)?)
+/// A store for so many passes, with so many chunks, entries in each, headers, and blocks of 16.
+fn make<R: Wait + Clone + Drop + Send + AllocGlobal>(
+    rt: &R,
+    passes: u32,
+    chunks: u32,
+    entries: u32,
+    headers: u32,
+    blocks: u32,
+) -> Result<Store<R>, Fail> {
+    let shape = Shape::make(passes, chunks, entries, headers, [blocks, 0, 0, 0])?;
+    Ok(Store::create(rt, &shape)?)
 }
 
 /// Copies the value of a key to a place of six bytes.
@@ -36,7 +44,7 @@ fn copies_nothing<R: Abort + Wait + Drop + Send>(rt: &R, caller: &mut Caller<'_,
 
 /// Reads the value where it lies.
 fn reads<R: Abort + Wait + Drop + Send>(rt: &R, caller: &mut Caller<'_, R>) {
-    assert!(rt; caller.contains(rt, b"k"));
+    is_due(rt, caller.contains(rt, b"k"), true);
     is_due(rt, caller.read(rt, b"k", |bytes| bytes.len()), Some(5));
 }
 
@@ -56,14 +64,14 @@ fn goes_through_a_life<R: Abort + Wait + Drop + Send + AllocGlobal>(
     copies_nothing(rt, &mut caller);
     reads(rt, &mut caller);
     is_due(rt, caller.remove(rt, b"k"), Ok(Wrote::Removed { at: 2 }));
-    assert!(rt; !caller.contains(rt, b"k"));
+    is_due(rt, caller.contains(rt, b"k"), false);
     is_due(rt, caller.last_call(), 3);
     Ok(())
 }
 
 #[test]
 fn a_life(rt: HostRuntime) -> Result<(), Fail> {
-    let mut store = small_store(&rt)?;
+    let mut store = make(&rt, 2, 4, 4, 16, 16)?;
     let done = goes_through_a_life(&rt, &mut store);
     done
 }
@@ -107,7 +115,7 @@ fn adds_up<R: Abort + Wait + Drop + Send + AllocGlobal>(
 
 #[test]
 fn a_sum(rt: HostRuntime) -> Result<(), Fail> {
-    let mut store = small_store(&rt)?;
+    let mut store = make(&rt, 2, 4, 4, 16, 16)?;
     let done = adds_up(&rt, &mut store);
     done
 }
@@ -159,7 +167,7 @@ fn applies<R: Abort + Wait + Drop + Send + AllocGlobal>(
 
 #[test]
 fn a_recipe(rt: HostRuntime) -> Result<(), Fail> {
-    let mut store = small_store(&rt)?;
+    let mut store = make(&rt, 2, 4, 4, 16, 16)?;
     let done = applies(&rt, &mut store);
     done
 }
@@ -184,7 +192,7 @@ fn goes_up<R: Abort + Wait + Drop + Send>(rt: &R, caller: &mut Caller<'_, R>) {
         seen = seen.wrapping_add(value.len());
         true
     });
-    assert!(rt; ended);
+    is_due(rt, ended, true);
     is_due(rt, seen, 5);
 }
 
@@ -207,7 +215,7 @@ fn goes_over<R: Abort + Wait + Drop + Send + AllocGlobal>(
     store: &mut Store<R>,
 ) -> Result<(), Fail> {
     let mut caller = store.caller(rt)?;
-    assert!(rt; caller.is_empty(rt));
+    is_due(rt, caller.is_empty(rt), true);
     let mut other = caller.split(rt)?;
     puts_three(rt, &mut caller, &mut other);
     goes_up(rt, &mut caller);
@@ -218,7 +226,7 @@ fn goes_over<R: Abort + Wait + Drop + Send + AllocGlobal>(
 
 #[test]
 fn a_scan(rt: HostRuntime) -> Result<(), Fail> {
-    let mut store = Store::create(&rt, &Shape::make(3, 4, 4, 16, [16, 0, 0, 0])?)?;
+    let mut store = make(&rt, 3, 4, 4, 16, 16)?;
     let done = goes_over(&rt, &mut store);
     done
 }
@@ -234,16 +242,16 @@ fn puts_many<R: Abort + Wait + Drop + Send>(rt: &R, caller: &mut Caller<'_, R>) 
 fn clears_some<R: Abort + Wait + Drop + Send + AllocGlobal>(rt: &R, caller: &mut Caller<'_, R>) {
     is_due(rt, caller.clear(rt, Some(&[10]), Some(&[179, 7])), Ok(170));
     is_due(rt, caller.count(rt, None, None), 30);
-    assert!(rt; caller.contains(rt, &[9, 7]));
-    assert!(rt; !caller.contains(rt, &[10, 7]));
-    assert!(rt; !caller.contains(rt, &[179, 7]));
-    assert!(rt; caller.contains(rt, &[180, 7]));
+    is_due(rt, caller.contains(rt, &[9, 7]), true);
+    is_due(rt, caller.contains(rt, &[10, 7]), false);
+    is_due(rt, caller.contains(rt, &[179, 7]), false);
+    is_due(rt, caller.contains(rt, &[180, 7]), true);
 }
 
 /// Clears the others, behind which there is none to clear.
 fn clears_all<R: Abort + Wait + Drop + Send + AllocGlobal>(rt: &R, caller: &mut Caller<'_, R>) {
     is_due(rt, caller.clear(rt, None, None), Ok(30));
-    assert!(rt; caller.is_empty(rt));
+    is_due(rt, caller.is_empty(rt), true);
     is_due(rt, caller.clear(rt, None, None), Ok(0));
     is_due(rt, caller.last_call(), 400);
 }
@@ -262,7 +270,7 @@ fn clears<R: Abort + Wait + Drop + Send + AllocGlobal>(
 
 #[test]
 fn a_clearing(rt: HostRuntime) -> Result<(), Fail> {
-    let mut store = Store::create(&rt, &Shape::make(2, 64, 16, 256, [512, 0, 0, 0])?)?;
+    let mut store = make(&rt, 2, 64, 16, 256, 512)?;
     let done = clears(&rt, &mut store);
     done
 }
@@ -290,7 +298,7 @@ fn shows_a_map<R: Abort + Wait + Clone + Drop + Send + AllocGlobal>(rt: &R) -> R
 
 #[test]
 fn what_is_shown(rt: HostRuntime) -> Result<(), Fail> {
-    let mut store = small_store(&rt)?;
+    let mut store = make(&rt, 2, 4, 4, 16, 16)?;
     let shown = format!(in rt.alloc(); "{store:?}")?;
     is_due(&rt, shown.as_str(), "Store { .. }");
     shows_a_map(&rt)?;

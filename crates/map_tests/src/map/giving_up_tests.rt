@@ -8,7 +8,7 @@ ghost use Rattle.value_ops.specs.Views.{KnowsView};
 ghost use Rattle.point_ops.specs.TestStates.{IsReady as IsReadyFor, IsReadyAgain};
 ghost use Rattle.oak_map.specs.Maps.{IsReady, call_of, sizes, state, table_of};
 
-use crate::map::test_calls::{make, put, turn};
+use crate::map::test_calls::{is_called, is_tried, make, put, turn};
 use oak_core::Pass;
 use oak_map::{Busy, MapPass, NoValue, OakMap, try_get_of};
 use oak_model::{RecipeKind, Wrote};
@@ -84,9 +84,9 @@ fn computes_to<R: Abort + Wait + Drop + Send>(
     ensures call { call_of pass.new ≡ call }
     ensures ready { IsReadyAgain call (state pass.old) (state pass.new) }
 {
-    assert_eq!(rt; recipe.calls(), before);
+    is_called(rt, recipe.calls(), before);
     let told = computes(map, pass, call, key, recipe, looks);
-    assert!(rt; told == due, "call {call}");
+    is_tried(rt, told, due);
 }
 
 /// The stamp of the key's value, and its length.
@@ -128,7 +128,7 @@ fn compute_two<R: Abort + Wait + Drop + Send>(
     computes_to(rt, map, pass, 3, b"k", ones, 1, 0, done);
     let none = Ok(Wrote::Absent { at: 0 });
     computes_to(rt, map, pass, 4, b"l", ones, 1, 1, none);
-    assert_eq!(rt; ones.calls(), 1);
+    is_called(rt, ones.calls(), 1);
 }
 
 /// A key is removed twice.
@@ -141,9 +141,9 @@ fn remove_twice<R: Abort + Wait + Drop + Send>(rt: &R, map: &OakMap<R>, pass: &m
     ensures ready { IsReadyAgain 6 (state pass.old) (state pass.new) }
 {
     let removed = removes(map, pass, 5, b"k", 1);
-    assert!(rt; removed == Ok(Wrote::Removed { at: 3 }));
+    is_tried(rt, removed, Ok(Wrote::Removed { at: 3 }));
     let away = removes(map, pass, 6, b"k", 1);
-    assert!(rt; away == Ok(Wrote::Absent { at: 3 }));
+    is_tried(rt, away, Ok(Wrote::Absent { at: 3 }));
 }
 
 /// The key that was removed has no view, and the other one its value.
@@ -200,7 +200,7 @@ fn are_busy<R: Abort + Wait + Drop + Send>(
     ensures ready { IsReadyAgain 3 (state pass.old) (state pass.new) }
 {
     let busy = removes(map, pass, 2, b"k", 3);
-    assert!(rt; busy == Err(Busy));
+    is_tried(rt, busy, Err(Busy));
     computes_to(rt, map, pass, 3, b"k", ones, 3, 0, Err(Busy));
 }
 
@@ -218,7 +218,7 @@ fn go_through<R: Abort + Wait + Drop + Send>(
     let done = Ok(Wrote::Done { at: 2 });
     computes_to(rt, map, pass, 4, b"k", ones, 1, 0, done);
     let removed = removes(map, pass, 5, b"k", 1);
-    assert!(rt; removed == Ok(Wrote::Removed { at: 3 }));
+    is_tried(rt, removed, Ok(Wrote::Removed { at: 3 }));
 }
 
 /// They give up while the other pass has the value of the view pinned, and go through behind that.

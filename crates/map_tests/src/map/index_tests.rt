@@ -7,11 +7,11 @@ ghost use Rattle.point_ops.specs.TestStates.{IsReady as IsReadyFor, IsReadyAgain
 ghost use Rattle.oak_map.specs.Maps.{IsReady, call_of, state};
 ghost use Rattle.map_tests.specs.declared.map.index_tests.TheConstants.{KEYS, ROUNDS};
 
-use crate::map::test_calls::{get, put, remove, settle};
+use crate::map::test_calls::{get, is_new, is_removed, make, put, remove, settle};
 use chunk_ops::{KeyBytes, RoomPin, high_key, low_key, low_len, pin_for, unpin};
 use oak_core::{OakTable, Pass};
 use oak_map::{MapPass, OakMap};
-use oak_model::{Hint, Shape, Wrote};
+use oak_model::Hint;
 use std::process::Abort;
 use std::sync::Wait;
 use std::test::Fail;
@@ -23,10 +23,17 @@ const KEYS: u32 = 400;
 /// How many times one thread looks for all of them, while another puts them.
 const ROUNDS: u32 = 40;
 
-/// A shape with chunks of four entries, of which half as many as there are keys are needed when these rise.
-fn shape(passes: u32) -> Result<Shape, Fail> {
-    Ok(Shape::make(passes, 256, 4, 8192, [16384, 0, 0, 0])?)
-}
+/// How many chunks there are, of which half as many as there are keys are needed when these rise.
+const CHUNKS: u32 = 256;
+
+/// How many entries each of them has.
+const ENTRIES: u32 = 4;
+
+/// How many headers there are.
+const HEADERS: u32 = 8192;
+
+/// How many blocks there are.
+const BLOCKS: u32 = 16384;
 
 /// The key of this number. In their order the numbers rise.
 fn key_of(number: u32) -> [u8; 2]
@@ -47,7 +54,7 @@ fn put_all<R: Abort + Wait + Drop + Send>(rt: &R, map: &OakMap<R>, pass: &mut Ma
     for i in 0..KEYS {
         let key = key_of(i);
         let said = put(rt, map, pass, i + 1, &key, &key);
-        assert!(rt; matches!(said, Wrote::New { at: _ }), "{i}: {said:?}");
+        is_new(rt, i, said);
     }
 }
 
@@ -91,7 +98,7 @@ fn tries_of_gets<R: Abort + Wait + AllocGlobal + Drop + Send>(
 
 /// So it does in a new map, into which another put the keys.
 fn tries_in_map<R: Abort + Wait + Clone + AllocGlobal + Drop + Send>(rt: &R) -> Result<u64, Fail> {
-    let (map, mut pass) = OakMap::create(rt, &shape(2)?)?;
+    let (map, mut pass) = make(rt, 2, CHUNKS, ENTRIES, HEADERS, BLOCKS)?;
     put_all(rt, &map, &mut pass);
     let tries = tries_of_gets(rt, &map, &mut pass);
     map.close(pass);
@@ -153,6 +160,12 @@ fn fits_hint(table: &OakTable, pass: &mut Pass, pin: &RoomPin, hint: Hint) -> bo
     }
 }
 
+/// The chunk of the key of this number is named, and its hint fits.
+fn is_right(rt: &impl Abort, number: u32, named: bool, fits: bool) {
+    assert!(rt; named, "{number}");
+    assert!(rt; fits, "{number}");
+}
+
 /// Whether the chunk of the key has its place in the index, and is hinted for the key.
 fn is_hinted(rt: &impl Abort, table: &OakTable, pass: &mut Pass, number: u32)
     requires few { number < KEYS }
@@ -170,8 +183,7 @@ fn is_hinted(rt: &impl Abort, table: &OakTable, pass: &mut Pass, number: u32)
     let named = is_named(table, pass, &pin);
     let fits = fits_hint(table, pass, &pin, hint);
     unpin(table, pass, pin);
-    assert!(rt; named, "{number}");
-    assert!(rt; fits, "{number}");
+    is_right(rt, number, named, fits);
 }
 
 /// So it is with each key.
@@ -199,14 +211,14 @@ fn remove_most<R: Abort + Wait + Drop + Send>(rt: &R, map: &OakMap<R>, pass: &mu
     for i in 0..KEYS {
         if i % 5 != 0 {
             let said = remove(rt, map, pass, KEYS + 1 + i, &key_of(i));
-            assert!(rt; matches!(said, Wrote::Removed { at: _ }), "{i}: {said:?}");
+            is_removed(rt, i, said);
         }
     }
 }
 
 #[test]
 fn settling_names_the_open_chunks(rt: HostRuntime) -> Result<(), Fail> {
-    let (map, mut pass) = OakMap::create(&rt, &shape(2)?)?;
+    let (map, mut pass) = make(&rt, 2, CHUNKS, ENTRIES, HEADERS, BLOCKS)?;
     put_all(&rt, &map, &mut pass);
     all_are_hinted(&rt, &map, &mut pass);
     remove_most(&rt, &map, &mut pass);
@@ -287,7 +299,7 @@ fn split_and_work<R: Threads + Abort + Wait + Sync + AllocGlobal + Drop + Send>(
 
 #[test]
 fn a_pass_looks_while_another_splits(rt: HostRuntime) -> Result<(), Fail> {
-    let (map, mut pass) = OakMap::create(&rt, &shape(3)?)?;
+    let (map, mut pass) = make(&rt, 3, CHUNKS, ENTRIES, HEADERS, BLOCKS)?;
     split_and_work(&rt, &map, &mut pass);
     let tries = tries_of_gets(&rt, &map, &mut pass);
     assert_eq!(rt; tries, u64::from(KEYS));

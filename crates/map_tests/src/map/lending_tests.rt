@@ -12,7 +12,7 @@ ghost use Rattle.point_ops.specs.TestStates.{HasView, IsReady as IsReadyFor, IsR
 ghost use Rattle.scan_cursor.specs.Cursors.{IsCursor, under};
 ghost use Rattle.oak_map.specs.Maps.{IsReady, call_of, sizes, state, table_of};
 
-use crate::map::test_calls::{make, put, remove};
+use crate::map::test_calls::{is_told, make, put, remove};
 use oak_core::Pass;
 use oak_map::{
     Cursor, Lent, Looked, MapPass, OakMap, Reading, ValueView, Way, get_of, look_of, scan_of,
@@ -150,6 +150,18 @@ fn collects<R: Wait + Drop + Send>(
     cursor.finish();
 }
 
+/// What was copied is these bytes, with this stamp.
+fn is_copied(
+    rt: &impl Abort,
+    told: Option<(u64, usize)>,
+    copied: [u8; 3],
+    at: u64,
+    bytes: [u8; 3],
+) {
+    assert!(rt; told == Some((at, 3)));
+    assert!(rt; copied == bytes);
+}
+
 /// The key has these bytes, by its first write.
 fn has<R: Abort + Wait + Drop + Send>(
     rt: &R,
@@ -167,8 +179,7 @@ fn has<R: Abort + Wait + Drop + Send>(
 {
     let mut out = [0; 3];
     let held = copies_of(rt, map, pass.pass_mut(), key, &mut out);
-    assert!(rt; held == Some((1, 3)));
-    assert!(rt; out == bytes);
+    is_copied(rt, held, out, 1, bytes);
 }
 
 /// The key has no value.
@@ -203,8 +214,7 @@ fn shows<R: Abort + Wait + Drop + Send>(
 {
     let mut out = [0; 3];
     let seen = looks_of(rt, map, pass.pass_mut(), view, &mut out);
-    assert!(rt; seen == Some((at, 3)));
-    assert!(rt; out == bytes);
+    is_copied(rt, seen, out, at, bytes);
 }
 
 /// The view shows nothing.
@@ -242,13 +252,13 @@ fn one_life<R: Abort + Wait + Drop + Send>(
 {
     shows(rt, map, pass, view, 1, *b"one");
     let over = put(rt, map, pass, 3, b"k", b"six");
-    assert!(rt; over == Wrote::Over { at: 2 });
+    is_told(rt, over, Wrote::Over { at: 2 });
     shows(rt, map, pass, view, 2, *b"six");
     let removed = remove(rt, map, pass, 4, b"k");
-    assert!(rt; removed == Wrote::Removed { at: 3 });
+    is_told(rt, removed, Wrote::Removed { at: 3 });
     shows_none(rt, map, pass, view);
     let new = put(rt, map, pass, 5, b"k", b"two");
-    assert!(rt; new == Wrote::New { at: 4 });
+    is_told(rt, new, Wrote::New { at: 4 });
     shows_none(rt, map, pass, view);
 }
 

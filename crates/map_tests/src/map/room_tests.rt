@@ -4,7 +4,7 @@ ghost use Rattle.point_ops.specs.TestStates.{IsReady as IsReadyFor};
 ghost use Rattle.oak_map.specs.Maps.{IsReady, call_of, state};
 ghost use Rattle.map_tests.specs.RoomTests.{AreShort};
 
-use crate::map::test_calls::{put, remove};
+use crate::map::test_calls::{is_removed, is_told, put, remove};
 use oak_map::{MapPass, OakMap};
 use oak_model::{Class, Lack, Shape, Wrote};
 use std::process::Abort;
@@ -33,6 +33,11 @@ fn key_of(number: u32) -> [u8; 20]
     key
 }
 
+/// For the key of this number there was room.
+fn has_room(rt: &impl Abort, number: u32, said: Wrote) {
+    assert!(rt; !matches!(said, Wrote::Full(_)), "{number}: {said:?}");
+}
+
 /// Puts the key of this number, with a value of so many bytes, for which there is room.
 fn put_number<R: Abort + Wait + Drop + Send>(
     rt: &R,
@@ -54,7 +59,7 @@ fn put_number<R: Abort + Wait + Drop + Send>(
     let key = key_of(number);
     let value = [7; 70];
     let said = put(rt, map, pass, call, &key[..keys.bytes], &value[..bytes]);
-    assert!(rt; !matches!(said, Wrote::Full(_)), "{number}: {said:?}");
+    has_room(rt, number, said);
 }
 
 /// Removes the key of this number, which is there.
@@ -76,10 +81,7 @@ fn remove_number<R: Abort + Wait + Drop + Send>(
 {
     let key = key_of(number);
     let said = remove(rt, map, pass, call, &key[..keys.bytes]);
-    assert!(rt;
-        matches!(said, Wrote::Removed { at: _ }),
-        "{number}: {said:?}"
-    );
+    is_removed(rt, number, said);
 }
 
 /// Puts each key, those of greater numbers later, with a value of so many bytes.
@@ -201,7 +203,7 @@ fn fills<R: Abort + Wait + Drop + Send>(
     put_each(rt, map, pass, 2000, keys, keys.first);
     let more = key_of(keys.count);
     let full = put(rt, map, pass, 2101, &more[..keys.bytes], b"1");
-    assert!(rt; full == Wrote::Full(lack), "{full:?}");
+    is_told(rt, full, Wrote::Full(lack));
     remove_number(rt, map, pass, 2102, keys, 0);
     put_number(rt, map, pass, 2103, keys, keys.count, keys.second);
 }

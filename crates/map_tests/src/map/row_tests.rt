@@ -8,7 +8,7 @@ ghost use Rattle.point_ops.specs.TestStates.{IsReady as IsReadyFor, IsReadyAgain
 ghost use Rattle.scan_cursor.specs.Cursors.{IsCursor, ReadsPair, under};
 ghost use Rattle.oak_map.specs.Maps.{IsReady, call_of, state, table_of};
 
-use crate::map::test_calls::{get, make, put, remove, scan_whole, settle};
+use crate::map::test_calls::{get, holds, is_one, make, put, remove, scan_whole, settle};
 use oak_core::Pass;
 use oak_map::{Cursor, MapPass, OakMap, Way};
 use oak_model::{Class, Lack, Usage, Wrote};
@@ -91,6 +91,11 @@ fn is_due(
     assert!(rt; told == due, "call {number}: {told:?}");
 }
 
+/// The call of this number got a value with a stamp, at the place that is due.
+fn is_got(rt: &impl Abort, number: usize, at: u64, found: u64, place: u64) {
+    assert!(rt; at > 0 && found == place, "call {number}: {found}");
+}
+
 /// The map answers the call so.
 fn answers<R: Abort + Wait + Drop + Send>(
     rt: &R,
@@ -119,8 +124,7 @@ fn answers<R: Abort + Wait + Drop + Send>(
         }
         Call::Get(letter, byte, place) => {
             let at = get(rt, map, pass, &[letter], &[byte]).unwrap_or(0);
-            let found = place_of(writes, letter, at);
-            assert!(rt; at > 0 && found == place, "call {number}: {found}");
+            is_got(rt, number, at, place_of(writes, letter, at), place);
         }
     }
 }
@@ -145,6 +149,16 @@ fn answers_all<R: Abort + Wait + Drop + Send>(
     }
 }
 
+/// The key is that of the letter.
+fn is_letter(rt: &impl Abort, key: u8, letter: u8) {
+    assert_eq!(rt; key, letter);
+}
+
+/// The place that was found is what is due.
+fn is_place(rt: &impl Abort, found: u64, place: u64) {
+    assert_eq!(rt; found, place);
+}
+
 /// The cursor is at this pair.
 fn is_at(rt: &impl Abort, cursor: &mut Cursor<'_>, writes: &[Write], pair: Held)
     requires cursor { IsCursor cursor.old }
@@ -153,14 +167,10 @@ fn is_at(rt: &impl Abort, cursor: &mut Cursor<'_>, writes: &[Write], pair: Held)
     ensures reads { ReadsPair cursor.old cursor.new }
 {
     let (letter, byte, place) = pair;
-    let len = cursor.key_len();
-    assert_eq!(rt; len, 1);
-    let key = cursor.key_byte(0);
-    assert_eq!(rt; key, letter);
-    let found = place_of(writes, letter, cursor.at());
-    assert_eq!(rt; found, place);
-    let same = cursor.same(&[byte]);
-    assert!(rt; same);
+    is_one(rt, cursor.key_len());
+    is_letter(rt, cursor.key_byte(0), letter);
+    is_place(rt, place_of(writes, letter, cursor.at()), place);
+    holds(rt, cursor.same(&[byte]));
 }
 
 /// The next pair is this one.

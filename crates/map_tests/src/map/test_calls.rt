@@ -10,7 +10,7 @@ ghost use Rattle.scan_cursor.specs.Cursors.{IsCursor};
 ghost use Rattle.oak_map.specs.Maps.{IsReady, call_of, pass_of, state, table_of};
 
 use oak_core::{OakTable, Pass};
-use oak_map::{Cursor, MapPass, OakMap, Way, scan_of};
+use oak_map::{Busy, Cursor, MapPass, OakMap, Way, scan_of};
 use oak_model::{Shape, Wrote};
 use point_ops::Got;
 use std::process::Abort;
@@ -35,6 +35,48 @@ pub(crate) fn make<R: Wait + Clone + AllocGlobal + Drop + Send>(
     let shape = Shape::make(passes, chunks, entries, headers, [blocks, 0, 0, 0])?;
     let (map, pass) = OakMap::create(rt, &shape)?;
     Ok((map, pass))
+}
+
+/// A call told what is due.
+pub(crate) fn is_told(rt: &impl Abort, told: Wrote, due: Wrote) {
+    assert_eq!(rt; told, due);
+}
+
+/// So did a call that may give up.
+pub(crate) fn is_tried(rt: &impl Abort, told: Result<Wrote, Busy>, due: Result<Wrote, Busy>) {
+    assert_eq!(rt; told, due);
+}
+
+/// The call of this number told that its key was new.
+pub(crate) fn is_new(rt: &impl Abort, number: u32, told: Wrote) {
+    assert!(rt; matches!(told, Wrote::New { at: _ }), "{number}: {told:?}");
+}
+
+/// It told that its key was removed.
+pub(crate) fn is_removed(rt: &impl Abort, number: u32, told: Wrote) {
+    assert!(rt;
+        matches!(told, Wrote::Removed { at: _ }),
+        "{number}: {told:?}"
+    );
+}
+
+/// What was asked is so.
+pub(crate) fn holds(rt: &impl Abort, so: bool) {
+    assert!(rt; so);
+}
+
+/// A key has one byte.
+pub(crate) fn is_one(rt: &impl Abort, len: usize)
+    ensures { len ≡ 1 }
+{
+    assert_eq!(rt; len, 1);
+}
+
+/// A recipe was called as often as is due.
+pub(crate) fn is_called(rt: &impl Abort, calls: u64, due: u64)
+    ensures { calls ≡ due }
+{
+    assert_eq!(rt; calls, due);
 }
 
 /// Closes the map, of which one chunk is used.

@@ -5,7 +5,7 @@ ghost use Rattle.oak_model.specs.Value.{IsValue};
 ghost use Rattle.point_ops.specs.TestStates.{IsReady as IsReadyFor, IsReadyAgain};
 ghost use Rattle.oak_map.specs.Maps.{IsReady, call_of, state};
 
-use crate::map::test_calls::{close, make, put, remove, settle, turn};
+use crate::map::test_calls::{close, is_called, is_told, make, put, remove, settle, turn};
 use oak_map::{MapPass, OakMap};
 use oak_model::{Class, Lack, RecipeKind, Shape, Wrote};
 use point_ops::Got;
@@ -110,11 +110,11 @@ fn is_absent<R: Abort + Wait + Drop + Send>(
 {
     sees_none(rt, map, pass, b"k");
     let removed = remove(rt, map, pass, 1, b"k");
-    assert!(rt; removed == Wrote::Absent { at: 0 });
-    assert_eq!(rt; ones.calls(), 0);
+    is_told(rt, removed, Wrote::Absent { at: 0 });
+    is_called(rt, ones.calls(), 0);
     let computed = compute(rt, map, pass, 2, b"k", ones);
-    assert!(rt; computed == Wrote::Absent { at: 0 });
-    assert_eq!(rt; ones.calls(), 0);
+    is_told(rt, computed, Wrote::Absent { at: 0 });
+    is_called(rt, ones.calls(), 0);
     settle(rt, map, pass);
 }
 
@@ -138,11 +138,11 @@ fn is_put<R: Abort + Wait + Drop + Send>(rt: &R, map: &OakMap<R>, pass: &mut Map
     ensures ready { IsReadyAgain 3 (state pass.old) (state pass.new) }
 {
     let new = put(rt, map, pass, 1, b"k", b"one");
-    assert!(rt; new == Wrote::New { at: 1 });
+    is_told(rt, new, Wrote::New { at: 1 });
     let kept = put_if_absent(rt, map, pass, 2, b"k", b"two");
-    assert!(rt; kept == Wrote::Kept { at: 1 });
+    is_told(rt, kept, Wrote::Kept { at: 1 });
     let full = put(rt, map, pass, 3, b"l", b"two");
-    assert!(rt; full == Wrote::Full(Lack::Block(Class::B16)));
+    is_told(rt, full, Wrote::Full(Lack::Block(Class::B16)));
 }
 
 /// Its value is computed then.
@@ -158,10 +158,10 @@ fn is_computed<R: Abort + Wait + Drop + Send>(
     ensures own { IsReady map.now pass.new }
     ensures ready { IsReadyAgain 4 (state pass.old) (state pass.new) }
 {
-    assert_eq!(rt; ones.calls(), 0);
+    is_called(rt, ones.calls(), 0);
     let done = upsert(rt, map, pass, 4, b"k", b"two", ones);
-    assert!(rt; done == Wrote::Done { at: 2 });
-    assert_eq!(rt; ones.calls(), 1);
+    is_told(rt, done, Wrote::Done { at: 2 });
+    is_called(rt, ones.calls(), 1);
 }
 
 #[test]
@@ -191,6 +191,6 @@ fn passes_are_left_and_their_map_is_freed(rt: HostRuntime) -> Result<(), Fail> {
     pass.leave();
     drop(map);
     assert!(rt; split);
-    assert!(rt; new == Wrote::New { at: 1 });
+    is_told(&rt, new, Wrote::New { at: 1 });
     Ok(())
 }

@@ -8,10 +8,11 @@ ghost use Rattle.scan_cursor.specs.Cursors.{IsCursor, ReadsPair, under};
 ghost use Rattle.oak_map.specs.Maps.{IsReady, call_of, state, table_of};
 ghost use Rattle.map_tests.specs.declared.map.thread_tests.TheConstants.{STAY};
 
-use crate::map::test_calls::{make, put, remove, scan_whole, settle};
+use crate::map::test_calls::{
+    holds, is_new, is_one, is_removed, make, put, remove, scan_whole, settle,
+};
 use oak_core::Pass;
 use oak_map::{Cursor, MapPass, OakMap, Way};
-use oak_model::Wrote;
 use std::process::Abort;
 use std::sync::Wait;
 use std::test::Fail;
@@ -50,10 +51,7 @@ fn adds<R: Abort + Wait + Drop + Send>(
     ensures ready { IsReadyAgain call (state pass.old) (state pass.new) }
 {
     let said = put(rt, map, pass, call, &[letter], &[letter]);
-    assert!(rt;
-        matches!(said, Wrote::New { at: _ }),
-        "call {call}: {said:?}"
-    );
+    is_new(rt, call, said);
 }
 
 /// Removes a letter that is there.
@@ -72,10 +70,7 @@ fn takes<R: Abort + Wait + Drop + Send>(
     ensures ready { IsReadyAgain call (state pass.old) (state pass.new) }
 {
     let said = remove(rt, map, pass, call, &[letter]);
-    assert!(rt;
-        matches!(said, Wrote::Removed { at: _ }),
-        "call {call}: {said:?}"
-    );
+    is_removed(rt, call, said);
 }
 
 /// Puts the letters that stay.
@@ -148,11 +143,9 @@ fn letter_of(rt: &impl Abort, cursor: &mut Cursor<'_>) -> u8
     ensures same_reference { cursor.new.pass.ghost_name ≡ cursor.old.pass.ghost_name }
     ensures reads { ReadsPair cursor.old cursor.new }
 {
-    let len = cursor.key_len();
-    assert_eq!(rt; len, 1);
+    is_one(rt, cursor.key_len());
     let letter = cursor.key_byte(0);
-    let same = cursor.same(&[letter]);
-    assert!(rt; same);
+    holds(rt, cursor.same(&[letter]));
     letter
 }
 
@@ -181,6 +174,12 @@ fn is_behind(way: Way, last: Option<u8>, letter: u8) -> bool {
     }
 }
 
+/// So it is with the letter of the pair of this number.
+fn comes_behind(rt: &impl Abort, number: u32, way: Way, last: Option<u8>, letter: u8) {
+    let behind = is_behind(way, last, letter);
+    assert!(rt; behind, "pair {number}");
+}
+
 /// Goes over all pairs, which come in the order of the way: how many letters that stay are among them.
 fn goes_over<R: Abort + Wait>(rt: &R, cursor: &mut Cursor<'_>, way: Way) -> u32
     requires { IsCursor cursor.old }
@@ -196,8 +195,7 @@ fn goes_over<R: Abort + Wait>(rt: &R, cursor: &mut Cursor<'_>, way: Way) -> u32
         let Some(letter) = next_letter(rt, cursor) else {
             return stay;
         };
-        let behind = is_behind(way, last, letter);
-        assert!(rt; behind, "pair {step}");
+        comes_behind(rt, step, way, last, letter);
         stay += u32::from(stays(letter));
         last = Some(letter);
     }

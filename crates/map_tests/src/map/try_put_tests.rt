@@ -5,9 +5,9 @@ ghost use Rattle.oak_model.specs.Value.{IsValue};
 ghost use Rattle.point_ops.specs.TestStates.{IsReady as IsReadyFor, IsReadyAgain};
 ghost use Rattle.oak_map.specs.Maps.{IsReady, call_of, state};
 
-use crate::map::test_calls::{make, put, turn};
+use crate::map::test_calls::{is_called, is_tried, make, put, turn};
 use oak_map::{Busy, MapPass, OakMap};
-use oak_model::{Class, Lack, RecipeKind, Shape, Wrote};
+use oak_model::{Class, Lack, RecipeKind, Wrote};
 use std::process::Abort;
 use std::sync::Wait;
 use std::test::Fail;
@@ -82,6 +82,53 @@ fn tries_upsert<R: Wait + Drop + Send>(
     map.try_upsert(pass, key, bytes, recipe, 1)
 }
 
+/// A key is put twice.
+fn put_twice<R: Abort + Wait + Drop + Send>(rt: &R, map: &OakMap<R>, pass: &mut MapPass)
+    requires own { IsReady map.now pass.old }
+    requires first { call_of pass.old ≡ 0 }
+    requires ready { IsReadyFor 0 (state pass.old) }
+    ensures own { IsReady map.now pass.new }
+    ensures call { call_of pass.new ≡ 2 }
+    ensures ready { IsReadyAgain 2 (state pass.old) (state pass.new) }
+{
+    let new = tries(map, pass, 1, b"k", b"one");
+    is_tried(rt, new, Ok(Wrote::New { at: 1 }));
+    let over = tries(map, pass, 2, b"k", b"two");
+    is_tried(rt, over, Ok(Wrote::Over { at: 2 }));
+}
+
+/// It keeps its value where another one is put only if it is absent, and for another key there is no room.
+fn keep_one<R: Abort + Wait + Drop + Send>(rt: &R, map: &OakMap<R>, pass: &mut MapPass)
+    requires own { IsReady map.now pass.old }
+    requires call { call_of pass.old ≡ 2 }
+    requires ready { IsReadyFor 2 (state pass.old) }
+    ensures own { IsReady map.now pass.new }
+    ensures call { call_of pass.new ≡ 4 }
+    ensures ready { IsReadyAgain 4 (state pass.old) (state pass.new) }
+{
+    let kept = tries_if_absent(map, pass, 3, b"k", b"three");
+    is_tried(rt, kept, Ok(Wrote::Kept { at: 2 }));
+    let full = tries_if_absent(map, pass, 4, b"l", b"three");
+    is_tried(rt, full, Ok(Wrote::Full(Lack::Block(Class::B16))));
+}
+
+/// Its value is computed then.
+fn compute_one<R: Abort + Wait + Drop + Send>(
+    rt: &R,
+    map: &OakMap<R>,
+    pass: &mut MapPass,
+    ones: &mut Box<dyn Recipe + Send>,
+)
+    requires own { IsReady map.now pass.old }
+    requires call { call_of pass.old ≡ 4 }
+    requires ready { IsReadyFor 4 (state pass.old) }
+{
+    is_called(rt, ones.calls(), 0);
+    let done = tries_upsert(map, pass, 5, b"k", b"three", ones);
+    is_tried(rt, done, Ok(Wrote::Done { at: 3 }));
+    is_called(rt, ones.calls(), 1);
+}
+
 /// Two keys are put, for one of which there is room, and that one's value is computed then.
 fn answer<R: Abort + Wait + Drop + Send>(
     rt: &R,
@@ -93,18 +140,9 @@ fn answer<R: Abort + Wait + Drop + Send>(
     requires first { call_of pass.old ≡ 0 }
     requires ready { IsReadyFor 0 (state pass.old) }
 {
-    let new = tries(map, pass, 1, b"k", b"one");
-    assert!(rt; new == Ok(Wrote::New { at: 1 }));
-    let over = tries(map, pass, 2, b"k", b"two");
-    assert!(rt; over == Ok(Wrote::Over { at: 2 }));
-    let kept = tries_if_absent(map, pass, 3, b"k", b"three");
-    assert!(rt; kept == Ok(Wrote::Kept { at: 2 }));
-    let full = tries_if_absent(map, pass, 4, b"l", b"three");
-    assert!(rt; full == Ok(Wrote::Full(Lack::Block(Class::B16))));
-    assert_eq!(rt; ones.calls(), 0);
-    let done = tries_upsert(map, pass, 5, b"k", b"three", ones);
-    assert!(rt; done == Ok(Wrote::Done { at: 3 }));
-    assert_eq!(rt; ones.calls(), 1);
+    put_twice(rt, map, pass);
+    keep_one(rt, map, pass);
+    compute_one(rt, map, pass, ones);
 }
 
 #[test]
@@ -118,6 +156,16 @@ fn by_one_pass(rt: HostRuntime) -> Result<(), Fail> {
     Ok(())
 }
 
+/// A value was put.
+fn is_put(rt: &impl Abort, said: Wrote) {
+    assert!(rt; matches!(said, Wrote::New { at: _ } | Wrote::Over { at: _ }));
+}
+
+/// There was room for a value, where the call didn't give up.
+fn has_room(rt: &impl Abort, said: Result<Wrote, Busy>) {
+    assert!(rt; !matches!(said, Ok(Wrote::Full(_))));
+}
+
 /// Puts four keys in turn, and waits.
 fn put_all<R: Abort + Wait + Drop + Send>(rt: &R, map: &OakMap<R>, pass: &mut MapPass)
     requires own { IsReady map.now pass.old }
@@ -127,7 +175,7 @@ fn put_all<R: Abort + Wait + Drop + Send>(rt: &R, map: &OakMap<R>, pass: &mut Ma
 {
     for i in 0..PUTS {
         let said = put(rt, map, pass, i + 1, &[b'a' + (i % 4) as u8], b"waits");
-        assert!(rt; matches!(said, Wrote::New { at: _ } | Wrote::Over { at: _ }));
+        is_put(rt, said);
     }
 }
 
@@ -140,7 +188,7 @@ fn try_all<R: Abort + Wait + Drop + Send>(rt: &R, map: &OakMap<R>, pass: &mut Ma
 {
     for i in 0..PUTS {
         let said = tries(map, pass, i + 1, &[b'a' + (i % 4) as u8], b"tries");
-        assert!(rt; !matches!(said, Ok(Wrote::Full(_))));
+        has_room(rt, said);
     }
 }
 
@@ -177,8 +225,7 @@ fn put_together<R: Threads + Abort + Wait + Sync + Drop + Send>(
 /// A pass is split off for that.
 #[test]
 fn beside_one_that_waits(rt: HostRuntime) -> Result<(), Fail> {
-    let shape = Shape::make(2, 1, 4, 4, [16, 0, 0, 0])?;
-    let (map, mut pass) = OakMap::create(&rt, &shape)?;
+    let (map, mut pass) = make(&rt, 2, 1, 4, 4, 16)?;
     let Ok(mut other) = map.split(&rt, &mut pass) else {
         pass.leave();
         assert!(rt; false, "no pass was split off");

@@ -6,7 +6,7 @@ ghost use Rattle.point_ops.specs.TestStates.{HasView, IsReady as IsReadyFor, IsR
 ghost use Rattle.oak_map.specs.Maps.{IsReady, call_of, sizes, state, table_of};
 
 use crate::map::lending_tests::shows_none;
-use crate::map::test_calls::{put, remove, settle};
+use crate::map::test_calls::{is_told, put, remove, settle};
 use header_core::LAST_GENERATION;
 use oak_core::{Pass, SplitFault};
 use oak_map::{Lent, MapPass, OakMap, ValueView, get_of};
@@ -32,10 +32,10 @@ fn wears_out<R: Abort + Wait + Drop + Send>(
     ensures again { IsReadyAgain 3 (state pass.old) (state pass.new) }
 {
     let removed = remove(rt, map, pass, 2, b"a");
-    assert!(rt; removed == Wrote::Removed { at: 2 });
+    is_told(rt, removed, Wrote::Removed { at: 2 });
     shows_none(rt, map, pass, view);
     let full = put(rt, map, pass, 3, b"a", &[1]);
-    assert!(rt; full == Wrote::Full(Lack::Header));
+    is_told(rt, full, Wrote::Full(Lack::Header));
 }
 
 /// So it is with the view that is got of a.
@@ -104,7 +104,7 @@ fn one_key<R: Abort + Wait + AllocGlobal + Drop + Send>(rt: &R, map: &OakMap<R>,
     ensures numbers { (state pass.new).numbers ≡ (state pass.old).numbers }
 {
     let new = put(rt, map, pass, 1, b"a", &[1]);
-    assert!(rt; new == Wrote::New { at: 1 });
+    is_told(rt, new, Wrote::New { at: 1 });
     one_life(rt, map, pass);
     let missed = misses(rt, map, pass.pass_mut(), b"a");
     assert!(rt; missed == Some(2));

@@ -1,5 +1,5 @@
 //! Keys are added to a room, and found in it.
-ghost use Rattle.std.specs.Prelude.{◌≡◌, ℕ, ◌<◌, List, length, Some, IfSome, IfNone};
+ghost use Rattle.std.specs.Prelude.{◌≡◌, ℕ, ◌<◌, List, length, Some, IfSome};
 ghost use Rattle.oak_model.specs.declared.classes.Class.TheVariants.{B16};
 ghost use Rattle.oak_model.specs.Class.{class_of};
 ghost use Rattle.oak_model.specs.Key.{IsKey};
@@ -12,6 +12,7 @@ ghost use Rattle.chunk_ops.specs.PinRecords.{HasRoomPin, HasEntry, UnderPin};
 ghost use Rattle.chunk_ops.specs.TestStates.{HoldsAPin, HoldsKey, IsIdleAgain, StillPinned, but_block};
 
 use crate::chunks::tests::no_pin_left;
+use crate::found::{counts, word_is};
 use arena_ops::{give, store_bytes, take};
 use chunk_ops::{
     AddHalt, Content, EntryNo, Found, Moved, NotAdded, RoomPin, above, add, base_of, below,
@@ -25,20 +26,18 @@ use std::test::Fail;
 use std::thread::{Threads, join_mut};
 
 /// Takes a block and stores the key in it.
-fn key_block(rt: &impl Abort, table: &OakTable, pass: &mut Pass, key: &[u8]) -> Option<Block>
+fn key_block(rt: &impl Abort, table: &OakTable, pass: &mut Pass, key: &[u8]) -> Block
     requires own { IsPassOf table.now pass.old }
     requires fits { class_of (length key.now) ≡ Some B16 }
     requires idle { HoldsNothing (state pass.old) }
     ensures own { Stays pass.old pass.new }
-    ensures held { IfSome result (λ b. HoldsKey (sizes table.now) b.class b.number key.now (state pass.old) (state pass.new)) }
-    ensures idle { IfNone result (IsIdleAgain (state pass.old) (state pass.new)) }
+    ensures held { HoldsKey (sizes table.now) result.class result.number key.now (state pass.old) (state pass.new) }
 {
     let Ok(block) = take(table, pass, Class::B16) else {
-        assert!(rt; false);
-        return None;
+        panic!(rt; "no block is free");
     };
     store_bytes(table, pass, &block, key);
-    Some(block)
+    block
 }
 
 /// The entry of the pinned room behind which the key belongs; none, too, where it has one of its own.
@@ -98,15 +97,12 @@ fn add_key(
     ensures own { Stays pass.old pass.new }
     ensures idle { IsIdleAgain (state pass.old) (state pass.new) }
 {
-    let Some(block) = key_block(rt, table, pass, key) else {
-        return Err(AddHalt::Busy);
-    };
+    let block = key_block(rt, table, pass, key);
     match pin_for(table, pass, key, NO_HINT) {
         Ok(pin) => add_pinned(table, pass, pin, block, key),
         Err(Moved) => {
             give(table, pass, block);
-            assert!(rt; false);
-            Err(AddHalt::Busy)
+            panic!(rt; "moved");
         }
     }
 }
@@ -126,7 +122,7 @@ fn only_byte(
     ensures still { StillPinned (sizes table.now) pin.now.room (state pass.old) (state pass.new) }
 {
     let len = key_len(table, pass, pin, entry);
-    assert_eq!(rt; len, 1);
+    counts(rt, "bytes of a key", len, 1);
     key_byte(table, pass, pin, entry, 0)
 }
 
@@ -173,6 +169,11 @@ fn byte_beside(
     byte_of(rt, table, pass, pin, found)
 }
 
+/// The byte that was found is this one.
+fn byte_is(rt: &impl Abort, found: Option<u8>, byte: Option<u8>) {
+    assert!(rt; found == byte);
+}
+
 /// The key next to this one that way is of this byte.
 fn beside_is(
     rt: &impl Abort,
@@ -189,12 +190,11 @@ fn beside_is(
     ensures idle { IsIdleAgain (state pass.old) (state pass.new) }
 {
     let Ok(pin) = pin_last(table, pass, None, NO_HINT) else {
-        assert!(rt; false);
-        return;
+        panic!(rt; "moved");
     };
     let found = byte_beside(rt, table, pass, &pin, up, key);
     unpin(table, pass, pin);
-    assert!(rt; found == byte);
+    byte_is(rt, found, byte);
 }
 
 /// What the room that has the key finds of it.
@@ -206,12 +206,16 @@ fn found_of(rt: &impl Abort, table: &OakTable, pass: &mut Pass, key: &[u8]) -> F
     ensures idle { IsIdleAgain (state pass.old) (state pass.new) }
 {
     let Ok(pin) = pin_for(table, pass, key, NO_HINT) else {
-        assert!(rt; false);
-        return Found::Missing { behind: None };
+        panic!(rt; "moved");
     };
     let found = find(table, pass, &pin, key);
     unpin(table, pass, pin);
     found
+}
+
+/// No entry was found, and the key belongs behind that one.
+fn is_missing(rt: &impl Abort, found: Found, behind: Option<EntryNo>) {
+    assert!(rt; found == Found::Missing { behind });
 }
 
 /// The key of this byte has no entry, and belongs behind that one.
@@ -228,7 +232,12 @@ fn missing_behind(
     ensures idle { IsIdleAgain (state pass.old) (state pass.new) }
 {
     let found = found_of(rt, table, pass, &[byte]);
-    assert!(rt; found == Found::Missing { behind });
+    is_missing(rt, found, behind);
+}
+
+/// The content is a floor of 0.
+fn is_no_floor(rt: &impl Abort, found: Content) {
+    assert!(rt; found == Content::Floor { stamp: 0 });
 }
 
 /// The entry of the key has a floor of 0.
@@ -242,9 +251,9 @@ fn has_no_floor(rt: &impl Abort, table: &OakTable, pass: &mut Pass, pin: &RoomPi
     match find(table, pass, pin, key) {
         Found::Entry(entry) => {
             let found = content(table, pass, pin, entry);
-            assert!(rt; found == Content::Floor { stamp: 0 });
+            is_no_floor(rt, found);
         }
-        Found::Missing { behind: _ } => assert!(rt; false),
+        Found::Missing { behind: _ } => panic!(rt; "missing"),
     }
 }
 
@@ -257,13 +266,17 @@ fn begins_at_none(rt: &impl Abort, table: &OakTable, pass: &mut Pass, key: &[u8]
     ensures idle { IsIdleAgain (state pass.old) (state pass.new) }
 {
     let Ok(pin) = pin_for(table, pass, key, Hint { room: Some(0) }) else {
-        assert!(rt; false);
-        return;
+        panic!(rt; "moved");
     };
     has_no_floor(rt, table, pass, &pin, key);
     let base = base_of(table, pass, &pin);
-    assert_eq!(rt; base, 0);
+    word_is(rt, "base", base, 0);
     unpin(table, pass, pin);
+}
+
+/// The entry was added, or stood, at this place.
+fn is_added(rt: &impl Abort, added: Result<EntryNo, AddHalt>, entry: u32) {
+    assert!(rt; added == Ok(EntryNo(entry)));
 }
 
 /// An entry of the key of this byte is added, or stands, at this place.
@@ -274,7 +287,12 @@ pub(crate) fn adds_at(rt: &impl Abort, table: &OakTable, pass: &mut Pass, byte: 
     ensures idle { IsIdleAgain (state pass.old) (state pass.new) }
 {
     let added = add_key(rt, table, pass, &[byte]);
-    assert!(rt; added == Ok(EntryNo(entry)));
+    is_added(rt, added, entry);
+}
+
+/// The room has no entry left for it.
+fn is_crowded(rt: &impl Abort, added: Result<EntryNo, AddHalt>) {
+    assert!(rt; added == Err(AddHalt::Crowded));
 }
 
 /// Three keys have their neighbours.
@@ -305,11 +323,16 @@ fn a_room_of_four(rt: HostRuntime) -> Result<(), Fail> {
     adds_at(&rt, &table, &mut pass, 0x61, 1);
     adds_at(&rt, &table, &mut pass, 0x64, 3);
     let crowded = add_key(&rt, &table, &mut pass, &[0x65]);
-    assert!(rt; crowded == Err(AddHalt::Crowded));
+    is_crowded(&rt, crowded);
     no_pin_left(&rt, &table, &mut pass);
     let usage = table.close(pass).usage();
-    assert_eq!(rt; usage.blocks[0], 4);
+    counts(&rt, "blocks", usage.blocks[0] as usize, 4);
     Ok(())
+}
+
+/// Another pass was at work there.
+fn is_busy(rt: &impl Abort, why: AddHalt) {
+    assert!(rt; why == AddHalt::Busy);
 }
 
 /// Adds the key, as often as another pass changes the room meanwhile.
@@ -322,10 +345,10 @@ fn add_at_last(rt: &impl Abort, table: &OakTable, pass: &mut Pass, byte: u8)
     for _ in 0..10_000_000 {
         match add_key(rt, table, pass, &[byte]) {
             Ok(_) => return,
-            Err(why) => assert!(rt; why == AddHalt::Busy),
+            Err(why) => is_busy(rt, why),
         }
     }
-    assert!(rt; false);
+    panic!(rt; "busy");
 }
 
 /// Adds four keys of one byte.
@@ -341,6 +364,11 @@ fn add_four(rt: &impl Abort, table: &OakTable, pass: &mut Pass, first: u8)
     }
 }
 
+/// An entry was found.
+fn is_entry(rt: &impl Abort, found: Found) {
+    assert!(rt; matches!(found, Found::Entry(_)));
+}
+
 /// Finds four keys of one byte.
 fn find_four(rt: &impl Abort, table: &OakTable, pass: &mut Pass, first: u8)
     requires own { IsPassOf table.now pass.old }
@@ -351,7 +379,7 @@ fn find_four(rt: &impl Abort, table: &OakTable, pass: &mut Pass, first: u8)
 {
     for i in 0..4 {
         let found = found_of(rt, table, pass, &[first + i]);
-        assert!(rt; matches!(found, Found::Entry(_)));
+        is_entry(rt, found);
     }
 }
 
@@ -388,8 +416,7 @@ fn split_and_add<R: Threads + Abort + Sync>(
     ensures alone { IsAlone (state pass.new) }
 {
     let Ok(mut other) = pass.split(alloc, table) else {
-        assert!(rt; false);
-        return;
+        panic!(rt; "no other pass");
     };
     add_together(rt, table, pass, &mut other);
     pass.join(table, other);
@@ -402,6 +429,6 @@ fn two_threads_add_to_one_room(rt: HostRuntime) -> Result<(), Fail> {
     pass.turn(1);
     split_and_add(&rt, rt.alloc(), &table, &mut pass);
     let usage = table.close(pass).usage();
-    assert_eq!(rt; usage.blocks[0], 8);
+    counts(&rt, "blocks", usage.blocks[0] as usize, 8);
     Ok(())
 }

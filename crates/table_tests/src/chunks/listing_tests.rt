@@ -5,11 +5,17 @@ ghost use Rattle.chunk_ops.specs.PinRecords.{HasRoomPin};
 ghost use Rattle.chunk_ops.specs.TestStates.{IsIdleAgain, StillPinned};
 
 use crate::chunks::adding_tests::adds_at;
+use crate::found::is_so;
 use chunk_ops::{RoomPin, StoredKey, entry_key, next_entry, pin_last, unpin};
 use oak_core::{OakTable, Pass};
 use oak_model::{NO_HINT, Shape};
 use std::process::Abort;
 use std::test::Fail;
+
+/// The key is of this byte.
+fn is_of(rt: &impl Abort, key: &StoredKey, byte: u8) {
+    assert!(rt; *key == StoredKey::of(&[byte]));
+}
 
 /// Along the links of the pinned room there are entries with keys of these bytes, one each, in this order, and no more.
 fn lists_bytes(rt: &impl Abort, table: &OakTable, pass: &mut Pass, pin: &RoomPin, bytes: &[u8])
@@ -21,15 +27,14 @@ fn lists_bytes(rt: &impl Abort, table: &OakTable, pass: &mut Pass, pin: &RoomPin
     let mut from = None;
     for byte in bytes {
         let Some(entry) = next_entry(table, pass, pin, from) else {
-            assert!(rt; false);
-            return;
+            panic!(rt; "no entry of {byte}");
         };
         let key = entry_key(table, pass, pin, entry);
-        assert!(rt; key == StoredKey::of(&[*byte]));
+        is_of(rt, &key, *byte);
         from = Some(entry);
     }
     let behind = next_entry(table, pass, pin, from);
-    assert!(rt; behind.is_none());
+    is_so(rt, "the end", behind.is_none());
 }
 
 /// Pins the room that has the last keys, and lists it.
@@ -40,8 +45,7 @@ fn room_has(rt: &impl Abort, table: &OakTable, pass: &mut Pass, bytes: &[u8])
     ensures idle { IsIdleAgain (state pass.old) (state pass.new) }
 {
     let Ok(pin) = pin_last(table, pass, None, NO_HINT) else {
-        assert!(rt; false);
-        return;
+        panic!(rt; "moved");
     };
     lists_bytes(rt, table, pass, &pin, bytes);
     unpin(table, pass, pin);

@@ -6,15 +6,34 @@ ghost use Rattle.oak_core.specs.PassState.{HoldsNothing};
 ghost use Rattle.chunk_ops.specs.PinRecords.{HasRoomPin};
 ghost use Rattle.chunk_ops.specs.TestStates.{HoldsAPin, IsIdleAgain};
 
+use crate::found::{counts, room_is, word_is};
 use chunk_core::OPEN;
 use chunk_ops::{
-    Moved, RoomPin, base_of, high_key, high_len, low_key, low_len, pin_for, pin_last, unpin,
+    Moved, RoomPin, StoredKey, base_of, high_key, high_len, low_key, low_len, pin_for, pin_last,
+    unpin,
 };
 use oak_core::{OakTable, Pass, load};
 use oak_model::{Hint, NO_HINT, Shape};
-use pin_word::pack;
 use std::process::Abort;
 use std::test::Fail;
+
+/// A room that has all keys has a low bound of no bytes, no high bound, and the base 0.
+fn has_all(rt: &impl Abort, low: usize, high: Option<usize>, base: u64) {
+    counts(rt, "bytes of the low bound", low, 0);
+    assert!(rt; high.is_none());
+    word_is(rt, "base", base, 0);
+}
+
+/// Nor is there a key at which it begins or ends.
+fn has_no_ends(rt: &impl Abort, begin: &Option<StoredKey>, end: &Option<StoredKey>) {
+    assert!(rt; begin.is_none());
+    assert!(rt; end.is_none());
+}
+
+/// It is room 0.
+fn is_first(rt: &impl Abort, pin: &RoomPin) {
+    word_is(rt, "room", u64::from(pin.room), 0);
+}
 
 /// The pin is one of room 0, which has all keys, and is undone.
 fn all_keys(rt: &impl Abort, table: &OakTable, pass: &mut Pass, pin: RoomPin)
@@ -24,17 +43,14 @@ fn all_keys(rt: &impl Abort, table: &OakTable, pass: &mut Pass, pin: RoomPin)
     ensures own { Stays pass.old pass.new }
     ensures idle { IsIdleAgain (state pass.old) (state pass.new) }
 {
-    assert_eq!(rt; pin.room, 0);
+    is_first(rt, &pin);
     let low = low_len(table, pass, &pin);
     let high = high_len(table, pass, &pin);
     let begin = low_key(table, pass, &pin);
     let end = high_key(table, pass, &pin);
     let base = base_of(table, pass, &pin);
-    assert_eq!(rt; low, 0);
-    assert!(rt; high.is_none());
-    assert!(rt; begin.is_none());
-    assert!(rt; end.is_none());
-    assert_eq!(rt; base, 0);
+    has_all(rt, low, high, base);
+    has_no_ends(rt, &begin, &end);
     unpin(table, pass, pin);
 }
 
@@ -47,7 +63,7 @@ fn last_keys(rt: &impl Abort, table: &OakTable, pass: &mut Pass)
 {
     match pin_last(table, pass, None, NO_HINT) {
         Ok(pin) => all_keys(rt, table, pass, pin),
-        Err(Moved) => assert!(rt; false),
+        Err(Moved) => panic!(rt; "moved"),
     }
 }
 
@@ -61,7 +77,7 @@ fn keys_room(rt: &impl Abort, table: &OakTable, pass: &mut Pass, key: &[u8], hin
 {
     match pin_for(table, pass, key, Hint { room: hint }) {
         Ok(pin) => all_keys(rt, table, pass, pin),
-        Err(Moved) => assert!(rt; false),
+        Err(Moved) => panic!(rt; "moved"),
     }
 }
 
@@ -74,7 +90,7 @@ pub(crate) fn no_pin_left(rt: &impl Abort, table: &OakTable, pass: &mut Pass)
 {
     let _rooms = table.rooms();
     let word = load(table, pass, table.room_at(0));
-    assert_eq!(rt; word, pack(0, OPEN, 0));
+    room_is(rt, "at the end", word, OPEN, 0);
 }
 
 #[test]
@@ -92,7 +108,7 @@ fn pins_of_one_room(rt: HostRuntime) -> Result<(), Fail> {
 
 /// The pass has tried to pin a room so often.
 fn has_tried(rt: &impl Abort, pass: &Pass, times: u64) {
-    assert_eq!(rt; pass.tries(), times);
+    word_is(rt, "tries", pass.tries(), times);
 }
 
 /// Where the room that is tried first is free, or none that the table has, room 0 is pinned.

@@ -1,6 +1,7 @@
 //! Hints of an index of minima.
 ghost use Rattle.oak_model.specs.Key.{IsKey};
 
+use crate::found::{counts, is_so};
 use chunk_index::{ChunkIndex, IndexReader, IndexWriter};
 use oak_model::{Hint, OutOfMemory};
 use std::process::Abort;
@@ -223,8 +224,8 @@ fn publish_again<R: Wait + Drop + Send>(rt: &R, index: &ChunkIndex<R>) -> bool {
 fn race<R: Abort + Threads + Wait + Drop + Send + Sync>(rt: &R, index: &ChunkIndex<R>) {
     let reader = index.reader(rt);
     let (fine, wrong) = join(rt, || publish_again(rt, index), move || count_wrong(reader));
-    assert!(rt; fine);
-    assert_eq!(rt; wrong, 0);
+    is_so(rt, "published", fine);
+    counts(rt, "wrong hints", wrong as usize, 0);
 }
 
 #[test]

@@ -1,16 +1,11 @@
 //! How many words the parts of a table have.
 
+use crate::found::counts;
 use arena_core::layout::{arena_words, bit_words, bits_below, bytes_below};
 use chunk_core::layout::{room_count, room_width, room_words};
 use header_core::layout::{header_count, header_words};
 use oak_model::Shape;
-use std::process::Abort;
 use std::test::Fail;
-
-/// There are as many of these as are due.
-fn counts(rt: &impl Abort, what: &str, found: usize, due: usize) {
-    assert_eq!(rt; found, due, "{what}");
-}
 
 #[test]
 fn words_of_an_arena(rt: HostRuntime) -> Result<(), Fail> {

@@ -2,6 +2,7 @@
 ghost use Rattle.oak_model.specs.Cell.{HasArgument};
 ghost use Rattle.oak_model.specs.Recipe.{IsArgument};
 
+use crate::found::{bytes_are, counts};
 use oak_model::{
     Answer, BadShape, CellCall, Class, Key, Lack, Name, OutOfMemory, RecipeKind, Shape, ShapeField,
     Value, Wrote, answer_call, apply_kind, class_of, cmp_keys, is_key, is_value,
@@ -23,16 +24,26 @@ const CLASS_ROWS: [(usize, Option<Class>); 8] = [
     (1_025, None),
 ];
 
+/// The length fits into blocks of this class.
+fn class_is(rt: &impl Abort, n: usize, class: Option<Class>) {
+    assert_eq!(rt; class_of(n), class, "at {n}");
+}
+
 #[test]
 fn classes_of_lengths(rt: HostRuntime) {
     for &(n, class) in &CLASS_ROWS {
-        assert_eq!(rt; class_of(n), class, "at {n}");
+        class_is(&rt, n, class);
     }
-    assert_eq!(rt; Class::B256.bytes(), 256);
+    counts(&rt, "bytes of a class", Class::B256.bytes(), 256);
 }
 
 /// The shape is refused for this value of the field.
-fn is_refused(rt: &impl Abort, made: Result<Shape, BadShape>, field: ShapeField, value: u32) {
+pub(crate) fn is_refused(
+    rt: &impl Abort,
+    made: Result<Shape, BadShape>,
+    field: ShapeField,
+    value: u32,
+) {
     assert!(rt; made == Err(BadShape { field, value }), "for {value}");
 }
 
@@ -126,26 +137,21 @@ fn recipes_in_place(rt: HostRuntime) {
     becomes(&rt, RecipeKind::Rev, 0, &mut bytes, &[240, 13, 14]);
 }
 
-/// The bytes of what was made of `k` are those.
-fn is_k(rt: &impl Abort, made: &str, bytes: &[u8]) {
-    assert_eq!(rt; bytes, b"k".as_slice(), "{made}");
-}
-
 /// A key has the bytes that it was made of.
 fn key_of_k(rt: &impl Abort, alloc: Global) -> Result<(), OutOfMemory> {
-    is_k(rt, "key", Key::make(alloc, b"k")?.bytes());
+    bytes_are(rt, "key", Key::make(alloc, b"k")?.bytes(), b"k");
     Ok(())
 }
 
 /// So has a value.
 fn value_of_k(rt: &impl Abort, alloc: Global) -> Result<(), OutOfMemory> {
-    is_k(rt, "value", Value::make(alloc, b"k")?.bytes());
+    bytes_are(rt, "value", Value::make(alloc, b"k")?.bytes(), b"k");
     Ok(())
 }
 
 /// So has a name.
 fn name_of_k(rt: &impl Abort, alloc: Global) -> Result<(), OutOfMemory> {
-    is_k(rt, "name", Name::make(alloc, b"k")?.bytes());
+    bytes_are(rt, "name", Name::make(alloc, b"k")?.bytes(), b"k");
     Ok(())
 }
 
@@ -159,10 +165,15 @@ fn lengths_of_values(rt: &impl Abort) {
     assert!(rt; is_value(b"") && is_value(&[98; 1_024]) && !is_value(&[98; 1_025]));
 }
 
+/// The keys are in this order.
+fn is_order(rt: &impl Abort, a: &[u8], b: &[u8], due: Ordering) {
+    assert!(rt; cmp_keys(a, b) == due);
+}
+
 /// Keys are in the order of their bytes, and bytes have no sign.
 fn order_of_keys(rt: &impl Abort) {
-    assert_eq!(rt; cmp_keys(b"a", b"ab"), Ordering::Less);
-    assert_eq!(rt; cmp_keys(&[0xff], &[0x7f, 0x00]), Ordering::Greater);
+    is_order(rt, b"a", b"ab", Ordering::Less);
+    is_order(rt, &[0xff], &[0x7f, 0x00], Ordering::Greater);
 }
 
 #[test]
@@ -194,18 +205,13 @@ fn writes(
     Ok(value)
 }
 
-/// The value is these bytes.
-fn is_value_of(rt: &impl Abort, value: &Value, bytes: &[u8]) {
-    assert_eq!(rt; value.bytes(), bytes);
-}
-
 /// The call writes to an empty cell, and to what it left there: 7 then.
 fn writes_twice(rt: &impl Abort, alloc: Global, call: &CellCall) -> Result<(), Fail>
     requires { HasArgument call.now }
 {
     let first = writes(rt, alloc, None, call, true)?;
     let second = writes(rt, alloc, Some(&first), call, false)?;
-    is_value_of(rt, &second, &[0, 0, 0, 0, 0, 0, 0, 7]);
+    bytes_are(rt, "value", second.bytes(), &[0, 0, 0, 0, 0, 0, 0, 7]);
     Ok(())
 }
 

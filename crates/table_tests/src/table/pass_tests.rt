@@ -7,14 +7,15 @@ ghost use Rattle.oak_core.specs.Passes.{IsPassOf, Stays, state, key, call_of, sc
 ghost use Rattle.oak_core.specs.Scratch.{StaysButScratch};
 ghost use Rattle.oak_core.specs.Splitting.{LooksAtGiven};
 
+use crate::found::{bytes_are, counts, is_unused, room_is};
 use crate::table::index_tests::names;
+use crate::table::model_tests::is_refused;
 use chunk_core::OPEN;
 use chunk_index::{IndexReader, IndexWriter};
 use header_core::LAST_GENERATION;
 use oak_core::steps::{pin_room, unpin_room};
 use oak_core::{OakTable, Pass, SortSlot, Sorting, SplitFault, Writing, load};
-use oak_model::{BadShape, Shape, ShapeField, Usage};
-use pin_word::pack;
+use oak_model::{Shape, ShapeField};
 use std::alloc::Global;
 use std::process::Abort;
 use std::test::Fail;
@@ -24,6 +25,11 @@ use std::thread::{Threads, join_mut};
 fn has_number_one(_other: &Pass)
     requires { (state _other.now).numbers.number ≡ 1 }
 {}
+
+/// A shape of two has no third pass.
+fn is_limit(rt: &impl Abort, fault: SplitFault) {
+    assert!(rt; fault == SplitFault::Limit { made: 2 });
+}
 
 /// A pass of a shape of two, of which both were made.
 fn split_no_more(rt: &impl Abort, alloc: Global, table: &OakTable, pass: &mut Pass)
@@ -35,13 +41,9 @@ fn split_no_more(rt: &impl Abort, alloc: Global, table: &OakTable, pass: &mut Pa
     match pass.split(alloc, table) {
         Ok(third) => {
             pass.join(table, third);
-            assert!(rt; false);
-            return;
+            panic!(rt; "a third pass");
         }
-        Err(fault) => {
-            assert!(rt; fault == SplitFault::Limit { made: 2 });
-            return;
-        }
+        Err(fault) => is_limit(rt, fault),
     }
 }
 
@@ -55,8 +57,7 @@ fn split_twice(rt: &impl Abort, alloc: Global, table: &OakTable, pass: &mut Pass
     ensures alone { IsAlone (state pass.new) }
 {
     let Ok(other) = pass.split(alloc, table) else {
-        assert!(rt; false);
-        return;
+        panic!(rt; "no other pass");
     };
     has_number_one(&other);
     split_no_more(rt, alloc, table, pass);
@@ -65,21 +66,8 @@ fn split_twice(rt: &impl Abort, alloc: Global, table: &OakTable, pass: &mut Pass
 
 /// A shape of three entries is none.
 fn three_entries_are_refused(rt: &impl Abort) {
-    let bad = BadShape {
-        field: ShapeField::Entries,
-        value: 3,
-    };
-    assert!(rt; Shape::make(2, 4, 3, 16, [2, 0, 0, 0]) == Err(bad));
-}
-
-/// The table was closed with nothing in use but its one chunk.
-fn is_unused(rt: &impl Abort, usage: Usage) {
-    let unused = Usage {
-        blocks: [0, 0, 0, 0],
-        headers: 0,
-        chunks: 1,
-    };
-    assert!(rt; usage == unused);
+    let made = Shape::make(2, 4, 3, 16, [2, 0, 0, 0]);
+    is_refused(rt, made, ShapeField::Entries, 3);
 }
 
 #[test]
@@ -147,7 +135,7 @@ fn two_passes_in_two_threads(rt: HostRuntime) -> Result<(), Fail> {
     pass.turn(1);
     split_and_join(&rt, rt.alloc(), &table, &mut pass);
     let usage = table.close(pass).usage();
-    assert_eq!(rt; usage.chunks, 1);
+    counts(&rt, "chunks", usage.chunks as usize, 1);
     Ok(())
 }
 
@@ -173,8 +161,7 @@ fn a_scratch_of_a_pass(rt: HostRuntime) -> Result<(), Fail> {
     let (table, mut pass) = OakTable::create(rt.alloc(), &shape)?;
     write_between_loads(&table, &mut pass);
     pass.scratch_mut().bytes_mut()[2] = 9;
-    let kept = pass.scratch().bytes() == [7, 0, 9].as_slice();
-    assert!(rt; kept);
+    bytes_are(&rt, "scratch", pass.scratch().bytes(), &[7, 0, 9]);
     table.close(pass);
     Ok(())
 }
@@ -225,9 +212,9 @@ fn slots_of_a_pass(rt: HostRuntime) -> Result<(), Fail> {
 fn two_bytes(rt: &impl Abort, scratch: &mut Writing) {
     scratch.set_len(2);
     scratch.set(1, 5);
-    assert_eq!(rt; scratch.len(), 2);
-    assert_eq!(rt; scratch.byte(1), 5);
-    assert!(rt; scratch.bytes() == [0, 5].as_slice());
+    assert!(rt; scratch.len() == 2);
+    counts(rt, "the second byte", usize::from(scratch.byte(1)), 5);
+    bytes_are(rt, "scratch", scratch.bytes(), &[0, 5]);
 }
 
 #[test]
@@ -251,8 +238,8 @@ fn pin_and_unpin(rt: &impl Abort, table: &OakTable, pass: &mut Pass)
     let word = table.room_at(0);
     let before = pin_room(table, pass, word, 1);
     let pinned = unpin_room(table, pass, word, 1);
-    assert_eq!(rt; before, pack(0, OPEN, 0));
-    assert_eq!(rt; pinned, pack(0, OPEN, 1));
+    room_is(rt, "before", before, OPEN, 0);
+    room_is(rt, "pinned", pinned, OPEN, 1);
 }
 
 #[test]
@@ -297,7 +284,7 @@ fn hints_of_a_pass(rt: HostRuntime) -> Result<(), Fail> {
     writer.set(b"k", 2)?;
     let (table, mut pass) = OakTable::create(rt.alloc(), &shape)?;
     hints_by(&rt, &mut pass, writer.reader());
-    assert_eq!(rt; pass.tries(), 0);
+    counts(&rt, "tries", pass.tries() as usize, 0);
     table.close(pass);
     Ok(())
 }

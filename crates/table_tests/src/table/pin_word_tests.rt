@@ -2,6 +2,7 @@
 
 ghost use Rattle.std.specs.Prelude.{◌<◌, ◌^◌};
 
+use crate::found::word_is;
 use pin_word::{count, generation, pack, state};
 use std::process::Abort;
 use std::test::Fail;
@@ -40,7 +41,7 @@ const ROWS: [(u32, u8, u32, u64); 13] = [
 /// The parts make the word, where they fit into one.
 fn packs(rt: &impl Abort, age: u32, at: u8, pins: u32, word: u64) {
     if at < 16 && pins < 1 << 28 {
-        assert_eq!(rt; pack(age, at, pins), word);
+        word_is(rt, "the parts", pack(age, at, pins), word);
     }
 }
 

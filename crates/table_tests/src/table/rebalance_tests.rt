@@ -6,6 +6,7 @@ ghost use Rattle.oak_core.specs.PassState.{HoldsNothing, IsAlone};
 ghost use Rattle.oak_core.specs.Passes.{IsPassOf, Stays, state, key};
 ghost use Rattle.oak_core.specs.Schedule.{opening};
 
+use crate::found::{counts, room_is, word_is};
 use chunk_core::{FROZEN, HELD, OPEN};
 use oak_core::steps::{freeze, hold_room, open_room, pin_room, store_room, thaw_room, unpin_room};
 use oak_core::{OakTable, Pass, load};
@@ -34,10 +35,10 @@ fn close_and_reopen(rt: &impl Abort, table: &OakTable, pass: &mut Pass)
     store_room(table, pass, base, 0);
     let held = open_room(table, pass, word, pack(0, HELD - OPEN, 0));
     let opened = load(table, pass, word);
-    assert_eq!(rt; before, pack(0, OPEN, 0));
-    assert_eq!(rt; frozen, pack(0, FROZEN, 0));
-    assert_eq!(rt; held, pack(0, HELD, 0));
-    assert_eq!(rt; opened, pack(0, OPEN, 0));
+    room_is(rt, "before", before, OPEN, 0);
+    room_is(rt, "frozen", frozen, FROZEN, 0);
+    room_is(rt, "held", held, HELD, 0);
+    room_is(rt, "opened", opened, OPEN, 0);
 }
 
 #[test]
@@ -46,7 +47,7 @@ fn a_reopened_room(rt: HostRuntime) -> Result<(), Fail> {
     let (table, mut pass) = OakTable::create(rt.alloc(), &shape)?;
     close_and_reopen(&rt, &table, &mut pass);
     let usage = table.close(pass).usage();
-    assert_eq!(rt; usage.chunks, 1);
+    counts(&rt, "chunks", usage.chunks as usize, 1);
     Ok(())
 }
 
@@ -63,11 +64,10 @@ fn freeze_and_thaw(rt: &impl Abort, table: &OakTable, pass: &mut Pass)
     let open = pack(0, OPEN, 1);
     let frozen = pack(0, FROZEN, 1);
     if freeze(table, pass, word, open, frozen) != open {
-        assert!(rt; false);
-        return;
+        panic!(rt; "not open");
     }
     let found = thaw_room(table, pass, word, pack(0, FROZEN - OPEN, 0));
-    assert_eq!(rt; found, frozen);
+    word_is(rt, "thawed", found, frozen);
 }
 
 /// One pass pins room 0, and the other freezes it and opens it again: the pin stands, and the next one finds
@@ -86,10 +86,10 @@ fn pin_round_a_thaw(rt: &impl Abort, table: &OakTable, pass: &mut Pass, other: &
     let stood = unpin_room(table, other, word, 1);
     let again = pin_room(table, other, word, 1);
     let last = unpin_room(table, other, word, 1);
-    assert_eq!(rt; before, pack(0, OPEN, 0));
-    assert_eq!(rt; stood, pack(0, OPEN, 1));
-    assert_eq!(rt; again, pack(0, OPEN, 0));
-    assert_eq!(rt; last, pack(0, OPEN, 1));
+    room_is(rt, "before", before, OPEN, 0);
+    room_is(rt, "stood", stood, OPEN, 1);
+    room_is(rt, "again", again, OPEN, 0);
+    room_is(rt, "last", last, OPEN, 1);
 }
 
 fn split_and_thaw(rt: &impl Abort, alloc: Global, table: &OakTable, pass: &mut Pass)
@@ -101,8 +101,7 @@ fn split_and_thaw(rt: &impl Abort, alloc: Global, table: &OakTable, pass: &mut P
     ensures alone { IsAlone (state pass.new) }
 {
     let Ok(mut other) = pass.split(alloc, table) else {
-        assert!(rt; false);
-        return;
+        panic!(rt; "no other pass");
     };
     pin_round_a_thaw(rt, table, pass, &mut other);
     pass.join(table, other);
@@ -114,6 +113,6 @@ fn a_thawed_room(rt: HostRuntime) -> Result<(), Fail> {
     let (table, mut pass) = OakTable::create(rt.alloc(), &shape)?;
     split_and_thaw(&rt, rt.alloc(), &table, &mut pass);
     let usage = table.close(pass).usage();
-    assert_eq!(rt; usage.chunks, 1);
+    counts(&rt, "chunks", usage.chunks as usize, 1);
     Ok(())
 }

@@ -1,13 +1,9 @@
 //! Bytes as they stand in words.
 
+use crate::found::{bytes_are, is_so, word_is};
 use arena_core::words::{first_bytes, is_word, put_word, word_from};
 use std::process::Abort;
 use std::test::Fail;
-
-/// The word is this one.
-fn word_is(rt: &impl Abort, what: &str, word: u64, due: u64) {
-    assert_eq!(rt; word, due, "{what}");
-}
 
 #[test]
 fn nine_bytes_in_two_words(rt: HostRuntime) -> Result<(), Fail> {
@@ -17,20 +13,21 @@ fn nine_bytes_in_two_words(rt: HostRuntime) -> Result<(), Fail> {
     let mut out = [0; 9];
     put_word(&mut out, 0, 0x0102_0304_0506_0708);
     put_word(&mut out, 1, 0x0900_0000_0000_0000);
-    assert_eq!(rt; out, bytes);
+    bytes_are(&rt, "nine bytes", &out, &bytes);
     Ok(())
 }
 
 /// The eight bytes of the word begin with these three, or do not.
 fn begins(rt: &impl Abort, bytes: &[u8; 3], due: bool) {
-    assert_eq!(rt; is_word(bytes, 0, 0x0102_0304_0506_0708), due);
+    let found = is_word(bytes, 0, 0x0102_0304_0506_0708);
+    is_so(rt, "three bytes in front", found == due);
 }
 
 /// The first three bytes of the word are put.
 fn puts_three(rt: &impl Abort) {
     let mut out = [9; 3];
     put_word(&mut out, 0, 0x0102_0304_0506_0708);
-    assert_eq!(rt; out, [1, 2, 3]);
+    bytes_are(rt, "three bytes", &out, &[1, 2, 3]);
 }
 
 #[test]

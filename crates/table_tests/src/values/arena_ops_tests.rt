@@ -5,11 +5,17 @@ ghost use Rattle.arena_core.specs.Arena.{block_words};
 ghost use Rattle.oak_core.specs.Passes.{IsPassOf, Stays, state, key};
 ghost use Rattle.arena_ops.specs.Stack.{IsStack, KeepsRest};
 
+use crate::found::{counts, is_unused};
 use arena_ops::{NoBlock, give, store, take};
 use oak_core::{Block, OakTable, Pass};
-use oak_model::{Class, Shape, Usage};
+use oak_model::{Class, Shape};
 use std::process::Abort;
 use std::test::Fail;
+
+/// The refusal is of this class.
+fn is_of(rt: &impl Abort, found: Class, class: Class) {
+    assert!(rt; found == class);
+}
 
 /// No block of the class is left.
 fn none_left(rt: &impl Abort, table: &OakTable, pass: &mut Pass, class: Class)
@@ -24,14 +30,8 @@ fn none_left(rt: &impl Abort, table: &OakTable, pass: &mut Pass, class: Class)
                 class: _,
                 number: _,
             },
-        ) => {
-            assert!(rt; false);
-            return;
-        }
-        Err(NoBlock(found)) => {
-            assert!(rt; found == class);
-            return;
-        }
+        ) => panic!(rt; "a block is left"),
+        Err(NoBlock(found)) => is_of(rt, found, class),
     }
 }
 
@@ -53,8 +53,7 @@ fn take_at(
     ensures stack { IsStack (key table.now) class (λ k. slice_index numbers.new k) (suc i) (state pass.new).blocks.held }
 {
     let Ok(block) = take(table, pass, class) else {
-        assert!(rt; false);
-        return;
+        panic!(rt; "no block is left");
     };
     let Block { class: _, number } = block;
     numbers[i] = number;
@@ -149,6 +148,11 @@ fn take_and_give_all(
     give_all(table, pass, class, numbers);
 }
 
+/// The blocks of these numbers are two.
+fn differ(rt: &impl Abort, a: u32, b: u32) {
+    assert!(rt; a != b);
+}
+
 /// Two blocks of one class are taken, and a third is refused until one is given back.
 fn two_blocks(rt: &impl Abort, table: &OakTable, pass: &mut Pass)
     requires own { IsPassOf table.now pass.old }
@@ -162,7 +166,7 @@ fn two_blocks(rt: &impl Abort, table: &OakTable, pass: &mut Pass)
     take_at(rt, table, pass, class, &mut numbers, 0);
     store_at(table, pass, class, &numbers, 0, 1, 7);
     take_at(rt, table, pass, class, &mut numbers, 1);
-    assert!(rt; numbers[0] != numbers[1]);
+    differ(rt, numbers[0], numbers[1]);
     none_left(rt, table, pass, class);
     give_at(table, pass, class, &numbers, 1);
     take_at(rt, table, pass, class, &mut numbers, 1);
@@ -176,12 +180,7 @@ fn a_shape_of_two_blocks(rt: HostRuntime) -> Result<(), Fail> {
     let shape = Shape::make(2, 1, 4, 1, [2, 0, 0, 0])?;
     let (table, mut pass) = OakTable::create(rt.alloc(), &shape)?;
     two_blocks(&rt, &table, &mut pass);
-    let unused = Usage {
-        blocks: [0, 0, 0, 0],
-        headers: 0,
-        chunks: 1,
-    };
-    assert!(rt; table.close(pass).usage() == unused);
+    is_unused(&rt, table.close(pass).usage());
     Ok(())
 }
 
@@ -211,6 +210,6 @@ fn all_blocks_of_a_class_twice(rt: HostRuntime) -> Result<(), Fail> {
     let (table, mut pass) = OakTable::create(rt.alloc(), &shape)?;
     take_and_give_twice(&rt, &table, &mut pass, Class::B16, numbers.as_mut_slice());
     let usage = table.close(pass).usage();
-    assert_eq!(rt; usage.blocks[0], 0);
+    counts(&rt, "blocks", usage.blocks[0] as usize, 0);
     Ok(())
 }

@@ -9,9 +9,10 @@ ghost use Rattle.header_core.specs.HeaderHolds.{no_headers, in_state};
 ghost use Rattle.oak_core.specs.Passes.{IsPassOf, Stays, state, key};
 ghost use Rattle.value_ops.specs.OneHeader.{IsOneHeader, IsOneBlock, KeepsElse};
 
+use crate::found::{is_unused, word_is};
 use arena_ops::{give, take};
 use oak_core::{Block, OakTable, Pass};
-use oak_model::{Class, Shape, Usage};
+use oak_model::{Class, Shape};
 use std::process::Abort;
 use std::test::Fail;
 use value_ops::{NoHeader, Owned, claim, fill, release, withdraw};
@@ -53,9 +54,7 @@ pub(crate) fn none_left(rt: &impl Abort, table: &OakTable, pass: &mut Pass)
     ensures headers { (state pass.new).headers ≡ (state pass.old).headers }
 {
     match claim(table, pass) {
-        Ok(Owned { header: _ }) => {
-            assert!(rt; false);
-        }
+        Ok(Owned { header: _ }) => panic!(rt; "a header is left"),
         Err(NoHeader) => {}
     }
 }
@@ -74,6 +73,12 @@ fn claim_and_release(rt: &impl Abort, table: &OakTable, pass: &mut Pass)
     release(table, pass, owned);
 }
 
+/// The block is of the class and the number with which it was taken.
+fn is_taken(rt: &impl Abort, block: &Block, number: u32) {
+    assert!(rt; block.class == Class::B16);
+    word_is(rt, "number", u64::from(block.number), u64::from(number));
+}
+
 /// A header is claimed, filled with a block, and withdrawn: it hands that block back.
 fn fill_and_withdraw(rt: &impl Abort, table: &OakTable, pass: &mut Pass)
     requires own { IsPassOf table.now pass.old }
@@ -88,10 +93,10 @@ fn fill_and_withdraw(rt: &impl Abort, table: &OakTable, pass: &mut Pass)
     let block = take_one(rt, table, pass);
     let number = block.number;
     let fresh = fill(table, pass, owned, block, 5, 7);
-    assert_eq!(rt; fresh.stamp, 7);
+    word_is(rt, "stamp", fresh.stamp, 7);
     none_left(rt, table, pass);
     let back = withdraw(table, pass, fresh);
-    assert!(rt; back.class == Class::B16 && back.number == number);
+    is_taken(rt, &back, number);
     give(table, pass, back);
 }
 
@@ -101,11 +106,6 @@ fn one_header(rt: HostRuntime) -> Result<(), Fail> {
     let (table, mut pass) = OakTable::create(rt.alloc(), &shape)?;
     claim_and_release(&rt, &table, &mut pass);
     fill_and_withdraw(&rt, &table, &mut pass);
-    let unused = Usage {
-        blocks: [0, 0, 0, 0],
-        headers: 0,
-        chunks: 1,
-    };
-    assert!(rt; table.close(pass).usage() == unused);
+    is_unused(&rt, table.close(pass).usage());
     Ok(())
 }

@@ -12,10 +12,11 @@ ghost use Rattle.value_ops.specs.OneHeader.{IsOneHeader, IsOneBlock, KeepsElse};
 ghost use Rattle.value_ops.specs.Pinning.{OnlyLearns};
 ghost use Rattle.value_ops.specs.Reading.{IsReading, ReadsOn, value};
 
+use crate::found::{bytes_are, counts, is_so, is_unused, word_is};
 use crate::values::claiming_tests::none_left;
 use arena_ops::{NoBlock, give, store, take};
 use oak_core::{Block, Fresh, OakTable, Pass};
-use oak_model::{Class, Shape, Usage};
+use oak_model::{Class, Shape};
 use std::alloc::Global;
 use std::process::Abort;
 use std::test::Fail;
@@ -29,7 +30,7 @@ fn same_is(rt: &impl Abort, reading: &mut Reading<'_>, bytes: &[u8])
     ensures reads { ReadsOn reading.old reading.new }
 {
     let same = reading.same(bytes);
-    assert!(rt; same);
+    is_so(rt, "the same", same);
 }
 
 /// It has this byte at `i`.
@@ -40,7 +41,7 @@ fn byte_is(rt: &impl Abort, reading: &mut Reading<'_>, i: usize, byte: u8)
     ensures reads { ReadsOn reading.old reading.new }
 {
     let found = reading.byte(i);
-    assert_eq!(rt; found, byte);
+    counts(rt, "byte", usize::from(found), usize::from(byte));
 }
 
 /// Its eight bytes in front are this number.
@@ -51,7 +52,7 @@ fn eight_is(rt: &impl Abort, reading: &mut Reading<'_>, front: u64)
     ensures reads { ReadsOn reading.old reading.new }
 {
     let found = reading.eight(0);
-    assert_eq!(rt; found, front);
+    word_is(rt, "front", found, front);
 }
 
 /// They are, where it has eight bytes at all.
@@ -73,7 +74,7 @@ fn copies_to(rt: &impl Abort, reading: &mut Reading<'_>, copy: &mut [u8], bytes:
     ensures reads { ReadsOn reading.old reading.new }
 {
     reading.copy_into(copy);
-    assert!(rt; *copy == *bytes);
+    bytes_are(rt, "copy", copy, bytes);
 }
 
 /// A copy is, where it has three or eight bytes.
@@ -89,6 +90,19 @@ fn copy_is(rt: &impl Abort, reading: &mut Reading<'_>, bytes: &[u8])
     }
 }
 
+/// So many bytes of a copy are those at the front of these, at most five, and behind them it has the byte 7.
+fn is_front(rt: &impl Abort, copy: &[u8; 5], many: usize, bytes: &[u8]) {
+    counts(rt, "bytes of the front", many, bytes.len().min(5));
+    for i in 0..5 {
+        let wanted = if i < many && i < bytes.len() {
+            bytes[i]
+        } else {
+            7
+        };
+        counts(rt, "byte", usize::from(copy[i]), usize::from(wanted));
+    }
+}
+
 /// A copy of its front, of at most five bytes, is that of these bytes, and the place behind it stays as it was.
 fn prefix_is(rt: &impl Abort, reading: &mut Reading<'_>, bytes: &[u8])
     requires { IsReading reading.old }
@@ -97,15 +111,7 @@ fn prefix_is(rt: &impl Abort, reading: &mut Reading<'_>, bytes: &[u8])
 {
     let mut copy = [7; 5];
     let many = reading.copy_prefix(&mut copy);
-    assert_eq!(rt; many, bytes.len().min(5));
-    for i in 0..5 {
-        let wanted = if i < many && i < bytes.len() {
-            bytes[i]
-        } else {
-            7
-        };
-        assert_eq!(rt; copy[i], wanted);
-    }
+    is_front(rt, &copy, many, bytes);
 }
 
 /// A copy of it in a vector is these bytes.
@@ -115,19 +121,18 @@ fn vector_is(rt: &impl Abort, alloc: Global, reading: &mut Reading<'_>, bytes: &
     ensures reads { ReadsOn reading.old reading.new }
 {
     let Ok(copy) = reading.to_vec(alloc) else {
-        assert!(rt; false);
-        return;
+        panic!(rt; "no memory");
     };
-    assert!(rt; *copy.as_slice() == *bytes);
+    bytes_are(rt, "vector", copy.as_slice(), bytes);
 }
 
 /// It is shown by where its value lies.
 fn is_shown(rt: &impl Abort, alloc: Global, reading: &Reading<'_>) {
     let Ok(shown) = format!(in alloc; "{reading:?}") else {
-        assert!(rt; false);
-        return;
+        panic!(rt; "no memory");
     };
-    assert!(rt; shown.starts_with("Reading { value: PinnedValue { header: 0, "));
+    let begins = shown.starts_with("Reading { value: PinnedValue { header: 0, ");
+    is_so(rt, "shown", begins);
 }
 
 /// It is exactly these bytes, as a whole and in its parts.
@@ -174,12 +179,11 @@ fn value_is<R: Abort + AllocGlobal>(
     ensures learns { OnlyLearns (key table.now) (call_of pass.old) (state pass.old) (state pass.new) }
 {
     let Ok(pin) = pin_at(table, pass, at.0, at.1) else {
-        assert!(rt; false);
-        return;
+        panic!(rt; "no pin");
     };
     let mut reading = pin.reading(table, pass);
-    assert_eq!(rt; reading.at(), stamp);
-    assert_eq!(rt; reading.len(), bytes.len());
+    word_is(rt, "stamp", reading.at(), stamp);
+    assert!(rt; reading.len() == bytes.len());
     third_is(rt, &mut reading, bytes);
     whole_is(rt, &mut reading, bytes, stamp);
     reading.done();
@@ -377,8 +381,8 @@ fn three_bytes<R: Abort + AllocGlobal>(rt: &R, table: &OakTable, pass: &mut Pass
     let block = try_take(table, pass).expect(rt, "a block is free");
     store_both(table, pass, &block, (0x0102_0300_0000_0000, 0));
     let fresh = fill_one(table, pass, owned, block, 3, 1);
-    assert_eq!(rt; fresh.header, 0);
-    assert_eq!(rt; fresh.generation, 0);
+    counts(rt, "header", fresh.header as usize, 0);
+    counts(rt, "generation", fresh.generation as usize, 0);
     read_back(rt, table, pass, fresh, &[1, 2, 3], 1);
     let again = try_claim(table, pass).expect(rt, "the header is free again");
     release(table, pass, again);
@@ -389,7 +393,8 @@ fn one_value(rt: HostRuntime) -> Result<(), Fail> {
     let shape = Shape::make(1, 1, 4, 1, [1, 0, 0, 0])?;
     let (table, mut pass) = OakTable::create(rt.alloc(), &shape)?;
     three_bytes(&rt, &table, &mut pass);
-    assert_eq!(rt; table.close(pass).usage().headers, 0);
+    let usage = table.close(pass).usage();
+    counts(&rt, "headers", usage.headers as usize, 0);
     Ok(())
 }
 
@@ -421,11 +426,6 @@ fn two_passes_over_one_header(rt: HostRuntime) -> Result<(), Fail> {
     let shape = Shape::make(2, 1, 4, 1, [1, 0, 0, 0])?;
     let (table, mut pass) = OakTable::create(rt.alloc(), &shape)?;
     rounds_in_two_threads(&rt, rt.alloc(), &table, &mut pass);
-    let unused = Usage {
-        blocks: [0, 0, 0, 0],
-        headers: 0,
-        chunks: 1,
-    };
-    assert!(rt; table.close(pass).usage() == unused);
+    is_unused(&rt, table.close(pass).usage());
     Ok(())
 }

@@ -1,6 +1,7 @@
 //! Tests of recipes.
 ghost use Rattle.std.specs.Prelude.{◌≡◌, length};
 
+use crate::found::word_is;
 use oak_core::Writing;
 use oak_model::RecipeKind;
 use std::process::Abort;
@@ -47,9 +48,9 @@ impl Recipe for LengthRecipe {
 
 /// The recipe was told this kind and argument, and was not called.
 fn is_told(rt: &impl Abort, recipe: &Box<dyn Recipe + Send>, kind: RecipeKind, argument: u64) {
-    assert_eq!(rt; recipe.kind(), kind);
-    assert_eq!(rt; recipe.argument(), argument);
-    assert_eq!(rt; recipe.calls(), 0);
+    assert!(rt; recipe.kind() == kind);
+    word_is(rt, "argument", recipe.argument(), argument);
+    word_is(rt, "calls", recipe.calls(), 0);
 }
 
 #[test]

@@ -1,7 +1,9 @@
 use Rattle.std.proofs.Common.{rules, ◌≡◌, ℕ, None, ap, ◌∙◌, subst}
 use Rattle.oak_model.specs.Limits.{Sizes}
 use Rattle.oak_core.specs.declared.states.PassState.{PassState}
-use Rattle.oak_core.specs.Passes.{state, key as sizes, call_of}
+use Rattle.oak_core.specs.declared.table.Pass.{Pass}
+use Rattle.oak_core.specs.Passes.{Stays, state, key as sizes, call_of}
+use Rattle.oak_core.proofs.seats.SamePass.{stays_both}
 use Rattle.value_ops.specs.Pinning.{with_pin, MeetsMore, OnlyLearns}
 use Rattle.value_ops.specs.PinnedValues.{OnlyLoads}
 use Rattle.value_ops.proofs.ReadRounds.{read_round}
@@ -10,8 +12,8 @@ use Rattle.point_ops.proofs.TestLaws.{learned_again}
 use Rattle.call_tests.proofs.calls.shows.Goals as goal
 
 -- the pin, the reading and the unpin leave what the pass holds
-pub returns-in-Ok-clause-ready : goal.returns-in-Ok-clause-ready
-returns-in-Ok-clause-ready g c = let z : Sizes = sizes c.args.table.now in let call = call_of c.args.pass.now in let v = state c.args.pass.now in let w = state c.pin.new.pass in
+pub returns-clause-ready : goal.returns-clause-ready
+returns-clause-ready g c = let z : Sizes = sizes c.args.table.now in let call = call_of c.args.pass.now in let v = state c.args.pass.now in let w = state c.pin.new.pass in
     let first = c.reading-reading.result in let whole = c.same-same.new.self in let q = state first.pass.now in let x = state whole.pass.now in let u = state c.done.new.self.1.0 in
     let table : sizes first.table.now ≡ z = ap (λ t. sizes t.now) c.reading-reading.ensures.table in
     let now : call_of first.pass.now ≡ call = c.reading-reading.ensures.own.call ∙ c.pin.ensures.own.call in
@@ -20,3 +22,7 @@ returns-in-Ok-clause-ready g c = let z : Sizes = sizes c.args.table.now in let c
     let undone : MeetsMore z call (with_pin None x) u = subst (λ (i : Sizes × ℕ). MeetsMore i.0 i.1 (with_pin None x) u) (λ i. ((ap (λ t. sizes t.now) c.same-same.ensures.reads.table ∙ table) i, (c.same-same.ensures.reads.stays.call ∙ now) i)) c.done.ensures.undone.meets in
     let all : OnlyLearns z call v u = read_round z call c.args.view.now.header c.args.view.now.generation v w q x u (search rules) c.in-Ok.ensures.good.2 only loads undone in
     subst (λ (y : PassState). IsReadyAgain call v y) (search rules) (learned_again z call v u all c.requires.ready)
+
+pub returns-clause-own : goal.returns-clause-own
+returns-clause-own g c = let whole : Stays c.args.pass.now c.done.new.self.1.0 = stays_both (stays_both (stays_both c.pin.ensures.own c.reading-reading.ensures.own) c.same-same.ensures.reads.stays) c.done.ensures.own in
+    subst (λ (q : Pass). Stays c.args.pass.now q) (search rules) whole

@@ -1,4 +1,4 @@
-use Rattle.std.proofs.Common.{ℕ, List, rules, sym, subst, ap, ◌∙◌}
+use Rattle.std.proofs.Common.{rules, sym, subst, ap, ◌∙◌}
 use Rattle.oak_core.specs.declared.states.PassState.{PassState}
 use Rattle.oak_core.specs.AloneWords.{Runs}
 use Rattle.oak_core.specs.Passes.{state, key as sizes, call_of}

@@ -7,6 +7,6 @@ use Rattle.map_tests.proofs.map.index_tests.remove_most.Given as goal
 abbrev pub invariant-loop-i : goal.invariant-loop-i
 invariant-loop-i g l = record {
   own : IsReady l.map l.pass;
-  call : call_of l.pass ≤ KEYS + l.i-counter;
+  call : call_of l.pass ≤ KEYS + l.i;
   ready : IsReadyAgain (call_of l.pass) (state l.fn.pass) (state l.pass);
 }

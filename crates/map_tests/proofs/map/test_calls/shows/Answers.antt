@@ -1,13 +1,27 @@
 use Rattle.std.proofs.Common.{rules, ◌≡◌, ℕ, None, ap, ◌∙◌, subst}
 use Rattle.oak_model.specs.Limits.{Sizes}
 use Rattle.oak_core.specs.declared.states.PassState.{PassState}
-use Rattle.oak_core.specs.Passes.{state, key as sizes, call_of}
+use Rattle.oak_core.specs.declared.table.Pass.{Pass}
+use Rattle.oak_core.specs.Passes.{Stays, state, key as sizes, call_of}
+use Rattle.oak_core.proofs.seats.SamePass.{stays_both}
 use Rattle.value_ops.specs.Pinning.{with_pin, MeetsMore, OnlyLearns}
 use Rattle.value_ops.specs.PinnedValues.{OnlyLoads}
 use Rattle.value_ops.proofs.ReadRounds.{read_round}
 use Rattle.point_ops.specs.TestStates.{IsReadyAgain}
 use Rattle.point_ops.proofs.TestLaws.{learned_again}
+use Rattle.map_tests.proofs.LendingTests.{has_known}
 use Rattle.map_tests.proofs.map.test_calls.shows.Goals as goal
+
+pub pin-requires-clause-known : goal.pin-requires-clause-known
+pin-requires-clause-known c = has_known (sizes c.args.table.now) c.args.view.now (state c.args.pass.now) c.requires.has
+
+pub returns-in-Err-clause-ready : goal.returns-in-Err-clause-ready
+returns-in-Err-clause-ready c = learned_again (sizes c.args.table.now) (call_of c.args.pass.now) (state c.args.pass.now) (state c.pin.new.pass) c.in-Err.ensures.bad.dud.only c.requires.ready
+
+pub returns-in-Ok-clause-own : goal.returns-in-Ok-clause-own
+returns-in-Ok-clause-own c =
+    let all : Stays c.args.pass.now c.done.new.self.1.0 = stays_both (stays_both (stays_both c.pin.ensures.own c.reading-reading.ensures.own) c.same-same.ensures.reads.stays) c.done.ensures.own in
+    subst (λ (p : Pass). Stays c.args.pass.now p) (search rules) all
 
 -- the pin, the reading and the unpin leave what the pass holds
 pub returns-in-Ok-clause-ready : goal.returns-in-Ok-clause-ready

@@ -10,5 +10,5 @@ invariant-loop-step g l = record {
   own : StaysButSlots l.fn.cursor.pass.now l.cursor.pass.now;
   cursor : IsCursor l.cursor;
   numbers : (under l.cursor).numbers ≡ (under l.fn.cursor).numbers;
-  stay : l.stay ≤ l.step-counter;
+  stay : l.stay ≤ l.step;
 }

@@ -1,7 +1,9 @@
 use Rattle.std.proofs.Common.{rules, ◌≡◌, ℕ, None, ap, ◌∙◌, subst}
 use Rattle.oak_model.specs.Limits.{Sizes}
 use Rattle.oak_core.specs.declared.states.PassState.{PassState}
-use Rattle.oak_core.specs.Passes.{state, key, call_of}
+use Rattle.oak_core.specs.declared.table.Pass.{Pass}
+use Rattle.oak_core.specs.Passes.{Stays, state, key, call_of}
+use Rattle.oak_core.proofs.seats.SamePass.{stays_both}
 use Rattle.value_ops.specs.Pinning.{with_pin, MeetsMore, OnlyLearns}
 use Rattle.value_ops.specs.PinnedValues.{OnlyLoads}
 use Rattle.value_ops.specs.Reading.{ReadsOn}
@@ -21,3 +23,7 @@ returns-clause-learns g c = let z : Sizes = key c.args.table.now in let call = c
     let undone : MeetsMore z call (with_pin None x) u = subst (λ (i : Sizes × ℕ). MeetsMore i.0 i.1 (with_pin None x) u) (λ i. ((ap (λ t. key t.now) reads.table ∙ table) i, (reads.stays.call ∙ now) i)) c.done.ensures.undone.meets in
     let all : OnlyLearns z call v u = read_round z call c.args.at.0 c.args.at.1 v w q x u c.requires.unpinned c.in-Ok.ensures.good.2 only loads undone in
     subst (λ (y : PassState). OnlyLearns z call v y) (search rules) all
+
+pub returns-clause-own : goal.returns-clause-own
+returns-clause-own g c = let whole : Stays c.args.pass.now c.done.new.self.1.0 = stays_both (stays_both (stays_both (stays_both c.pin_at.ensures.own c.reading-reading.ensures.own) c.third_is.ensures.reads.stays) c.whole_is.ensures.reads.stays) c.done.ensures.own in
+    subst (λ (q : Pass). Stays c.args.pass.now q) (search rules) whole
