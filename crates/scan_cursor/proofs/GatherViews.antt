@@ -1,14 +1,16 @@
 -- What a call read of keys stays read in it, and calls that load entries, one behind the other.
-use Rattle.std.proofs.Common.{◌≡◌, ℕ, List, sym, refl, ◌∙◌, subst, None}
+use Rattle.std.proofs.Common.{◌≡◌, ℕ, List, sym, refl, ◌∙◌, subst, None, Some, true}
 use Rattle.oak_model.specs.KeyNumber.{key_number}
 use Rattle.oak_model.specs.Limits.{Sizes}
 use Rattle.oak_model.specs.State.{State}
 use Rattle.chunk_core.specs.declared.holds.RoomHolds.{RoomHolds}
 use Rattle.chunk_core.specs.MayOnRooms.{FindsEntry}
+use Rattle.oak_core.specs.declared.states.Knowledge.{Knowledge}
 use Rattle.oak_core.specs.declared.states.PassState.{PassState}
 use Rattle.oak_core.specs.CallSteps.{Learns}
 use Rattle.oak_core.specs.KeyReads.{home_of}
-use Rattle.oak_core.specs.LastReads.{ReadsLast}
+use Rattle.oak_core.specs.LastReads.{NotPast, ReadsLast}
+use Rattle.oak_core.specs.LifeKeys.{key_in_loaded, loaded_in}
 use Rattle.oak_core.specs.QuietSteps.{IsQuiet, Quiet}
 use Rattle.oak_core.proofs.known.LoadedIn.{loaded_in_has}
 use Rattle.oak_core.proofs.calls.CallSteps.{learns_both, stands_learns}
@@ -53,6 +55,15 @@ module _ (z : Sizes) (call : ℕ) where
     loaded = known_loaded call h g q w.knowledge (names_home h g c.step.number c.says.0 c.says.1 c.says.2) f.life f.known;
     named = loaded_in_has call h g (home_of h g) q (names_home h g c.step.number c.says.0 c.says.1 c.says.2) w.knowledge.loaded f.life;
     last = f.last;
+  }
+
+  -- what loads that teach nothing leave known
+  pub known_still : (now h g : ℕ) (q : List ℕ) (v w : PassState) → OnlyMeets now v w → KnowsLast q h g (view_of z call v) → KnowsLast q h g (view_of z call w)
+  known_still now h g q v w o k = let e = sym o.stands.knowledge in record {
+    inside = k.inside;
+    loaded = subst (λ (s : Knowledge). key_in_loaded h g s.loaded ≡ Some q) e k.loaded;
+    named = subst (λ (s : Knowledge). loaded_in call h g s.loaded ≡ true) e k.named;
+    last = subst (NotPast (key_number q) (home_of h g)) e k.last;
   }
 
   -- what was known once was known before each later moment

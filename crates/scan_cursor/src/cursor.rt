@@ -1,5 +1,5 @@
 //! The cursor of a scan.
-ghost use Rattle.std.specs.Prelude.{◌≡◌, ◌↔◌, ◌+◌, ◌*◌, ◌<◌, ◌≤◌, IfErr, IfOk, IfSome, IsSome, IsTrue, List, MatchOption, [], None, length, slice_index, slice_range, true};
+ghost use Rattle.std.specs.Prelude.{◌≡◌, ◌↔◌, ◌+◌, ◌*◌, ◌<◌, ◌≤◌, ◌++◌, IfErr, IfOk, IfSome, IsSome, IsTrue, List, MatchOption, [], None, drop, length, min, slice_index, slice_range, take, true};
 ghost use Rattle.std.specs.Int.{w64, from_be_bytes};
 ghost use Rattle.oak_model.specs.declared.replies.Pair.{Pair};
 ghost use Rattle.oak_model.specs.Key.{IsKey, is_key};
@@ -293,6 +293,19 @@ impl Cursor<'_> {
         ensures copied { out.new ≡ value_of self.old }
     {
         self.pinned().copy_into(self.table, self.pass, out);
+    }
+
+    /// Copies the front of the present value to the front of `out`, as many bytes as both have: how many. It makes loads
+    /// alone.
+    pub fn copy_prefix(&mut self, out: &mut [u8]) -> usize
+        requires cursor { IsCursor self.old }
+        requires given { IsSome self.old.value }
+        ensures same_reference { self.new.pass.ghost_name ≡ self.old.pass.ghost_name }
+        ensures reads { ReadsPair self.old self.new }
+        ensures many { result ≡ min (length out.old) (length (value_of self.old)) }
+        ensures copied { out.new ≡ take result (value_of self.old) ++ drop result out.old }
+    {
+        self.pinned().copy_prefix(self.table, self.pass, out)
     }
 
     /// Ends the scan, and undoes the pin of the present value. With that the whole scan has made loads, pins and their

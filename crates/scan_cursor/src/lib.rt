@@ -5,6 +5,7 @@ mod busy;
 mod cursor;
 mod gathering;
 mod hinted;
+mod loading_ahead;
 mod marks;
 mod reading;
 mod spots;
