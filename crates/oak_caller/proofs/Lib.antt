@@ -7,5 +7,6 @@ mod ReadLives
 mod ClearedKeys
 mod CursorCalls
 mod ScannedCalls
+mod ShownBytes
 mod StoppedScans
 mod GatheredKeys

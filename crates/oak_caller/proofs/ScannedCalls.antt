@@ -28,9 +28,9 @@ use Rattle.oak_caller.proofs.StoppedScans.{scan_stops}
 
 -- the cursor b was begun by the pass p, and the later one, n, was finished by the pass q
 module _ (z : Sizes) (p q : Pass) (b n : Cursor) (way : Way) (low high : Option (List ℕ)) (sizes_is : sizes b.table.now ≡ z) (same : b.pass.now ≡ p) (on : GoesOn b n) (is : b.way ≡ way) (lo : key_number b.low ≡ least_of low) (hi : key_number b.high ≡ greatest_of high) (starts : HasGiven b (view_at z p) []) (l : Later (view_under n) (view_at (sizes n.table.now) q)) (still : Runs (LeavesValue (sizes n.table.now) n.value None) (under n) (state q)) where
-  pub gave_fits : {F : Type 0} (r : Bool) (g : Mut F (Bor (List ℕ) × (Bor (List ℕ) × Unit {0})) Bool) (f : F) → MatchBool r (GivesAll g f b n) (GivesUntil g f b n) → GaveFits r g f way low high (view_at z p) (view_at z q)
-  gave_fits true g f x = record { pairs = x.pairs; last = x.last; goes = x.goes; scanned = scan_ends z p q b n sizes_is same on way low high x.pairs is lo hi starts x.ended x.gives l still }
-  gave_fits false g f x = record { pairs = x.pairs; at = x.at; goes = x.goes; pair = present n; last = x.last; stops = x.stops; scanned = scan_stops z p q b n way low high x.pairs sizes_is same on is lo hi starts x.value x.gives l still }
+  pub gave_fits : {F : Type 0} (most : Option ℕ) (r : Bool) (g : Mut F (Bor (List ℕ) × (Bor (List ℕ) × Unit {0})) Bool) (f : F) → MatchBool r (GivesAll most g f b n) (GivesUntil most g f b n) → GaveFits most r g f way low high (view_at z p) (view_at z q)
+  gave_fits most true g f x = record { pairs = x.pairs; last = x.last; goes = x.goes; scanned = scan_ends z p q b n sizes_is same on way low high x.pairs is lo hi starts x.ended x.gives l still }
+  gave_fits most false g f x = record { pairs = x.pairs; at = x.at; goes = x.goes; pair = present n; last = x.last; stops = x.stops; scanned = scan_stops z p q b n way low high x.pairs sizes_is same on is lo hi starts x.value x.gives l still }
 
   pub count_fits : (count : ℕ) → way ≡ Up → n.walk.mark.ended ≡ true → (ps : List Pair) × GivesOn b n [] ps × (count ≡ min (length ps) (2 ^ 64 - 1)) → Counts count low high (view_at z p) (view_at z q)
   count_fits count up ended x = record { pairs = x.0; scanned = scan_ends z p q b n sizes_is same on Up low high x.0 (is ∙ up) lo hi starts ended x.1 l still; count = x.2 }

@@ -54,31 +54,36 @@ ScannedTo Down low high key v w pairs = HasScanned Down (Some key) high v w pair
 
 -- ---- what a closure gets
 
--- It was called at the pairs, at each once and in order, said to go on each time, and came from f to last by these calls.
-abbrev pub GoesOver : {F : Type 0} → Mut F (Bor (List ℕ) × (Bor (List ℕ) × Unit {0})) Bool → F → List Pair → F → Type 0
-GoesOver g f pairs last = FoldsTo (λ p x q. CalledAtTwo g p x.key x.value true q) f pairs last
+-- as many of the first bytes as there are, or are wanted
+abbrev pub front : Option ℕ → List ℕ → List ℕ
+front None bytes = bytes
+front (Some most) bytes = take most bytes
+
+-- It was called at the pairs, of each value so many of the first bytes, at each pair once and in order, said to go on each time, and came from f to last by these calls.
+abbrev pub GoesOver : {F : Type 0} → Option ℕ → Mut F (Bor (List ℕ) × (Bor (List ℕ) × Unit {0})) Bool → F → List Pair → F → Type 0
+GoesOver most g f pairs last = FoldsTo (λ p x q. CalledAtTwo g p x.key (front most x.value) true q) f pairs last
 
 -- It got all pairs of the range.
-pub record GoesOverAll {F : Type 0} (g : Mut F (Bor (List ℕ) × (Bor (List ℕ) × Unit {0})) Bool) (f : F) (way : Way) (low high : Option (List ℕ)) (v w : View) : Type 0 where
+pub record GoesOverAll {F : Type 0} (most : Option ℕ) (g : Mut F (Bor (List ℕ) × (Bor (List ℕ) × Unit {0})) Bool) (f : F) (way : Way) (low high : Option (List ℕ)) (v w : View) : Type 0 where
   pub pairs : List Pair
   pub last : F
-  pub goes : GoesOver g f pairs last
+  pub goes : GoesOver most g f pairs last
   pub scanned : HasScanned way low high v w pairs
 
 -- It got the pairs of the range up to one at which it said to stop.
-pub record StopsAt {F : Type 0} (g : Mut F (Bor (List ℕ) × (Bor (List ℕ) × Unit {0})) Bool) (f : F) (way : Way) (low high : Option (List ℕ)) (v w : View) : Type 0 where
+pub record StopsAt {F : Type 0} (most : Option ℕ) (g : Mut F (Bor (List ℕ) × (Bor (List ℕ) × Unit {0})) Bool) (f : F) (way : Way) (low high : Option (List ℕ)) (v w : View) : Type 0 where
   pub pairs : List Pair
   pub at : F
-  pub goes : GoesOver g f pairs at
+  pub goes : GoesOver most g f pairs at
   pub pair : Pair
   pub last : F
-  pub stops : CalledAtTwo g at pair.key pair.value false last
+  pub stops : CalledAtTwo g at pair.key (front most pair.value) false last
   pub scanned : ScannedTo way low high pair.key v w (pairs ++ pair ∷ [])
 
 -- by whether the scan came to the end of its range
-abbrev pub GaveFits : {F : Type 0} → Bool → Mut F (Bor (List ℕ) × (Bor (List ℕ) × Unit {0})) Bool → F → Way → (low high : Option (List ℕ)) → View → View → Type 0
-GaveFits true g f way low high v w = GoesOverAll g f way low high v w
-GaveFits false g f way low high v w = StopsAt g f way low high v w
+abbrev pub GaveFits : {F : Type 0} → Option ℕ → Bool → Mut F (Bor (List ℕ) × (Bor (List ℕ) × Unit {0})) Bool → F → Way → (low high : Option (List ℕ)) → View → View → Type 0
+GaveFits most true g f way low high v w = GoesOverAll most g f way low high v w
+GaveFits most false g f way low high v w = StopsAt most g f way low high v w
 
 -- ---- what a count comes to
 

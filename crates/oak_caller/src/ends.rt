@@ -117,7 +117,7 @@ fn end_pair<R: Wait + Drop + Send>(
         (view_at (sizes map.now) pass.new)) }
 {
     let mut cursor = scan_of(map, pass, None, None, way);
-    let found = next_pair(rt, &mut cursor, key, value);
+    let found = next_pair(rt, &mut cursor, None, key, value);
     cursor.finish();
     found
 }

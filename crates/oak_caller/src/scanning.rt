@@ -1,5 +1,5 @@
 //! Scans: pairs that are given to a closure, and counted.
-ghost use Rattle.std.specs.Prelude.{◌≡◌, IfSome};
+ghost use Rattle.std.specs.Prelude.{◌≡◌, IfSome, None, Some};
 ghost use Rattle.oak_model.specs.Key.{IsKey};
 ghost use Rattle.oak_core.specs.PassState.{HoldsNothing};
 ghost use Rattle.oak_core.specs.Passes.{IsPassOf, state as table_state};
@@ -34,9 +34,39 @@ impl<R: Wait + Drop + Send> Caller<'_, R> {
         requires calls { (g : _) (x : _) (y : _) → F.pre g x y }
         ensures on { CallsOn StaysButSlots self.old self.new }
         ensures views { KeepsViews self.old self.new }
-        ensures gave { GaveFits result F.FnMut f way (bytes_in_option low.entry) (bytes_in_option high.entry) (view_of self.old) (view_of self.new) }
+        ensures gave { GaveFits None result F.FnMut f way (bytes_in_option low.entry) (bytes_in_option high.entry) (view_of self.old) (view_of self.new) }
     {
-        pairs_between(rt, self.map, self.pass.pass_mut(), low, high, way, f)
+        pairs_between(rt, self.map, self.pass.pass_mut(), low, high, way, None, f)
+    }
+
+    /// Gives the closure the pairs that [`Caller::for_each`] gives, of each value the first bytes, `most` of them where it
+    /// has more. No other bytes are read, so a scan that wants little of long values costs less.
+    pub fn for_each_prefix<F: FnMut(&[u8], &[u8]) -> bool>(
+        &mut self,
+        rt: &R,
+        low: Option<&[u8]>,
+        high: Option<&[u8]>,
+        way: Way,
+        most: usize,
+        f: F,
+    ) -> bool
+        requires low { IfSome low (λ k. IsKey k.now) }
+        requires high { IfSome high (λ k. IsKey k.now) }
+        requires calls { (g : _) (x : _) (y : _) → F.pre g x y }
+        ensures on { CallsOn StaysButSlots self.old self.new }
+        ensures views { KeepsViews self.old self.new }
+        ensures gave { GaveFits (Some most) result F.FnMut f way (bytes_in_option low.entry) (bytes_in_option high.entry) (view_of self.old) (view_of self.new) }
+    {
+        pairs_between(
+            rt,
+            self.map,
+            self.pass.pass_mut(),
+            low,
+            high,
+            way,
+            Some(most),
+            f,
+        )
     }
 
     /// How many keys between the bounds are present, each at a moment of its own. None is no bound. The count stands
@@ -52,7 +82,7 @@ impl<R: Wait + Drop + Send> Caller<'_, R> {
     }
 }
 
-/// [`Caller::for_each`] by the pass on the map's table.
+/// [`Caller::for_each_prefix`] by the pass on the map's table, and [`Caller::for_each`] where `most` is none.
 fn pairs_between<R: Wait + Drop + Send, F: FnMut(&[u8], &[u8]) -> bool>(
     rt: &R,
     map: &OakMap<R>,
@@ -60,6 +90,7 @@ fn pairs_between<R: Wait + Drop + Send, F: FnMut(&[u8], &[u8]) -> bool>(
     low: Option<&[u8]>,
     high: Option<&[u8]>,
     way: Way,
+    most: Option<usize>,
     f: F,
 ) -> bool
     requires own { IsPassOf (table_of map.now) pass.old }
@@ -71,11 +102,11 @@ fn pairs_between<R: Wait + Drop + Send, F: FnMut(&[u8], &[u8]) -> bool>(
     ensures idle { HoldsNothing (table_state pass.new) }
     ensures views { PassKeepsViews (sizes map.now) pass.old pass.new }
     ensures later { Later (view_at (sizes map.now) pass.old) (view_at (sizes map.now) pass.new) }
-    ensures gave { GaveFits result F.FnMut f way (bytes_in_option low.entry) (bytes_in_option high.entry)
+    ensures gave { GaveFits most result F.FnMut f way (bytes_in_option low.entry) (bytes_in_option high.entry)
         (view_at (sizes map.now) pass.old) (view_at (sizes map.now) pass.new) }
 {
     let mut cursor = scan_of(map, pass, low, high, way);
-    let ended = give_pairs(rt, &mut cursor, f);
+    let ended = give_pairs(rt, &mut cursor, most, f);
     cursor.finish();
     ended
 }

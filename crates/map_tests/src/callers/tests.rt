@@ -201,6 +201,27 @@ fn goes_down<R: Abort + Wait + Drop + Send>(rt: &R, caller: &mut Caller<'_, R>) 
     assert!(rt; !caller.for_each(rt, None, None, Way::Down, |_key, value| value.len() == 2));
 }
 
+/// How many bytes a scan shows of all values, of each no more than so many.
+fn bytes_shown<R: Abort + Wait + Drop + Send>(
+    rt: &R,
+    caller: &mut Caller<'_, R>,
+    most: usize,
+) -> usize {
+    let mut shown = 0usize;
+    caller.for_each_prefix(rt, None, None, Way::Up, most, |_key, value| {
+        shown = shown.wrapping_add(value.len());
+        true
+    });
+    shown
+}
+
+/// Scans them, and is shown none, one or all bytes of each value.
+fn shows_prefixes<R: Abort + Wait + Drop + Send>(rt: &R, caller: &mut Caller<'_, R>) {
+    is_due(rt, bytes_shown(rt, caller, 0), 0);
+    is_due(rt, bytes_shown(rt, caller, 1), 3);
+    is_due(rt, bytes_shown(rt, caller, usize::MAX), 4);
+}
+
 /// Counts those below one, and finds the first and the last.
 fn finds_ends<R: Abort + Wait + Drop + Send>(rt: &R, caller: &mut Caller<'_, R>) {
     is_due(rt, caller.count(rt, None, Some(b"b")), 2);
@@ -220,6 +241,7 @@ fn goes_over<R: Abort + Wait + Drop + Send + AllocGlobal>(
     puts_three(rt, &mut caller, &mut other);
     goes_up(rt, &mut caller);
     goes_down(rt, &mut caller);
+    shows_prefixes(rt, &mut caller);
     finds_ends(rt, &mut caller);
     Ok(())
 }

@@ -3,6 +3,9 @@
 /// The most bytes that a value may have.
 pub const MOST_BYTES: usize = 256;
 
+/// How many bytes the number of a value has.
+pub const NUMBER: usize = 8;
+
 /// The key of a number below 1,000,003. The keys of rising numbers come in a scrambled order.
 pub fn key_of(number: u32) -> [u8; 8] {
     (u64::from(number) * 2_654_435_761 % 1_000_003).to_be_bytes()
@@ -20,7 +23,7 @@ pub fn counter_of(state: u16) -> [u8; 2] {
 
 /// Makes a value that of a number, which are its first eight bytes.
 pub fn set_number(value: &mut [u8; MOST_BYTES], number: u64) {
-    value[..8].copy_from_slice(&number.to_be_bytes());
+    value[..NUMBER].copy_from_slice(&number.to_be_bytes());
 }
 
 /// The number of a value, or 0 where it has fewer than eight bytes.

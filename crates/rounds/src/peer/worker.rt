@@ -2,7 +2,7 @@
 ghost use Rattle.std.specs.Prelude.{◌<◌, ◌≤◌};
 
 use crate::peer::keys::{
-    MOST_BYTES, counter_of, key_of, next_state, number_in, set_number, sum_of,
+    MOST_BYTES, NUMBER, counter_of, key_of, next_state, number_in, set_number, sum_of,
 };
 use crate::peer::told::Told;
 use crate::peer::words::{Asked, Work};
@@ -119,10 +119,11 @@ impl<'m, R: Wait + Drop + Send> Worker<'m, R> {
     /// Scans the whole map, and reads the numbers of the values.
     pub fn scan(&mut self, rt: &R, way: Way) -> Told {
         let mut told = Told::NONE;
-        self.caller.for_each(rt, None, None, way, |_key, value| {
-            told = told.then(number_in(value));
-            true
-        });
+        self.caller
+            .for_each_prefix(rt, None, None, way, NUMBER, |_key, value| {
+                told = told.then(number_in(value));
+                true
+            });
         told
     }
 }

@@ -7,5 +7,5 @@ abbrev pub invariant-loop : goal.invariant-loop
 invariant-loop g l = record {
   same_reference : l.cursor.pass.ghost_name ≡ l.fn.cursor.pass.ghost_name;
   on : GoesOn l.fn.cursor l.cursor;
-  gives : (pairs : List Pair) × GoesOver g.F.FnMut l.fn.f pairs l.f × GivesOn l.fn.cursor l.cursor [] pairs;
+  gives : (pairs : List Pair) × GoesOver l.fn.most g.F.FnMut l.fn.f pairs l.f × GivesOn l.fn.cursor l.cursor [] pairs;
 }

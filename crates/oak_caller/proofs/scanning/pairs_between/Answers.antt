@@ -32,6 +32,6 @@ returns-clause-views g c = let z = sizes c.args.map.now in let p = c.args.pass.n
 pub returns-clause-gave : goal.returns-clause-gave
 returns-clause-gave g c = let z = sizes c.args.map.now in let p = c.args.pass.now in let b = c.scan_of-cursor.result in let e = c.scan_of-cursor.ensures in let n = c.give_pairs-ended.new.cursor in let q = c.finish.new.self.1.0 in let r = c.give_pairs-ended.result in
     let low = bytes_in_option c.args.low in let high = bytes_in_option c.args.high in
-    let all : GaveFits r g.F.FnMut c.args.f c.args.way low high (view_at z p) (view_at z q) = gave_fits z p q b n c.args.way low high (ap table_sizes e.table) e.same c.give_pairs-ended.ensures.on e.way
-    (low_is c.args.low b.low e.low) (high_is c.args.high b.high e.high) e.starts c.finish.ensures.later c.finish.ensures.still r g.F.FnMut c.args.f c.give_pairs-ended.ensures.gives in
+    let all : GaveFits c.args.most r g.F.FnMut c.args.f c.args.way low high (view_at z p) (view_at z q) = gave_fits z p q b n c.args.way low high (ap table_sizes e.table) e.same c.give_pairs-ended.ensures.on e.way
+    (low_is c.args.low b.low e.low) (high_is c.args.high b.high e.high) e.starts c.finish.ensures.later c.finish.ensures.still c.args.most r g.F.FnMut c.args.f c.give_pairs-ended.ensures.gives in
     search (rules, all)
