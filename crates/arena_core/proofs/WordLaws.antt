@@ -158,12 +158,12 @@ value_back bs rest small = let len : ℕ = length bs in let ws : List ℕ = word
     sym (word_put ws len i lt room)
     ∙ (ap (λ (w : ℕ). take (len - 8 * i) (word_bytes w)) (get_or_append_left (words_of bs) rest 0 i (let h : i < n = omega arith in h) ∙ words_at bs i lt) ∙ word_at-part bs small i lt))
 
--- all bytes of a word make that word
 -- of bytes whose words are copied one by one, with others behind them, all have come where the words are all
 pub all_copied : (bs rest xs : List ℕ) (len i : ℕ) → ((k : ℕ) → get_or bs k 0 < 256) → length bs ≤ len → length bs ≤ 8 * i → take (8 * i) xs ≡ take (8 * i) (take len (bytes_of (words_of bs ++ rest))) → take (length bs) xs ≡ bs
 all_copied bs rest xs len i small short whole copied = let n : ℕ = length bs in let all_bytes : List ℕ = bytes_of (words_of bs ++ rest) in
     sym (take-take n (8 * i) xs whole) ∙ (ap (take n) copied ∙ (take-take n (8 * i) (take len all_bytes) whole ∙ (take-take n len all_bytes short ∙ value_back bs rest small)))
 
+-- all bytes of a word make that word
 pub whole_is : (word n : ℕ) → word < 2 ^ 64 → 8 ≤ n → word ≡ word_of (take n (word_bytes word))
 unfolding word_of
 whole_is word n lt le = sym (ap (from_be_bytes w64) (ap filled_up (take_all n (word_bytes word) le) ∙ filled_whole (word_bytes word) refl) ∙ from_be_bytes-to_be_bytes_8 word lt)

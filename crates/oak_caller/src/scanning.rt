@@ -40,7 +40,7 @@ impl<R: Wait + Drop + Send> Caller<'_, R> {
     }
 
     /// Gives the closure the pairs that [`Caller::for_each`] gives, of each value the first bytes, `most` of them where it
-    /// has more. No other bytes are read, so a scan that wants little of long values costs less.
+    /// has more. No more is copied, so a scan that wants little of long values costs less.
     pub fn for_each_prefix<F: FnMut(&[u8], &[u8]) -> bool>(
         &mut self,
         rt: &R,
