@@ -1,7 +1,10 @@
 //! The first bytes of a key as one number, by which most keys are told apart: a "poor man's normalized key" (G. Graefe
-//! and P. Larson, "B-Tree Indexes and CPU Caches", ICDE 2001).
+//! and P. Larson, "B-Tree Indexes and CPU Caches", ICDE 2001). Those of all minima stand side by side.
 ghost use Rattle.std.specs.Prelude.{◌≡◌, slice_index};
 ghost use Rattle.chunk_index.specs.Heads.{key_head};
+
+use crate::low::Low;
+use std::alloc::{AllocError, Global};
 
 /// The byte at this place, and 0 behind the last one.
 fn byte_at(key: &[u8], place: usize) -> u8
@@ -26,5 +29,51 @@ pub fn head_of(key: &[u8]) -> u64
             byte_at(key, 6),
             0,
         ]),
+    }
+}
+
+/// The heads of minima, in their order. Of what it counts nothing is promised: who asks looks at the minima beside.
+#[derive(Drop)]
+pub struct Heads {
+    heads: Vec<u64>,
+}
+
+impl Heads {
+    /// None yet, with memory for so many.
+    pub fn new(alloc: Global, count: u32) -> Result<Heads, AllocError> {
+        let heads = Vec::with_capacity(alloc, count as usize)?;
+        Ok(Heads { heads })
+    }
+
+    /// Takes the heads of these minima in place of those it has. Where there is no memory the others are left out.
+    pub fn take(&mut self, lows: &[Low]) {
+        self.heads.clear();
+        for low in lows {
+            if self.heads.push(low.head()).is_err() {
+                return;
+            }
+        }
+    }
+
+    /// Whether so many are not above this number, by the two beside. It looks at both before it decides, since most
+    /// searches are of another place, and a branch for each of the two could not be foreseen.
+    fn parts(&self, head: u64, count: usize) -> bool {
+        let last = match count.checked_sub(1) {
+            Some(last) => self.heads.get(last).copied().unwrap_or(u64::MAX),
+            None => 0,
+        };
+        let next = self.heads.get(count).copied().unwrap_or(u64::MAX);
+        (last <= head) & (head < next)
+    }
+
+    /// How many are not above this number. It is tried first whether so many are, and then whether the next are.
+    pub fn count_near(&self, head: u64, near: usize, next: usize) -> usize {
+        if self.parts(head, near) {
+            return near;
+        }
+        if self.parts(head, next) {
+            return next;
+        }
+        self.heads.partition_point(|other| *other <= head)
     }
 }

@@ -68,6 +68,13 @@ impl Low {
         &self.bytes[..self.length]
     }
 
+    /// The head of the minimum.
+    pub fn head(&self) -> u64
+        ensures { result ≡ key_head self.now.0 }
+    {
+        self.head
+    }
+
     /// The room of the chunk.
     pub fn room(&self) -> u32
         ensures { result ≡ self.now.1 }

@@ -7,17 +7,19 @@ ghost use Rattle.std.specs.Vec.{vec_len, vec_capacity};
 ghost use Rattle.chunk_index.specs.Heads.{key_head};
 ghost use Rattle.chunk_index.specs.Lows.{Low as Pair, IsRising, NamesGreatest, comes, comes_before, comes_under, comes_upto, is_apart, set_low};
 
-use crate::heads::head_of;
+use crate::heads::{Heads, head_of};
 use crate::low::Low;
 use left_right::Absorb;
 use oak_model::Hint;
 use std::alloc::{AllocError, Global};
 use std::marker::Model;
 
-/// The minima of all chunks but the lowest, in the order of keys, each once and with its room. No two have one room.
+/// The minima of all chunks but the lowest, in the order of keys, each once and with its room. No two have one room. A
+/// search goes over their heads, which lie side by side, and then looks at the two minima beside the place.
 #[derive(Drop)]
 pub struct Lows {
     lows: Vec<Low>,
+    heads: Heads,
 }
 
 impl Model for Lows {
@@ -46,27 +48,17 @@ impl Lows {
         ensures { IfOk result (λ s. s ≡ []) }
     {
         let lows = Vec::with_capacity(alloc, chunks as usize)?;
-        Ok(Lows { lows })
+        let heads = Heads::new(alloc, chunks)?;
+        Ok(Lows { lows, heads })
     }
 
-    /// How many minima come before the key.
-    fn count_before(&self, key: &[u8]) -> usize
+    /// How many minima come before a key with this head, or are not above it, where `equal`.
+    fn count(&self, head: u64, key: &[u8], equal: bool) -> usize
+        requires head { head ≡ key_head key.now }
         ensures few { result ≤ length self.now }
-        ensures point { IsPartitionPoint (λ p. comes_before key.now p ≡ true) (λ p. comes_before key.now p ≡ false) self.now result }
+        ensures point { IsPartitionPoint (λ p. comes equal key.now p ≡ true) (λ p. comes equal key.now p ≡ false) self.now result }
     {
-        let head = head_of(key);
-        self.lows
-            .partition_point(|low| low.cmp_key(head, key).is_lt())
-    }
-
-    /// How many minima are not above the key.
-    fn count_upto(&self, key: &[u8]) -> usize
-        ensures few { result ≤ length self.now }
-        ensures point { IsPartitionPoint (λ p. comes_upto key.now p ≡ true) (λ p. comes_upto key.now p ≡ false) self.now result }
-    {
-        let head = head_of(key);
-        self.lows
-            .partition_point(|low| low.cmp_key(head, key).is_le())
+        self.lows.partition_point(|low| low.comes(head, key, equal))
     }
 
     /// Whether the last of the first so many minima, where there is one, comes before a key with this head, or is not
@@ -110,36 +102,29 @@ impl Lows {
         self.stays_behind(head, key, equal, count)
     }
 
-    /// How many minima are not above the key. It is tried first whether so many are, or one more.
-    fn count_upto_near(&self, key: &[u8], near: usize) -> usize
+    /// How many minima come before the key, or are not above it, where `equal`. The heads tell it, but where one of them
+    /// is the key's too: then the bytes beside so many are looked at, and beside the next, before those of all are halved.
+    fn count_near(&self, key: &[u8], equal: bool, near: usize) -> usize
         ensures few { result ≤ length self.now }
-        ensures point { IsPartitionPoint (λ p. comes_upto key.now p ≡ true) (λ p. comes_upto key.now p ≡ false) self.now result }
+        ensures point { IsPartitionPoint (λ p. comes equal key.now p ≡ true) (λ p. comes equal key.now p ≡ false) self.now result }
     {
         let head = head_of(key);
-        if self.parts(head, key, true, near) {
+        let (upto, next) = if equal {
+            (head, near.saturating_add(1))
+        } else {
+            (head.saturating_sub(1), near.saturating_sub(1))
+        };
+        let count = self.heads.count_near(upto, near, next);
+        if self.parts(head, key, equal, count) {
+            return count;
+        }
+        if self.parts(head, key, equal, near) {
             return near;
         }
-        let next = near.saturating_add(1);
-        if self.parts(head, key, true, next) {
+        if self.parts(head, key, equal, next) {
             return next;
         }
-        self.count_upto(key)
-    }
-
-    /// How many minima come before the key. It is tried first whether so many do, or one less.
-    fn count_before_near(&self, key: &[u8], near: usize) -> usize
-        ensures few { result ≤ length self.now }
-        ensures point { IsPartitionPoint (λ p. comes_before key.now p ≡ true) (λ p. comes_before key.now p ≡ false) self.now result }
-    {
-        let head = head_of(key);
-        if self.parts(head, key, false, near) {
-            return near;
-        }
-        let next = near.saturating_sub(1);
-        if self.parts(head, key, false, next) {
-            return next;
-        }
-        self.count_before(key)
+        self.count(head, key, equal)
     }
 
     /// How many minima come before the bound; without one all do.
@@ -149,7 +134,7 @@ impl Lows {
             (λ p. comes_under (option_copied bound.entry) p ≡ false) self.now result }
     {
         match bound {
-            Some(key) => self.count_before_near(key, near),
+            Some(key) => self.count_near(key, false, near),
             None => self.lows.len(),
         }
     }
@@ -168,7 +153,7 @@ impl Lows {
     pub fn hint(&self, key: &[u8], near: usize) -> (Hint, usize)
         ensures { NamesGreatest (comes_upto key.now) self.now result.0.room }
     {
-        let count = self.count_upto_near(key, near);
+        let count = self.count_near(key, true, near);
         let room = self.room_before(count);
         (Hint { room }, count)
     }
@@ -190,8 +175,10 @@ impl Lows {
     {
         self.lows.reserve(1)?;
         keep_apart(&mut self.lows, &low);
-        let place = self.count_before(low.minimum());
-        self.lows.insert(place, low).map_err(|_| AllocError)
+        let place = self.count(low.head(), low.minimum(), false);
+        let set = self.lows.insert(place, low).map_err(|_| AllocError);
+        self.heads.take(self.lows.as_slice());
+        set
     }
 }
 

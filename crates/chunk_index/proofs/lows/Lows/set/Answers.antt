@@ -19,7 +19,7 @@ invariant_of-self-3 c =
     let low = c.args.low in
     let are : c.keep_apart.new.lows.items ≡ filter (is_apart low) ps = search rules in
     let ok : IsOk c.insert.result = grind arith in
-    let is = set_low-by_place ps _ _ low _ _ (is_ok c.insert.result) are c.minimum.ensures c.count_before-place.ensures.few c.count_before-place.ensures.point c.insert.ensures.items ok in
+    let is = set_low-by_place ps _ _ low _ _ (is_ok c.insert.result) are c.minimum.ensures c.count-place.ensures.few c.count-place.ensures.point c.insert.ensures.items ok in
     subst AreLows (sym is) (rising_set low ps c.self.invariant.0, rooms_set low ps c.self.invariant.1)
 
 pub returns : goal.returns
@@ -28,5 +28,5 @@ returns c =
     let low = c.args.low in
     let are : c.keep_apart.new.lows.items ≡ filter (is_apart low) ps = search rules in
     let ok : IsOk c.insert.result = grind arith in
-    let is : c.insert.new.self.items ≡ set_low ps low = set_low-by_place ps _ _ low _ _ (is_ok c.insert.result) are c.minimum.ensures c.count_before-place.ensures.few c.count_before-place.ensures.point c.insert.ensures.items ok in
+    let is : c.insert.new.self.items ≡ set_low ps low = set_low-by_place ps _ _ low _ _ (is_ok c.insert.result) are c.minimum.ensures c.count-place.ensures.few c.count-place.ensures.point c.insert.ensures.items ok in
     search rules
