@@ -1,32 +1,29 @@
 -- A search for the value of a key that waits: what its tries come to adds up.
-use Rattle.std.proofs.Common.{◌≡◌, ◌⊎◌, ℕ, true, List, refl, sym, ap, ◌∙◌, subst}
+use Rattle.std.proofs.Common.{◌≡◌, ℕ, List, Some, Result, Ok, refl, ap, ◌∙◌}
 use Rattle.oak_model.specs.declared.cells.CellCall.TheVariants.{Get}
 use Rattle.oak_model.specs.declared.cells.CellReply.TheVariants as replies
-use Rattle.oak_model.specs.Key.{is_key}
 use Rattle.oak_model.specs.Limits.{Sizes}
+use Rattle.header_core.specs.declared.holds.HeaderHolds.{HeaderHolds}
 use Rattle.oak_core.specs.declared.states.PassState.{PassState}
 use Rattle.oak_core.specs.AloneWords.{Runs}
 use Rattle.oak_core.specs.CallSteps.{Learns}
-use Rattle.oak_core.specs.PassState.{HoldsNothing, IsAlone}
+use Rattle.oak_core.specs.PassState.{HoldsNothing}
 use Rattle.oak_core.specs.QuietSteps.{IsQuiet, Quiet}
-use Rattle.oak_core.proofs.calls.CallSteps.{learns_none}
+use Rattle.oak_core.proofs.calls.CallSteps.{learns_both, learns_none}
 use Rattle.oak_core.proofs.calls.QuietCalls.{only_both, only_none}
 use Rattle.chunk_ops.specs.AddsAlone.{Never}
-use Rattle.chunk_ops.proofs.MeetingCalls.{stays_then}
 use Rattle.value_ops.specs.declared.views.NoRead.{NoRead}
-use Rattle.value_ops.specs.Pinning.{AddsPin, KnowsLife, PinsLive}
+use Rattle.value_ops.specs.Pinning.{AddsPin}
 use Rattle.value_ops.specs.Views.{NotRead, Viewed}
 use Rattle.point_ops.specs.declared.halts.Halt.{Halt}
-use Rattle.point_ops.specs.declared.halts.Halt.TheVariants.{Busy, Moved}
-use Rattle.point_ops.specs.Gets.{ViewFits}
-use Rattle.point_ops.specs.Halting.{Halts}
+use Rattle.point_ops.specs.declared.lives.Pinned.{Pinned}
+use Rattle.point_ops.specs.declared.lives.Pinned.TheVariants.{Absent, Value}
 use Rattle.point_ops.specs.LoneReplies.{AnswersAlone, SeesWhole}
-use Rattle.point_ops.specs.Replies.{HoldsAsBefore, Refuses, RepliesAt}
-use Rattle.oak_map.specs.Finding.{PinsKey, TriesAgain}
-use Rattle.oak_map.specs.GivingUp.NotLent.{halted, unpinned}
+use Rattle.point_ops.specs.Pins.{PinnedFits, PinsIn, PinsKey}
+use Rattle.point_ops.specs.Replies.{HoldsAsBefore, Refuses}
+use Rattle.oak_map.specs.Finding.{FindsValue}
 use Rattle.oak_map.specs.Lending.{FindsAbsent}
 use Rattle.oak_map.specs.Maps.{StayAll}
-use Rattle.oak_map.proofs.LiveViews.{never_unread}
 use Rattle.oak_map.proofs.LoneRetries.{Waits, lone_since, runs_since, waits_again}
 use Rattle.oak_map.proofs.RepliesSince.{refuses_both, replies_since}
 
@@ -43,46 +40,17 @@ refuses_none call v = learned_refuses call v v (learns_none call v) refl refl re
 pub unread_refuses : (z : Sizes) (call : ℕ) (x : Viewed) (why : NoRead) (v w : PassState) → NotRead z call x why v w → Refuses call v w
 unread_refuses z call x why v w n = learned_refuses call v w n.dud.only.learns n.dud.only.blocks n.dud.only.headers n.dud.only.rooms
 
--- and a read that was answered with bytes
-pub read_refuses : (call : ℕ) (key bytes : List ℕ) (at : ℕ) (v w : PassState) → RepliesAt call key Get (replies.Holds bytes) at v w → Refuses call v w
-read_refuses call key bytes at v w r = record {
-  learns = record {
-    met = r.goes.met;
-    sights = r.goes.sights;
-    all = record { numbers = r.holds.numbers; mine = r.mine; fulls = r.holds.fulls; swept = r.holds.swept; rebalances = r.holds.rebalances; gones = r.goes.gones; loaded = r.goes.loaded; seen = r.goes.seen; remembers = r.goes.remembers };
-  };
-  holds = r.holds;
-}
-
 -- a pass that holds nothing holds nothing then
 pub idle_still : (v w : PassState) → HoldsAsBefore v w → HoldsNothing v → HoldsNothing w
 idle_still v w h idle = record { hand = ap (λ n. n.hand) h.numbers ∙ idle.hand; blocks = h.blocks ∙ idle.blocks; headers = h.headers ∙ idle.headers; rooms = h.rooms ∙ idle.rooms }
 
--- the look at the key was halted
-pub never_again : (z : Sizes) (call : ℕ) (key : List ℕ) (why : Halt) (v w : PassState) → Halts why z call key Get v w → (why ≡ Busy) ⊎ (why ≡ Moved) → Refuses call v w → Quiet v w → Runs Never v w → TriesAgain z call key v w
-never_again z call key why v w h e r quiet n = record { nothing = halted record { why = why; halts = h; either = e; refused = r }; refused = r; quiet = quiet; alone = n }
+-- what was found
+abbrev found : Pinned → Result Pinned Halt
+found y = Ok y
 
--- a view of its life was got until w, and the pin of the view was undone until x
-module _ (z : Sizes) (call : ℕ) (key : List ℕ) (x : Viewed) (v w t : PassState) (got : ViewFits z call key x v w) (quiet : Quiet v w) (lone : IsAlone v → (bytes : List ℕ) × AnswersAlone z key Get (replies.Holds bytes) v w) (stay : Runs StayAll v w) where
-  pub view_again : is_key key ≡ true → HoldsNothing v → (why : NoRead) → NotRead z call x why w t → TriesAgain z call key v t
-  view_again is idle why n = record {
-    nothing = unpinned x w why got n;
-    refused = refuses_both call v w t (read_refuses call key got.bytes x.at v w got.replies) (unread_refuses z call x why w t n);
-    quiet = only_both IsQuiet v w t quiet n.dud.quiet;
-    alone = stays_then Never v w t stay (never_unread z call call key x v w t (idle_still v w got.replies.holds idle) is got why n);
-  }
-
-  -- or it was pinned
-  pub view_pinned : (h g : ℕ) → h ≡ x.header → g ≡ x.generation → PinsLive z call x.header x.generation w t → PinsKey z call key h g v t
-  view_pinned h g same_header same_generation p = subst (λ (i : ℕ × ℕ). PinsKey z call key i.0 i.1 v t) (λ i. (sym same_header i, sym same_generation i)) record {
-    tried = w;
-    tries = read_refuses call key got.bytes x.at v w got.replies;
-    life = subst (λ (k : List ℕ). KnowsLife x.header x.generation k w.knowledge) got.key_is got.knows.life;
-    pins = p;
-    quiet = only_both IsQuiet v w t quiet p.quiet;
-    begun = λ alone. (lone alone).1.begun;
-    alone = stays_then (AddsPin z x.header x.generation) v w t stay p.still;
-  }
+pub value_found : (y : Pinned) (z : Sizes) (call : ℕ) (key : List ℕ) (v w : PassState) → PinnedFits y z call key v w → Quiet v w → Runs (PinsIn (found y) z) v w → FindsValue y z call key v w
+value_found (Absent at) z call key v w f quiet alone = record { replies = f.replies; quiet = quiet; alone_reply = f.alone_reply; alone = alone }
+value_found (Value p) z call key v w f quiet alone = f
 
 -- ---- one try behind others
 
@@ -101,10 +69,13 @@ module _ (call : ℕ) (u v w : PassState) (s : Searches call u v) where
 
   pub pinned_since : (z : Sizes) (key : List ℕ) (h g : ℕ) → PinsKey z call key h g v w → PinsKey z call key h g u w
   pinned_since z key h g p = record {
-    tried = p.tried;
-    tries = refuses_both call u v p.tried s.refused p.tries;
+    learns = learns_both call u v w s.refused.learns p.learns;
     life = p.life;
-    pins = p.pins;
+    pin = p.pin;
+    has = p.has;
+    headers = p.headers ∙ ap (λ (a : HeaderHolds). record a { pin = Some p.pin }) s.refused.holds.headers;
+    blocks = p.blocks ∙ s.refused.holds.blocks;
+    rooms = p.rooms ∙ s.refused.holds.rooms;
     quiet = only_both IsQuiet u v w s.quiet p.quiet;
     begun = lone_since (SeesWhole z) u v s.waits p.begun;
     alone = runs_since (AddsPin z h g) u v w s.waits p.alone;
@@ -117,3 +88,9 @@ module _ (call : ℕ) (u v w : PassState) (s : Searches call u v) where
     alone_reply = lone_since (λ (y : PassState). AnswersAlone z key Get replies.Absent y w) u v s.waits f.alone_reply;
     alone = runs_since StayAll u v w s.waits f.alone;
   }
+
+  -- by what was found
+
+  pub value_since : (y : Pinned) (z : Sizes) (key : List ℕ) → FindsValue y z call key v w → FindsValue y z call key u w
+  value_since (Absent at) z key f = absent_since z key at f
+  value_since (Value p) z key f = pinned_since z key p.header p.generation f

@@ -15,7 +15,6 @@ use Rattle.oak_core.specs.AloneWords.{Runs}
 use Rattle.oak_core.specs.CallSteps.{Learns}
 use Rattle.oak_core.specs.KeyHistories.{state_behind}
 use Rattle.oak_core.specs.LastReads.{ReadsLast}
-use Rattle.oak_core.specs.Memory.{memory}
 use Rattle.oak_core.specs.Passes.{key as table_sizes}
 use Rattle.oak_core.specs.PassState.{HoldsNothing, IsAlone, seen_of}
 use Rattle.oak_core.specs.QuietSteps.{IsQuiet}
@@ -26,48 +25,38 @@ use Rattle.oak_core.proofs.known.KnownReads.{read_since}
 use Rattle.oak_core.proofs.calls.QuietCalls.{only_both}
 use Rattle.chunk_ops.proofs.MeetingCalls.{then_stays}
 use Rattle.value_ops.specs.declared.reading.Reading.{Reading}
-use Rattle.value_ops.specs.Pinning.{AddsPin, KnowsLife, PinsLive, pin_of}
+use Rattle.value_ops.specs.Pinning.{AddsPin, HasPin, KnowsLife}
 use Rattle.value_ops.specs.PinnedValues.{FindsStamp, IsPinnedValue, LearnsByLoads, ReadsLife}
 use Rattle.value_ops.specs.Reading.{IsReading, header, stamp, value}
-use Rattle.value_ops.proofs.LearnFacts.{learned_pin}
 use Rattle.point_ops.specs.LoneReplies.{SameAlone, SeesWhole}
-use Rattle.point_ops.specs.Replies.{HoldsAsBefore}
+use Rattle.point_ops.specs.Pins.{PinsKey}
 use Rattle.point_ops.proofs.Composed.{sighted_in}
 use Rattle.point_ops.proofs.LoneHistories.{alone_later, seen_same, sees_whole}
 use Rattle.point_ops.proofs.ReplyLaws.{end_state, learns_on, writes_length}
 use Rattle.scan_cursor.specs.Holding.{HasValue}
-use Rattle.oak_map.specs.Finding.{PinsKey}
 use Rattle.oak_map.specs.Lending.{LendsValue, under}
 
 abbrev pub header_in : Option PinnedHeader → ℕ
 header_in None = 0
 header_in (Some p) = p.header
 
--- The call began at v, pinned the header from u to w, and read its value with that.
-module _ (z : Sizes) (call h g : ℕ) (v u w : PassState) (r : Reading) (idle : HoldsNothing v) (tries : Learns call v u) (holds : HoldsAsBefore v u) (pins : PinsLive z call h g u w) (is : IsReading r) (sized : table_sizes r.table.now ≡ z) (loads : LearnsByLoads z call w (under r)) (found : FindsStamp z call h (stamp r) w (under r)) where
+-- The call began at v, and pinned the header until w, and read its value with that.
+module _ (z : Sizes) (call h g : ℕ) (v w : PassState) (r : Reading) (idle : HoldsNothing v) (before : Learns call v w) (pin : PinnedHeader) (has : HasPin z h g pin w) (headers : w.headers ≡ record v.headers { pin = Some pin }) (blocks : w.blocks ≡ v.blocks) (rooms : w.rooms ≡ v.rooms)
+    (is : IsReading r) (sized : table_sizes r.table.now ≡ z) (loads : LearnsByLoads z call w (under r)) (found : FindsStamp z call h (stamp r) w (under r)) where
   abbrev here : PassState
   here = under r
-
-  pin_learns : Learns call u w
-  pin_learns = (learned_pin z call h g pins.number u w pins.told).learns
-
-  before : Learns call v w
-  before = learns_both call v u w tries pin_learns
 
   pub lent_learns : Learns call v (under r)
   lent_learns = learns_both call v w here before loads.only.learns
 
-  abbrev pin : PinnedHeader
-  pin = pin_of (memory z pins.told.table.words) h g
-
   pinned : here.headers ≡ record no_headers { pin = Some pin }
-  pinned = loads.only.headers ∙ (ap (λ (y : PassState). y.headers) pins.after ∙ ap (λ (a : HeaderHolds). record a { pin = Some pin }) (holds.headers ∙ idle.headers))
+  pinned = loads.only.headers ∙ (headers ∙ ap (λ (a : HeaderHolds). record a { pin = Some pin }) idle.headers)
 
   pub lent_blocks : (under r).blocks ≡ v.blocks
-  lent_blocks = loads.only.blocks ∙ (ap (λ (y : PassState). y.blocks) pins.after ∙ holds.blocks)
+  lent_blocks = loads.only.blocks ∙ blocks
 
   pub lent_rooms : (under r).rooms ≡ v.rooms
-  lent_rooms = loads.only.rooms ∙ (ap (λ (y : PassState). y.rooms) pins.after ∙ holds.rooms)
+  lent_rooms = loads.only.rooms ∙ rooms
 
   value_is : IsPinnedValue z r.value here
   value_is = subst (λ (y : Sizes). IsPinnedValue y r.value here) sized is.pinned
@@ -83,7 +72,7 @@ module _ (z : Sizes) (call h g : ℕ) (v u w : PassState) (r : Reading) (idle : 
   }
 
   header_is : header r ≡ h
-  header_is = sym is.pinned.has.header_is ∙ ap header_in (sym is.pinned.has.is ∙ ap (λ (a : HeaderHolds). a.pin) pinned)
+  header_is = sym is.pinned.has.header_is ∙ (ap header_in (sym is.pinned.has.is ∙ ap (λ (a : HeaderHolds). a.pin) pinned) ∙ has.header_is)
 
   -- to a pass that is alone no history changed
   pub lent_same : (IsAlone v → SeesWhole z v) → SameAlone z v (under r)
@@ -116,13 +105,13 @@ lends_value z call key h g v w r idle p is sized loads found reads = record {
   swept = learns.all.swept;
   rebalances = learns.all.rebalances;
   quiet = only_both IsQuiet v w here p.quiet loads.quiet;
-  blocks = lent_blocks z call h g v p.tried w r idle p.tries.learns p.tries.holds p.pins is sized loads found;
-  rooms = lent_rooms z call h g v p.tried w r idle p.tries.learns p.tries.holds p.pins is sized loads found;
-  has = lent_has z call h g v p.tried w r idle p.tries.learns p.tries.holds p.pins is sized loads found;
+  blocks = lent_blocks z call h g v w r idle p.learns p.pin p.has p.headers p.blocks p.rooms is sized loads found;
+  rooms = lent_rooms z call h g v w r idle p.learns p.pin p.has p.headers p.blocks p.rooms is sized loads found;
+  has = lent_has z call h g v w r idle p.learns p.pin p.has p.headers p.blocks p.rooms is sized loads found;
   was = λ alone. ap (λ (l : List KeyedWrite). state_behind l) (sym ((same alone).same k)) ∙ last.ends.state;
   same = same;
   generation = g;
-  alone = lent_alone z call h g v p.tried w r idle p.tries.learns p.tries.holds p.pins is sized loads found p.alone;
+  alone = lent_alone z call h g v w r idle p.learns p.pin p.has p.headers p.blocks p.rooms is sized loads found p.alone;
 }
   where
     here : PassState
@@ -132,14 +121,14 @@ lends_value z call key h g v w r idle p is sized loads found reads = record {
     k = key_number key
 
     learns : Learns call v (under r)
-    learns = lent_learns z call h g v p.tried w r idle p.tries.learns p.tries.holds p.pins is sized loads found
+    learns = lent_learns z call h g v w r idle p.learns p.pin p.has p.headers p.blocks p.rooms is sized loads found
 
     same : SameAlone z v (under r)
-    same = lent_same z call h g v p.tried w r idle p.tries.learns p.tries.holds p.pins is sized loads found p.begun
+    same = lent_same z call h g v w r idle p.learns p.pin p.has p.headers p.blocks p.rooms is sized loads found p.begun
 
     last : ReadsLast (key_number key) (stamp r) (Some (value r)) v (under r)
-    last = lent_last z call h g v p.tried w r idle p.tries.learns p.tries.holds p.pins is sized loads found (key_number key) (Some (value r))
-        (reads key (subst (λ (y : PassState). KnowsLife h g key y.knowledge) (sym p.pins.after) p.life)).last
+    last = lent_last z call h g v w r idle p.learns p.pin p.has p.headers p.blocks p.rooms is sized loads found (key_number key) (Some (value r))
+        (reads key p.life).last
 
     seen : List KeyedWrite
     seen = seen_of (key_number key) (under r).knowledge

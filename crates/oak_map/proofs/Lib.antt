@@ -2,7 +2,6 @@ pub mod LoneViews
 pub mod ClosedMaps
 mod RepliesSince
 mod LoneRetries
-mod LiveViews
 mod RepeatedTries
 mod SameScratch
 mod Trying

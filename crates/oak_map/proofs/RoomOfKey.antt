@@ -1,5 +1,5 @@
 -- Where the value of a key stands in the table of a pass that is alone: in the one open room that has the key in its range.
-use Rattle.std.proofs.Common.{◌≡◌, ℕ, ◌+◌, ◌<◌, true, List, sym, ap, ◌∙◌, subst}
+use Rattle.std.proofs.Common.{◌≡◌, ℕ, ◌+◌, true, List, sym, ap, ◌∙◌, subst}
 use Rattle.pin_word.specs.PinWord.{state_of}
 use Rattle.oak_model.specs.Counts.{one_at, total}
 use Rattle.oak_model.specs.Key.{is_key}

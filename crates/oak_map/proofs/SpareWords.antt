@@ -1,19 +1,17 @@
 -- Where only words change that nobody has, the bits of blocks, the pin words of headers and the keys of entries stay.
-use Rattle.std.proofs.Common.{◌≡◌, ℕ, ◌+◌, ◌*◌, ◌-◌, ◌/◌, ◌%◌, ◌<◌, ◌≤◌, nat_lt, List, map, ap, ◌∙◌, arith, lt-ltb, ⊎_elim}
+use Rattle.std.proofs.Common.{◌≡◌, ℕ, ◌+◌, ◌/◌, ◌%◌, ◌<◌, ◌≤◌, List, map, ap, ◌∙◌, arith, ⊎_elim}
 use Rattle.std.specs.Int.{bit_at}
-use Rattle.oak_model.specs.Counts.{one_if, total}
+use Rattle.oak_model.specs.Counts.{total}
 use Rattle.oak_model.specs.Limits.{Sizes}
 use Rattle.oak_model.proofs.Lists.{rows_length}
 use Rattle.oak_model.proofs.RowLaws.{rows_same}
-use Rattle.oak_model.proofs.SumLaws.{times-one}
 use Rattle.arena_core.specs.Arena.{at_bits, at_bytes, block_words}
 use Rattle.arena_core.specs.Blocks.{holds}
-use Rattle.arena_core.specs.Place.{block_in, class_in, content, names_block}
+use Rattle.arena_core.specs.Place.{block_in, class_in, content}
 use Rattle.chunk_core.specs.CoverSums.{weight}
 use Rattle.chunk_core.specs.KeyWords.{key_bytes, key_in}
 use Rattle.chunk_core.specs.Rooms.{RoomSpot, at_first, at_key, at_next, read_room}
 use Rattle.chunk_core.specs.LinkedEntries.{linked, reached}
-use Rattle.chunk_core.proofs.CoverFacts.{entry_adds}
 use Rattle.header_core.specs.Headers.{at_pin}
 use Rattle.oak_core.specs.declared.states.PassState.{PassState}
 use Rattle.oak_core.specs.AloneWords.{Moment}
@@ -22,9 +20,7 @@ use Rattle.oak_core.specs.KeyHistories.{IsKeyOf}
 use Rattle.oak_core.specs.Memory.{Memory, in_arena, in_headers, in_rooms, memory}
 use Rattle.oak_core.specs.Owners.{other_owners}
 use Rattle.oak_core.specs.PassState.{blocks_of, rooms_held}
-use Rattle.oak_core.proofs.owners.EntryBlocks.{key_some}
-use Rattle.oak_core.proofs.keyed.KeyPlaces.{key_word_few, word_is_key}
-use Rattle.oak_core.proofs.owners.OwnerLaws.{names_itself}
+use Rattle.oak_core.proofs.keyed.KeyPlaces.{word_is_key}
 use Rattle.chunk_ops.specs.FindsAlone.{IsLinked, linked_key}
 use Rattle.chunk_ops.proofs.KeyPlaces.{is_key_linked, owner_linked}
 use Rattle.point_ops.specs.LoneInserts.{IsClearIn, SpareOnly}

@@ -1,5 +1,5 @@
 -- Calls that put and stop trying, since other passes are at work.
-use Rattle.std.proofs.Common.{◌≡◌, ℕ, ◌+◌, ◌<◌, ◌≤◌, Bool, List, inl, inr, ⊎_elim, subst, arith, Result, Ok, Err, IfOk, IfErr}
+use Rattle.std.proofs.Common.{◌≡◌, ℕ, ◌+◌, ◌≤◌, Bool, List, inl, inr, ⊎_elim, subst, arith, Result, Ok, Err, IfOk, IfErr}
 use Rattle.oak_model.specs.declared.cells.CellCall.{CellCall}
 use Rattle.oak_model.specs.declared.replies.Lack.{Lack}
 use Rattle.oak_model.specs.declared.replies.Lack.TheVariants.{Block, Header, Room}

@@ -1,5 +1,5 @@
 -- What a call that puts did for another try.
-use Rattle.std.proofs.Common.{◌≡◌, ℕ, Bool, Option, Some, None, IfNone, inl, inr, refl, sym, subst}
+use Rattle.std.proofs.Common.{ℕ, Bool, Option, Some, None, IfNone, inl, inr, refl, sym, subst}
 use Rattle.std.specs.Prelude.{List}
 use Rattle.oak_model.specs.declared.replies.Lack.{Lack}
 use Rattle.oak_model.specs.declared.replies.Lack.TheVariants.{Block, Header, Room}

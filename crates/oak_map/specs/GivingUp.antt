@@ -1,20 +1,17 @@
 -- Calls that give up, since other passes were at work where they looked. u is the state of the pass at the call, w the one at its end; v and w are those of one try.
 use Rattle.std.specs.Prelude.{◌≡◌, ◌⊎◌, ℕ, List}
 use Rattle.oak_model.specs.declared.cells.CellCall.{CellCall}
-use Rattle.oak_model.specs.declared.cells.CellCall.TheVariants.{Get}
 use Rattle.oak_model.specs.Limits.{Sizes}
 use Rattle.oak_core.specs.declared.states.PassState.{PassState}
 use Rattle.oak_core.specs.AloneWords.{Runs}
 use Rattle.oak_core.specs.QuietSteps.{Quiet}
 use Rattle.chunk_ops.specs.AddsAlone.{Never}
 use Rattle.chunk_ops.specs.RoomPins.{HadMoment}
-use Rattle.value_ops.specs.declared.views.NoRead.{NoRead}
 use Rattle.value_ops.specs.declared.views.NoRead.TheVariants as no_read
 use Rattle.value_ops.specs.Pinning.{MeetsMore}
 use Rattle.value_ops.specs.Views.{KnowsView, NotRead, Viewed}
 use Rattle.point_ops.specs.declared.halts.Halt.{Halt}
 use Rattle.point_ops.specs.declared.halts.Halt.TheVariants.{Busy, Moved}
-use Rattle.point_ops.specs.Gets.{ViewFits}
 use Rattle.point_ops.specs.Halting.{Halts}
 use Rattle.point_ops.specs.Replies.{Refuses}
 use Rattle.rebalance.specs.Repeating.{Repeats}
@@ -31,11 +28,6 @@ pub record IsHalted (z : Sizes) (call : ℕ) (key : List ℕ) (ask : CellCall) (
   pub halts : Halts why z call key ask v w
   pub either : (why ≡ Busy) ⊎ (why ≡ Moved)
   pub refused : Refuses call v w
-
--- a try to lend the value of a key came to nothing: the look at the key was halted, or the header of the value that it found was locked, or its life was over, when it was to be pinned
-pub data NotLent (z : Sizes) (call : ℕ) (key : List ℕ) (v w : PassState) : Type 0 where
-  halted : IsHalted z call key Get v w → NotLent z call key v w
-  unpinned : (x : Viewed) (found : PassState) (why : NoRead) → ViewFits z call key x v found → NotRead z call x why found w → NotLent z call key v w
 
 -- a try to lend the value of a view's life found its header locked
 abbrev pub IsLocked : Sizes → ℕ → Viewed → PassState → PassState → Type 0

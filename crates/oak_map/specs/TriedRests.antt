@@ -1,6 +1,7 @@
 -- What is lent by a call that may give up, and what becomes of the pass where nothing is.
 use Rattle.std.specs.Prelude.{◌≡◌, List, ℕ, Result, IfErr, OnOk}
 use Rattle.std.specs.Borrow.{Fml, MutBor, follows_so, name_if_ok}
+use Rattle.oak_model.specs.declared.cells.CellCall.TheVariants.{Get}
 use Rattle.oak_model.specs.Limits.{Sizes}
 use Rattle.oak_core.specs.declared.table.OakTable.{OakTable}
 use Rattle.oak_core.specs.declared.table.Pass.{Pass}
@@ -13,7 +14,7 @@ use Rattle.value_ops.specs.declared.views.NoRead.{NoRead}
 use Rattle.value_ops.specs.declared.views.NoRead.TheVariants as no_read
 use Rattle.value_ops.specs.Reading.{IsReading}
 use Rattle.value_ops.specs.Views.{Viewed}
-use Rattle.oak_map.specs.GivingUp.{TriesInVain, GivesUpLife, NotLent}
+use Rattle.oak_map.specs.GivingUp.{TriesInVain, GivesUpLife, IsHalted}
 use Rattle.oak_map.specs.Lending.{LendsLife, LendsValue}
 use Rattle.oak_map.specs.Rests.{RestsAbsent, RestsOver, with_pass}
 use Rattle.oak_map.specs.contracts.map.MapPass.{the_row}
@@ -32,7 +33,7 @@ pub record RestsBusy (z : Sizes) (key : List ℕ) (looks : ℕ) (p q : Pass) : T
   pub own : Stays p q
   pub idle : HoldsNothing (state q)
   pub quiet : Quiet (state p) (state q)
-  pub busy : TriesInVain (NotLent z (call_of p) key) (call_of p) looks (state p) (state q)
+  pub busy : TriesInVain (IsHalted z (call_of p) key Get) (call_of p) looks (state p) (state q)
 
 -- or which found none of it
 abbrev pub RestsWithout : Sizes → List ℕ → ℕ → NoValue → Pass → Pass → Type 0

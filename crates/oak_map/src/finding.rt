@@ -1,95 +1,57 @@
 //! Searches for the value of a key, and for the life of a view.
 ghost use Rattle.std.specs.Prelude.{◌≡◌, ◌<◌, IfErr, IfNone, IfOk, IfSome};
+ghost use Rattle.oak_model.specs.declared.cells.CellCall.TheVariants.{Get};
 ghost use Rattle.oak_model.specs.Key.{IsKey};
 ghost use Rattle.oak_core.specs.PassState.{HoldsNothing};
 ghost use Rattle.oak_core.specs.Passes.{IsPassOf, Stays, call_of, key as sizes, state};
 ghost use Rattle.oak_core.specs.QuietSteps.{Quiet};
 ghost use Rattle.value_ops.specs.Views.{KnowsView};
-ghost use Rattle.oak_map.specs.Finding.{PinsKey, PinsView, TriesKey};
-ghost use Rattle.oak_map.specs.GivingUp.{TriesInVain, GivesUpLife, NotLent};
-ghost use Rattle.oak_map.specs.Lending.{FindsAbsent, FindsOver};
+ghost use Rattle.oak_map.specs.Finding.{FindsValue, PinsView};
+ghost use Rattle.oak_map.specs.GivingUp.{TriesInVain, GivesUpLife, IsHalted};
+ghost use Rattle.oak_map.specs.Lending.{FindsOver};
 
 use crate::answers::Busy;
-use crate::hinted::try_get;
+use crate::hinted::try_pin;
 use crate::waiting::LOOKS;
 use oak_core::{OakTable, Pass};
-use point_ops::Got;
+use point_ops::Pinned;
 use std::sync::Wait;
 use std::thread;
 use value_ops::{HeaderPin, NoRead, ValueView};
 
-/// What one try to find the value of a key came to.
-enum Tried {
-    Absent { at: u64 },
-    Pinned(HeaderPin),
-    /// Another pass was at work there.
-    Again,
-}
-
-/// Looks for the key once, and pins the header of its value where it has one.
-fn try_value(table: &OakTable, pass: &mut Pass, key: &[u8]) -> Tried
-    requires own { IsPassOf table.now pass.old }
-    requires idle { HoldsNothing (state pass.old) }
-    requires key { IsKey key.now }
-    ensures own { Stays pass.old pass.new }
-    ensures tried { TriesKey result (sizes table.now) (call_of pass.old) key.now (state pass.old) (state pass.new) }
-{
-    match try_get(table, pass, key) {
-        Err(_) => Tried::Again,
-        Ok(Got::Absent { at }) => Tried::Absent { at },
-        Ok(Got::View(view)) => match view.pin(table, pass) {
-            Ok(pin) => Tried::Pinned(pin),
-            Err(_) => Tried::Again,
-        },
-    }
-}
-
-/// Looks for the key until it was found absent, at the place of a number, or the header of its value was
-/// pinned. Where it was removed after it was found, it is looked for again. `Busy` comes only where each of so many tries
-/// came to nothing; to a pass that is alone it never comes.
+/// Looks for the key until it was found absent, at the place of a number, or the header of its value was pinned. `Busy`
+/// comes only where each of so many tries came to nothing; to a pass that is alone it never comes.
 pub(crate) fn try_find_value(
     table: &OakTable,
     pass: &mut Pass,
     key: &[u8],
     looks: u32,
-) -> Result<Result<HeaderPin, u64>, Busy>
+) -> Result<Pinned, Busy>
     requires own { IsPassOf table.now pass.old }
     requires idle { HoldsNothing (state pass.old) }
     requires key { IsKey key.now }
     requires some { 0 < looks }
     ensures own { Stays pass.old pass.new }
-    ensures absent { IfOk result (λ found. IfErr found
-        (λ at. FindsAbsent (sizes table.now) (call_of pass.old) key.now at (state pass.old) (state pass.new))) }
-    ensures pinned { IfOk result (λ found. IfOk found
-        (λ p. PinsKey (sizes table.now) (call_of pass.old) key.now p.header p.generation (state pass.old)
-        (state pass.new))) }
+    ensures found { IfOk result (λ x. FindsValue x (sizes table.now) (call_of pass.old) key.now (state pass.old) (state pass.new)) }
     ensures quiet { IfErr result (λ _. Quiet (state pass.old) (state pass.new)) }
-    ensures busy { IfErr result (λ _. TriesInVain (NotLent (sizes table.now) (call_of pass.old) key.now)
+    ensures busy { IfErr result (λ _. TriesInVain (IsHalted (sizes table.now) (call_of pass.old) key.now Get)
         (call_of pass.old) looks (state pass.old) (state pass.new)) }
 {
     for _ in 0..looks {
-        match try_value(table, pass, key) {
-            Tried::Absent { at } => return Ok(Err(at)),
-            Tried::Pinned(pin) => return Ok(Ok(pin)),
-            Tried::Again => {}
+        if let Ok(found) = try_pin(table, pass, key) {
+            return Ok(found);
         }
     }
     Err(Busy)
 }
 
 /// Looks for the key as [`try_find_value`] does. It waits while other passes are at work there.
-pub(crate) fn find_value<R: Wait>(
-    rt: &R,
-    table: &OakTable,
-    pass: &mut Pass,
-    key: &[u8],
-) -> Result<HeaderPin, u64>
+pub(crate) fn find_value<R: Wait>(rt: &R, table: &OakTable, pass: &mut Pass, key: &[u8]) -> Pinned
     requires own { IsPassOf table.now pass.old }
     requires idle { HoldsNothing (state pass.old) }
     requires key { IsKey key.now }
     ensures own { Stays pass.old pass.new }
-    ensures absent { IfErr result (λ at. FindsAbsent (sizes table.now) (call_of pass.old) key.now at (state pass.old) (state pass.new)) }
-    ensures pinned { IfOk result (λ p. PinsKey (sizes table.now) (call_of pass.old) key.now p.header p.generation (state pass.old) (state pass.new)) }
+    ensures found { FindsValue result (sizes table.now) (call_of pass.old) key.now (state pass.old) (state pass.new) }
 {
     for _ in rt.forever() {
         if let Ok(found) = try_find_value(table, pass, key, LOOKS) {

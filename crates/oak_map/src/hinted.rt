@@ -17,11 +17,12 @@ ghost use Rattle.point_ops.specs.LoneLeft.{LeavesBy};
 ghost use Rattle.point_ops.specs.LoneLives.{GetsIn};
 ghost use Rattle.point_ops.specs.LoneReplies.{GotAlone, SameAlone, WroteAlone};
 ghost use Rattle.point_ops.specs.Parts.{WroteFits};
+ghost use Rattle.point_ops.specs.Pins.{PinnedFits, PinsIn};
 ghost use Rattle.point_ops.specs.Replies.{Refuses};
 
 use oak_core::{OakTable, Pass};
 use oak_model::Wrote;
-use point_ops::{Got, Halt};
+use point_ops::{Got, Halt, Pinned};
 use value_ops::Recipe;
 
 /// Looks for the key.
@@ -41,6 +42,23 @@ pub(crate) fn try_get(table: &OakTable, pass: &mut Pass, key: &[u8]) -> Result<G
 {
     let hint = pass.hint(key);
     point_ops::try_get(table, pass, hint, key)
+}
+
+/// Looks for the key, and keeps the pin of the header of its value where it has one.
+pub(crate) fn try_pin(table: &OakTable, pass: &mut Pass, key: &[u8]) -> Result<Pinned, Halt>
+    requires own { IsPassOf table.now pass.old }
+    requires key { IsKey key.now }
+    requires idle { HoldsNothing (state pass.old) }
+    ensures own { Stays pass.old pass.new }
+    ensures quiet { Quiet (state pass.old) (state pass.new) }
+    ensures found { IfOk result (λ x. PinnedFits x (sizes table.now) (call_of pass.old) key.now (state pass.old) (state pass.new)) }
+    ensures refused { IfErr result (λ _. Refuses (call_of pass.old) (state pass.old) (state pass.new)) }
+    ensures halted { IfErr result (λ why. Halts why (sizes table.now) (call_of pass.old) key.now Get (state pass.old) (state pass.new)) }
+    ensures either { IfErr result (λ why. (why ≡ halts.Busy) ⊎ (why ≡ halts.Moved)) }
+    ensures alone { Runs (PinsIn result (sizes table.now)) (state pass.old) (state pass.new) }
+{
+    let hint = pass.hint(key);
+    point_ops::try_pin(table, pass, hint, key)
 }
 
 /// Computes the value of the key anew, where it has one.

@@ -20,6 +20,7 @@ use crate::bare;
 use crate::finding::{find_life, find_value};
 use crate::map::{MapPass, OakMap};
 use oak_core::Pass;
+use point_ops::Pinned;
 use scan_cursor::{Cursor, Way};
 use std::sync::Wait;
 use value_ops::{NoRead, Reading, ValueView};
@@ -53,8 +54,8 @@ pub fn get_of<'p, R: Wait + Drop + Send>(
     ensures present { LentFits (table_of map.now) pass.entry key.now result }
 {
     match find_value(rt, &map.table, pass, key) {
-        Err(at) => Lent::Absent { at },
-        Ok(pin) => Lent::Present(pin.reading(&map.table, pass)),
+        Pinned::Absent { at } => Lent::Absent { at },
+        Pinned::Value(pin) => Lent::Present(pin.reading(&map.table, pass)),
     }
 }
 

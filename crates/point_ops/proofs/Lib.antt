@@ -57,3 +57,4 @@ pub mod LoneLeftPins
 pub mod LonePutPins
 pub mod TestLaws
 mod PutsAsked
+pub mod PinnedLives

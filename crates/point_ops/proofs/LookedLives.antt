@@ -23,15 +23,17 @@ use Rattle.chunk_ops.specs.PinRecords.{OnlyLearns, WordsStay}
 use Rattle.chunk_ops.proofs.MeetingCalls.{stays_then}
 use Rattle.value_ops.specs.declared.pinning.BadPin.{BadPin}
 use Rattle.value_ops.specs.declared.reading.Reading.{Reading}
-use Rattle.value_ops.specs.Pinning.{AddsPin, DropsPin, EndsPin, FindsDud, HasPin, IsLiveAt, KnowsLife, KnowsMore, PinsDud, PinsLive}
+use Rattle.value_ops.specs.Pinning.{AddsPin, DropsPin, EndsPin, FindsDud, HasPin, IsCause, IsLiveAt, KnowsLife, KnowsMore, PinsDud, PinsLive}
 use Rattle.value_ops.specs.PinnedValues.{LearnsByLoads, ReadsLife}
 use Rattle.value_ops.specs.Reading.{IsReading, header, stamp, value}
 use Rattle.value_ops.proofs.AlonePins.{undone}
 use Rattle.value_ops.proofs.LearnFacts.{knows_both, knows_same, learned_pin}
 use Rattle.point_ops.specs.FoundWords.{FoundWord}
-use Rattle.point_ops.specs.Lives.{ReadsUnder}
-use Rattle.point_ops.proofs.FoundPins.{found_pin, meets_met}
+use Rattle.point_ops.specs.Halting.{IsLockedOut}
+use Rattle.point_ops.specs.Lives.{ReadsUnder, RefusesLife}
+use Rattle.point_ops.proofs.FoundPins.{dud_found, found_pin, meets_met}
 use Rattle.point_ops.proofs.FoundSpots.{last_since, last_until}
+use Rattle.point_ops.proofs.LoneLooks.{refused_look}
 
 -- what undoing a pin leaves of what was read
 pub unpin_stands : (z : Sizes) (call h : ℕ) (v w : PassState) → EndsPin z call h v w → Stands call v w
@@ -118,3 +120,7 @@ dud_only z call h g why v w d = record {
   rooms = d.only.rooms;
   still = runs_as (FindsDud z h g why) WordsStay v w (λ a b f. f.0) d.still;
 }
+
+-- so it is no look, where the header was found locked or of another generation
+pub dud_refuses : (z : Sizes) (call h g : ℕ) (why : BadPin) (v w : PassState) → v.headers ≡ no_headers → PinsDud z call h g why v w → ((n : ℕ) → IsCause why g n → IsLockedOut g n) → ((n : ℕ) → IsCause why g n → IsLiveAt g n → ⊥) → RefusesLife z call h g v w
+dud_refuses z call h g why v w none d locked not_live = record { only = dud_only z call h g why v w d; knows = d.only.knows; found = dud_found z call h g why v w (IsLockedOut g) none d locked; alone = refused_look z call h g v w why not_live d }

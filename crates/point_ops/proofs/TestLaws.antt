@@ -1,5 +1,5 @@
 -- What each call of the tests leaves of their pass.
-use Rattle.std.proofs.Common.{◌≡◌, ℕ, ◌≤◌, Bool, true, false, List, [], ◌∷◌, Result, Ok, Err, refl, sym, ap, ◌∙◌, subst, arith}
+use Rattle.std.proofs.Common.{◌≡◌, ℕ, ◌≤◌, Bool, true, false, List, [], ◌∷◌, None, Result, Ok, Err, refl, sym, ap, ◌∙◌, subst, arith}
 use Rattle.std.specs.Prelude.{IfOk, IfErr}
 use Rattle.oak_model.specs.declared.cells.CellCall.{CellCall}
 use Rattle.oak_model.specs.declared.cells.CellCall.TheVariants.{Get}
@@ -12,20 +12,26 @@ use Rattle.oak_model.specs.Counts.{Each}
 use Rattle.oak_model.specs.KeyNumber.{key_number}
 use Rattle.oak_model.specs.Limits.{Sizes}
 use Rattle.oak_model.proofs.Lists.{begins_self, begins_trans, each_append, each_map}
+use Rattle.header_core.specs.declared.holds.HeaderHolds.{HeaderHolds}
 use Rattle.oak_core.specs.declared.states.KeyedWrite.{KeyedWrite}
 use Rattle.oak_core.specs.declared.states.Numbers.{Numbers}
 use Rattle.oak_core.specs.declared.states.PassState.{PassState}
 use Rattle.oak_core.specs.PassState.{HoldsNothing}
-use Rattle.value_ops.specs.Pinning.{OnlyLearns}
+use Rattle.oak_core.proofs.calls.CallSteps.{learns_both}
+use Rattle.value_ops.specs.Pinning.{MeetsMore, OnlyLearns, with_pin}
+use Rattle.value_ops.specs.PinnedValues.{OnlyLoads}
 use Rattle.value_ops.specs.Views.{Viewed}
 use Rattle.point_ops.specs.Gets.{GotFits}
 use Rattle.point_ops.specs.Parts.{WroteFits}
+use Rattle.point_ops.specs.Pins.{AbsentAt, PinsKey}
 use Rattle.point_ops.specs.Replies.{HoldsAsBefore, MineAfter, Refuses, RepliesAt}
 use Rattle.point_ops.specs.TestStates.{HasView, IsReady, IsReadyAgain, WroteBy}
 use Rattle.point_ops.specs.declared.gets.Got.{Got}
 use Rattle.point_ops.specs.declared.gets.Got.TheVariants as gots
 use Rattle.point_ops.specs.declared.halts.Halt.{Halt}
+use Rattle.value_ops.proofs.LearnFacts.{learned_both, learned_met, learned_only}
 use Rattle.value_ops.proofs.LoadedViews.{view_loaded}
+use Rattle.value_ops.proofs.PinFacts.{loads_meet, unpinned_is}
 
 -- nothing was done, and the call may be a later one
 pub ready_later : (call next : ℕ) (v w : PassState) → call ≤ next → w ≡ v → IsReady call v → IsReadyAgain next v w
@@ -70,7 +76,7 @@ replied call key ask reply at v w r y = record {
   ready = record { idle = idle_still v w r.holds y.idle; wrote = wrote_after (is_write reply) call (key_number key) at v w r.mine y.wrote };
 }
 
-refused_again : (call : ℕ) (v w : PassState) → Refuses call v w → IsReady call v → IsReadyAgain call v w
+pub refused_again : (call : ℕ) (v w : PassState) → Refuses call v w → IsReady call v → IsReadyAgain call v w
 refused_again call v w r y = record {
   numbers = r.holds.numbers;
   loaded = r.learns.all.loaded;
@@ -98,3 +104,24 @@ learned_again z call v w l y = refused_again call v w record {
   learns = l.learns;
   holds = record { blocks = l.blocks; headers = l.headers; rooms = l.rooms; numbers = l.learns.all.numbers; fulls = l.learns.all.fulls; swept = l.learns.all.swept; rebalances = l.learns.all.rebalances };
 } y
+
+-- a value was read under the pin by which its key was found, and the pin undone
+pub pinned_again : (z : Sizes) (call : ℕ) (key : List ℕ) (h g : ℕ) (v w q x u : PassState) → PinsKey z call key h g v w → OnlyLearns z call w q → OnlyLoads z call q x → MeetsMore z call (with_pin None x) u → IsReady call v → IsReadyAgain call v u
+pinned_again z call key h g v w q x u p reading loads undone y = let l = learned_both z call w q u (learned_only z call w q reading) (learned_both z call q x u (learned_met z call q x q.headers.pin (loads_meet z call q x loads)) (learned_met z call x u None undone)) in
+    let all = learns_both call v w u p.learns l.learns in
+    refused_again call v u record {
+      learns = all;
+      holds = record {
+        blocks = l.blocks ∙ p.blocks;
+        headers = ap (λ (t : PassState). t.headers) undone.after ∙ (ap (λ (a : HeaderHolds). record a { pin = None }) (ap (λ (t : PassState). t.headers) loads.loads.after ∙ (reading.headers ∙ p.headers)) ∙ ap (λ (t : PassState). t.headers) (unpinned_is v (ap (λ (a : HeaderHolds). a.pin) y.idle.headers)));
+        rooms = l.rooms ∙ p.rooms;
+        numbers = all.all.numbers;
+        fulls = all.all.fulls;
+        swept = all.all.swept;
+        rebalances = all.all.rebalances;
+      };
+    } y
+
+-- or no value was found
+pub absent_again : (z : Sizes) (call : ℕ) (key : List ℕ) (at : ℕ) (v w : PassState) → AbsentAt z call key at v w → IsReady call v → IsReadyAgain call v w
+absent_again z call key at v w f y = replied call key Get replies.Absent at v w f.replies y

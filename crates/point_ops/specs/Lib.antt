@@ -17,3 +17,4 @@ pub mod LonePuts
 pub mod LoneLeft
 pub mod LonePutLeft
 pub mod PutKinds
+pub mod Pins

@@ -1,4 +1,4 @@
-//! The six calls by one pass, and by two threads.
+//! The seven calls by one pass, and by two threads.
 ghost use Rattle.std.specs.Prelude.{◌≡◌, ◌<◌, ◌≤◌, ◌+◌, ◌^◌, ◌-◌, length};
 ghost use Rattle.oak_model.specs.Key.{IsKey};
 ghost use Rattle.oak_model.specs.Value.{IsValue};
@@ -9,12 +9,13 @@ ghost use Rattle.oak_core.specs.Scratch.{StaysButScratch};
 ghost use Rattle.point_ops.specs.TestStates.{HasView, IsReady, IsReadyAgain};
 
 use crate::calls::{shows, turn};
-use crate::found::{is_used, number_is};
+use crate::found::{is_so, is_used, number_is};
 use crate::keys::test_rows::{Ask, ROWS, ROWS_OF_FOUR_ENTRIES, ROWS_OF_ONE_HEADER, Row, Said};
 use oak_core::{OakTable, Pass};
 use oak_model::{Class, NO_HINT, RecipeKind, Shape, Usage, Wrote};
 use point_ops::{
-    Got, Halt, try_compute, try_get, try_put, try_put_if_absent, try_remove, try_upsert,
+    Got, Halt, Pinned, try_compute, try_get, try_pin, try_put, try_put_if_absent, try_remove,
+    try_upsert,
 };
 use std::alloc::Global;
 use std::process::Abort;
@@ -72,6 +73,54 @@ pub(crate) fn gets(
     }
 }
 
+/// Gets the key, and reads the value, which must be these bytes, under the very pin by which it was found.
+fn reads(
+    rt: &impl Abort,
+    table: &OakTable,
+    pass: &mut Pass,
+    key: &[u8],
+    bytes: &[u8],
+) -> (Said, u64)
+    requires own { IsPassOf table.now pass.old }
+    requires key { IsKey key.now }
+    requires ready { IsReady (call_of pass.old) (state pass.old) }
+    ensures own { Stays pass.old pass.new }
+    ensures ready { IsReadyAgain (call_of pass.old) (state pass.old) (state pass.new) }
+{
+    match try_pin(table, pass, NO_HINT, key) {
+        Ok(Pinned::Absent { at }) => (Said::Absent, at),
+        Ok(Pinned::Value(pin)) => {
+            let mut reading = pin.reading(table, pass);
+            let same = reading.same(bytes);
+            let at = reading.at();
+            reading.done();
+            is_so(rt, "the bytes of a value", same);
+            (Said::Holds, at)
+        }
+        Err(halt) => halted(halt),
+    }
+}
+
+/// Gets the key in both ways, which must tell the same.
+fn gets_both(
+    rt: &impl Abort,
+    table: &OakTable,
+    pass: &mut Pass,
+    key: &[u8],
+    bytes: &[u8],
+) -> (Said, u64)
+    requires own { IsPassOf table.now pass.old }
+    requires key { IsKey key.now }
+    requires ready { IsReady (call_of pass.old) (state pass.old) }
+    ensures own { Stays pass.old pass.new }
+    ensures ready { IsReadyAgain (call_of pass.old) (state pass.old) (state pass.new) }
+{
+    let read = reads(rt, table, pass, key, bytes);
+    let got = gets(rt, table, pass, key, bytes);
+    is_so(rt, "what a get and a reading tell", read == got);
+    got
+}
+
 /// Makes the call on the key, with the bytes as its value and the argument for its recipe.
 fn ask(
     rt: &impl Abort,
@@ -95,7 +144,7 @@ fn ask(
 {
     recipe.tell(RecipeKind::Xor, u64::from(argument));
     match ask {
-        Ask::Get => gets(rt, table, pass, key, bytes),
+        Ask::Get => gets_both(rt, table, pass, key, bytes),
         Ask::Put => said(try_put(table, pass, NO_HINT, key, bytes)),
         Ask::PutNew => said(try_put_if_absent(table, pass, NO_HINT, key, bytes)),
         Ask::Xor => said(try_compute(table, pass, NO_HINT, key, recipe)),

@@ -10,6 +10,7 @@ ghost use Rattle.oak_map.specs.TriedRests.{LendsFor, RestsWithout};
 use crate::answers::{Busy, NoValue};
 use crate::finding::try_find_value;
 use oak_core::{OakTable, Pass};
+use point_ops::Pinned;
 use value_ops::Reading;
 
 /// Looks for a key, and reads its value where it has one, as [`OakMap::get`](crate::OakMap::get) does, or gives up: `Busy`
@@ -33,7 +34,7 @@ pub fn try_get<'p>(
 {
     match try_find_value(table, pass, key, looks) {
         Err(Busy) => Err(NoValue::Busy),
-        Ok(Err(at)) => Err(NoValue::Absent { at }),
-        Ok(Ok(pin)) => Ok(pin.reading(table, pass)),
+        Ok(Pinned::Absent { at }) => Err(NoValue::Absent { at }),
+        Ok(Pinned::Value(pin)) => Ok(pin.reading(table, pass)),
     }
 }

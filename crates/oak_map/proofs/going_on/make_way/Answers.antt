@@ -1,4 +1,4 @@
-use Rattle.std.proofs.Common.{ℕ, length, ◌∙◌, sym, subst}
+use Rattle.std.proofs.Common.{ℕ, length, sym, subst}
 use Rattle.oak_core.specs.Lack.{Lacks}
 use Rattle.oak_core.specs.Passes.{state, key as sizes, call_of}
 use Rattle.chunk_ops.proofs.MeetingCalls.{only_in}

@@ -1,4 +1,4 @@
-use Rattle.std.proofs.Common.{ℕ, length, Option, IfSome, IfNone, ◌∙◌, sym, subst}
+use Rattle.std.proofs.Common.{ℕ, length, Option, IfSome, IfNone, sym, subst}
 use Rattle.oak_model.specs.declared.replies.Lack.{Lack}
 use Rattle.oak_core.specs.Lack.{Lacks}
 use Rattle.oak_core.specs.Passes.{state, key as sizes, call_of}

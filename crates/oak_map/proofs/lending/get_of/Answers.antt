@@ -9,9 +9,9 @@ use Rattle.oak_map.specs.Maps.{table_of}
 use Rattle.oak_map.proofs.LentValues.{lends_value}
 use Rattle.oak_map.proofs.lending.get_of.Goals as goal
 
-pub returns-in-Ok : goal.returns-in-Ok
-returns-in-Ok g c = let z = table_sizes (table_of c.args.map.now) in let call = call_of c.args.pass.now in let v = table_state c.args.pass.now in let w = table_state c.find_value.new.pass in let r = c.reading.result in let u = table_state r.pass.now in
-    let p = c.in-Ok.pin in let same : call_of c.find_value.new.pass ≡ call = c.find_value.ensures.own.call in (
+pub returns-in-Value : goal.returns-in-Value
+returns-in-Value g c = let z = table_sizes (table_of c.args.map.now) in let call = call_of c.args.pass.now in let v = table_state c.args.pass.now in let w = table_state c.find_value.new.pass in let r = c.reading.result in let u = table_state r.pass.now in
+    let p = c.in-Value.pin in let same : call_of c.find_value.new.pass ≡ call = c.find_value.ensures.own.call in (
       (ap some (sym c.reading.ensures.same_reference), (λ w. refl), tt),
       record {
         rests = tt;
@@ -20,7 +20,7 @@ returns-in-Ok g c = let z = table_sizes (table_of c.args.map.now) in let call = 
           c.reading.ensures.reading,
           ap (λ (t : Bor OakTable). t.now) c.reading.ensures.table,
           stays_both c.find_value.ensures.own c.reading.ensures.own,
-          lends_value z call c.args.key.now p.header p.generation v w r c.requires.idle c.in-Ok.ensures.pinned c.reading.ensures.reading (ap (λ (t : Bor OakTable). table_sizes t.now) c.reading.ensures.table)
+          lends_value z call c.args.key.now p.header p.generation v w r c.requires.idle c.in-Value.ensures.found c.reading.ensures.reading (ap (λ (t : Bor OakTable). table_sizes t.now) c.reading.ensures.table)
               (subst (λ (i : ℕ). LearnsByLoads z i w u) same c.reading.ensures.only) (subst (λ (i : ℕ). FindsStamp z i p.header (stamp r) w u) same c.reading.ensures.found) c.reading.ensures.reads,
         );
       },

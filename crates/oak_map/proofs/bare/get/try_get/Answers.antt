@@ -1,4 +1,4 @@
-use Rattle.std.proofs.Common.{◌≡◌, ℕ, Result, IfOk, sym, refl, ap, subst, Bor}
+use Rattle.std.proofs.Common.{◌≡◌, ℕ, sym, refl, ap, subst, Bor}
 use mathlib.Core.Option.{some}
 use Rattle.oak_core.specs.declared.table.OakTable.{OakTable}
 use Rattle.oak_core.specs.Passes.{call_of, key as sizes, state}
@@ -6,13 +6,15 @@ use Rattle.oak_core.proofs.seats.SamePass.{stays_both}
 use Rattle.value_ops.specs.declared.pinning.HeaderPin.{HeaderPin}
 use Rattle.value_ops.specs.PinnedValues.{FindsStamp, LearnsByLoads}
 use Rattle.value_ops.specs.Reading.{stamp}
-use Rattle.oak_map.specs.Finding.{PinsKey}
+use Rattle.point_ops.specs.declared.lives.Pinned.{Pinned}
+use Rattle.point_ops.specs.Pins.{PinsKey}
+use Rattle.oak_map.specs.Finding.{FindsValue}
 use Rattle.oak_map.proofs.LentValues.{lends_value}
 use Rattle.oak_map.proofs.bare.get.try_get.Goals as goal
 
-pub returns-in-Ok-Ok : goal.returns-in-Ok-Ok
-returns-in-Ok-Ok c = let z = sizes c.args.table.now in let call = call_of c.args.pass.now in let v = state c.args.pass.now in let w = state c.try_find_value.new.pass in let r = c.reading.result in let u = state r.pass.now in
-    let p : HeaderPin = c.in-Ok-Ok.pin in let pinned : PinsKey z call c.args.key.now p.header p.generation v w = subst (λ (o : Result HeaderPin ℕ). IfOk o (λ (q : HeaderPin). PinsKey z call c.args.key.now q.header q.generation v w)) c.in-Ok-Ok.field-0-is c.in-Ok-Ok.ensures.pinned in
+pub returns-in-Ok-Value : goal.returns-in-Ok-Value
+returns-in-Ok-Value c = let z = sizes c.args.table.now in let call = call_of c.args.pass.now in let v = state c.args.pass.now in let w = state c.try_find_value.new.pass in let r = c.reading.result in let u = state r.pass.now in
+    let p : HeaderPin = c.in-Ok-Value.pin in let pinned : PinsKey z call c.args.key.now p.header p.generation v w = subst (λ (y : Pinned). FindsValue y z call c.args.key.now v w) c.in-Ok-Value.field-0-is c.in-Ok-Value.ensures.found in
     let same : call_of c.try_find_value.new.pass ≡ call = c.try_find_value.ensures.own.call in (
       (ap some (sym c.reading.ensures.same_reference), (λ w. refl), tt),
       record {

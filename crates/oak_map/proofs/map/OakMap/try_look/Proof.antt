@@ -35,7 +35,6 @@ use denote.Triple.Walked.{Stays, stay_dropped, walk_of, Goes-dropped}
 use Rattle.oak_model.specs.Limits.{Sizes}
 use Rattle.oak_core.specs.PassState.{HoldsNothing}
 use Rattle.oak_core.specs.Passes.{IsPassOf, key as table_sizes, state as table_state}
-use Rattle.oak_core.specs.declared.states.PassState.{PassState}
 use Rattle.oak_core.specs.declared.table.Pass.{Pass}
 use Rattle.oak_core.specs.contracts.table.Pass as pass
 use Rattle.value_ops.specs.Views.{KnowsView, Viewed}
