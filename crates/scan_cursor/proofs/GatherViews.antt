@@ -1,25 +1,21 @@
 -- What a call read of keys stays read in it, and calls that load entries, one behind the other.
-use Rattle.std.proofs.Common.{◌≡◌, ℕ, List, sym, refl, ◌∙◌, subst, None, Some, true}
+use Rattle.std.proofs.Common.{◌≡◌, ℕ, List, sym, refl, subst, None}
 use Rattle.oak_model.specs.KeyNumber.{key_number}
 use Rattle.oak_model.specs.Limits.{Sizes}
 use Rattle.oak_model.specs.State.{State}
 use Rattle.chunk_core.specs.declared.holds.RoomHolds.{RoomHolds}
 use Rattle.chunk_core.specs.MayOnRooms.{FindsEntry}
-use Rattle.oak_core.specs.declared.states.Knowledge.{Knowledge}
 use Rattle.oak_core.specs.declared.states.PassState.{PassState}
 use Rattle.oak_core.specs.CallSteps.{Learns}
 use Rattle.oak_core.specs.KeyReads.{home_of}
-use Rattle.oak_core.specs.LastReads.{NotPast, ReadsLast}
-use Rattle.oak_core.specs.LifeKeys.{key_in_loaded, loaded_in}
-use Rattle.oak_core.specs.QuietSteps.{IsQuiet, Quiet}
+use Rattle.oak_core.specs.LastReads.{ReadsLast}
+use Rattle.oak_core.specs.QuietSteps.{Quiet}
 use Rattle.oak_core.proofs.known.LoadedIn.{loaded_in_has}
-use Rattle.oak_core.proofs.calls.CallSteps.{learns_both, stands_learns}
-use Rattle.oak_core.proofs.calls.QuietCalls.{only_both as quiet_both}
+use Rattle.oak_core.proofs.calls.CallSteps.{stands_learns}
 use Rattle.chunk_ops.specs.declared.entries.Content.TheVariants.{Value}
 use Rattle.chunk_ops.specs.Contents.{FindsContent, FindsLife}
 use Rattle.chunk_ops.specs.Finds.{FoundAbsent}
 use Rattle.chunk_ops.specs.PinRecords.{HasEntry, OnlyLearns, OnlyMeets, pin_or}
-use Rattle.chunk_ops.proofs.MeetingCalls.{both_stay}
 use Rattle.value_ops.proofs.LoadedViews.{known_loaded, names_home}
 use Rattle.scan_cursor.specs.Gathered.{KnewLast, Loaded}
 use Rattle.scan_cursor.specs.Views.{KnowsLast, Later, ReadsKey, view_of}
@@ -57,15 +53,6 @@ module _ (z : Sizes) (call : ℕ) where
     last = f.last;
   }
 
-  -- what loads that teach nothing leave known
-  pub known_still : (now h g : ℕ) (q : List ℕ) (v w : PassState) → OnlyMeets now v w → KnowsLast q h g (view_of z call v) → KnowsLast q h g (view_of z call w)
-  known_still now h g q v w o k = let e = sym o.stands.knowledge in record {
-    inside = k.inside;
-    loaded = subst (λ (s : Knowledge). key_in_loaded h g s.loaded ≡ Some q) e k.loaded;
-    named = subst (λ (s : Knowledge). loaded_in call h g s.loaded ≡ true) e k.named;
-    last = subst (NotPast (key_number q) (home_of h g)) e k.last;
-  }
-
   -- what was known once was known before each later moment
   pub knew_until : (u v w : PassState) (x : Loaded) → Later (view_of z call v) (view_of z call w) → KnewLast (view_of z call u) (view_of z call v) x → KnewLast (view_of z call u) (view_of z call w) x
   knew_until u v w x l (m, a, b, k) = (m, a, later_both m (view_of z call v) (view_of z call w) b l, k)
@@ -74,16 +61,6 @@ module _ (z : Sizes) (call : ℕ) where
 
 pub learns_only : (call : ℕ) (v : PassState) (w : PassState) → OnlyMeets call v w → OnlyLearns call v w
 learns_only call v w o = record { learns = stands_learns call v w o.stands; quiet = o.quiet; blocks = o.blocks; headers = o.headers; rooms = o.rooms; still = o.still }
-
-pub learned_both : (call : ℕ) (u v w : PassState) → OnlyLearns call u v → OnlyLearns call v w → OnlyLearns call u w
-learned_both call u v w a b = record {
-  learns = learns_both call u v w a.learns b.learns;
-  quiet = quiet_both IsQuiet u v w a.quiet b.quiet;
-  blocks = b.blocks ∙ a.blocks;
-  headers = b.headers ∙ a.headers;
-  rooms = b.rooms ∙ a.rooms;
-  still = both_stay u v w a.still b.still;
-}
 
 pub learned_in : (first now : ℕ) (v w : PassState) → now ≡ first → OnlyLearns now v w → OnlyLearns first v w
 learned_in first now v w e o = subst (λ (k : ℕ). OnlyLearns k v w) e o

@@ -13,7 +13,6 @@ ghost use Rattle.scan_cursor.specs.Holding.{Covers, HasRoom, IsAhead, IsRoom, ah
 ghost use Rattle.scan_cursor.specs.Loading.{IsBehind, IsEnd, LoadsSlot};
 ghost use Rattle.scan_cursor.specs.Views.{Later, view_of};
 
-use crate::loading_ahead::load_ahead;
 use crate::ways::Way;
 use chunk_ops::{
     Content, EntryNo, KeyBytes, RoomPin, StoredKey, content_of, entry_key, next_entry,
@@ -69,8 +68,8 @@ fn bound_at(key: &StoredKey, near: Option<KeyBytes>, way: Way) -> Option<KeyByte
     }
 }
 
-/// Loads the value word of an entry whose key lies behind `from`: the slot of one that has a value, of which it loads
-/// ahead what its pair is read from. A scan needs no key words, so none is kept in its slots.
+/// Loads the value word of an entry whose key lies behind `from`: the slot of one that has a value. A scan needs no key
+/// words, so none is kept in its slots.
 fn load_slot(
     table: &OakTable,
     pass: &mut Pass,
@@ -97,10 +96,9 @@ fn load_slot(
     match content_of(value) {
         Content::Floor { stamp: _ } => None,
         Content::Value {
-            header,
+            header: _,
             generation: _,
         } => {
-            load_ahead(table, pass, header);
             let (length, words) = key.parts();
             Some(SortSlot {
                 words,

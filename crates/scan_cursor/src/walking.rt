@@ -5,25 +5,27 @@ ghost use Rattle.oak_model.specs.Key.{is_key};
 ghost use Rattle.oak_model.specs.KeyNumber.{key_number};
 ghost use Rattle.oak_core.specs.AloneWords.{Runs};
 ghost use Rattle.oak_core.specs.PassState.{HoldsNothing};
-ghost use Rattle.oak_core.specs.Passes.{IsPassOf, state, key as sizes, slots_of};
+ghost use Rattle.oak_core.specs.Passes.{IsPassOf, Stays, call_of, state, key as sizes, slots_of};
 ghost use Rattle.oak_core.specs.Scratch.{StaysButSlots};
 ghost use Rattle.chunk_ops.specs.AddsAlone.{Never};
+ghost use Rattle.chunk_ops.specs.PinRecords.{OnlyMeets};
 ghost use Rattle.scan_cursor.specs.Busy.{AreInVain, IsInVain, LooksInVain};
 ghost use Rattle.scan_cursor.specs.Gathered.{in_slot};
-ghost use Rattle.scan_cursor.specs.Holding.{IsBound};
+ghost use Rattle.scan_cursor.specs.Holding.{HasRoom, IsBound, bound_in, cut_room, room_at};
 ghost use Rattle.scan_cursor.specs.Leaving.{LeavesValue, given_by};
 ghost use Rattle.scan_cursor.specs.Marks.{InBounds, IsBeyond, Leaves};
 ghost use Rattle.scan_cursor.specs.Remaining.{steps_left};
 ghost use Rattle.scan_cursor.specs.Walks.{IsTaken, IsWalk, MayGoOn, WalkSteps, WalksOrEnds, course_of, view_at};
 
 use crate::busy::Busy;
-use crate::gathering::gather;
+use crate::gathering::{Batch, gather};
+use crate::loading_ahead::load_batch_ahead;
 use crate::marks::Mark;
 use crate::reading::{Here, read_key, read_life};
 use crate::spots::{batch_bound, pin_ahead};
 use crate::ways::Way;
 use chunk_core::value_word::{generation_in, header_in};
-use chunk_ops::{KeyBytes, unpin};
+use chunk_ops::{KeyBytes, RoomPin, unpin};
 use oak_core::{OakTable, Pass, SortSlot};
 use oak_model::{GREATEST_ENTRIES, GREATEST_KEY, cmp_keys};
 use value_ops::PinnedValue;
@@ -161,6 +163,28 @@ fn next_batch(asked: u32) -> u32
     asked.saturating_mul(2).clamp(FIRST_BATCH, GREATEST_ENTRIES)
 }
 
+/// Ends a batch of the pinned room: its bound in the direction of the scan, which is the room's where it has none of its
+/// own. What its pairs are read from is loaded ahead.
+fn end_batch(
+    table: &OakTable,
+    pass: &mut Pass,
+    pin: &RoomPin,
+    batch: Batch,
+    way: Way,
+) -> Option<KeyBytes>
+    requires own { IsPassOf table.now pass.old }
+    requires pinned { HasRoom (sizes table.now) pin.now.room (state pass.old) }
+    requires few { batch.filled ≤ GREATEST_ENTRIES }
+    ensures own { Stays pass.old pass.new }
+    ensures bound { result ≡ bound_in way (cut_room way (room_at (state pass.old)) batch.bound) }
+    ensures only { OnlyMeets (call_of pass.old) (state pass.old) (state pass.new) }
+{
+    let Batch { filled, bound } = batch;
+    let end = batch_bound(table, pass, pin, bound, way);
+    load_batch_ahead(table, pass, filled);
+    end
+}
+
 /// Loads the next batch of the entries that lie behind the mark in the room in which the scan goes on.
 fn refill(table: &OakTable, pass: &mut Pass, walk: &mut Walk, way: Way) -> Stepped
     requires own { IsPassOf table.now pass.old }
@@ -185,7 +209,7 @@ fn refill(table: &OakTable, pass: &mut Pass, walk: &mut Walk, way: Way) -> Stepp
     let batch = gather(table, pass, &pin, walk.mark.key.as_slice(), walk.asked, way);
     walk.from = 0;
     walk.to = batch.filled;
-    walk.bound = batch_bound(table, pass, &pin, batch.bound, way);
+    walk.bound = end_batch(table, pass, &pin, batch, way);
     walk.gathered = true;
     unpin(table, pass, pin);
     Stepped::Passed

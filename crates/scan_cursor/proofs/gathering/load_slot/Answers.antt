@@ -6,7 +6,7 @@ use Rattle.chunk_ops.specs.Contents.{FindsContent, Says, TellsOf}
 use Rattle.chunk_ops.specs.declared.stored.StoredKey.{StoredKey}
 use Rattle.chunk_ops.specs.Stored.{IsStored}
 use Rattle.scan_cursor.specs.Views.{KnowsLast, view_of}
-use Rattle.scan_cursor.proofs.GatherViews.{known_still, knows_last, last_read, learned_both, learned_in, learns_only}
+use Rattle.scan_cursor.proofs.GatherViews.{knows_last, last_read}
 use Rattle.scan_cursor.proofs.gathering.load_slot.Goals as goal
 
 pub returns-in-Floor-clause-loads : goal.returns-in-Floor-clause-loads
@@ -16,13 +16,9 @@ returns-in-Floor-clause-loads c k q s is h behind = let z : Sizes = sizes c.args
     let reads = subst (λ (a : Content). TellsOf a z call r i q v x) c.in-Floor.is tells in
     (c.in-Floor.stamp, last_read z call v x q c.in-Floor.stamp _ reads)
 
-pub returns-in-Value-clause-only : goal.returns-in-Value-clause-only
-returns-in-Value-clause-only c = let call = call_of c.args.pass.now in let v = state c.args.pass.now in let x = state c.value_word-value.new.pass in let y = state c.load_ahead.new.pass in
-    learned_both call v x y c.value_word-value.ensures.only (learned_in call _ x y c.value_word-value.ensures.own.call (learns_only _ x y c.load_ahead.ensures.only))
-
 pub returns-in-Value-clause-loads : goal.returns-in-Value-clause-loads
 returns-in-Value-clause-loads c k q s is h = let z : Sizes = sizes c.args.table.now in let r = c.args.pin.now.room in let i = c.args.entry.0 in let call = call_of c.args.pass.now in
-    let v = state c.args.pass.now in let x = state c.value_word-value.new.pass in let y = state c.load_ahead.new.pass in
+    let v = state c.args.pass.now in let x = state c.value_word-value.new.pass in
     let stored = c.requires.key q h in let head = c.in-Value.header in let gen = c.in-Value.generation in
     let finds = subst (λ (a : Content). FindsContent z call r i a v x) c.in-Value.is (c.value_word-value.ensures.content c.content_of.result c.content_of.ensures) in
     let life = subst (λ (a : Content). TellsOf a z call r i q v x) c.in-Value.is (c.value_word-value.ensures.tells c.content_of.result q c.content_of.ensures h) in
@@ -32,6 +28,6 @@ returns-in-Value-clause-loads c k q s is h = let z : Sizes = sizes c.args.table.
       record {
         stored = subst (λ (a : StoredKey). IsStored a q) (sym parts) stored.0;
         key = stored.1;
-        knows = subst (λ (p : ℕ × ℕ). KnowsLast q p.0 p.1 (view_of z call y)) (λ j. (sym says.1 j, sym says.2 j)) (known_still z call _ head gen q x y c.load_ahead.ensures.only (knows_last z call r i head gen q v x finds life));
+        knows = subst (λ (p : ℕ × ℕ). KnowsLast q p.0 p.1 (view_of z call x)) (λ j. (sym says.1 j, sym says.2 j)) (knows_last z call r i head gen q v x finds life);
       },
     )
