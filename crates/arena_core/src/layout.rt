@@ -58,10 +58,10 @@ pub fn bit_words(shape: &Shape, class: usize) -> usize
     (shape.blocks[class] as usize + (WORD_BITS - 1)) / WORD_BITS
 }
 
-/// The words of a block.
+/// The words of a block, four times as many in each class as in the one below.
 pub fn block_words(class: Class) -> usize
     ensures is { result ≡ block_words (class_number class) }
     ensures small { result ≤ 128 }
 {
-    class.bytes() / WORD
+    (LEAST_BLOCK / WORD) << (2 * class.number())
 }

@@ -32,24 +32,49 @@ pub fn head_of(key: &[u8]) -> u64
     }
 }
 
-/// The heads of minima, in their order. Of what it counts nothing is promised: who asks looks at the minima beside.
+/// How many heads a stretch of the list has; the last may have fewer.
+const STRETCH: usize = 16;
+
+/// How many of these numbers are not above this one. All are looked at, by steps without a branch, so that several are
+/// compared at once.
+fn count_upto(numbers: &[u64], number: u64) -> usize {
+    let mut count = 0usize;
+    for other in numbers {
+        count = count.wrapping_add(usize::from(*other <= number));
+    }
+    count
+}
+
+/// The heads of minima, in their order, and again the first of each stretch of them. Of what it counts nothing is promised:
+/// who asks looks at the minima beside.
 #[derive(Drop)]
 pub struct Heads {
     heads: Vec<u64>,
+    firsts: Vec<u64>,
 }
 
 impl Heads {
     /// None yet, with memory for so many.
     pub fn new(alloc: Global, count: u32) -> Result<Heads, AllocError> {
         let heads = Vec::with_capacity(alloc, count as usize)?;
-        Ok(Heads { heads })
+        let firsts = Vec::with_capacity(alloc, (count as usize).div_ceil(STRETCH))?;
+        Ok(Heads { heads, firsts })
+    }
+
+    /// Puts this head behind all others.
+    fn push(&mut self, head: u64) -> Result<(), AllocError> {
+        if self.heads.len() % STRETCH == 0 {
+            self.firsts.push(head).map_err(|_| AllocError)?;
+        }
+        self.heads.push(head).map_err(|_| AllocError)
     }
 
     /// Takes the heads of these minima in place of those it has. Where there is no memory the others are left out.
     pub fn take(&mut self, lows: &[Low]) {
         self.heads.clear();
+        self.firsts.clear();
         for low in lows {
-            if self.heads.push(low.head()).is_err() {
+            if self.push(low.head()).is_err() {
                 return;
             }
         }
@@ -66,6 +91,18 @@ impl Heads {
         (last <= head) & (head < next)
     }
 
+    /// How many are not above this number: all of the stretches before the last one that begins so, and of that one those
+    /// that are counted.
+    fn count(&self, head: u64) -> usize {
+        let Some(before) = count_upto(self.firsts.as_slice(), head).checked_sub(1) else {
+            return 0;
+        };
+        let all = self.heads.len();
+        let from = before.saturating_mul(STRETCH).min(all);
+        let to = from.saturating_add(STRETCH).min(all);
+        from.saturating_add(count_upto(&self.heads[from..to], head))
+    }
+
     /// How many are not above this number. It is tried first whether so many are, and then whether the next are.
     pub fn count_near(&self, head: u64, near: usize, next: usize) -> usize {
         if self.parts(head, near) {
@@ -74,6 +111,6 @@ impl Heads {
         if self.parts(head, next) {
             return next;
         }
-        self.heads.partition_point(|other| *other <= head)
+        self.count(head)
     }
 }

@@ -12,6 +12,7 @@ use arena_core::words::{WORD, first_bytes, word_from};
 use std::cmp::Ordering;
 
 /// Compares the bytes in word `i`, as numbers, with zeros behind the last bytes.
+#[inline(always)]
 fn compare_word<R: SearchedRoom>(room: &mut R, key: &[u8], place: u64, i: usize) -> Ordering
     requires pinned { R.pinned room.old }
     requires ours { WORD * i < length key.now }
@@ -30,6 +31,7 @@ fn compare_word<R: SearchedRoom>(room: &mut R, key: &[u8], place: u64, i: usize)
 
 /// How the key compares with that of an entry. Each word of the entry's key is loaded at most once, and
 /// none behind the first that differs.
+#[inline(always)]
 pub(crate) fn compare<R: SearchedRoom>(room: &mut R, key: &[u8], entry: u32) -> Ordering
     requires pinned { R.pinned room.old }
     requires found { HasFound (R.room room.old) entry }
