@@ -25,6 +25,8 @@
 // would have to wait or to look again the program fails instead, since here no other thread is ever in its way. So what a
 // call has to do and to keep for such cases is left out, and so are keys that have not just eight bytes: one word tells two
 // of them apart. Of several ways to halve, and to load ahead, the fastest was taken.
+#include "told.hpp"
+
 #include <algorithm>
 #include <array>
 #include <atomic>
@@ -77,26 +79,6 @@ struct Asked {
     std::string work;
     std::uint32_t keys, rounds, threads, bytes;
 };
-
-// How many calls went through, and what they read.
-struct Told {
-    std::uint64_t calls = 0, sum = 0;
-
-    void then(std::uint64_t number) {
-        calls++;
-        sum = sum * 31 + number;
-    }
-
-    void with(const Told& others) {
-        calls += others.calls;
-        sum += others.sum;
-    }
-
-    bool operator==(const Told&) const = default;
-};
-
-// The key of a number, as the number that its eight bytes are.
-std::uint64_t key_of(std::uint64_t number) { return number * 2654435761u % 1000003; }
 
 std::uint64_t word_from(const unsigned char* bytes) {
     std::uint64_t word;
@@ -364,7 +346,7 @@ public:
     // Puts the keys of the numbers below this one, each with its number as its value.
     void put_all(std::uint32_t keys) {
         for (std::uint32_t number = 0; number < keys; number++) {
-            const std::uint64_t key = key_of(number);
+            const std::uint64_t key = key_number(number);
             put_word(value.data(), number);
             for (;;) {
                 const std::uint32_t room = table.room(minima.rooms[minima.count(key)]);
@@ -584,7 +566,7 @@ template <bool COUNTS> class alignas(128) Caller {
 
     Told get_between(std::uint32_t from, std::uint32_t to) {
         Told told;
-        for (std::uint32_t i = from; i < to; i++) told.then(get(key_of(i)));
+        for (std::uint32_t i = from; i < to; i++) told.then(get(key_number(i)));
         return told;
     }
 
@@ -592,7 +574,7 @@ template <bool COUNTS> class alignas(128) Caller {
         Told told;
         for (std::uint32_t i = number; i < asked.keys; i += asked.threads) {
             put_word(value.data(), i + more);
-            put(key_of(i));
+            put(key_number(i));
             told.then(0);
         }
         return told;
@@ -664,7 +646,7 @@ Told told_values(std::uint32_t from, std::uint32_t to, std::uint64_t more, std::
 // What a scan of all keys comes to.
 Told told_scan(std::uint32_t keys, std::uint64_t more) {
     std::vector<std::pair<std::uint64_t, std::uint64_t>> pairs;
-    for (std::uint32_t i = 0; i < keys; i++) pairs.emplace_back(key_of(i), i + more);
+    for (std::uint32_t i = 0; i < keys; i++) pairs.emplace_back(key_number(i), i + more);
     std::sort(pairs.begin(), pairs.end());
     Told told;
     for (const auto& [key, value] : pairs) told.then(value);
@@ -690,7 +672,7 @@ Expected expected_of(const Asked& asked) {
     const std::uint64_t more = asked.work == "over" ? asked.rounds : 0;
     expected.content = told_scan(asked.keys, more);
     expected.values = told_values(0, asked.keys, more, asked.bytes);
-    for (std::uint32_t i = 0; i < asked.keys; i++) expected.keys += key_of(i);
+    for (std::uint32_t i = 0; i < asked.keys; i++) expected.keys += key_number(i);
     return expected;
 }
 

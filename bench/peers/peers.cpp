@@ -5,6 +5,8 @@
 //
 // MAP is `std`, a std::map under a std::shared_mutex, or `tbb`, a concurrent_map of oneTBB with a std::mutex for each value,
 // since the map guards no value of its own. The latter has no way down.
+#include "told.hpp"
+
 #include <tbb/concurrent_map.h>
 
 #include <chrono>
@@ -25,21 +27,6 @@ namespace {
 
 using Clock = std::chrono::steady_clock;
 
-// How many calls went through, and what they read.
-struct Told {
-    std::uint64_t calls = 0, sum = 0;
-
-    void then(std::uint64_t number) {
-        calls++;
-        sum = sum * 31 + number;
-    }
-
-    void with(const Told& others) {
-        calls += others.calls;
-        sum += others.sum;
-    }
-};
-
 std::uint64_t number_at(const char* bytes) {
     std::uint64_t number;
     std::memcpy(&number, bytes, 8);
@@ -53,7 +40,7 @@ void set_number(char* bytes, std::uint64_t number) {
 
 std::string key_of(std::uint64_t number) {
     std::string key(8, '\0');
-    set_number(key.data(), number * 2654435761u % 1000003);
+    set_number(key.data(), key_number(number));
     return key;
 }
 
