@@ -1,7 +1,7 @@
 #!/usr/bin/env bash
-# Measures the floor under a get, a put over a value and a pair of a scan up: what they take at the least in a table that is
-# laid out as OakMap's, by a program that makes the loads and the ordered steps which that layout asks of them and keeps
-# nothing for a call that has to wait.
+# Measures the floor under a get, a put over a value and a pair of a scan up: what they take in a table that is laid out as
+# OakMap's, by a program that makes the loads and the ordered steps which that layout asks of them and keeps nothing for a
+# call that has to wait.
 #
 # usage: bench/time_floor.sh [CALLS]
 #

@@ -1,6 +1,6 @@
-// The floor under a get, a put over a value of the same length, and a pair of a scan up: what they take at the least in
-// a table that is laid out as OakMap's, by code that makes the loads and the ordered steps which that layout asks of them,
-// and nothing else. What OakMap takes more than this is its own; what other maps take less is the layout's.
+// The floor under a get, a put over a value of the same length, and a pair of a scan up: what they take in a table that
+// is laid out as OakMap's, by code that makes the loads and the ordered steps which that layout asks of them, and nothing
+// else. What OakMap takes more than this is its own. It is this program's time, and no bound: another may be faster.
 //
 // usage: floor WORK KEYS ROUNDS THREADS [BYTES]
 //
