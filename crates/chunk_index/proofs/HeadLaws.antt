@@ -50,10 +50,12 @@ head_worth (a ∷ b ∷ c ∷ d ∷ e ∷ f ∷ []) = omega arith
 head_worth (a ∷ b ∷ c ∷ d ∷ e ∷ f ∷ g ∷ []) = omega arith
 head_worth (a ∷ b ∷ c ∷ d ∷ e ∷ f ∷ g ∷ h ∷ rest) = omega arith
 
-head_less : (a b : List ℕ) → AreBytes a → AreBytes b → key_head a < key_head b → key_cmp a b ≡ Less
+-- a smaller head decides
+pub head_less : (a b : List ℕ) → AreBytes a → AreBytes b → key_head a < key_head b → key_cmp a b ≡ Less
 head_less a b c d less = let x = head_worth a in let y = head_worth b in worth_less 8 a b c d (omega arith)
 
-head_more : (a b : List ℕ) → AreBytes a → AreBytes b → key_head b < key_head a → key_cmp a b ≡ Greater
+-- and a greater one
+pub head_more : (a b : List ℕ) → AreBytes a → AreBytes b → key_head b < key_head a → key_cmp a b ≡ Greater
 head_more a b c d more = nat_list_cmp_total.antisymm a b ∙ ap ordering_reverse (head_less b a d c more)
 
 -- so different heads decide

@@ -143,6 +143,16 @@ pub comes_first : (equal : Bool) (key : List ℕ) (ps : List Low) → IsRising p
 comes_first true key ps up = upto_come_first key ps up
 comes_first false key ps up = before_come_first key ps up
 
+-- a minimum before the key passes, whether the key itself would or not
+pub comes_less : (equal : Bool) (key : List ℕ) (p : Low) → key_cmp p.0 key ≡ Less → comes equal key p ≡ true
+comes_less true key p is = ap is_le is
+comes_less false key p is = ap is_lt is
+
+-- and one behind it does not
+pub comes_greater : (equal : Bool) (key : List ℕ) (p : Low) → key_cmp p.0 key ≡ Greater → comes equal key p ≡ false
+comes_greater true key p is = ap is_le is
+comes_greater false key p is = ap is_lt is
+
 -- the two beside a place show that it parts those that pass from the others
 pub point_between : (t : Low → Bool) (ps : List Low) (n : ℕ) (d : Low) → IsPartitionedBy t ps → n ≤ length ps → (0 < n → t (get_or ps (n - 1) d) ≡ true) → (n < length ps → t (get_or ps n d) ≡ false) → IsPartitionPoint (λ p. t p ≡ true) (λ p. t p ≡ false) ps n
 point_between t ps n d parted within below above = (first, λ k e high here. by k e high here (t (get_or ps k e)) refl)

@@ -32,14 +32,28 @@ pub fn head_of(key: &[u8]) -> u64
     }
 }
 
-/// How many heads a stretch of the list has; the last may have fewer.
+/// How many numbers a stretch has.
 const STRETCH: usize = 16;
 
-/// How many of these numbers are not above this one. All are looked at, by steps without a branch, so that several are
-/// compared at once.
-fn count_upto(numbers: &[u64], number: u64) -> usize {
+/// The order of unsigned numbers is that of signed ones with the highest bit turned, and a processor compares several
+/// signed ones at once.
+const HIGHEST_BIT: u64 = 1 << 63;
+
+/// The head as a signed number: these have the order of the heads.
+fn signed(head: u64) -> i64 {
+    (head ^ HIGHEST_BIT).cast_signed()
+}
+
+/// How far the number is above the other, and very far where it is below.
+fn distance(other: i64, number: i64) -> u64 {
+    number.wrapping_sub(other).cast_unsigned()
+}
+
+/// How many numbers of a stretch are not above this one. All are looked at, by steps without a branch, and as they are
+/// always so many, several are compared at once.
+fn count_upto(stretch: &[i64; STRETCH], number: i64) -> usize {
     let mut count = 0usize;
-    for other in numbers {
+    for other in stretch {
         count = count.wrapping_add(usize::from(*other <= number));
     }
     count
@@ -47,70 +61,122 @@ fn count_upto(numbers: &[u64], number: u64) -> usize {
 
 /// The heads of minima, in their order, and again the first of each stretch of them. Of what it counts nothing is promised:
 /// who asks looks at the minima beside.
+///
+/// In front of the heads stands the least number, so that some are always not above a head, and behind them the greatest,
+/// so that each stretch is whole.
 #[derive(Drop)]
 pub struct Heads {
-    heads: Vec<u64>,
-    firsts: Vec<u64>,
+    heads: Vec<i64>,
+    firsts: Vec<[i64; STRETCH]>,
 }
 
 impl Heads {
     /// None yet, with memory for so many.
     pub fn new(alloc: Global, count: u32) -> Result<Heads, AllocError> {
-        let heads = Vec::with_capacity(alloc, count as usize)?;
-        let firsts = Vec::with_capacity(alloc, (count as usize).div_ceil(STRETCH))?;
+        let stretches = count as usize / STRETCH + 1;
+        let heads = Vec::with_capacity(alloc, stretches * STRETCH)?;
+        let firsts = Vec::with_capacity(alloc, stretches.div_ceil(STRETCH))?;
         Ok(Heads { heads, firsts })
     }
 
-    /// Puts this head behind all others.
-    fn push(&mut self, head: u64) -> Result<(), AllocError> {
-        if self.heads.len() % STRETCH == 0 {
-            self.firsts.push(head).map_err(|_| AllocError)?;
+    /// Puts this number behind the firsts, of which there are so many.
+    fn push_first(&mut self, count: usize, number: i64) -> Result<(), AllocError> {
+        if count % STRETCH == 0 {
+            self.firsts
+                .push([i64::MAX; STRETCH])
+                .map_err(|_| AllocError)?;
         }
-        self.heads.push(head).map_err(|_| AllocError)
+        if let Some(stretch) = self.firsts.last_mut() {
+            stretch[count % STRETCH] = number;
+        }
+        Ok(())
+    }
+
+    /// Puts this number behind the heads, and behind the firsts too where it begins a stretch.
+    fn push(&mut self, number: i64) -> Result<(), AllocError> {
+        let place = self.heads.len();
+        if place % STRETCH == 0 {
+            self.push_first(place / STRETCH, number)?;
+        }
+        self.heads.push(number).map_err(|_| AllocError)
+    }
+
+    /// Puts the greatest number behind the heads until each stretch is whole.
+    fn fill(&mut self) -> Result<(), AllocError> {
+        let part = self.heads.len() % STRETCH;
+        if part > 0 {
+            for _ in part..STRETCH {
+                self.push(i64::MAX)?;
+            }
+        }
+        Ok(())
+    }
+
+    /// Takes the heads of these minima in place of those it has.
+    fn try_take(&mut self, lows: &[Low]) -> Result<(), AllocError> {
+        self.heads.clear();
+        self.firsts.clear();
+        self.push(i64::MIN)?;
+        for low in lows {
+            self.push(signed(low.head()))?;
+        }
+        self.fill()
     }
 
     /// Takes the heads of these minima in place of those it has. Where there is no memory the others are left out.
     pub fn take(&mut self, lows: &[Low]) {
-        self.heads.clear();
-        self.firsts.clear();
-        for low in lows {
-            if self.push(low.head()).is_err() {
-                return;
-            }
-        }
+        let _ = self.try_take(lows);
     }
 
-    /// Whether so many are not above this number, by the two beside. It looks at both before it decides, since most
-    /// searches are of another place, and a branch for each of the two could not be foreseen.
-    fn parts(&self, head: u64, count: usize) -> bool {
-        let last = match count.checked_sub(1) {
-            Some(last) => self.heads.get(last).copied().unwrap_or(u64::MAX),
-            None => 0,
-        };
-        let next = self.heads.get(count).copied().unwrap_or(u64::MAX);
-        (last <= head) & (head < next)
+    /// Whether so many are not above this number, by the two beside. It takes both in one comparison, of how far the
+    /// number and the next are from the last, since most searches are of another place, and a branch for each of the two
+    /// could not be foreseen.
+    fn parts(&self, number: i64, count: usize) -> bool {
+        if count >= self.heads.len().saturating_sub(1) {
+            return false;
+        }
+        let last = self.heads[count];
+        distance(last, number) < distance(last, self.heads[count + 1])
+    }
+
+    /// How many stretches begin with a number that is not above this one.
+    #[inline(always)]
+    fn count_stretches(&self, number: i64) -> usize {
+        let mut count = 0usize;
+        for stretch in &self.firsts {
+            let upto = count_upto(stretch, number);
+            count = count.wrapping_add(upto);
+            if upto < STRETCH {
+                break;
+            }
+        }
+        count
     }
 
     /// How many are not above this number: all of the stretches before the last one that begins so, and of that one those
-    /// that are counted.
-    fn count(&self, head: u64) -> usize {
-        let Some(before) = count_upto(self.firsts.as_slice(), head).checked_sub(1) else {
-            return 0;
-        };
-        let all = self.heads.len();
-        let from = before.saturating_mul(STRETCH).min(all);
-        let to = from.saturating_add(STRETCH).min(all);
-        from.saturating_add(count_upto(&self.heads[from..to], head))
+    /// that are counted, but for the number in front.
+    #[inline(always)]
+    fn count_heads(&self, number: i64) -> usize {
+        let to = self.count_stretches(number).wrapping_mul(STRETCH);
+        let stretch = self
+            .heads
+            .get(..to)
+            .and_then(|upto| upto.last_chunk::<STRETCH>());
+        match stretch {
+            Some(stretch) => to
+                .wrapping_sub(STRETCH + 1)
+                .wrapping_add(count_upto(stretch, number)),
+            None => 0,
+        }
     }
 
-    /// How many are not above this number. It is tried first whether so many are, and then whether the next are.
-    pub fn count_near(&self, head: u64, near: usize, next: usize) -> usize {
-        if self.parts(head, near) {
+    /// How many are not above this head. It is tried first whether so many are.
+    #[inline(always)]
+    pub fn count_by_heads(&self, head: u64, near: usize) -> usize {
+        let number = signed(head);
+        if self.parts(number, near) {
             return near;
         }
-        if self.parts(head, next) {
-            return next;
-        }
-        self.count(head)
+        self.count_heads(number)
     }
 }

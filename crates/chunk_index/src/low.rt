@@ -1,5 +1,6 @@
 //! The minimum of a chunk, with the chunk's room.
-ghost use Rattle.std.specs.Prelude.{◌≡◌};
+ghost use Rattle.std.specs.Prelude.{◌≡◌, true};
+ghost use Rattle.std.specs.declared.cmp.Ordering.TheVariants.{Less, Greater};
 ghost use Rattle.oak_model.specs.Key.{IsKey, key_cmp};
 ghost use Rattle.chunk_index.specs.Heads.{key_head};
 ghost use Rattle.chunk_index.specs.Lows.{comes, is_apart};
@@ -14,9 +15,9 @@ use std::marker::Model;
 #[derive(Drop)]
 pub struct Low {
     head: u64,
-    bytes: [u8; GREATEST_KEY],
-    length: usize,
     room: u32,
+    length: usize,
+    bytes: [u8; GREATEST_KEY],
 }
 
 impl Model for Low {
@@ -91,6 +92,22 @@ impl Low {
             Ordering::Equal => cmp_keys(self.minimum(), key),
             apart => apart,
         }
+    }
+
+    /// Whether the heads alone tell that the minimum comes before a key with this head.
+    pub fn is_below(&self, head: u64, key: &[u8]) -> bool
+        requires { head ≡ key_head key.now }
+        ensures { result ≡ true → key_cmp self.now.0 key.now ≡ Less }
+    {
+        self.head < head
+    }
+
+    /// Whether the heads alone tell that the minimum comes behind a key with this head.
+    pub fn is_above(&self, head: u64, key: &[u8]) -> bool
+        requires { head ≡ key_head key.now }
+        ensures { result ≡ true → key_cmp self.now.0 key.now ≡ Greater }
+    {
+        self.head > head
     }
 
     /// Whether the minimum comes before a key with this head, or is the key, where that is asked.

@@ -1,9 +1,11 @@
 //! The minima of the chunks, in their order.
-ghost use Rattle.std.specs.Prelude.{◌≡◌, ◌≤◌, ◌<◌, ◌-◌, IfOk, MatchOption, MatchResult, true, false, filter, length, []};
+ghost use Rattle.std.specs.Prelude.{◌≡◌, ◌≤◌, ◌<◌, ◌-◌, IfOk, MatchOption, MatchResult, Bool, true, false, filter, length, []};
 ghost use Rattle.std.specs.List.{HoldsAt, slice_index_or};
 ghost use Rattle.std.specs.Option.{option_copied};
+ghost use Rattle.std.specs.declared.cmp.Ordering.TheVariants.{Less, Greater};
 ghost use Rattle.std.specs.List.Sorted.{IsPartitionPoint};
 ghost use Rattle.std.specs.Vec.{vec_len, vec_capacity};
+ghost use Rattle.oak_model.specs.Key.{key_cmp};
 ghost use Rattle.chunk_index.specs.Heads.{key_head};
 ghost use Rattle.chunk_index.specs.Lows.{Low as Pair, IsRising, NamesGreatest, comes, comes_before, comes_under, comes_upto, is_apart, set_low};
 
@@ -102,29 +104,97 @@ impl Lows {
         self.stays_behind(head, key, equal, count)
     }
 
+    /// Whether the heads alone tell that the last of the first so many minima, where there is one, comes before a key with
+    /// this head.
+    fn is_last_below(&self, head: u64, key: &[u8], count: usize) -> bool
+        requires head { head ≡ key_head key.now }
+        requires few { count ≤ length self.now }
+        ensures { result ≡ true → 0 < count → (d : Pair) → key_cmp (slice_index_or self.now (count - 1) d).0 key.now ≡ Less }
+    {
+        if count == 0 {
+            return true;
+        }
+        self.lows[count - 1].is_below(head, key)
+    }
+
+    /// Whether the heads alone tell that the minimum behind the first so many, where there is one, comes behind a key with
+    /// this head.
+    fn is_next_above(&self, head: u64, key: &[u8], count: usize) -> bool
+        requires head { head ≡ key_head key.now }
+        requires few { count ≤ length self.now }
+        ensures { result ≡ true → count < length self.now → (d : Pair) → key_cmp (slice_index_or self.now count d).0 key.now ≡ Greater }
+    {
+        if count == self.lows.len() {
+            return true;
+        }
+        self.lows[count].is_above(head, key)
+    }
+
+    /// Whether the heads alone tell that just so many minima come before a key with this head, and that it is none of them.
+    fn parts_by_heads(&self, head: u64, key: &[u8], count: usize) -> bool
+        requires head { head ≡ key_head key.now }
+        ensures few { result ≡ true → count ≤ length self.now }
+        ensures point { result ≡ true → (equal : Bool)
+            → IsPartitionPoint (λ p. comes equal key.now p ≡ true) (λ p. comes equal key.now p ≡ false) self.now count }
+    {
+        if count > self.lows.len() {
+            return false;
+        }
+        if !self.is_last_below(head, key, count) {
+            return false;
+        }
+        self.is_next_above(head, key, count)
+    }
+
+    /// How many minima come before a key with this head, or are not above it, where `equal`, by their bytes: those beside
+    /// so many are looked at, and beside the next, before those of all are halved.
+    fn count_from(&self, head: u64, key: &[u8], equal: bool, near: usize) -> usize
+        requires head { head ≡ key_head key.now }
+        ensures few { result ≤ length self.now }
+        ensures point { IsPartitionPoint (λ p. comes equal key.now p ≡ true) (λ p. comes equal key.now p ≡ false) self.now result }
+    {
+        if self.parts(head, key, equal, near) {
+            return near;
+        }
+        let next = if equal {
+            near.saturating_add(1)
+        } else {
+            near.saturating_sub(1)
+        };
+        if self.parts(head, key, equal, next) {
+            return next;
+        }
+        self.count(head, key, equal)
+    }
+
+    /// How many minima come before a key with this head, or are not above it, where `equal`, as [`Lows::count_from`] tells
+    /// it. It is tried first whether just so many do.
+    #[inline(never)]
+    fn count_by_bytes(&self, head: u64, key: &[u8], equal: bool, count: usize, near: usize) -> usize
+        requires head { head ≡ key_head key.now }
+        ensures few { result ≤ length self.now }
+        ensures point { IsPartitionPoint (λ p. comes equal key.now p ≡ true) (λ p. comes equal key.now p ≡ false) self.now result }
+    {
+        if self.parts(head, key, equal, count) {
+            return count;
+        }
+        self.count_from(head, key, equal, near)
+    }
+
     /// How many minima come before the key, or are not above it, where `equal`. The heads tell it, but where one of them
-    /// is the key's too: then the bytes beside so many are looked at, and beside the next, before those of all are halved.
+    /// is the key's too.
+    #[inline(never)]
     fn count_near(&self, key: &[u8], equal: bool, near: usize) -> usize
         ensures few { result ≤ length self.now }
         ensures point { IsPartitionPoint (λ p. comes equal key.now p ≡ true) (λ p. comes equal key.now p ≡ false) self.now result }
     {
         let head = head_of(key);
-        let (upto, next) = if equal {
-            (head, near.saturating_add(1))
-        } else {
-            (head.saturating_sub(1), near.saturating_sub(1))
-        };
-        let count = self.heads.count_near(upto, near, next);
-        if self.parts(head, key, equal, count) {
+        let upto = if equal { head } else { head.saturating_sub(1) };
+        let count = self.heads.count_by_heads(upto, near);
+        if self.parts_by_heads(head, key, count) {
             return count;
         }
-        if self.parts(head, key, equal, near) {
-            return near;
-        }
-        if self.parts(head, key, equal, next) {
-            return next;
-        }
-        self.count(head, key, equal)
+        self.count_by_bytes(head, key, equal, count, near)
     }
 
     /// How many minima come before the bound; without one all do.
