@@ -1,10 +1,11 @@
 //! How a key compares with that of an entry.
-ghost use Rattle.std.specs.Prelude.{◌≡◌, ℕ, ◌*◌, ◌<◌, [], ◌∷◌, length};
+ghost use Rattle.std.specs.Prelude.{◌≡◌, ℕ, ◌*◌, ◌<◌, [], ◌∷◌, length, take};
 ghost use Rattle.std.specs.Ordering.{nat_cmp};
 ghost use Rattle.oak_model.specs.Key.{key_cmp};
 ghost use Rattle.chunk_ops.specs.Reads.{Reads, LoadsKey, Compares, met_block};
 ghost use Rattle.chunk_ops.specs.Room.{HasFound, key_at};
-ghost use Rattle.arena_core.specs.Words.{word_at};
+ghost use Rattle.oak_model.specs.WordBytes.{word_bytes};
+ghost use Rattle.arena_core.specs.Words.{word_at, word_of};
 
 use crate::room::SearchedRoom;
 use arena_core::place::length_in;
@@ -29,19 +30,75 @@ fn compare_word<R: SearchedRoom>(room: &mut R, key: &[u8], place: u64, i: usize)
     word_from(key, i).cmp(&word)
 }
 
-/// How the key compares with that of an entry. Each word of the entry's key is loaded at most once, and
-/// none behind the first that differs.
+/// Of a word the first `n` bytes, fewer than eight. Most keys have eight, and for them it is not to be worked out.
+#[inline(never)]
+fn few_bytes(word: u64, n: usize) -> u64
+    requires { 0 < n }
+    ensures { result ≡ word_of (take n (word_bytes word)) }
+{
+    first_bytes(word, n)
+}
+
+/// Of a word the first `n` bytes, with zeros behind them, by a branch that is foreseen where most keys have eight.
 #[inline(always)]
-pub(crate) fn compare<R: SearchedRoom>(room: &mut R, key: &[u8], entry: u32) -> Ordering
+fn bytes_ahead(word: u64, n: usize) -> u64
+    requires { 0 < n }
+    ensures { result ≡ word_of (take n (word_bytes word)) }
+{
+    if n < WORD {
+        return few_bytes(word, n);
+    }
+    first_bytes(word, n)
+}
+
+/// The first word of a key, with zeros behind its last byte.
+pub(crate) fn head_of(key: &[u8]) -> u64
+    ensures { 0 < length key.now → result ≡ word_at key.now 0 }
+{
+    if key.is_empty() {
+        return 0;
+    }
+    word_from(key, 0)
+}
+
+/// Compares the bytes in the first word, which is `head`, as numbers, with zeros behind the last bytes.
+#[inline(always)]
+fn compare_first<R: SearchedRoom>(room: &mut R, key: &[u8], head: u64, place: u64) -> Ordering
+    requires pinned { R.pinned room.old }
+    requires head { head ≡ word_at key.now 0 }
+    requires theirs { (e : ℕ) × HasFound (R.room room.old) e × (place ≡ (R.room room.old).place e)
+        × (0 < length (key_at (R.room room.old) e)) }
+    ensures pinned { R.pinned room.new }
+    ensures same { R.room room.new ≡ R.room room.old }
+    ensures order { (e : ℕ) → HasFound (R.room room.old) e → place ≡ (R.room room.old).place e
+        → result ≡ nat_cmp (word_at key.now 0) (word_at (key_at (R.room room.old) e) 0) }
+    ensures meets { (n : ℕ) × R.meets room.old room.new (met_block place 0 n ∷ []) }
+{
+    let word = bytes_ahead(room.block_word(place, 0), length_in(place));
+    head.cmp(&word)
+}
+
+/// How the key, whose first word is `head`, compares with that of an entry. Each word of the entry's key is loaded at most
+/// once, and none behind the first that differs. Most keys differ in the first.
+#[inline(always)]
+pub(crate) fn compare<R: SearchedRoom>(room: &mut R, key: &[u8], head: u64, entry: u32) -> Ordering
     requires pinned { R.pinned room.old }
     requires found { HasFound (R.room room.old) entry }
+    requires head { 0 < length key.now → head ≡ word_at key.now 0 }
     ensures reads { Reads R.pinned R.room R.meets (Compares key.now) 1 room.old room.new }
     ensures order { result ≡ key_cmp key.now (key_at (R.room room.old) entry) }
     ensures meets { LoadsKey R.meets entry key.now (key_at (R.room room.old) entry) room.old room.new }
 {
     let place = room.key_word(entry);
     let length = length_in(place);
-    for i in 0..key.len().min(length).div_ceil(WORD) {
+    if key.is_empty() || length == 0 {
+        return key.len().cmp(&length);
+    }
+    let first = compare_first(room, key, head, place);
+    if first.is_ne() {
+        return first;
+    }
+    for i in 1..key.len().min(length).div_ceil(WORD) {
         let order = compare_word(room, key, place, i);
         if order.is_ne() {
             return order;

@@ -5,7 +5,7 @@ ghost use Rattle.link_search.specs.Bits.{bits};
 ghost use Rattle.link_search.specs.Finds.{IsAt, IsBetween};
 ghost use Rattle.link_search.specs.Linked.{IsFront};
 
-use crate::comparing::compare;
+use crate::comparing::{compare, head_of};
 use crate::room::SearchedRoom;
 use std::cmp::Ordering;
 
@@ -21,11 +21,12 @@ pub(crate) fn search_sorted<R: SearchedRoom>(
     ensures reads { Reads R.pinned R.room R.meets (Compares key.now) (bits prefix) room.old room.new }
     ensures place { MatchResult result (λ i. IsAt (R.room room.old).found key.now i) (λ i. IsBetween (R.room room.old).found key.now i) }
 {
+    let head = head_of(key);
     let mut low = 0;
     let mut high = prefix;
     while low < high {
         let middle = low + (high - low) / 2;
-        match compare(room, key, middle) {
+        match compare(room, key, head, middle) {
             Ordering::Less => high = middle,
             Ordering::Equal => return Ok(middle),
             Ordering::Greater => low = middle + 1,

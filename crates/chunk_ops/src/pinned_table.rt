@@ -11,7 +11,7 @@ ghost use Rattle.chunk_ops.specs.OwnLinks.{own_link};
 ghost use Rattle.chunk_ops.specs.RoomLoads.{IsPinnedTable, LoadsInTable, loads_nothing, loads_then, room_of, view_of};
 ghost use Rattle.chunk_ops.specs.TableLaws.{lone_still, meets_nothing, meets_then, most_stays, own_count, table_few};
 
-use crate::comparing::compare;
+use crate::comparing::{compare, head_of};
 use crate::finding::search_sorted;
 use crate::room::SearchedRoom;
 use arena_core::place::{block_in, class_in};
@@ -118,7 +118,7 @@ impl LinkedRoom for PinnedTable<'_> {
     }
 
     fn compare(&mut self, key: &[u8], entry: u32) -> Ordering {
-        compare(self, key, entry)
+        compare(self, key, head_of(key), entry)
     }
 
     fn search(&mut self, key: &[u8], prefix: u32) -> Sorted {
