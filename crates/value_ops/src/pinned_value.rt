@@ -9,7 +9,8 @@ ghost use Rattle.value_ops.specs.PinnedValues.{IsPinnedValue, FindsStamp, Learns
 
 use crate::pinning::{HeaderPin, unpin};
 use arena_core::place::{block_in, class_in, length_in};
-use arena_core::words::{WORD, is_word, put_word};
+use arena_core::words::{WORD, is_word};
+use arena_ops::{put_full_word, put_last_word};
 use oak_core::{OakTable, Pass, load};
 
 /// Where the value lies that a pass has pinned, with its length and stamp: plain numbers, which say something while the
@@ -134,19 +135,6 @@ impl PinnedValue {
         true
     }
 
-    /// Copies the bytes of the value in word `i` to their place in `out`, as many as there are places.
-    fn copy_word(self, table: &OakTable, pass: &mut Pass, out: &mut [u8], i: usize)
-        requires own { IsPassOf table.now pass.old }
-        requires pinned { IsPinnedValue (key table.now) self (state pass.old) }
-        requires front { length out.old ≤ length (value_under (state pass.old)) }
-        requires inside { WORD * i < length out.old }
-        ensures reads { ReadsPinned (key table.now) self pass.old pass.new }
-        ensures copied { take (WORD * i + WORD) out.new ≡ take (WORD * i) out.old ++ bytes_in i
-            (take (length out.old) (value_under (state pass.old))) }
-    {
-        put_word(out, i, self.word(table, pass, i));
-    }
-
     /// Copies the front of the value to `out`, as many bytes as it has places. Each word in which they stand is loaded
     /// once.
     fn copy_front(self, table: &OakTable, pass: &mut Pass, out: &mut [u8])
@@ -156,8 +144,12 @@ impl PinnedValue {
         ensures reads { ReadsPinned (key table.now) self pass.old pass.new }
         ensures copied { out.new ≡ take (length out.old) (value_under (state pass.old)) }
     {
-        for i in 0..out.len().div_ceil(WORD) {
-            self.copy_word(table, pass, out, i);
+        let full = out.len() / WORD;
+        for i in 0..full {
+            put_full_word(out, i, self.word(table, pass, i));
+        }
+        if WORD * full < out.len() {
+            put_last_word(out, full, self.word(table, pass, full));
         }
     }
 
