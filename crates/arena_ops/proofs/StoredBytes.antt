@@ -1,5 +1,5 @@
 -- Bytes are stored word by word in a block that the pass holds.
-use Rattle.std.proofs.Common.{◌≡◌, ℕ, suc, ◌+◌, ◌*◌, ◌/◌, ◌<◌, ◌≤◌, List, ◌++◌, length, get_or, set, take, drop, length-append, sym, refl, ap, ◌∙◌, subst, arith, Some, min, ◌%◌, ◌-◌}
+use Rattle.std.proofs.Common.{◌≡◌, ℕ, suc, ◌+◌, ◌*◌, ◌<◌, ◌≤◌, List, ◌++◌, length, get_or, set, take, drop, length-append, sym, refl, ap, ◌∙◌, subst, arith, Some, ◌-◌}
 use Rattle.std.proofs.lemmas.List.{length-take, length-drop}
 use Rattle.oak_model.specs.declared.classes.Class.{Class}
 use Rattle.oak_model.specs.Class.{class_number, class_of}
@@ -13,7 +13,7 @@ use Rattle.arena_core.specs.Words.{words_of}
 use Rattle.arena_core.proofs.ClassRooms.{class_room}
 use Rattle.arena_core.proofs.HeldLists.{rewritten_same}
 use Rattle.arena_core.proofs.HeldWords.{words_rewritten, without_rewritten, words_whole}
-use Rattle.arena_core.proofs.WordLaws.{words_long, words_step, words_end, value_back, word_of_loop}
+use Rattle.arena_core.proofs.WordLaws.{words_long, words_step, words_end, value_back}
 use Rattle.oak_core.specs.declared.states.Finding.{Finding}
 use Rattle.oak_core.specs.declared.states.PassState.{PassState}
 use Rattle.oak_core.specs.CallSteps.{Stands}
@@ -30,9 +30,9 @@ use Rattle.arena_ops.specs.Storing.{StoresBytes, given}
 use Rattle.arena_ops.specs.Taking.{SetsWord, Stores}
 use Rattle.arena_ops.proofs.PutWords.{PutsSome, puts_none, puts_more, puts_whole, spot_from}
 
--- a word that a loop over them comes to is one of the block
-pub word_inside : (bytes : List ℕ) (c : Class) (i n : ℕ) → class_of (length bytes) ≡ Some c → n ≡ length bytes / 8 + min 1 (length bytes % 8) → i < n → i < block_words (class_number c)
-word_inside bytes c i n fits e lt = let l : 8 * i < length bytes = word_of_loop (length bytes) i n lt e in let room = class_room (length bytes) c fits in let r : i < block_words (class_number c) = omega arith in r
+-- a word that has bytes is one of the block
+pub word_inside : (bytes : List ℕ) (c : Class) (i : ℕ) → class_of (length bytes) ≡ Some c → 8 * i < length bytes → i < block_words (class_number c)
+word_inside bytes c i fits lt = let room = class_room (length bytes) c fits in let r : i < block_words (class_number c) = omega arith in r
 
 -- these words, with the first i of those of the bytes over them
 abbrev pub so_far : List ℕ → List ℕ → ℕ → List ℕ

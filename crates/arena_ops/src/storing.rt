@@ -6,6 +6,7 @@ ghost use Rattle.oak_core.specs.Passes.{IsPassOf, Stays, state, key, call_of};
 ghost use Rattle.arena_ops.specs.Storing.{StoresBytes};
 
 use crate::taking::store;
+use crate::words::full_word;
 use arena_core::words::{WORD, word_from};
 use oak_core::{Block, OakTable, Pass};
 
@@ -21,7 +22,11 @@ pub fn store_bytes(table: &OakTable, pass: &mut Pass, block: &Block, bytes: &[u8
         (class_number block.now.class) block.now.number (state pass.old).blocks }
     ensures stored { StoresBytes (key table.now) (call_of pass.old) block.now.class block.now.number bytes.now (state pass.old) (state pass.new) }
 {
-    for i in 0..bytes.len().div_ceil(WORD) {
-        store(table, pass, block, i as u32, word_from(bytes, i));
+    let full = bytes.len() / WORD;
+    for i in 0..full {
+        store(table, pass, block, i as u32, full_word(bytes, i));
+    }
+    if WORD * full < bytes.len() {
+        store(table, pass, block, full as u32, word_from(bytes, full));
     }
 }

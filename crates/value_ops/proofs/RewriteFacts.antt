@@ -1,5 +1,5 @@
 -- The words of a locked header's block, while bytes are stored over them word by word.
-use Rattle.std.proofs.Common.{◌≡◌, ℕ, suc, ◌+◌, ◌*◌, ◌/◌, ◌%◌, ◌<◌, ◌≤◌, min, List, ◌++◌, length, get_or, take, drop, sym, ap, ◌∙◌, subst, arith, ◌==◌, cond, refl}
+use Rattle.std.proofs.Common.{◌≡◌, ℕ, suc, ◌+◌, ◌*◌, ◌<◌, ◌≤◌, List, ◌++◌, length, get_or, take, drop, sym, ap, ◌∙◌, subst, arith, ◌==◌, cond, refl}
 use Rattle.std.proofs.lemmas.List.{length-append, length-take, length-drop}
 use Rattle.std.proofs.Math.Nat.{min-eq_left}
 use lib.ListN.{set}
@@ -29,7 +29,7 @@ use Rattle.arena_core.proofs.ByteFacts.{length-bytes_of}
 use Rattle.value_ops.proofs.ComesFurther.{comes_none, comes_both, comes_as, blocks_come, headers_come, blocks_met, headers_met, comes_since, lock_comes}
 use Rattle.arena_core.proofs.ClassRooms.{place_room}
 use Rattle.value_ops.proofs.RewordedHeaders.{place_put, generation_put, rows_put, held_put, words_put, put_more, put_same}
-use Rattle.arena_core.proofs.WordLaws.{words_long, words_step, words_end, value_back, words_done}
+use Rattle.arena_core.proofs.WordLaws.{words_long, words_step, words_end, value_back}
 
 -- the words, where the first i of the bytes' were stored
 abbrev pub so_far : List ℕ → List ℕ → ℕ → List ℕ
@@ -127,10 +127,9 @@ module _ (z : Sizes) (h g first : ℕ) (v : PassState) (is : HasWords z h g firs
           (ap (reworded h i n) (held_now call now u s) ∙ (put_more h now i n rs ∙ ap (λ (us : List ℕ). with_words h us rs) (ap (set now i) e ∙ (words_step (words_of bytes) ws i inside few ∙ ap (so_far bytes ws) next))))
           (comes_both z call v.blocks.held u.blocks.held (with_words h now rs) (reworded h i n u.headers.held) v u w s c)
 
-    -- the loop ends after as many words as there are
-    pub all_stored : (call i n : ℕ) (w : PassState) → i ≤ n → n ≤ i → n ≡ length bytes / 8 + min 1 (length bytes % 8) → StoredSoFar z call h bytes i v w → ComesTo z call v.blocks.held (with_words h (words_over bytes ws) rs) v w
-    all_stored call i n w le ge e s = let done = words_done bytes i n le ge e in
-        subst (λ (us : List ℕ). ComesTo z call v.blocks.held (with_words h us rs) v w) (words_end (words_of bytes) ws i (omega arith) (omega arith)) s
+    -- as many words were stored as there are
+    pub all_stored : (call i : ℕ) (w : PassState) → i ≡ many → StoredSoFar z call h bytes i v w → ComesTo z call v.blocks.held (with_words h (words_over bytes ws) rs) v w
+    all_stored call i w done s = subst (λ (us : List ℕ). ComesTo z call v.blocks.held (with_words h us rs) v w) (words_end (words_of bytes) ws i (omega arith) (omega arith)) s
 
     -- and where they are as many as before, the value is these bytes
     pub rewrites : (call : ℕ) (w : PassState) → length bytes ≡ length_in (place_held h rs) → ((k : ℕ) → get_or bytes k 0 < 256) → ComesTo z call v.blocks.held (with_words h (words_over bytes ws) rs) v w → Rewrites z call h bytes v w

@@ -21,6 +21,7 @@ use crate::locking::Locked;
 use crate::recipes::{Recipe, apply_once};
 use arena_core::place::{block_in, class_in, length_in, place_word};
 use arena_core::words::{WORD, put_word, word_from};
+use arena_ops::full_word;
 use oak_core::{OakTable, Pass, load, steps};
 
 impl Locked {
@@ -94,8 +95,12 @@ impl Locked {
             (state pass.new) }
         ensures alone { Runs (PutsBytes first bytes.now) (state pass.old) (state pass.new) }
     {
-        for i in 0..bytes.len().div_ceil(WORD) {
-            self.store_word(table, pass, first, i, word_from(bytes, i));
+        let full = bytes.len() / WORD;
+        for i in 0..full {
+            self.store_word(table, pass, first, i, full_word(bytes, i));
+        }
+        if WORD * full < bytes.len() {
+            self.store_word(table, pass, first, full, word_from(bytes, full));
         }
     }
 

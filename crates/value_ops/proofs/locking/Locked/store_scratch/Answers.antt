@@ -8,7 +8,7 @@ use Rattle.arena_core.specs.Words.{word_at}
 use Rattle.value_ops.proofs.ComesFurther.{comes_in}
 use Rattle.value_ops.proofs.RewriteFacts.{as_long_fits, begins, has_words, word_inside, stored_more, all_stored, rewrites}
 use Rattle.value_ops.proofs.locking.Locked.store_scratch.Goals as goal
-use Rattle.arena_core.proofs.WordLaws.{words_at, word_of_loop}
+use Rattle.arena_core.proofs.WordLaws.{words_at, word_of_loop, words_done}
 
 pub loop-i-init : goal.loop-i-init
 loop-i-init c = let z : Sizes = key c.args.table.now in let h = c.args.self.now.header in let g = c.args.self.now.generation in let v = state c.args.pass.now in let bytes = scratch_of c.args.pass.now in let is = c.requires.words in record {
@@ -47,7 +47,7 @@ returns-clause-stored c = let z : Sizes = key c.args.table.now in let h = c.args
     let fits = as_long_fits z h g c.args.first v is bytes c.requires.long in let n = c.div_ceil-i-end.result in let call = call_of c.args.pass.now in
     let same : c.bytes.result.now ≡ bytes = c.bytes.ensures.bytes ∙ c.scratch.ensures in
     rewrites z h g c.args.first v is bytes fits call w c.requires.long (subst (λ (xs : List ℕ). (k : ℕ) → get_or xs k 0 < 256) c.scratch.ensures c.bytes.ensures.small)
-    (all_stored z h g c.args.first v is bytes fits call c.loop-i.i n w c.loop-i.auto.i-end c.loop-i-test.false (of_scratch bytes c.bytes.result.now n c.div_ceil-i-end.ensures same) c.loop-i.invariant.stored)
+    (all_stored z h g c.args.first v is bytes fits call c.loop-i.i w (words_done bytes c.loop-i.i n c.loop-i.auto.i-end c.loop-i-test.false (of_scratch bytes c.bytes.result.now n c.div_ceil-i-end.ensures same)) c.loop-i.invariant.stored)
 
 pub returns-clause-alone : goal.returns-clause-alone
 returns-clause-alone c = let bytes = scratch_of c.args.pass.now in let n = c.div_ceil-i-end.result in
