@@ -92,6 +92,9 @@ module _ (z : Sizes) (x : PinnedValue) (v : PassState) (is : IsPinnedValue z x v
 pub pinned_same : (z : Sizes) (x : PinnedValue) (p q : Pass) → ReadsPinned z x p q → value_under (state q) ≡ value_under (state p)
 pinned_same z x p q o = ap (λ (v : PassState). value_pinned v.headers.pin) o.only.loads.after
 
+pub long_still : (z : Sizes) (x : PinnedValue) (p q : Pass) (n : ℕ) → IsPinnedValue z x (state p) → ReadsPinned z x p q → n ≡ x.length → n ≡ length (value_under (state q))
+long_still z x p q n is reads e = e ∙ (sym (long z x (state p) is) ∙ ap length (sym (pinned_same z x p q reads)))
+
 pub pinned_both : (z : Sizes) (x : PinnedValue) (p q r : Pass) → ReadsPinned z x p q → ReadsPinned z x q r → ReadsPinned z x p r
 pinned_both z x p q r a b = record {
   stays = stays_both a.stays b.stays;

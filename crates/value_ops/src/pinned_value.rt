@@ -10,7 +10,7 @@ ghost use Rattle.value_ops.specs.PinnedValues.{IsPinnedValue, FindsStamp, Learns
 use crate::pinning::{HeaderPin, unpin};
 use arena_core::place::{block_in, class_in, length_in};
 use arena_core::words::{WORD, is_word};
-use arena_ops::{put_full_word, put_last_word};
+use arena_ops::{full_word, put_full_word, put_last_word};
 use oak_core::{OakTable, Pass, load};
 
 /// Where the value lies that a pass has pinned, with its length and stamp: plain numbers, which say something while the
@@ -103,7 +103,21 @@ impl PinnedValue {
         self.word(table, pass, i)
     }
 
-    /// Whether the bytes of the value in word `i` are those that `other` has there.
+    /// Whether the eight bytes of the value in word `i` are those that `other` has there.
+    #[inline(always)]
+    fn same_in_full_word(self, table: &OakTable, pass: &mut Pass, other: &[u8], i: usize) -> bool
+        requires own { IsPassOf table.now pass.old }
+        requires pinned { IsPinnedValue (key table.now) self (state pass.old) }
+        requires long { length other.now ≡ length (value_under (state pass.old)) }
+        requires inside { WORD * i + WORD ≤ length other.now }
+        ensures reads { ReadsPinned (key table.now) self pass.old pass.new }
+        ensures same { MatchBool result (bytes_in i other.now ≡ bytes_in i (value_under (state pass.old)))
+            (bytes_in i other.now ≢ bytes_in i (value_under (state pass.old))) }
+    {
+        full_word(other, i) == self.word(table, pass, i)
+    }
+
+    /// Whether the bytes of the value in word `i`, which may be fewer than eight, are those that `other` has there.
     fn same_in_word(self, table: &OakTable, pass: &mut Pass, other: &[u8], i: usize) -> bool
         requires own { IsPassOf table.now pass.old }
         requires pinned { IsPinnedValue (key table.now) self (state pass.old) }
@@ -127,10 +141,14 @@ impl PinnedValue {
         if other.len() != self.length {
             return false;
         }
-        for i in 0..other.len().div_ceil(WORD) {
-            if !self.same_in_word(table, pass, other, i) {
+        let full = other.len() / WORD;
+        for i in 0..full {
+            if !self.same_in_full_word(table, pass, other, i) {
                 return false;
             }
+        }
+        if WORD * full < other.len() {
+            return self.same_in_word(table, pass, other, full);
         }
         true
     }
