@@ -50,6 +50,18 @@ impl KeyBytes {
         KeyBytes { bytes, len }
     }
 
+    /// Becomes the first `len` bytes that stand in these words. No more words are stored than have one of them.
+    #[inline(always)]
+    pub fn set_words(&mut self, words: &[u64; KEY_WORDS], len: usize)
+        requires { len ≤ GREATEST_KEY }
+        ensures { self.new ≡ take len (bytes_of words.now) }
+    {
+        for i in 0..len.div_ceil(WORD) {
+            put_word(&mut self.bytes, i, words[i]);
+        }
+        self.len = len;
+    }
+
     /// The bytes of a key, copied.
     pub fn from_key(key: &[u8]) -> KeyBytes
         requires { IsKey key.now }

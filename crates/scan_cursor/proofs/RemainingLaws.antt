@@ -36,9 +36,9 @@ any_key Down hi k q b = refl
 one_less : (a b m n : ℕ) → suc a ≤ b → n < m → a * m + n < b * m
 one_less a b m n l s = grind arith
 
-pub fill_nearer : (way : Way) (hi : ℕ) (w : Walk) (to asked : ℕ) (b : Option (List ℕ)) (r : Room) → w.gathered ≡ false → w.mark.past ≡ true → Covers way true w.mark.key r → key_number w.mark.key ≤ hi → to ≤ GREATEST_ENTRIES → b ≡ bound_in way r
-    → steps_left way hi (record { mark = w.mark; gathered = true; from = 0; to = to; bound = b; asked = asked }) < steps_left way hi w
-fill_nearer way hi w to asked b r unloaded past covers inside few is =
+pub fill_nearer : (way : Way) (hi : ℕ) (w : Walk) (to asked : ℕ) (within : Bool) (b : Option (List ℕ)) (r : Room) → w.gathered ≡ false → w.mark.past ≡ true → Covers way true w.mark.key r → key_number w.mark.key ≤ hi → to ≤ GREATEST_ENTRIES → b ≡ bound_in way r
+    → steps_left way hi (record { mark = w.mark; gathered = true; from = 0; to = to; bound = b; within = within; asked = asked }) < steps_left way hi w
+fill_nearer way hi w to asked within b r unloaded past covers inside few is =
     let k : List ℕ = w.mark.key in
     let size : ℕ = 2 * GREATEST_ENTRIES + 4 in
     let old : keys_left way hi w.gathered k w.bound ≡ keys_left way hi false k (bound_in way r) = ap (λ (t : Bool). keys_left way hi t k w.bound) unloaded ∙ any_bound way hi k w.bound (bound_in way r) in
@@ -54,7 +54,7 @@ fill_nearer way hi w to asked b r unloaded past covers inside few is =
 -- ---- the next of the entries was taken
 
 pub take_nearer : (way : Way) (hi : ℕ) (w x : Walk) (at : Bool) (key : List ℕ) → x.gathered ≡ w.gathered → x.bound ≡ w.bound → w.gathered ≡ true → w.mark.past ≡ true → suc (x.to - x.from) ≡ w.to - w.from
-    → steps_left way hi (record { mark = record { key = key; past = at; ended = x.mark.ended }; gathered = x.gathered; from = x.from; to = x.to; bound = x.bound; asked = x.asked }) < steps_left way hi w
+    → steps_left way hi (record { mark = record { key = key; past = at; ended = x.mark.ended }; gathered = x.gathered; from = x.from; to = x.to; bound = x.bound; within = x.within; asked = x.asked }) < steps_left way hi w
 take_nearer way hi w x at key gathered bound has past fewer =
     let size : ℕ = 2 * GREATEST_ENTRIES + 4 in
     let old : keys_left way hi w.gathered w.mark.key w.bound ≡ keys_left way hi true w.mark.key w.bound = ap (λ (t : Bool). keys_left way hi t w.mark.key w.bound) has in

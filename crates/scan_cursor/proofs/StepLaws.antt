@@ -21,7 +21,7 @@ use Rattle.scan_cursor.specs.Reading.{ReadsHere}
 use Rattle.scan_cursor.specs.Views.{IsKnown, KnowsLast, Later, View, view_of}
 use Rattle.scan_cursor.specs.Walks.{IsTaken, IsWalk, WalkGives, WalkPasses, WalkSteps, course_of, view_at}
 use Rattle.scan_cursor.proofs.WalkLaws.{mark_absent, mark_present, walk_later}
-use Rattle.scan_cursor.proofs.TakeLaws.{at_taken, take_absent, take_beyond, take_present, take_stays, taken_first, taken_known}
+use Rattle.scan_cursor.proofs.TakeLaws.{at_taken, take_absent, take_beyond, take_present, take_stays, taken_first, taken_known, taken_within}
 use Rattle.value_ops.specs.declared.pinned_value.PinnedValue.{PinnedValue}
 
 -- ---- passes
@@ -70,7 +70,7 @@ walk_waits way lo hi z w p q own going idle l i = (idle, subst (WalkPasses way l
 pub here_as : (h : Here) (a b x y : ℕ) (v w : View) → a ≡ x → b ≡ y → ((k : List ℕ) (m : View) → KnowsLast k a b m → Later m v → ReadsHere h k m w) → (k : List ℕ) (m : View) → KnowsLast k x y m → Later m v → ReadsHere h k m w
 here_as h a b x y v w e f g k m last since = g k m (subst (λ (p : ℕ × ℕ). KnowsLast k p.0 p.1 m) (λ j. (sym e j, sym f j)) last) since
 
-module _ (way : Way) (lo hi : ℕ) (z : Sizes) (w x : Walk) (p : Pass) (slot : SortSlot) (mark_is : x.mark ≡ w.mark) (gathered_is : x.gathered ≡ w.gathered) (bound_is : x.bound ≡ w.bound) (few : x.to ≤ GREATEST_ENTRIES) (taken : IsTaken way w x (slots_of p) (in_slot slot))
+module _ (way : Way) (lo hi : ℕ) (z : Sizes) (w x : Walk) (p : Pass) (slot : SortSlot) (mark_is : x.mark ≡ w.mark) (gathered_is : x.gathered ≡ w.gathered) (bound_is : x.bound ≡ w.bound) (within_is : x.within ≡ w.within) (few : x.to ≤ GREATEST_ENTRIES) (taken : IsTaken way w x (slots_of p) (in_slot slot))
     (i : IsWalk way lo hi (course_of way z w p)) (going : w.mark.ended ≡ false) (past : w.mark.past ≡ true) (has : w.gathered ≡ true) where
   abbrev pub left : List Loaded
   left = slots_ahead way x.from x.to (slots_of p)
@@ -81,12 +81,15 @@ module _ (way : Way) (lo hi : ℕ) (z : Sizes) (w x : Walk) (p : Pass) (slot : S
   pub slot_is_known : IsKnown (header_in slot.value) (generation_in slot.value) (view_at z p)
   slot_is_known = taken_known way lo hi (course_of way z w p) (in_slot slot) left (view_at z p) i going past has taken
 
+  pub slot_within : x.within ≡ true → IsBeyond way lo hi (in_slot slot).key → ⊥
+  slot_within e = taken_within way lo hi (course_of way z w p) (in_slot slot) left (view_at z p) i going past has taken (sym within_is ∙ e)
+
   -- its key is beyond the bound of the scan
-  pub slot_ends : HoldsNothing (state p) → IsBeyond way lo hi (in_slot slot).key → WalkSteps Ended way lo hi (course_of way z w p) (course_of way z (record { mark = record x.mark { ended = true }; gathered = false; from = x.from; to = x.to; bound = x.bound; asked = x.asked }) p)
-  slot_ends idle n = (
+  pub slot_ends : (key : List ℕ) → key ≡ (in_slot slot).key → HoldsNothing (state p) → IsBeyond way lo hi (in_slot slot).key → WalkSteps Ended way lo hi (course_of way z w p) (course_of way z (record { mark = record { key = key; past = x.mark.past; ended = true }; gathered = false; from = x.from; to = x.to; bound = x.bound; within = x.within; asked = x.asked }) p)
+  slot_ends key key_is idle n = (
     idle,
-    subst (WalkPasses way lo hi (course_of way z w p)) (λ j. course_of way z (record { mark = record (sym mark_is j) { ended = true }; gathered = false; from = x.from; to = x.to; bound = sym bound_is j; asked = x.asked }) p)
-        (take_beyond way lo hi (course_of way z w p) (in_slot slot) left (view_at z p) i going past has taken x.from x.to x.asked left n few),
+    subst (WalkPasses way lo hi (course_of way z w p)) (λ j. course_of way z (record { mark = record { key = sym key_is j; past = (sym mark_is j).past; ended = true }; gathered = false; from = x.from; to = x.to; bound = sym bound_is j; within = x.within; asked = x.asked }) p)
+        (take_beyond way lo hi (course_of way z w p) (in_slot slot) left (view_at z p) i going past has taken x.within x.from x.to x.asked left n few),
     refl,
   )
 
@@ -96,11 +99,11 @@ module _ (way : Way) (lo hi : ℕ) (z : Sizes) (w x : Walk) (p : Pass) (slot : S
 
     -- the scan is at its key
     abbrev pub at_slot : Bool → Walk
-    at_slot at = record { mark = record { key = key; past = at; ended = x.mark.ended }; gathered = x.gathered; from = x.from; to = x.to; bound = x.bound; asked = x.asked }
+    at_slot at = record { mark = record { key = key; past = at; ended = x.mark.ended }; gathered = x.gathered; from = x.from; to = x.to; bound = x.bound; within = x.within; asked = x.asked }
 
     same_at : (at bt : Bool) → at ≡ bt → at_taken way lo hi (course_of way z w p) (in_slot slot) left (view_at z q) i going past has taken at x.from x.to x.asked ≡ course_of way z (at_slot bt) q
     same_at at bt e = λ j. record {
-      walk = record { mark = record { key = sym key_is j; past = e j; ended = (sym mark_is j).ended }; gathered = sym gathered_is j; from = x.from; to = x.to; bound = sym bound_is j; asked = x.asked };
+      walk = record { mark = record { key = sym key_is j; past = e j; ended = (sym mark_is j).ended }; gathered = sym gathered_is j; from = x.from; to = x.to; bound = sym bound_is j; within = sym within_is j; asked = x.asked };
       left = slots_ahead way x.from x.to (sym own.sorting j);
       view = view_at z q;
     }

@@ -8,7 +8,7 @@ use Rattle.scan_cursor.specs.declared.ways.Way.{Way}
 use Rattle.scan_cursor.specs.declared.ways.Way.TheVariants.{Up, Down}
 use Rattle.scan_cursor.specs.Gathered.{KnewLast, Loaded}
 use Rattle.scan_cursor.specs.Holding.{ahead_from, ahead_past, high_end, low_end}
-use Rattle.scan_cursor.specs.Marks.{Come, InBounds, IsBeyond}
+use Rattle.scan_cursor.specs.Marks.{Come, InBounds, IsBeyond, IsWithin}
 use Rattle.scan_cursor.specs.Views.{IsKnown, KnowsLast, Later, ReadsKey, View}
 use Rattle.scan_cursor.specs.Walks.{AreAhead, Course, Gathers, HasWalked, IsWalk, WalkGives, WalkPasses, pair_of}
 use Rattle.scan_cursor.proofs.GatherLaws.{First, first_of, gap_down, gap_up, gathered_stays, next_down, next_up}
@@ -24,6 +24,11 @@ next_gathers : (way : Way) (a v : View) (k : List ℕ) (b : Option (List ℕ)) (
 next_gathers Up a v k b x xs g = next_up a v (suc (key_number k)) (high_end b) x xs g
 next_gathers Down a v k b x xs g = next_down a v (low_end b) (key_number k) x xs g
 
+-- no key of the batch is beyond the bound of the scan
+next_within : (way : Way) (lo hi : ℕ) (a v : View) (k : List ℕ) (b : Option (List ℕ)) (x : Loaded) (xs : List Loaded) → IsWithin way lo hi b → Gathers way a v k b (x ∷ xs) → IsBeyond way lo hi x.key → ⊥
+next_within Up lo hi a v k b x xs w g n = let l = g.ordered.0.2 in omega arith
+next_within Down lo hi a v k b x xs w g n = let l = g.ordered.0.1 in omega arith
+
 not_less : (m n : ℕ) → (m < n → ⊥) → n ≤ m
 not_less m n h = omega arith
 
@@ -36,9 +41,9 @@ next_come Up lo hi a v k b x xs ps g c = let l = g.ordered.0.1 in lifts_up lo hi
 next_come Down lo hi a v k b x xs ps g c = let l = g.ordered.0.2 in lifts_down lo hi (suc (key_number x.key)) g.ats k x.key a v ps (omega arith) (omega arith) (gap_down a v (low_end b) (key_number k) x xs g) c
 
 next_ends : (way : Way) (lo hi : ℕ) (a v : View) (k : List ℕ) (past : Bool) (b : Option (List ℕ)) (x : Loaded) (xs : List Loaded) (ps : List Pair) → InBounds lo hi k → IsBeyond way lo hi x.key → Gathers way a v k b (x ∷ xs)
-    → Come way lo hi true false k a v ps → Come way lo hi past true k a v ps
-next_ends Up lo hi a v k past b x xs ps i n g c = lifts_end_up lo hi (key_number x.key) g.ats past k k a v ps i.below n (gap_up a v (suc (key_number k)) (high_end b) x xs g) c
-next_ends Down lo hi a v k past b x xs ps i n g c = lifts_end_down lo hi (suc (key_number x.key)) g.ats past k k a v ps i.above (omega arith) (gap_down a v (low_end b) (key_number k) x xs g) c
+    → Come way lo hi true false k a v ps → Come way lo hi past true x.key a v ps
+next_ends Up lo hi a v k past b x xs ps i n g c = lifts_end_up lo hi (key_number x.key) g.ats past k x.key a v ps i.below n (gap_up a v (suc (key_number k)) (high_end b) x xs g) c
+next_ends Down lo hi a v k past b x xs ps i n g c = lifts_end_down lo hi (suc (key_number x.key)) g.ats past k x.key a v ps i.above (omega arith) (gap_down a v (low_end b) (key_number k) x xs g) c
 
 -- the first of the entries that are left is x
 module _ (way : Way) (lo hi : ℕ) (c : Course) (x : Loaded) (xs : List Loaded) (u : View) (i : IsWalk way lo hi c) (going : c.walk.mark.ended ≡ false) (past : c.walk.mark.past ≡ true) (has : c.walk.gathered ≡ true) (first : c.left ≡ x ∷ xs) where
@@ -58,24 +63,27 @@ module _ (way : Way) (lo hi : ℕ) (c : Course) (x : Loaded) (xs : List Loaded) 
   pub taken_known : IsKnown x.header x.generation c.view
   taken_known = record { key = x.key; moment = taken_first.knew.0; knows = taken_first.knew.3; since = taken_first.knew.2 }
 
+  pub taken_within : c.walk.within ≡ true → IsBeyond way lo hi x.key → ⊥
+  taken_within e = next_within way lo hi ahead.moment c.view c.walk.mark.key c.walk.bound x xs (i.within has e) ahead.gathers
+
   -- it is beyond the bound of the scan
-  pub take_beyond : (from to asked : ℕ) (ys : List Loaded) → IsBeyond way lo hi x.key → to ≤ GREATEST_ENTRIES → WalkPasses way lo hi c (record { walk = record { mark = record c.walk.mark { ended = true }; gathered = false; from = from; to = to; bound = c.walk.bound; asked = asked }; left = ys; view = c.view })
-  take_beyond from to asked ys n few = record {
-    walk = record { bounds = λ _. i.bounds going; bound = i.bound; few = few; ahead = λ e. absurd cc };
+  pub take_beyond : (within : Bool) (from to asked : ℕ) (ys : List Loaded) → IsBeyond way lo hi x.key → to ≤ GREATEST_ENTRIES → WalkPasses way lo hi c (record { walk = record { mark = record { key = x.key; past = c.walk.mark.past; ended = true }; gathered = false; from = from; to = to; bound = c.walk.bound; within = within; asked = asked }; left = ys; view = c.view })
+  take_beyond within from to asked ys n few = record {
+    walk = record { bounds = λ e. absurd cc; bound = i.bound; few = few; within = λ e. absurd cc; ahead = λ e. absurd cc };
     later = later_self c.view;
     goes = λ a ps h. record { come = next_ends way lo hi a c.view c.walk.mark.key c.walk.mark.past c.walk.bound x xs ps (i.bounds going) n (gathers a ps h) (come a ps h); ahead = λ e. absurd cc };
   }
 
   -- the walk at its key
   abbrev pub at_taken : Bool → ℕ → ℕ → ℕ → Course
-  at_taken at from to asked = record { walk = record { mark = record { key = x.key; past = at; ended = c.walk.mark.ended }; gathered = c.walk.gathered; from = from; to = to; bound = c.walk.bound; asked = asked }; left = xs; view = u }
+  at_taken at from to asked = record { walk = record { mark = record { key = x.key; past = at; ended = c.walk.mark.ended }; gathered = c.walk.gathered; from = from; to = to; bound = c.walk.bound; within = c.walk.within; asked = asked }; left = xs; view = u }
 
   module _ (from to asked : ℕ) (few : to ≤ GREATEST_ENTRIES) (n : IsBeyond way lo hi x.key → ⊥) (l : Later c.view u) where
     inside : InBounds lo hi x.key
     inside = next_bounds way lo hi ahead.moment c.view c.walk.mark.key c.walk.bound x xs (i.bounds going) ahead.gathers n
 
     walks : (at : Bool) → IsWalk way lo hi (at_taken at from to asked)
-    walks at = record { bounds = λ _. inside; bound = i.bound; few = few; ahead = λ _. ahead_stays way c.view u x.key c.walk.bound xs l (next_reach way c.view c.walk.mark.key c.walk.bound x xs ahead) }
+    walks at = record { bounds = λ _. inside; bound = i.bound; few = few; within = i.within; ahead = λ _. ahead_stays way c.view u x.key c.walk.bound xs l (next_reach way c.view c.walk.mark.key c.walk.bound x xs ahead) }
 
     behind : (a : View) (ps : List Pair) → HasWalked way lo hi c a ps → Gathers way a u x.key c.walk.bound xs
     behind a ps h = gathered_stays way a c.view u (ahead_from way x.key c.walk.bound) (ahead_past way x.key c.walk.bound) xs l (next_gathers way a c.view c.walk.mark.key c.walk.bound x xs (gathers a ps h))

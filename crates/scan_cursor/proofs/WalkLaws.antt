@@ -13,7 +13,7 @@ use Rattle.scan_cursor.specs.declared.ways.Way.{Way}
 use Rattle.scan_cursor.specs.declared.ways.Way.TheVariants.{Up, Down}
 use Rattle.scan_cursor.specs.Gathered.{Loaded}
 use Rattle.scan_cursor.specs.Holding.{Covers, IsBound, IsRoom, Room, ahead_from, ahead_past, bound_in, high_end, low_end}
-use Rattle.scan_cursor.specs.Marks.{Come, Ends, GoesToBound, HasCome, InBounds, Leaves}
+use Rattle.scan_cursor.specs.Marks.{Come, Ends, GoesToBound, HasCome, InBounds, IsWithin, Leaves}
 use Rattle.scan_cursor.specs.Views.{Later, ReadsKey, View}
 use Rattle.scan_cursor.specs.Walks.{AreAhead, Course, Gathers, HasWalked, IsBefore, IsWalk, WalkGives, WalkPasses, pair_of}
 use Rattle.scan_cursor.proofs.GatherLaws.{gap_end, gathered_since, gathered_stays}
@@ -31,7 +31,7 @@ abbrev pub at_view : View → Course → Course
 at_view u c = record { walk = c.walk; left = c.left; view = u }
 
 pub walk_stays : (way : Way) (lo hi : ℕ) (c : Course) (u : View) → Later c.view u → IsWalk way lo hi c → IsWalk way lo hi (at_view u c)
-walk_stays way lo hi c u l i = record { bounds = i.bounds; bound = i.bound; few = i.few; ahead = λ e. ahead_stays way c.view u c.walk.mark.key c.walk.bound c.left l (i.ahead e) }
+walk_stays way lo hi c u l i = record { bounds = i.bounds; bound = i.bound; few = i.few; within = i.within; ahead = λ e. ahead_stays way c.view u c.walk.mark.key c.walk.bound c.left l (i.ahead e) }
 
 pub walked_stays : (way : Way) (lo hi : ℕ) (c : Course) (u : View) (a : View) (ps : List Pair) → Later c.view u → HasWalked way lo hi c a ps → HasWalked way lo hi (at_view u c) a ps
 walked_stays way lo hi c u a ps l h = let w = c.walk in record {
@@ -61,19 +61,19 @@ real_bound Up r i = i.high
 real_bound Down r i = i.low
 
 -- the walk with these entries loaded, up to a bound
-abbrev pub filled_course : ℕ → ℕ → Option (List ℕ) → List Loaded → View → Course → Course
-filled_course to asked b xs u c = record { walk = record { mark = c.walk.mark; gathered = true; from = 0; to = to; bound = b; asked = asked }; left = xs; view = u }
+abbrev pub filled_course : ℕ → ℕ → Bool → Option (List ℕ) → List Loaded → View → Course → Course
+filled_course to asked within b xs u c = record { walk = record { mark = c.walk.mark; gathered = true; from = 0; to = to; bound = b; within = within; asked = asked }; left = xs; view = u }
 
-pub walk_fills : (way : Way) (lo hi : ℕ) (c : Course) (to asked : ℕ) (r : Room) (xs : List Loaded) (p t u : View) → IsWalk way lo hi c → IsRoom r → Covers way true c.walk.mark.key r → to ≤ GREATEST_ENTRIES
-    → Later c.view p → Later p t → Later t u → Gathers way p t c.walk.mark.key (bound_in way r) xs → WalkPasses way lo hi c (filled_course to asked (bound_in way r) xs u c)
-walk_fills way lo hi c to asked r xs p t u i real covers few cp pt tu g =
+pub walk_fills : (way : Way) (lo hi : ℕ) (c : Course) (to asked : ℕ) (within : Bool) (r : Room) (xs : List Loaded) (p t u : View) → (within ≡ true → IsWithin way lo hi (bound_in way r)) → IsWalk way lo hi c → IsRoom r → Covers way true c.walk.mark.key r → to ≤ GREATEST_ENTRIES
+    → Later c.view p → Later p t → Later t u → Gathers way p t c.walk.mark.key (bound_in way r) xs → WalkPasses way lo hi c (filled_course to asked within (bound_in way r) xs u c)
+walk_fills way lo hi c to asked within r xs p t u inner i real covers few cp pt tu g =
     let k = c.walk.mark.key in
     let b = bound_in way r in
     let pu = later_both p t u pt tu in
     let cu = later_both c.view p u cp pu in
     let h = gathered_stays way p t u (ahead_from way k b) (ahead_past way k b) xs tu g in
     record {
-      walk = record { bounds = i.bounds; bound = real_bound way r real; few = few; ahead = λ _. record { reach = before_bound way k r covers; moment = p; since = pu; gathers = h } };
+      walk = record { bounds = i.bounds; bound = real_bound way r real; few = few; within = λ _. inner; ahead = λ _. record { reach = before_bound way k r covers; moment = p; since = pu; gathers = h } };
       later = cu;
       goes = λ a ps w. record {
         come = come_stays way lo hi c.walk.mark.past c.walk.mark.ended k a c.view u ps cu w.come;
@@ -122,6 +122,7 @@ walk_leaves way lo hi c n xs i going past has none o empty real few =
         bounds = λ x. leaves_bounds way lo hi w.bound w.mark.key n.mark i.bound inside f (subst (λ y. MatchBool y (Ends way lo hi w.bound) (GoesToBound way lo hi w.bound n.mark)) x o);
         bound = real;
         few = few;
+        within = λ x. absurd cc;
         ahead = λ x. absurd cc;
       };
       later = later_self c.view;
@@ -141,7 +142,7 @@ come_at way lo hi w a v ps going at c = subst (λ (x : Bool). Come way lo hi x f
 
 module _ (way : Way) (lo hi : ℕ) (c : Course) (u : View) (i : IsWalk way lo hi c) (going : c.walk.mark.ended ≡ false) (at : c.walk.mark.past ≡ false) (l : Later c.view u) where
   passed : IsWalk way lo hi (past_course u c)
-  passed = let s = walk_stays way lo hi c u l i in record { bounds = s.bounds; bound = s.bound; few = s.few; ahead = s.ahead }
+  passed = let s = walk_stays way lo hi c u l i in record { bounds = s.bounds; bound = s.bound; few = s.few; within = s.within; ahead = s.ahead }
 
   pub mark_absent : (n : ℕ) → ReadsKey c.view u c.walk.mark.key n None → WalkPasses way lo hi c (past_course u c)
   mark_absent n r = let m = c.walk.mark in record {

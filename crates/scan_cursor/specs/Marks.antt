@@ -44,6 +44,11 @@ abbrev pub IsBeyond : Way → ℕ → ℕ → List ℕ → Type 0
 IsBeyond Up low high k = high < key_number k
 IsBeyond Down low high k = key_number k < low
 
+-- no key of a batch with this bound is
+abbrev pub IsWithin : Way → ℕ → ℕ → Option (List ℕ) → Type 0
+IsWithin Up low high bound = high_end bound ≤ suc high
+IsWithin Down low high bound = low ≤ low_end bound
+
 -- The scan leaves a room in which no key is left, and that has this bound in its direction: it ends, since the room reaches beyond its own bound, or goes on at the room's.
 
 abbrev pub Ends : Way → ℕ → ℕ → Option (List ℕ) → Type 0

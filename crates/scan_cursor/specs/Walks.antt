@@ -20,7 +20,7 @@ use Rattle.scan_cursor.specs.declared.ways.Way.{Way}
 use Rattle.scan_cursor.specs.declared.ways.Way.TheVariants.{Up, Down}
 use Rattle.scan_cursor.specs.Gathered.{IsGathered, Loaded, slots_ahead}
 use Rattle.scan_cursor.specs.Holding.{HasValue, IsBound, ahead_from, ahead_past, high_end, low_end}
-use Rattle.scan_cursor.specs.Marks.{HasCome, InBounds}
+use Rattle.scan_cursor.specs.Marks.{HasCome, InBounds, IsWithin}
 use Rattle.scan_cursor.specs.Views.{Later, View, view_of}
 
 -- a pass in its present call
@@ -57,6 +57,7 @@ pub record IsWalk (way : Way) (low high : ℕ) (c : Course) : Type 0 where
   pub bounds : c.walk.mark.ended ≡ false → InBounds low high c.walk.mark.key
   pub bound : IsBound c.walk.bound
   pub few : c.walk.to ≤ GREATEST_ENTRIES
+  pub within : c.walk.gathered ≡ true → c.walk.within ≡ true → IsWithin way low high c.walk.bound
   pub ahead : c.walk.gathered ≡ true → AreAhead way c.view c.walk.mark.key c.walk.bound c.left
 
 -- The pass is one of the table and holds nothing, and its scan between the two keys has not ended.

@@ -13,7 +13,7 @@ ghost use Rattle.scan_cursor.specs.Busy.{AreInVain, IsInVain, LooksInVain};
 ghost use Rattle.scan_cursor.specs.Gathered.{in_slot};
 ghost use Rattle.scan_cursor.specs.Holding.{HasRoom, IsBound, bound_in, cut_room, room_at};
 ghost use Rattle.scan_cursor.specs.Leaving.{LeavesValue, given_by};
-ghost use Rattle.scan_cursor.specs.Marks.{InBounds, IsBeyond, Leaves};
+ghost use Rattle.scan_cursor.specs.Marks.{InBounds, IsBeyond, IsWithin, Leaves};
 ghost use Rattle.scan_cursor.specs.Remaining.{steps_left};
 ghost use Rattle.scan_cursor.specs.Walks.{IsTaken, IsWalk, MayGoOn, WalkSteps, WalksOrEnds, course_of, view_at};
 
@@ -37,7 +37,8 @@ const FIRST_BATCH: u32 = 4;
 
 /// How far a scan has come, and what it keeps of the room that it is in. Where it has loaded a batch of the entries, those
 /// that are left stand in the slots of its pass, from one number on and below another, and the batch's bound in the
-/// direction of the scan is kept. The last batch was asked for so many pairs; for none, where there was none.
+/// direction of the scan is kept, and whether that shows that none of its keys is behind the scan's own bound. The last
+/// batch was asked for so many pairs; for none, where there was none.
 #[derive(Drop)]
 pub(crate) struct Walk {
     pub(crate) mark: Mark,
@@ -45,6 +46,7 @@ pub(crate) struct Walk {
     pub(crate) from: usize,
     pub(crate) to: usize,
     pub(crate) bound: Option<KeyBytes>,
+    pub(crate) within: bool,
     pub(crate) asked: u32,
 }
 
@@ -77,6 +79,7 @@ impl Walk {
             from: 0,
             to: 0,
             bound: None,
+            within: false,
             asked: 0,
         }
     }
@@ -113,6 +116,19 @@ fn is_beyond(way: Way, key: &[u8], low: &[u8], high: &[u8]) -> bool
         Way::Up => is_above(key, high),
         Way::Down => is_above(low, key),
     }
+}
+
+/// Whether the key at the mark, which is one of a batch, is behind the bound to which the scan goes. It is not compared
+/// where the batch shows that none of its keys is.
+fn is_past_end(walk: &Walk, low: &[u8], high: &[u8], way: Way) -> bool
+    requires key { is_key walk.now.mark.key ≡ true }
+    requires low { is_key low.now ≡ true }
+    requires high { is_key high.now ≡ true }
+    requires within { walk.now.within ≡ true → IsBeyond way (key_number low.now) (key_number high.now) walk.now.mark.key → ⊥ }
+    ensures { MatchBool result (IsBeyond way (key_number low.now) (key_number high.now) walk.now.mark.key)
+        (IsBeyond way (key_number low.now) (key_number high.now) walk.now.mark.key → ⊥) }
+{
+    !walk.within && is_beyond(way, walk.mark.key.as_slice(), low, high)
 }
 
 /// Goes on at the bound of a room or a batch, or ends where that is none of the scan's range.
@@ -185,17 +201,43 @@ fn end_batch(
     end
 }
 
+/// Whether a batch with this bound has no key behind the bound to which the scan goes. One without a bound of its own, in
+/// the last room, may have such keys.
+fn is_within(bound: &Option<KeyBytes>, low: &[u8], high: &[u8], way: Way) -> bool
+    requires bound { IsBound bound.now }
+    requires low { is_key low.now ≡ true }
+    requires high { is_key high.now ≡ true }
+    ensures { result ≡ true → IsWithin way (key_number low.now) (key_number high.now) bound.now }
+{
+    match bound {
+        Some(bound) => match way {
+            Way::Up => !is_above(bound.as_slice(), high),
+            Way::Down => !is_above(low, bound.as_slice()),
+        },
+        None => false,
+    }
+}
+
 /// Loads the next batch of the entries that lie behind the mark in the room in which the scan goes on.
-fn refill(table: &OakTable, pass: &mut Pass, walk: &mut Walk, way: Way) -> Stepped
+fn refill(
+    table: &OakTable,
+    pass: &mut Pass,
+    walk: &mut Walk,
+    low: &[u8],
+    high: &[u8],
+    way: Way,
+) -> Stepped
     requires own { IsPassOf table.now pass.old }
     requires idle { HoldsNothing (state pass.old) }
     requires key { is_key walk.old.mark.key ≡ true }
     requires past { walk.old.mark.past ≡ true }
     requires going { walk.old.mark.ended ≡ false }
     requires unloaded { walk.old.gathered ≡ false }
+    requires low { is_key low.now ≡ true }
+    requires high { is_key high.now ≡ true }
     ensures own { StaysButSlots pass.old pass.new }
-    ensures steps { let z = sizes table.now in (low high : ℕ)
-        → IsWalk way low high (course_of way z walk.old pass.old) → WalkSteps result way low high
+    ensures steps { let z = sizes table.now in let from = key_number low.now in let to = key_number high.now in
+        IsWalk way from to (course_of way z walk.old pass.old) → WalkSteps result way from to
         (course_of way z walk.old pass.old) (course_of way z walk.new pass.new) }
     ensures still { Runs (LeavesValue (sizes table.now) None (given_by result)) (state pass.old) (state pass.new) }
     ensures nearer { (high : ℕ) → key_number walk.old.mark.key ≤ high → result ≡ Stepped.Passed
@@ -210,6 +252,7 @@ fn refill(table: &OakTable, pass: &mut Pass, walk: &mut Walk, way: Way) -> Stepp
     walk.from = 0;
     walk.to = batch.filled;
     walk.bound = end_batch(table, pass, &pin, batch, way);
+    walk.within = is_within(&walk.bound, low, high, way);
     walk.gathered = true;
     unpin(table, pass, pin);
     Stepped::Passed
@@ -243,35 +286,36 @@ fn read_mark(table: &OakTable, pass: &mut Pass, walk: &mut Walk) -> Stepped
     }
 }
 
-/// The key of a slot.
-fn key_of(slot: &SortSlot) -> KeyBytes
+/// Copies the key of a slot to its place, no more words of it than it has bytes for.
+fn set_key(key: &mut KeyBytes, slot: &SortSlot)
     requires { is_key (in_slot slot.now).key ≡ true }
-    ensures { result ≡ (in_slot slot.now).key }
+    ensures { key.new ≡ (in_slot slot.now).key }
 {
-    KeyBytes::from_words(slot.words, slot.length.min(GREATEST_KEY))
+    key.set_words(&slot.words, slot.length.min(GREATEST_KEY));
 }
 
 /// Takes the next of the slots that are left, of which there is one.
-fn next_slot(pass: &Pass, walk: &mut Walk, way: Way) -> SortSlot
+fn next_slot<'p>(pass: &'p Pass, walk: &mut Walk, way: Way) -> &'p SortSlot
     requires some { walk.old.from < walk.old.to }
     requires few { walk.old.to ≤ GREATEST_ENTRIES }
     ensures mark { walk.new.mark ≡ walk.old.mark }
     ensures gathered { walk.new.gathered ≡ walk.old.gathered }
     ensures bound { walk.new.bound ≡ walk.old.bound }
+    ensures within { walk.new.within ≡ walk.old.within }
     ensures few { walk.new.to ≤ GREATEST_ENTRIES }
     ensures fewer { suc (walk.new.to - walk.new.from) ≡ walk.old.to - walk.old.from }
-    ensures taken { IsTaken way walk.old walk.new (slots_of pass.now) (in_slot result) }
+    ensures taken { IsTaken way walk.old walk.new (slots_of pass.now) (in_slot result.now) }
 {
     let slots = pass.sorting().slots();
     match way {
         Way::Up => {
-            let slot = slots[walk.from];
+            let slot = &slots[walk.from];
             walk.from += 1;
             slot
         }
         Way::Down => {
             walk.to -= 1;
-            slots[walk.to]
+            &slots[walk.to]
         }
     }
 }
@@ -298,19 +342,14 @@ fn take_slot(
     ensures on { result ≢ Stepped.Again }
 {
     let slot = next_slot(pass, walk, way);
-    let key = key_of(&slot);
-    if is_beyond(way, key.as_slice(), low, high) {
+    let value = slot.value;
+    set_key(&mut walk.mark.key, slot);
+    if is_past_end(walk, low, high, way) {
         walk.mark.ended = true;
         walk.gathered = false;
         return Stepped::Ended;
     }
-    walk.mark.key = key;
-    match read_life(
-        table,
-        pass,
-        header_in(slot.value),
-        generation_in(slot.value),
-    ) {
+    match read_life(table, pass, header_in(value), generation_in(value)) {
         Here::Present(value) => Stepped::Given(value),
         Here::Absent => Stepped::Passed,
         Here::Again => {
@@ -372,7 +411,7 @@ fn step(
     } else if walk.gathered {
         go_ahead(table, pass, walk, low, high, way)
     } else {
-        refill(table, pass, walk, way)
+        refill(table, pass, walk, low, high, way)
     }
 }
 
