@@ -24,17 +24,36 @@ pub(crate) fn give_pairs<R: Wait, F: FnMut(&[u8], &[u8]) -> bool>(
     ensures on { GoesOn cursor.old cursor.new }
     ensures gives { MatchBool result (GivesAll most F.FnMut f cursor.old cursor.new) (GivesUntil most F.FnMut f cursor.old cursor.new) }
 {
-    let mut key = [0; GREATEST_KEY];
     let mut value = [0; GREATEST_VALUE];
     for _ in rt.forever() {
-        let Some((long, len)) = next_pair(rt, cursor, most, &mut key, &mut value) else {
+        let Some(len) = next_value(rt, cursor, most, &mut value) else {
             return true;
         };
-        if !f(&key[..long], &value[..len]) {
+        if !f(cursor.key(), &value[..len]) {
             return false;
         }
     }
     unreachable!()
+}
+
+/// Goes to the next pair, and copies its value, all bytes or no more than `most`: how many; none where the scan has ended.
+fn next_value<R: Wait>(
+    rt: &R,
+    cursor: &mut Cursor<'_>,
+    most: Option<usize>,
+    value: &mut [u8; GREATEST_VALUE],
+) -> Option<usize>
+    requires { IsCursor cursor.old }
+    ensures same_reference { cursor.new.pass.ghost_name ≡ cursor.old.pass.ghost_name }
+    ensures on { GoesOn cursor.old cursor.new }
+    ensures ended { IfNone result (FindsEnd cursor.old cursor.new) }
+    ensures given { IfSome result (λ _. FindsPair cursor.old cursor.new) }
+    ensures value { IfSome result (λ n. (n ≤ length value.new) × (take n value.new ≡ front most (value_of cursor.new))) }
+{
+    if !cursor.advance(rt) {
+        return None;
+    }
+    Some(copy_value(cursor, most, value))
 }
 
 /// Goes to the next pair, and copies it, of its value all bytes or no more than `most`: how many of its key and of its
@@ -54,11 +73,8 @@ pub(crate) fn next_pair<R: Wait>(
     ensures key { IfSome result (λ n. (n.0 ≤ length key.new) × (take n.0 key.new ≡ key_of cursor.new)) }
     ensures value { IfSome result (λ n. (n.1 ≤ length value.new) × (take n.1 value.new ≡ front most (value_of cursor.new))) }
 {
-    if !cursor.advance(rt) {
-        return None;
-    }
+    let len = next_value(rt, cursor, most, value)?;
     let long = copy_key(cursor, key);
-    let len = copy_value(cursor, most, value);
     Some((long, len))
 }
 
