@@ -32,7 +32,7 @@ time_work() {
             printf "%-6s %6d keys, %3d bytes, %d threads: %6.1f ns, %s\n", work, keys, bytes, threads, took * threads / calls, said }'
 }
 
-for work in get over ingest scan walk; do
+for work in get over ingest scan load walk; do
     for keys in 1000 4000 16000 60000; do
         time_work "$work" "$keys" 1 24
     done

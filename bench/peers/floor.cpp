@@ -10,8 +10,10 @@
 // - `get`, `over`, `ingest`: as in peers.cpp and crates/rounds;
 // - `scan`, or `up`, as the other programs call it: a scan that follows the links of a room first, and loads ahead what its
 //   pairs are read from;
+// - `load`: the same by loads, where `scan` has the processor's instruction to load ahead, which Rattle has not: a load has
+//   to come back before the processor is done with it, so fewer of them overlap;
 // - `walk`: one that reads each pair as it comes to it, which takes less where the nearer caches hold the table, and more
-//   else. The lesser of the two is the floor.
+//   else. The least of the three is the floor.
 //
 // Keys, values of BYTES bytes, or 100, their order, and what each thread does are those of the other programs, and so is
 // standard output. Standard error has the nanoseconds of the work, and how many ordered steps a call, or a pair, made, and
@@ -792,13 +794,14 @@ template <bool COUNTS> class alignas(128) Caller : public Steps<COUNTS> {
 
     // Follows the links of a pinned room, and then reads the pairs. What a pair is read from is loaded ahead: no load behind
     // a pin begins before it, so those of pairs that are pinned one behind another never overlap, and those made here do.
-    void gather_room(std::uint32_t room) {
+    template <bool BY_LOADS> void gather_room(std::uint32_t room) {
         std::uint32_t count = 0;
         for (std::uint64_t link = table.load(room + FIRST_LINK); link != 0;) {
             const std::uint32_t entry = entry_at(room, link - 1);
             const std::uint64_t value_word = table.load(entry + VALUE);
             pairs[count++] = {table.key(entry), value_word};
-            table.load_ahead(table.block(table.load(table.header(header_in(value_word)) + PLACE)));
+            const std::uint32_t first = table.block(table.load(table.header(header_in(value_word)) + PLACE));
+            BY_LOADS ? void(table.load(first)) : table.load_ahead(first);
             link = table.load(entry + LINK);
         }
         for (std::uint32_t i = 0; i < count; i++) read_pair(pairs[i]);
@@ -831,7 +834,7 @@ public:
         std::uint64_t low = 0;
         for (bool more = true; more;) {
             const std::uint32_t room = pin_room(low);
-            asked.work == "walk" ? walk_room(room) : gather_room(room);
+            asked.work == "walk" ? walk_room(room) : asked.work == "load" ? gather_room<true>(room) : gather_room<false>(room);
             more = table.load(room + HIGH) != 0;
             low = table.load(room + HIGH + 1);
             subtract(table[room], 1);
@@ -999,7 +1002,7 @@ bool run(int count, char** words) {
     const Asked asked{words[1], count_in(words[2]), count_in(words[3]), count_in(words[4]),
                       count == 6 ? count_in(words[5]) : 100};
     bool known = false;
-    for (auto work : {"get", "over", "ingest", "scan", "up", "walk"}) known = known || asked.work == work;
+    for (auto work : {"get", "over", "ingest", "scan", "up", "load", "walk"}) known = known || asked.work == work;
     if (!known || asked.keys == 0 || asked.rounds == 0 || asked.threads == 0 || asked.threads > 16) return false;
     if (asked.bytes < 8 || asked.bytes > MOST_BYTES) return false;
     asked.work == "ingest" ? measure<Putter>(asked) : measure<Caller>(asked);
@@ -1010,7 +1013,7 @@ bool run(int count, char** words) {
 
 int main(int count, char** words) {
     if (run(count, words)) return 0;
-    std::fprintf(stderr, "usage: floor get|over|ingest|scan|up|walk KEYS ROUNDS THREADS [BYTES]; "
+    std::fprintf(stderr, "usage: floor get|over|ingest|scan|up|load|walk KEYS ROUNDS THREADS [BYTES]; "
                          "at most 16 threads, 8 to 256 bytes\n");
     return 2;
 }
