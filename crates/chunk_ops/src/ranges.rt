@@ -2,6 +2,7 @@
 //! behind the first that differs.
 ghost use Rattle.std.specs.Prelude.{◌≡◌, ◌≤◌, ◌<◌, ◌*◌, MatchBool, length};
 ghost use Rattle.std.specs.Ordering.{nat_cmp};
+ghost use Rattle.std.specs.declared.cmp.Ordering.TheVariants.{Equal};
 ghost use Rattle.oak_model.specs.declared.limits.TheConstants.{GREATEST_KEY};
 ghost use Rattle.oak_model.specs.Key.{key_cmp};
 ghost use Rattle.oak_model.specs.KeyNumber.{key_number};
@@ -30,6 +31,7 @@ pub(crate) enum Asked {
 
 /// Compares the key's bytes in word `i` with those of a bound that has `len` bytes, as numbers, with
 /// zeros behind the last bytes.
+#[inline(always)]
 fn compare_word(
     table: &OakTable,
     pass: &mut Pass,
@@ -54,7 +56,36 @@ fn compare_word(
     word_from(key, i).cmp(&theirs)
 }
 
-/// How the key compares with a bound that has `len` bytes.
+/// How the key compares with a bound that has `len` bytes, where they have the same first word.
+#[inline(never)]
+fn compare_behind(
+    table: &OakTable,
+    pass: &mut Pass,
+    pin: &RoomPin,
+    bound: Bound,
+    len: usize,
+    key: &[u8],
+) -> Ordering
+    requires own { IsPassOf table.now pass.old }
+    requires pinned { HasRoomPin (sizes table.now) pin.now.room (state pass.old) }
+    requires long { len ≡ bound_length bound (room_pin (state pass.old)) }
+    requires first { nat_cmp (word_at key.now 0) (word_at (bound_bytes bound (room_pin (state pass.old))) 0) ≡ Equal }
+    ensures own { Stays pass.old pass.new }
+    ensures tries { PinsRooms (sizes table.now) 0 pass.old pass.new }
+    ensures order { result ≡ key_cmp key.now (bound_bytes bound (room_pin (state pass.old))) }
+    ensures only { OnlyMeets (call_of pass.old) (state pass.old) (state pass.new) }
+{
+    for i in 1..key.len().min(len).div_ceil(WORD) {
+        let order = compare_word(table, pass, pin, bound, len, key, i);
+        if order.is_ne() {
+            return order;
+        }
+    }
+    key.len().cmp(&len)
+}
+
+/// How the key compares with a bound that has `len` bytes. Most keys differ in the first word.
+#[inline(always)]
 fn compare_bound(
     table: &OakTable,
     pass: &mut Pass,
@@ -71,13 +102,14 @@ fn compare_bound(
     ensures order { result ≡ key_cmp key.now (bound_bytes bound (room_pin (state pass.old))) }
     ensures only { OnlyMeets (call_of pass.old) (state pass.old) (state pass.new) }
 {
-    for i in 0..key.len().min(len).div_ceil(WORD) {
-        let order = compare_word(table, pass, pin, bound, len, key, i);
-        if order.is_ne() {
-            return order;
-        }
+    if key.is_empty() || len == 0 {
+        return key.len().cmp(&len);
     }
-    key.len().cmp(&len)
+    let first = compare_word(table, pass, pin, bound, len, key, 0);
+    if first.is_ne() {
+        return first;
+    }
+    compare_behind(table, pass, pin, bound, len, key)
 }
 
 /// How the key compares with the low bound.

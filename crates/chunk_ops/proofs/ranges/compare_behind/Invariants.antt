@@ -5,7 +5,7 @@ use Rattle.oak_core.specs.Tries.{PinsRooms}
 use Rattle.chunk_ops.specs.PinnedBounds.{bound_bytes}
 use Rattle.chunk_ops.specs.PinRecords.{OnlyMeets, room_pin}
 use Rattle.chunk_ops.proofs.OrderLaws.{padded_cmp}
-use Rattle.chunk_ops.proofs.ranges.compare_bound.Given as goal
+use Rattle.chunk_ops.proofs.ranges.compare_behind.Given as goal
 
 abbrev pub invariant-loop-i : goal.invariant-loop-i
 invariant-loop-i l = record {
