@@ -27,7 +27,7 @@ pub use entries::{AddHalt, Content, EntryNo, Found, NotAdded};
 pub use key_bytes::KeyBytes;
 pub use listing::{entry_key, next_entry};
 pub use loading::{base_of, key_byte, key_len};
-pub use pin_search::{Moved, pin_for, pin_last};
+pub use pin_search::{Moved, pin_for, pin_hinted, pin_last};
 pub use prefixes::prefix_below;
 pub use room_pins::{RoomPin, unpin};
 pub use searching::{above, below, find};

@@ -129,6 +129,24 @@ pub fn pin_for(table: &OakTable, pass: &mut Pass, key: &[u8], hint: Hint) -> Res
     pin_asked(table, pass, hint, Asked::Covering, key)
 }
 
+/// Pins the hinted room, or room 0 where the hint names none that the table has, if it is open with the key in its range,
+/// and looks at no other. The pass has no pin of a room. The call makes loads, a pin and its undoing alone, and raises the
+/// pass's tries by 1.
+pub fn pin_hinted(table: &OakTable, pass: &mut Pass, key: &[u8], hint: Hint) -> Option<RoomPin>
+    requires own { IsPassOf table.now pass.old }
+    requires key { IsKey key.now }
+    requires free { (state pass.old).rooms.pin ≡ None }
+    ensures own { Stays pass.old pass.new }
+    ensures tries { PinsRooms (sizes table.now) 1 pass.old pass.new }
+    ensures pinned { IfSome result (λ p. PinsOpen (sizes table.now) (call_of pass.old) p.room (CoversKey key.now) (state pass.old) (state pass.new)) }
+    ensures first { IfSome result (λ _. PinsFirst (sizes table.now) (call_of pass.old) (first_room (sizes table.now) hint) (state pass.old) (state pass.new)) }
+    ensures off { IfNone result (MissesFirst (sizes table.now) (call_of pass.old) (first_room (sizes table.now) hint) (CoversKey key.now) (state pass.old) (state pass.new)) }
+    ensures only { IfNone result (OnlyMeets (call_of pass.old) (state pass.old) (state pass.new)) }
+{
+    let room = first_room(table, hint);
+    try_room(table, pass, room, Asked::Covering, key)
+}
+
 /// Pins the room whose range has the keys next below the bound: its low bound is below it, and its high
 /// bound is none or not below it. Without a bound it is the room that has the last keys. `Moved` comes
 /// only where each room was found in this call not open, or open with another range than that. The pass
