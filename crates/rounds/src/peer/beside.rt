@@ -5,7 +5,7 @@ use crate::peer::worker::Worker;
 use oak_caller::{Shape, Store, Way};
 use oak_model::{BadShape, GREATEST_BLOCKS, GREATEST_CHUNKS, GREATEST_HEADERS};
 use std::sync::Wait;
-use std::thread::{Threads, for_each_mut};
+use std::thread::{Threads, for_each_mut, join_mut};
 use std::time::{Clock, Duration, Instant};
 
 /// The entries of a chunk.
@@ -55,6 +55,62 @@ fn split_workers<'m, R: Wait + Drop + Send + AllocGlobal>(
     Ok(workers)
 }
 
+/// Has two of them do the work beside each other.
+fn work_as_two<R: Threads + Wait + Drop + Send + Sync + AllocGlobal>(
+    rt: &R,
+    one: &mut Worker<'_, R>,
+    other: &mut Worker<'_, R>,
+    asked: &Asked,
+) {
+    join_mut(
+        rt,
+        &mut || one.work(rt, asked),
+        &mut || other.work(rt, asked),
+    );
+}
+
+/// Has four of them do the work beside each other, the last in this thread, which starts all others.
+fn work_as_four<R: Threads + Wait + Drop + Send + Sync + AllocGlobal>(
+    rt: &R,
+    one: &mut Worker<'_, R>,
+    other: &mut Worker<'_, R>,
+    third: &mut Worker<'_, R>,
+    fourth: &mut Worker<'_, R>,
+    asked: &Asked,
+) {
+    join_mut(
+        rt,
+        &mut || one.work(rt, asked),
+        &mut || {
+            join_mut(
+                rt,
+                &mut || other.work(rt, asked),
+                &mut || { work_as_two(rt, third, fourth, asked) },
+            );
+        },
+    );
+}
+
+/// Has each of them do the work, beside the others. Four of them are started by one thread, as the programs that OakMap is
+/// compared with start theirs: what `for_each_mut` starts starts others, and Linux most often puts a thread on the
+/// processor of the new thread that starts it, while another processor idles.
+fn work_each<R: Threads + Wait + Drop + Send + Sync + AllocGlobal>(
+    rt: &R,
+    workers: &mut [Worker<'_, R>],
+    asked: &Asked,
+) {
+    if workers.len() != 4 {
+        let threads = usize::from(asked.threads);
+        for_each_mut(rt, workers, threads, &|_, worker| worker.work(rt, asked));
+        return;
+    }
+    let (one, rest) = workers.split_first_mut().unwrap();
+    let (other, rest) = rest.split_first_mut().unwrap();
+    let (third, rest) = rest.split_first_mut().unwrap();
+    let (fourth, _) = rest.split_first_mut().unwrap();
+    work_as_four(rt, one, other, third, fourth, asked);
+}
+
 /// Has so many threads do the work beside each other: how long it took.
 fn work_beside<R: Threads + Wait + Drop + Send + Sync + AllocGlobal + Clock>(
     rt: &R,
@@ -62,12 +118,7 @@ fn work_beside<R: Threads + Wait + Drop + Send + Sync + AllocGlobal + Clock>(
     asked: &Asked,
 ) -> anyhow::Result<Duration> {
     let begin = Instant::now(rt)?;
-    for_each_mut(
-        rt,
-        workers,
-        usize::from(asked.threads),
-        &|_, worker| worker.work(rt, asked),
-    );
+    work_each(rt, workers, asked);
     Ok(begin.elapsed(rt)?)
 }
 
