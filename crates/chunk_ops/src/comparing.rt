@@ -32,7 +32,7 @@ fn compare_word<R: SearchedRoom>(room: &mut R, key: &[u8], place: u64, i: usize)
 
 /// Of a word the first `n` bytes, fewer than eight. Most keys have eight, and for them it is not to be worked out.
 #[inline(never)]
-fn few_bytes(word: u64, n: usize) -> u64
+fn first_few_bytes(word: u64, n: usize) -> u64
     requires { 0 < n }
     ensures { result ≡ word_of (take n (word_bytes word)) }
 {
@@ -46,7 +46,7 @@ fn bytes_ahead(word: u64, n: usize) -> u64
     ensures { result ≡ word_of (take n (word_bytes word)) }
 {
     if n < WORD {
-        return few_bytes(word, n);
+        return first_few_bytes(word, n);
     }
     first_bytes(word, n)
 }
