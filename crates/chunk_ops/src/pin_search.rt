@@ -130,8 +130,9 @@ pub fn pin_for(table: &OakTable, pass: &mut Pass, key: &[u8], hint: Hint) -> Res
 }
 
 /// Pins the hinted room, or room 0 where the hint names none that the table has, if it is open with the key in its range,
-/// and looks at no other. The pass has no pin of a room. The call makes loads, a pin and its undoing alone, and raises the
-/// pass's tries by 1.
+/// and looks at no other. `None` comes only where it was found in this call not open, or open with a range without the key,
+/// which to a pass that is alone it is at a moment of the call. The pass has no pin of a room. The call makes loads, a pin
+/// and its undoing alone, and raises the pass's tries by 1.
 pub fn pin_hinted(table: &OakTable, pass: &mut Pass, key: &[u8], hint: Hint) -> Option<RoomPin>
     requires own { IsPassOf table.now pass.old }
     requires key { IsKey key.now }
@@ -142,6 +143,11 @@ pub fn pin_hinted(table: &OakTable, pass: &mut Pass, key: &[u8], hint: Hint) -> 
     ensures first { IfSome result (λ _. PinsFirst (sizes table.now) (call_of pass.old) (first_room (sizes table.now) hint) (state pass.old) (state pass.new)) }
     ensures off { IfNone result (MissesFirst (sizes table.now) (call_of pass.old) (first_room (sizes table.now) hint) (CoversKey key.now) (state pass.old) (state pass.new)) }
     ensures only { IfNone result (OnlyMeets (call_of pass.old) (state pass.old) (state pass.new)) }
+    ensures begun { IfNone result (HadMoment (sizes table.now) (state pass.old)) }
+    ensures ended { IfNone result (HadMoment (sizes table.now) (state pass.new)) }
+    ensures alone { IfNone result (Runs (LoneTry (sizes table.now)
+        (IsOff (sizes table.now) (first_room (sizes table.now) hint) (CoversKey key.now)) (state pass.old).rooms)
+        (state pass.old) (state pass.new)) }
 {
     let room = first_room(table, hint);
     try_room(table, pass, room, Asked::Covering, key)
