@@ -9,22 +9,24 @@ use Rattle.chunk_core.specs.declared.holds.PinnedRoom.{PinnedRoom}
 use Rattle.chunk_core.specs.declared.holds.RoomHolds.{RoomHolds}
 use Rattle.chunk_core.specs.PinnedRooms.{span_of}
 use Rattle.chunk_core.specs.RoomStep.{pin_room}
+use Rattle.chunk_core.specs.Rooms.{at_room_pin}
 use Rattle.chunk_core.specs.Spans.{Span}
 use Rattle.oak_core.specs.declared.states.PassState.{PassState}
 use Rattle.oak_core.specs.AloneWords.{Runs}
 use Rattle.oak_core.specs.declared.table.Pass.{Pass}
 use Rattle.oak_core.specs.CallSteps.{MetMore}
+use Rattle.oak_core.specs.Memory.{in_rooms}
 use Rattle.oak_core.specs.QuietSteps.{IsQuiet}
 use Rattle.oak_core.specs.Passes.{state}
 use Rattle.oak_core.specs.RoomCalls.{PinsRoomWord}
-use Rattle.oak_core.specs.Step.{on_rooms}
+use Rattle.oak_core.specs.Step.{load, on_rooms}
 use Rattle.oak_core.proofs.seats.AloneRuns.{runs_as}
-use Rattle.oak_core.proofs.calls.CallSteps.{met_both, met_none, step_alone, step_since, step_until, stands_both}
+use Rattle.oak_core.proofs.calls.CallSteps.{met_both, met_none, step_alone, step_in, step_since, step_until, stands_both}
 use Rattle.oak_core.proofs.calls.QuietCalls as steps
 use Rattle.chunk_ops.specs.LoneRooms.{IsOff, IsShut, LoneTry}
 use Rattle.chunk_ops.specs.PinRecords.{HasRoomPin, RoomPinned, OnlyMeets, pin_or, room_pin, with_room_pin}
 use Rattle.chunk_ops.specs.Hints.{TriesFirst}
-use Rattle.chunk_ops.specs.RoomPins.{AddsRoomPin, HadMoment, PinsFirst, PinsNow, FoundShut, PinsOpen, FoundOff, MissesFirst, Unpins}
+use Rattle.chunk_ops.specs.RoomPins.{AddsRoomPin, HadMoment, PinsFirst, PinsNow, FoundShut, PinsOpen, LoadsShut, PinsOff, FoundOff, FoundMoved, MissesFirst, Unpins}
 use Rattle.chunk_ops.proofs.BoundWords.{same_pin}
 use Rattle.chunk_ops.proofs.LoneRoomLaws.{tried_alone}
 use Rattle.chunk_ops.proofs.MeetingCalls.{only_none, stays_then, then_stays, round}
@@ -109,7 +111,7 @@ off_alone z call r v w x u n P only other e = tried_alone z call r n.number v w 
 -- what the first step found is found in the call
 
 pub off_first : (z : Sizes) (call r : ℕ) (P : Span → Type 0) (v w : PassState) → MissesFirst z call r P v w → FoundOff z call r P v w
-off_first z call r P v w m = record { step = record { from = v; to = m.step.to; number = m.step.number; told = m.step.told; begun = met_none call v; ended = m.step.ended }; off = m.off }
+off_first z call r P v w m = inr record { step = record { from = v; to = m.step.to; number = m.step.number; told = m.step.told; begun = met_none call v; ended = m.step.ended }; off = m.off }
 
 pub misses_until : (z : Sizes) (call r : ℕ) (P : Span → Type 0) (v w x : PassState) → MetMore call w x → MissesFirst z call r P v w → MissesFirst z call r P v x
 misses_until z call r P v w x a m = record { step = first_until z call r v w x a m.step; off = m.off }
@@ -117,13 +119,23 @@ misses_until z call r P v w x a m = record { step = first_until z call r v w x a
 pub missed_first : (z : Sizes) (call r : ℕ) (P : Span → Type 0) (p q : Pass) → MissesFirst z call r P (state p) (state q) → TriesFirst z call r P p q
 missed_first z call r P p q m = record { step = m.step; once = λ opened has. ⊎_elim (λ (n : state_of m.step.number ≢ OPEN). absurd (n opened)) (λ (n : P (span_of (room_pin m.step.to)) → ⊥). absurd (n has)) m.off }
 
+-- what a part of a call found, from v to w, is found in the call from u to x
+
+pub off_within : (z : Sizes) (call r : ℕ) (P : Span → Type 0) (u v w x : PassState) → MetMore call u v → MetMore call w x → FoundOff z call r P v w → FoundOff z call r P u x
+off_within z call r P u v w x a b = ⊎_elim
+    (λ (f : LoadsShut z call r v w). inl record { step = step_in z call (load (in_rooms (at_room_pin r))) u v w x a b f.step; shut = f.shut })
+    (λ (f : PinsOff z call r P v w). inr record { step = step_in z call (on_rooms (pin_room r)) u v w x a b f.step; off = f.off })
+
+pub moved_within : (z : Sizes) (call : ℕ) (P : Span → Type 0) (u v w x : PassState) → MetMore call u v → MetMore call w x → FoundMoved z call P v w → FoundMoved z call P u x
+moved_within z call P u v w x a b f r inside = off_within z call r P u v w x a b (f r inside)
+
 -- a call that began earlier
 
 pub off_since : (z : Sizes) (call r : ℕ) (P : Span → Type 0) (u v w : PassState) → OnlyMeets call u v → FoundOff z call r P v w → FoundOff z call r P u w
-off_since z call r P u v w a f = record { step = step_since z call (on_rooms (pin_room r)) u v w a.stands.met f.step; off = f.off }
+off_since z call r P u v w a = off_within z call r P u v w w a.stands.met (met_none call w)
 
 pub off_until : (z : Sizes) (call r : ℕ) (P : Span → Type 0) (v w x : PassState) → OnlyMeets call w x → FoundOff z call r P v w → FoundOff z call r P v x
-off_until z call r P v w x a f = record { step = step_until z call (on_rooms (pin_room r)) v w x a.stands.met f.step; off = f.off }
+off_until z call r P v w x a = off_within z call r P v v w x (met_none call v) a.stands.met
 
 pub opens_since : (z : Sizes) (call r : ℕ) (P : Span → Type 0) (u v w : PassState) → OnlyMeets call u v → HadMoment z u → PinsOpen z call r P v w → PinsOpen z call r P u w
 opens_since z call r P u v w a m f = record {

@@ -44,13 +44,13 @@ use Rattle.chunk_ops.proofs.PinSteps.{changes_at, more_fits, small, low_state, u
 -- ---- the steps
 
 -- a step of a pass that is alone, where the words before it have Q
-record StepAt (z : Sizes) (x : Step) (v : PassState) (n : ℕ) (Q : List ℕ → Type 0) (a b : List ℕ) : Type 0 where
-  says : Q a
-  alone : IsAlone v
-  moment : Moment z a v
-  does : DoesStep z x n a b
+pub record StepAt (z : Sizes) (x : Step) (v : PassState) (n : ℕ) (Q : List ℕ → Type 0) (a b : List ℕ) : Type 0 where
+  pub says : Q a
+  pub alone : IsAlone v
+  pub moment : Moment z a v
+  pub does : DoesStep z x n a b
 
-step_at : (z : Sizes) (call : ℕ) (x : Step) (v : PassState) (n : ℕ) (w : PassState) → Keeps x → (t : Told z call x v n w) (Q : List ℕ → Type 0) → Q t.table.words → Runs (StepAt z x v n Q) v w
+pub step_at : (z : Sizes) (call : ℕ) (x : Step) (v : PassState) (n : ℕ) (w : PassState) → Keeps x → (t : Told z call x v n w) (Q : List ℕ → Type 0) → Q t.table.words → Runs (StepAt z x v n Q) v w
 step_at z call x v n w k t Q q = record {
   goes = λ before l. let r = (step_runs z call x v n w k t).goes before l in record {
     after = r.after;

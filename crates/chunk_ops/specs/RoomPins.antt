@@ -13,7 +13,7 @@ use Rattle.oak_core.specs.CallSteps.{MetMore, StepOfCall, Stands}
 use Rattle.oak_core.specs.Memory.{in_rooms, index, memory}
 use Rattle.oak_core.specs.QuietSteps.{Quiet}
 use Rattle.oak_core.specs.RoomCalls.{PinsRoomWord}
-use Rattle.oak_core.specs.Step.{on_rooms}
+use Rattle.oak_core.specs.Step.{load, on_rooms}
 use Rattle.chunk_ops.specs.LoneRooms.{IsShut, LoneTry}
 use Rattle.chunk_ops.specs.PinRecords.{room_pin, with_room_pin, HasRoomPin, OnlyMeets}
 
@@ -72,12 +72,21 @@ pub record PinsOpen (z : Sizes) (call r : ℕ) (P : Span → Type 0) (v w : Pass
   -- to a pass that is alone
   pub still : Runs (AddsRoomPin z r) v w
 
--- the room was found in the call not open, or open with a range that has not P, as the pin says that the step made
-pub record FoundOff (z : Sizes) (call r : ℕ) (P : Span → Type 0) (v w : PassState) : Type 0 where
+-- a load of the room's pin word in the call found the room not open
+pub record LoadsShut (z : Sizes) (call r : ℕ) (v w : PassState) : Type 0 where
+  pub step : StepOfCall z call (load (in_rooms (at_room_pin r))) v w
+  pub shut : state_of step.number ≢ OPEN
+
+-- a pin in the call found the room not open, or open with a range that has not P, as the pin says that the step made
+pub record PinsOff (z : Sizes) (call r : ℕ) (P : Span → Type 0) (v w : PassState) : Type 0 where
   pub step : StepOfCall z call (on_rooms (pin_room r)) v w
   pub off : (state_of step.number ≢ OPEN) ⊎ (P (span_of (room_pin step.to)) → ⊥)
 
--- so it was found by the first step
+-- the room was found in the call not open, or open with a range that has not P
+abbrev pub FoundOff : Sizes → ℕ → ℕ → (Span → Type 0) → PassState → PassState → Type 0
+FoundOff z call r P v w = LoadsShut z call r v w ⊎ PinsOff z call r P v w
+
+-- the first step between the two pinned the room, and found it so
 pub record MissesFirst (z : Sizes) (call r : ℕ) (P : Span → Type 0) (v w : PassState) : Type 0 where
   pub step : PinsFirst z call r v w
   pub off : (state_of step.number ≢ OPEN) ⊎ (P (span_of (room_pin step.to)) → ⊥)

@@ -10,11 +10,12 @@ ghost use Rattle.chunk_ops.specs.AskedRanges.{CoversKey, IsAskable, IsAsked, IsL
 ghost use Rattle.chunk_ops.specs.Hints.{TriesFirst, first_room};
 ghost use Rattle.chunk_ops.specs.LoneRooms.{IsOff, LoneTry, NeverAlone, NeverElsewhere};
 ghost use Rattle.chunk_ops.specs.PinRecords.{OnlyMeets};
-ghost use Rattle.chunk_ops.specs.RoomPins.{PinsFirst, PinsOpen, MissesFirst, FoundMoved, HadMoment};
+ghost use Rattle.chunk_ops.specs.RoomPins.{PinsFirst, PinsOpen, MissesFirst, FoundOff, FoundMoved, HadMoment};
 
 use crate::ranges::{Asked, is_asked};
 use crate::room_pins::{RoomPin, pin_open, unpin};
-use oak_core::{OakTable, Pass};
+use chunk_core::OPEN;
+use oak_core::{OakTable, Pass, load};
 use oak_model::Hint;
 use thiserror::Error;
 
@@ -58,6 +59,37 @@ fn try_room(
     None
 }
 
+/// Pins the room, if a load finds it open, and it is open with a range that is what is asked when it is pinned.
+fn try_if_open(
+    table: &OakTable,
+    pass: &mut Pass,
+    room: u32,
+    asked: Asked,
+    key: &[u8],
+) -> Option<RoomPin>
+    requires own { IsPassOf table.now pass.old }
+    requires inside { room < (sizes table.now).chunks }
+    requires free { (state pass.old).rooms.pin ≡ None }
+    requires few { length key.now ≤ GREATEST_KEY }
+    ensures own { Stays pass.old pass.new }
+    ensures tries { (n : ℕ) × PinsRooms (sizes table.now) n pass.old pass.new }
+    ensures pinned { IfSome result (λ p. PinsOpen (sizes table.now) (call_of pass.old) p.room (IsAsked asked key.now)
+        (state pass.old) (state pass.new)) }
+    ensures off { IfNone result (FoundOff (sizes table.now) (call_of pass.old) room (IsAsked asked key.now) (state pass.old) (state pass.new)) }
+    ensures only { IfNone result (OnlyMeets (call_of pass.old) (state pass.old) (state pass.new)) }
+    ensures ended { IfNone result (HadMoment (sizes table.now) (state pass.new)) }
+    ensures alone { IfNone result (Runs (LoneTry (sizes table.now)
+        (IsOff (sizes table.now) room (IsAsked asked key.now)) (state pass.old).rooms) (state pass.old)
+        (state pass.new)) }
+{
+    let word = table.room_at(room);
+    let found = load(table, pass, word);
+    if pin_word::state(found) != OPEN {
+        return None;
+    }
+    try_room(table, pass, room, asked, key)
+}
+
 /// The room that is tried first: that of the hint, where it names one of the table's, and else room 0.
 fn first_room(table: &OakTable, hint: Hint) -> u32
     ensures first { result ≡ first_room (sizes table.now) hint }
@@ -70,7 +102,7 @@ fn first_room(table: &OakTable, hint: Hint) -> u32
     }
 }
 
-/// Pins a room whose range is what is asked. The hinted one, or room 0, is tried first, then each.
+/// Pins a room whose range is what is asked. The hinted one, or room 0, is tried first, then each that a load finds open.
 fn pin_asked(
     table: &OakTable,
     pass: &mut Pass,
@@ -99,7 +131,7 @@ fn pin_asked(
         return Ok(pin);
     }
     for room in 0..table.rooms() {
-        if let Some(pin) = try_room(table, pass, room, asked, key) {
+        if let Some(pin) = try_if_open(table, pass, room, asked, key) {
             return Ok(pin);
         }
     }
@@ -110,7 +142,8 @@ fn pin_asked(
 /// open, or open with a range without the key, so it never comes to a pass that is alone, has no room
 /// frozen, and holds no room with the key. The hint promises nothing: the room that it names is tried first,
 /// and room 0 where it names none that the table has, since its range is the lowest. The pass has no pin of
-/// a room. The call makes loads, pins and their undoing alone. The pass's tries are raised by how many rooms
+/// a room. The call makes loads, pins and their undoing alone. The room tried first is pinned, whatever its
+/// state, and behind it only those that a load finds open. The pass's tries are raised by how many rooms
 /// it pinned, duds among them: by 1 where the room tried first was found open with the key in its range.
 pub fn pin_for(table: &OakTable, pass: &mut Pass, key: &[u8], hint: Hint) -> Result<RoomPin, Moved>
     requires own { IsPassOf table.now pass.old }
@@ -156,8 +189,8 @@ pub fn pin_hinted(table: &OakTable, pass: &mut Pass, key: &[u8], hint: Hint) -> 
 /// Pins the room whose range has the keys next below the bound: its low bound is below it, and its high
 /// bound is none or not below it. Without a bound it is the room that has the last keys. `Moved` comes
 /// only where each room was found in this call not open, or open with another range than that. The pass
-/// has no pin of a room. The call makes loads, pins and their undoing alone. The hint is taken and the
-/// pass's tries are raised as by [`pin_for`].
+/// has no pin of a room. The call makes loads, pins and their undoing alone. The hint is taken, rooms are
+/// pinned and the pass's tries are raised as by [`pin_for`].
 pub fn pin_last(
     table: &OakTable,
     pass: &mut Pass,

@@ -33,6 +33,7 @@ use Rattle.chunk_ops.specs.AskedRanges.{CoversKey}
 use Rattle.chunk_ops.specs.Contents.{EntryNamed}
 use Rattle.chunk_ops.specs.RoomPins.{FoundMoved}
 use Rattle.chunk_ops.specs.Setting.{FoundSet}
+use Rattle.chunk_ops.proofs.FoundRooms.{moved_within}
 use Rattle.point_ops.specs.FoundWords.{FoundWord, FoundChanged, FoundApart, FoundHad}
 use Rattle.point_ops.specs.Halting.BusyBy.{locked, dead, pinned, rose, crossed, changed}
 use Rattle.point_ops.specs.Halting.{AllTaken, BusyBy, EntryChanged, Halts, IsTaken, IsUnfree, KeyHeaderFound, KeyHeaderRose, NoneFree, RoomChanged, RoomCrowded, SpareNow}
@@ -110,7 +111,7 @@ module _ (call : ℕ) (u v w t : PassState) (a : MetMore call u v) (b : MetMore 
     set_in r i floor key f = record { new = f.new; kind = f.kind; step = step_in z call _ u v w t a b f.step; entry = f.entry; other = f.other }
 
     pub moved_in : (key : List ℕ) → FoundMoved z call (CoversKey key) v w → FoundMoved z call (CoversKey key) u t
-    moved_in key f r inside = let o = f r inside in record { step = step_in z call _ u v w t a b o.step; off = o.off }
+    moved_in key = moved_within z call (CoversKey key) u v w t a b
 
     bit_in : (c : Class) (spare : Option ℕ) (i : ℕ) → IsTaken z call c spare i v w → IsTaken z call c spare i u t
     bit_in c spare i (inl x) = inl (had_in z _ _ x)

@@ -2,7 +2,7 @@
 use Rattle.std.proofs.Common.{ℕ, ◌⊎◌, inl, inr, ⊎_elim, List}
 use Rattle.oak_model.specs.Limits.{Sizes}
 use Rattle.chunk_core.specs.Rooms.{at_room_pin}
-use Rattle.chunk_core.specs.RoomStep.{hold_room, pin_room}
+use Rattle.chunk_core.specs.RoomStep.{hold_room}
 use Rattle.oak_core.specs.declared.states.PassState.{PassState}
 use Rattle.oak_core.specs.CallSteps.{MetMore}
 use Rattle.oak_core.specs.Memory.{in_rooms}
@@ -10,6 +10,7 @@ use Rattle.oak_core.specs.Step.{load, on_rooms}
 use Rattle.oak_core.proofs.calls.CallSteps.{step_in}
 use Rattle.chunk_ops.specs.AskedRanges.{CoversKey}
 use Rattle.chunk_ops.specs.RoomPins.{FoundMoved}
+use Rattle.chunk_ops.proofs.FoundRooms.{moved_within}
 use Rattle.rebalance.specs.Busy.{HoldsOff, IsBusyFor}
 use Rattle.rebalance.specs.Holding.{FindsChanged, FindsFrozen, FindsPinned, IsBusy}
 use Rattle.rebalance.specs.Repeating.{RepeatsIn}
@@ -33,7 +34,7 @@ module _ (z : Sizes) (call looks : ℕ) (u v t s : PassState) (before : MetMore 
 
   -- each, as none had the key
   moved_busy : (key : List ℕ) → FoundMoved z call (CoversKey key) v t → FoundMoved z call (CoversKey key) u s
-  moved_busy key f r lt = let o = f r lt in record { step = step_in z call (on_rooms (pin_room r)) u v t s before after o.step; off = o.off }
+  moved_busy key = moved_within z call (CoversKey key) u v t s before after
 
   -- so a chunk
   pub chunk_busy : (key : List ℕ) → IsBusyFor z call looks key v t → IsBusyFor z call looks key u s
