@@ -34,7 +34,7 @@ use Rattle.scan_cursor.specs.Leaving.{LeavesValue}
 use Rattle.scan_cursor.specs.Views.{Later, View}
 use Rattle.scan_cursor.specs.Walks.{HasWalked, IsWalk, MayGoOn, WalkSteps, WalksOrEnds, course_of, view_at}
 use Rattle.scan_cursor.proofs.EndLaws.{scan_leaves}
-use Rattle.scan_cursor.proofs.LeavingLaws.{left_leaves}
+use Rattle.scan_cursor.proofs.LeavingLaws.{left_leaves, none_leaves}
 use Rattle.scan_cursor.proofs.ReadingViews.{later_both}
 use Rattle.scan_cursor.proofs.StepLaws.{later_at, same_left}
 use Rattle.scan_cursor.proofs.VainLooks.{in_vain_since, vain_stays}
@@ -199,6 +199,17 @@ module _ (c n : Cursor) (i : IsCursor c) (table : n.table ≡ c.table) (low : n.
               (subst (λ (p : List ℕ × List ℕ). AreInVain looks (key_number p.0) (key_number p.1) (view_under n) (view_at (sizes n.table.now) q.now)) (λ j. (low j, high j)) vain);
           alone = up_never;
         }
+
+-- ---- a cursor with no present pair, as it stands
+
+pub here_own : (n : Cursor) → Stays n.pass.now n.pass.now
+here_own n = record { table = refl; seat = refl; call = refl; scratch = refl; sorting = refl }
+
+pub here_idle : (n : Cursor) → IsCursor n → n.value ≡ None → HoldsNothing (under n)
+here_idle n i none = subst (λ (o : Option PinnedValue). HasPair o (sizes n.table.now) n.walk.mark (under n)) none i.pair
+
+pub here_still : (n : Cursor) → n.value ≡ None → Runs (LeavesValue (sizes n.table.now) n.value None) (under n) (under n)
+here_still n none = subst (λ (o : Option PinnedValue). Runs (LeavesValue (sizes n.table.now) o None) (under n) (under n)) (sym none) (none_leaves (under n))
 
 -- ---- a pin is undone
 

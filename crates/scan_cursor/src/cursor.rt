@@ -1,5 +1,5 @@
 //! The cursor of a scan.
-ghost use Rattle.std.specs.Prelude.{◌≡◌, ◌↔◌, ◌+◌, ◌*◌, ◌<◌, ◌≤◌, ◌++◌, IfErr, IfOk, IfSome, IsSome, IsTrue, List, MatchOption, [], None, drop, length, min, slice_index, slice_range, take, true};
+ghost use Rattle.std.specs.Prelude.{false, ◌≡◌, ◌↔◌, ◌+◌, ◌*◌, ◌<◌, ◌≤◌, ◌++◌, IfErr, IfOk, IfSome, IsSome, IsTrue, List, MatchOption, [], None, drop, length, min, slice_index, slice_range, take, true};
 ghost use Rattle.std.specs.Int.{w64, from_be_bytes};
 ghost use Rattle.oak_model.specs.declared.replies.Pair.{Pair};
 ghost use Rattle.oak_model.specs.Key.{IsKey, is_key};
@@ -16,7 +16,7 @@ ghost use Rattle.scan_cursor.specs.Views.{Later, View};
 ghost use Rattle.scan_cursor.specs.Walks.{view_at};
 
 use crate::busy::Busy;
-use crate::walking::{Walk, try_walk};
+use crate::walking::{Stepped, Walk, has_slot, take_slot, try_walk};
 use crate::ways::Way;
 use chunk_ops::KeyBytes;
 use oak_core::{OakTable, Pass};
@@ -133,6 +133,68 @@ impl Cursor<'_> {
         if self.walk.mark.ended {
             return Ok(false);
         }
+        if has_slot(&self.walk) {
+            self.take_next(looks)
+        } else {
+            self.search_on(looks)
+        }
+    }
+
+    /// Goes to the next pair, where none is pinned, as [`Cursor::try_advance`] does: mostly that is the one of the next slot,
+    /// of which one is left.
+    #[inline(always)] // once for each pair of a scan
+    fn take_next(&mut self, looks: u32) -> Result<bool, Busy>
+        requires cursor { IsCursor self.old }
+        requires none { self.old.value ≡ None }
+        requires going { self.old.walk.mark.ended ≡ false }
+        requires some { 0 < looks }
+        requires past { self.old.walk.mark.past ≡ true }
+        requires gathered { self.old.walk.gathered ≡ true }
+        requires slot { self.old.walk.from < self.old.walk.to }
+        ensures same_reference { self.new.pass.ghost_name ≡ self.old.pass.ghost_name }
+        ensures table { self.new.table ≡ self.old.table }
+        ensures low { self.new.low ≡ self.old.low }
+        ensures high { self.new.high ≡ self.old.high }
+        ensures way { self.new.way ≡ self.old.way }
+        ensures own { StaysButSlots self.old.pass.now self.new.pass.now }
+        ensures cursor { IsCursor self.new }
+        ensures later { Later (view_under self.old) (view_under self.new) }
+        ensures advances { IfOk result (λ more. Advances more self.old self.new) }
+        ensures busy { IfErr result (λ _. GivesUp looks self.old self.new) }
+        ensures still { Runs (LeavesValue (sizes self.old.table.now) self.old.value self.new.value) (under self.old) (under self.new) }
+    {
+        let low = self.low.as_slice();
+        let high = self.high.as_slice();
+        match take_slot(self.table, self.pass, &mut self.walk, low, high, self.way) {
+            Stepped::Given(value) => {
+                self.value = Some(value);
+                Ok(true)
+            }
+            Stepped::Ended => Ok(false),
+            Stepped::Passed => self.search_on(looks),
+            Stepped::Again => unreachable!(),
+        }
+    }
+
+    /// Goes to the next pair, where none is pinned, as [`Cursor::try_advance`] does, however far that is.
+    #[inline(never)] // else what most pairs go by is spread over all of it
+    fn search_on(&mut self, looks: u32) -> Result<bool, Busy>
+        requires cursor { IsCursor self.old }
+        requires none { self.old.value ≡ None }
+        requires going { self.old.walk.mark.ended ≡ false }
+        requires some { 0 < looks }
+        ensures same_reference { self.new.pass.ghost_name ≡ self.old.pass.ghost_name }
+        ensures table { self.new.table ≡ self.old.table }
+        ensures low { self.new.low ≡ self.old.low }
+        ensures high { self.new.high ≡ self.old.high }
+        ensures way { self.new.way ≡ self.old.way }
+        ensures own { StaysButSlots self.old.pass.now self.new.pass.now }
+        ensures cursor { IsCursor self.new }
+        ensures later { Later (view_under self.old) (view_under self.new) }
+        ensures advances { IfOk result (λ more. Advances more self.old self.new) }
+        ensures busy { IfErr result (λ _. GivesUp looks self.old self.new) }
+        ensures still { Runs (LeavesValue (sizes self.old.table.now) self.old.value self.new.value) (under self.old) (under self.new) }
+    {
         let found = try_walk(
             self.table,
             self.pass,

@@ -1,5 +1,5 @@
 //! A scan that loads the entries of each room once, in batches.
-ghost use Rattle.std.specs.Prelude.{◌≡◌, ◌≢◌, ◌*◌, ◌-◌, ◌<◌, ◌≤◌, ℕ, suc, IfErr, IfOk, MatchBool, None, Some, [], max, min, true, false};
+ghost use Rattle.std.specs.Prelude.{◌≡◌, ◌≢◌, ◌*◌, ◌-◌, ◌<◌, ◌≤◌, ℕ, suc, IfErr, IfOk, IsTrue, MatchBool, None, Some, [], max, min, true, false};
 ghost use Rattle.oak_model.specs.declared.limits.TheConstants.{GREATEST_ENTRIES};
 ghost use Rattle.oak_model.specs.Key.{is_key};
 ghost use Rattle.oak_model.specs.KeyNumber.{key_number};
@@ -322,7 +322,8 @@ fn next_slot<'p>(pass: &'p Pass, walk: &mut Walk, way: Way) -> &'p SortSlot
 
 /// Goes to the key of the next of the slots that are left, and pins its value. Where that is being written, or was
 /// written anew, the scan stays at the key, which is then read through its room.
-fn take_slot(
+#[inline(always)] // once for each pair of a scan
+pub(crate) fn take_slot(
     table: &OakTable,
     pass: &mut Pass,
     walk: &mut Walk,
@@ -478,4 +479,11 @@ pub(crate) fn try_walk(
         }
     }
     Err(Busy)
+}
+
+/// Whether one of the slots that are loaded is left, and comes next.
+pub(crate) fn has_slot(walk: &Walk) -> bool
+    ensures { IsTrue result → (walk.now.mark.past ≡ true) × (walk.now.gathered ≡ true) × (walk.now.from < walk.now.to) }
+{
+    walk.mark.past && walk.gathered && walk.from < walk.to
 }

@@ -1,14 +1,7 @@
-use Rattle.std.proofs.Common.{Bool, List, ℕ, sym, subst}
-use Rattle.oak_model.specs.KeyNumber.{key_number}
-use Rattle.oak_core.specs.Passes.{key as sizes, state}
-use Rattle.oak_core.proofs.seats.AloneRuns.{runs_as}
-use Rattle.chunk_ops.specs.AddsAlone.{Never}
-use Rattle.scan_cursor.specs.declared.walking.Stepped.TheVariants.{Again}
-use Rattle.scan_cursor.specs.Busy.{AreInVain}
-use Rattle.scan_cursor.specs.Cursors.{Advances, course, under, view_under}
-use Rattle.scan_cursor.specs.Leaving.{LeavesValue}
-use Rattle.scan_cursor.specs.Walks.{MayGoOn, WalkSteps, WalksOrEnds, course_of, view_at}
-use Rattle.scan_cursor.proofs.CursorLaws.{left_cursor, left_ended, left_goes_on, on_advances, on_later, on_leaves, up_gives, up_later, up_never}
+use Rattle.scan_cursor.specs.Cursors.{under, view_under}
+use Rattle.scan_cursor.proofs.ReadingViews.{later_both}
+use Rattle.scan_cursor.proofs.CursorLaws.{left_cursor, left_ended}
+use Rattle.scan_cursor.proofs.TriedLaws.{err_as, left_gives, left_tried, ok_as, tried_advances}
 use Rattle.scan_cursor.proofs.cursor.Cursor.try_advance.Goals as goal
 
 pub returns-then-self-clause-cursor : goal.returns-then-self-clause-cursor
@@ -19,40 +12,38 @@ pub returns-then-self-clause-advances : goal.returns-then-self-clause-advances
 returns-then-self-clause-advances c = let e = c.leave_pair.ensures in
     left_ended c.args.self.now c.leave_pair.new.self c.requires.cursor e.table e.low e.high e.way e.walk e.value e.own e.idle e.later e.still c.if-self.true
 
-pub try_walk-found-requires-clause-on : goal.try_walk-found-requires-clause-on
-try_walk-found-requires-clause-on c = let e = c.leave_pair.ensures in let n = c.leave_pair.new.self in
-    subst (λ (p : List ℕ × List ℕ). MayGoOn n.way p.0 p.1 n.table.now n.walk n.pass.now) (λ j. (sym c.as_slice.ensures j, sym c.as_slice-2.ensures j))
-    (left_goes_on c.args.self.now n c.requires.cursor e.table e.low e.high e.way e.walk e.value e.own e.idle e.later e.still c.if-self.false)
+pub take_next-requires-clause-cursor : goal.take_next-requires-clause-cursor
+take_next-requires-clause-cursor c = let e = c.leave_pair.ensures in let n = c.leave_pair.new.self in left_cursor c.args.self.now n c.requires.cursor e.table e.low e.high e.way e.walk e.value e.own e.idle e.later e.still
 
-pub returns-in-Ok-clause-later : goal.returns-in-Ok-clause-later
-returns-in-Ok-clause-later c = let e = c.leave_pair.ensures in let n = c.leave_pair.new.self in let t = c.try_walk-found in
-    let goes = subst (λ (p : List ℕ × List ℕ). WalksOrEnds c.in-Ok.value n.way (key_number p.0) (key_number p.1) (course n) (course_of n.way (sizes n.table.now) t.new.walk t.new.pass)) (λ j. (c.as_slice.ensures j, c.as_slice-2.ensures j)) c.in-Ok.ensures.goes in
-    on_later c.args.self.now n c.requires.cursor e.table e.low e.high e.way e.walk e.value e.own e.idle e.later e.still (record n.pass { now = t.new.pass }) t.new.walk c.in-Ok.value goes
+pub returns-then-has_slot-clause-later : goal.returns-then-has_slot-clause-later
+returns-then-has_slot-clause-later c = let e = c.leave_pair.ensures in later_both (view_under c.args.self.now) (view_under c.leave_pair.new.self) (view_under c.take_next.new.self) e.later c.take_next.ensures.later
 
-pub returns-in-Ok-clause-advances : goal.returns-in-Ok-clause-advances
-returns-in-Ok-clause-advances c = let e = c.leave_pair.ensures in let n = c.leave_pair.new.self in let t = c.try_walk-found in
-    let goes = subst (λ (p : List ℕ × List ℕ). WalksOrEnds c.in-Ok.value n.way (key_number p.0) (key_number p.1) (course n) (course_of n.way (sizes n.table.now) t.new.walk t.new.pass)) (λ j. (c.as_slice.ensures j, c.as_slice-2.ensures j)) c.in-Ok.ensures.goes in
-    subst (λ (b : Bool). Advances b c.args.self.now (record n { pass = record n.pass { now = t.new.pass }; walk = t.new.walk; value = c.in-Ok.value })) (sym c.is_some.ensures) (on_advances c.args.self.now n c.requires.cursor e.table e.low e.high e.way e.walk e.value e.own e.idle e.later e.still (record n.pass { now = t.new.pass }) t.new.walk c.in-Ok.value goes c.in-Ok.ensures.still)
+pub returns-then-has_slot-clause-advances : goal.returns-then-has_slot-clause-advances
+returns-then-has_slot-clause-advances c = let e = c.leave_pair.ensures in let n = c.leave_pair.new.self in
+    ok_as c.take_next.result _ _ (λ more a. tried_advances c.args.self.now n c.take_next.new.self (left_tried c.args.self.now n c.requires.cursor e.table e.low e.high e.way e.walk e.value e.own e.idle e.later e.still) more a) c.take_next.ensures.advances
 
-pub returns-in-Ok-clause-still : goal.returns-in-Ok-clause-still
-returns-in-Ok-clause-still c = let e = c.leave_pair.ensures in let n = c.leave_pair.new.self in let t = c.try_walk-found in
-    on_leaves c.args.self.now n c.requires.cursor e.table e.low e.high e.way e.walk e.value e.own e.idle e.later e.still (record n.pass { now = t.new.pass }) t.new.walk c.in-Ok.value c.in-Ok.ensures.still
+pub returns-then-has_slot-clause-busy : goal.returns-then-has_slot-clause-busy
+returns-then-has_slot-clause-busy c = let e = c.leave_pair.ensures in let n = c.leave_pair.new.self in
+    err_as c.take_next.result _ _ (λ x g. left_gives c.args.self.now n c.requires.cursor e.table e.low e.high e.way e.walk e.value e.own e.idle e.later e.still c.args.looks c.take_next.new.self g) c.take_next.ensures.busy
 
--- it gave up
+pub returns-then-has_slot-clause-still : goal.returns-then-has_slot-clause-still
+returns-then-has_slot-clause-still c = let e = c.leave_pair.ensures in let n = c.leave_pair.new.self in let tried = left_tried c.args.self.now n c.requires.cursor e.table e.low e.high e.way e.walk e.value e.own e.idle e.later e.still in
+    tried.still c.take_next.new.self.value (under c.take_next.new.self) c.take_next.ensures.still
 
-pub returns-in-Err-clause-later : goal.returns-in-Err-clause-later
-returns-in-Err-clause-later c = let e = c.leave_pair.ensures in let n = c.leave_pair.new.self in let t = c.try_walk-found in
-    let waits = subst (λ (p : List ℕ × List ℕ). WalkSteps Again n.way (key_number p.0) (key_number p.1) (course n) (course_of n.way (sizes n.table.now) t.new.walk t.new.pass)) (λ j. (c.as_slice.ensures j, c.as_slice-2.ensures j)) c.in-Err.ensures.waits in
-    up_later c.args.self.now n c.requires.cursor e.table e.low e.high e.way e.walk e.value e.own e.idle e.later e.still (record n.pass { now = t.new.pass }) t.new.walk waits
+pub search_on-requires-clause-cursor : goal.search_on-requires-clause-cursor
+search_on-requires-clause-cursor c = let e = c.leave_pair.ensures in let n = c.leave_pair.new.self in left_cursor c.args.self.now n c.requires.cursor e.table e.low e.high e.way e.walk e.value e.own e.idle e.later e.still
 
-pub returns-in-Err-clause-busy : goal.returns-in-Err-clause-busy
-returns-in-Err-clause-busy c = let e = c.leave_pair.ensures in let n = c.leave_pair.new.self in let t = c.try_walk-found in
-    let waits = subst (λ (p : List ℕ × List ℕ). WalkSteps Again n.way (key_number p.0) (key_number p.1) (course n) (course_of n.way (sizes n.table.now) t.new.walk t.new.pass)) (λ j. (c.as_slice.ensures j, c.as_slice-2.ensures j)) c.in-Err.ensures.waits in
-    let vain = subst (λ (p : List ℕ × List ℕ). AreInVain c.args.looks (key_number p.0) (key_number p.1) (view_under n) (view_at (sizes n.table.now) t.new.pass)) (λ j. (c.as_slice.ensures j, c.as_slice-2.ensures j)) c.in-Err.ensures.vain in
-    up_gives c.args.self.now n c.requires.cursor e.table e.low e.high e.way e.walk e.value e.own e.idle e.later e.still (record n.pass { now = t.new.pass }) t.new.walk waits c.in-Err.ensures.alone c.args.looks vain
+pub returns-else-has_slot-clause-later : goal.returns-else-has_slot-clause-later
+returns-else-has_slot-clause-later c = let e = c.leave_pair.ensures in later_both (view_under c.args.self.now) (view_under c.leave_pair.new.self) (view_under c.search_on.new.self) e.later c.search_on.ensures.later
 
-pub returns-in-Err-clause-still : goal.returns-in-Err-clause-still
-returns-in-Err-clause-still c = let e = c.leave_pair.ensures in let n = c.leave_pair.new.self in let t = c.try_walk-found in let s = c.args.self.now in
-    let waits = subst (λ (p : List ℕ × List ℕ). WalkSteps Again n.way (key_number p.0) (key_number p.1) (course n) (course_of n.way (sizes n.table.now) t.new.walk t.new.pass)) (λ j. (c.as_slice.ensures j, c.as_slice-2.ensures j)) c.in-Err.ensures.waits in
-    runs_as Never (LeavesValue (sizes s.table.now) s.value n.value) (under s) (state t.new.pass) (λ a b no. absurd no)
-    (up_never s n c.requires.cursor e.table e.low e.high e.way e.walk e.value e.own e.idle e.later e.still (record n.pass { now = t.new.pass }) t.new.walk waits c.in-Err.ensures.alone)
+pub returns-else-has_slot-clause-advances : goal.returns-else-has_slot-clause-advances
+returns-else-has_slot-clause-advances c = let e = c.leave_pair.ensures in let n = c.leave_pair.new.self in
+    ok_as c.search_on.result _ _ (λ more a. tried_advances c.args.self.now n c.search_on.new.self (left_tried c.args.self.now n c.requires.cursor e.table e.low e.high e.way e.walk e.value e.own e.idle e.later e.still) more a) c.search_on.ensures.advances
+
+pub returns-else-has_slot-clause-busy : goal.returns-else-has_slot-clause-busy
+returns-else-has_slot-clause-busy c = let e = c.leave_pair.ensures in let n = c.leave_pair.new.self in
+    err_as c.search_on.result _ _ (λ x g. left_gives c.args.self.now n c.requires.cursor e.table e.low e.high e.way e.walk e.value e.own e.idle e.later e.still c.args.looks c.search_on.new.self g) c.search_on.ensures.busy
+
+pub returns-else-has_slot-clause-still : goal.returns-else-has_slot-clause-still
+returns-else-has_slot-clause-still c = let e = c.leave_pair.ensures in let n = c.leave_pair.new.self in let tried = left_tried c.args.self.now n c.requires.cursor e.table e.low e.high e.way e.walk e.value e.own e.idle e.later e.still in
+    tried.still c.search_on.new.self.value (under c.search_on.new.self) c.search_on.ensures.still
