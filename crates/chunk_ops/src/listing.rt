@@ -58,10 +58,21 @@ pub fn entry_key(table: &OakTable, pass: &mut Pass, pin: &RoomPin, entry: EntryN
     ensures only { OnlyMeets (call_of pass.old) (state pass.old) (state pass.new) }
 {
     let place = key_word(table, pass, pin, entry);
+    let class = class_in(place);
+    let block = block_in(place);
     let length = length_in(place);
+    if length <= WORD {
+        // With no loop over its words the key of one word stays out of memory.
+        let first = table.bytes_at(class, block, 0);
+        let loaded = load(table, pass, first);
+        let only = first_bytes(loaded, length);
+        let mut alone = [0; KEY_WORDS];
+        alone[0] = only;
+        return StoredKey::from_words(alone, length);
+    }
     let mut words = [0; KEY_WORDS];
     for i in 0..length.div_ceil(WORD) {
-        let at = table.bytes_at(class_in(place), block_in(place), i as u32);
+        let at = table.bytes_at(class, block, i as u32);
         let word = load(table, pass, at);
         words[i] = first_bytes(word, length - WORD * i);
     }
