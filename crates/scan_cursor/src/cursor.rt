@@ -228,11 +228,35 @@ impl Cursor<'_> {
         ensures advances { Advances result self.old self.new }
         ensures still { Runs (LeavesValue (sizes self.old.table.now) self.old.value self.new.value) (under self.old) (under self.new) }
     {
+        if let Ok(more) = self.try_advance(1) {
+            return more;
+        }
+        self.wait_on(rt)
+    }
+
+    /// Goes to the next pair, where none is pinned, as [`Cursor::advance`] does behind a look in vain: before each further
+    /// look other threads go on.
+    #[inline(never)] // else each pair saves what only a wait needs
+    fn wait_on<R: Wait>(&mut self, rt: &R) -> bool
+        requires cursor { IsCursor self.old }
+        requires none { self.old.value ≡ None }
+        requires going { self.old.walk.mark.ended ≡ false }
+        ensures same_reference { self.new.pass.ghost_name ≡ self.old.pass.ghost_name }
+        ensures table { self.new.table ≡ self.old.table }
+        ensures low { self.new.low ≡ self.old.low }
+        ensures high { self.new.high ≡ self.old.high }
+        ensures way { self.new.way ≡ self.old.way }
+        ensures own { StaysButSlots self.old.pass.now self.new.pass.now }
+        ensures cursor { IsCursor self.new }
+        ensures later { Later (view_under self.old) (view_under self.new) }
+        ensures advances { Advances result self.old self.new }
+        ensures still { Runs (LeavesValue (sizes self.old.table.now) self.old.value self.new.value) (under self.old) (under self.new) }
+    {
         for _ in rt.forever() {
-            if let Ok(more) = self.try_advance(1) {
+            thread::yield_now();
+            if let Ok(more) = self.search_on(1) {
                 return more;
             }
-            thread::yield_now();
         }
         unreachable!()
     }

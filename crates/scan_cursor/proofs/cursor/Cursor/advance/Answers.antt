@@ -1,29 +1,27 @@
-use Rattle.std.proofs.Common.{refl, ◌∙◌}
 use Rattle.scan_cursor.specs.Cursors.{under, view_under}
 use Rattle.scan_cursor.proofs.ReadingViews.{later_both}
 use Rattle.scan_cursor.proofs.StepLaws.{but_both}
-use Rattle.scan_cursor.proofs.TriedLaws.{tried_advances, tried_more, tried_none}
+use Rattle.scan_cursor.proofs.TriedLaws.{HasTried, tried_advances, tried_more, tried_none}
 use Rattle.scan_cursor.proofs.cursor.Cursor.advance.Goals as goal
 
-pub loop-init : goal.loop-init
-loop-init g c = record { next = tt; same_reference = refl; cursor = c.requires; tried = tried_none c.args.self.now }
+pub wait_on-requires-clause-none : goal.wait_on-requires-clause-none
+wait_on-requires-clause-none g c = c.in_default.ensures.busy.value
 
-pub returns-in-Ok-clause-own : goal.returns-in-Ok-clause-own
-returns-in-Ok-clause-own g c = but_both c.args.self.now.pass.now c.loop.self.pass.now c.try_advance.new.self.pass.now c.loop.invariant.tried.own c.try_advance.ensures.own
+pub wait_on-requires-clause-going : goal.wait_on-requires-clause-going
+wait_on-requires-clause-going g c = c.in_default.ensures.busy.going
 
-pub returns-in-Ok-clause-later : goal.returns-in-Ok-clause-later
-returns-in-Ok-clause-later g c = later_both (view_under c.args.self.now) (view_under c.loop.self) (view_under c.try_advance.new.self) c.loop.invariant.tried.later c.try_advance.ensures.later
+pub returns-clause-own : goal.returns-clause-own
+returns-clause-own g c = but_both c.args.self.now.pass.now c.try_advance.new.self.pass.now c.wait_on.new.self.pass.now c.try_advance.ensures.own c.wait_on.ensures.own
 
-pub returns-in-Ok-clause-advances : goal.returns-in-Ok-clause-advances
-returns-in-Ok-clause-advances g c = tried_advances c.args.self.now c.loop.self c.try_advance.new.self c.loop.invariant.tried c.in-Ok.more c.in-Ok.ensures.advances
+pub returns-clause-later : goal.returns-clause-later
+returns-clause-later g c = later_both (view_under c.args.self.now) (view_under c.try_advance.new.self) (view_under c.wait_on.new.self) c.try_advance.ensures.later c.wait_on.ensures.later
 
-pub returns-in-Ok-clause-still : goal.returns-in-Ok-clause-still
-returns-in-Ok-clause-still g c = c.loop.invariant.tried.still c.try_advance.new.self.value (under c.try_advance.new.self) c.try_advance.ensures.still
+pub returns-clause-advances : goal.returns-clause-advances
+returns-clause-advances g c = let n = c.args.self.now in let m = c.try_advance.new.self in let e = c.try_advance.ensures in
+    let tried : HasTried n m = tried_more n n m (tried_none n) e.table e.low e.high e.way e.own e.later 1 c.in_default.ensures.busy e.still in
+    tried_advances n m c.wait_on.new.self tried c.wait_on.result c.wait_on.ensures.advances
 
-pub loop-preserved : goal.loop-preserved
-loop-preserved g c = let e = c.try_advance.ensures in let i = c.loop.invariant in record {
-  next = tt;
-  same_reference = e.same_reference ∙ i.same_reference;
-  cursor = e.cursor;
-  tried = tried_more c.args.self.now c.loop.self c.try_advance.new.self i.tried e.table e.low e.high e.way e.own e.later 1 c.in_default.ensures.busy e.still;
-}
+pub returns-clause-still : goal.returns-clause-still
+returns-clause-still g c = let n = c.args.self.now in let m = c.try_advance.new.self in let e = c.try_advance.ensures in
+    let tried : HasTried n m = tried_more n n m (tried_none n) e.table e.low e.high e.way e.own e.later 1 c.in_default.ensures.busy e.still in
+    tried.still c.wait_on.new.self.value (under c.wait_on.new.self) c.wait_on.ensures.still
