@@ -1,4 +1,4 @@
-use Rattle.std.proofs.Common.{false, List, ℕ, sym, ◌∙◌, subst}
+use Rattle.std.proofs.Common.{false, List, ℕ, sym, subst}
 use Rattle.oak_model.specs.KeyNumber.{key_number}
 use Rattle.oak_core.specs.Passes.{key as sizes}
 use Rattle.scan_cursor.specs.declared.reading.Here.TheVariants.{Absent, Again, Present}

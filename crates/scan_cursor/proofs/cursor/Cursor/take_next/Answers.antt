@@ -1,12 +1,11 @@
 use Rattle.std.proofs.Common.{false, List, ℕ, Option, Some, None, refl, sym, subst}
 use Rattle.oak_model.specs.KeyNumber.{key_number}
-use Rattle.oak_core.specs.Passes.{key as sizes, state}
+use Rattle.oak_core.specs.Passes.{key as sizes}
 use Rattle.value_ops.specs.declared.pinned_value.PinnedValue.{PinnedValue}
 use Rattle.scan_cursor.specs.declared.walking.Stepped.TheVariants.{Ended, Given, Passed}
 use Rattle.scan_cursor.specs.Cursors.{Advances, course, under, view_under}
 use Rattle.scan_cursor.specs.Walks.{MayGoOn, WalkSteps, course_of}
 use Rattle.scan_cursor.proofs.ReadingViews.{later_both, later_self}
-use Rattle.scan_cursor.proofs.StepLaws.{but_both}
 use Rattle.scan_cursor.proofs.CursorLaws.{here_idle, here_own, here_still, left_goes_on, on_advances, on_later, on_leaves}
 use Rattle.scan_cursor.proofs.TriedLaws.{err_as, ok_as, passed_cursor, passed_gives, passed_tried, tried_advances}
 use Rattle.scan_cursor.proofs.cursor.Cursor.take_next.Goals as goal
