@@ -19,6 +19,7 @@ pub mod LinkedCopies
 pub mod PassedOnes
 pub mod ReadLaws
 pub mod SortLaws
+pub mod WalkLaws
 pub mod CompactedMirrors
 pub mod DroppedRange
 pub mod FilledCopies

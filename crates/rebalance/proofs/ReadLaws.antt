@@ -4,6 +4,8 @@ use Rattle.std.proofs.lemmas.List.{take_more_set, map-append}
 use Rattle.std.proofs.lemmas.List.Elements.{filter-append}
 use Rattle.std.proofs.Math.ListN.{length-set}
 use Rattle.std.specs.List.{filter}
+use Rattle.std.specs.List.Sorted.{IsPermutation}
+use Rattle.std.proofs.lemmas.List.Sorted.{IsPermutation-refl, IsPermutation-append_left}
 use mathlib.Core.Logic.{dite}
 use native.Mathlib.Decide.{ℕ_discrete}
 use Rattle.oak_model.specs.Counts.{rows}
@@ -31,6 +33,22 @@ greatest_more : (b : ℕ) (xs : List Entry) (e : Entry) → greatest b (xs ++ e 
 unfolding greatest
 greatest_more b [] e = omega arith
 greatest_more b (x ∷ xs) e = let h = greatest_more b xs e in omega arith
+
+-- one slot more, and one entry more
+
+pub front_more : (slots : List SortSlot) (k : ℕ) (s : SortSlot) (e : Entry) → entry_of s ≡ e → k < length slots → map entry_of (take (k + 1) (set slots k s)) ≡ map entry_of (take k slots) ++ e ∷ []
+front_more slots k s e f lt = ap (map entry_of) (take_more_set slots k s lt) ∙ (map-append entry_of (take k slots) (s ∷ []) ∙ ap (λ (a : Entry). map entry_of (take k slots) ++ a ∷ []) f)
+
+pub each_more : (P : SortSlot → Type 0) (slots : List SortSlot) (k : ℕ) (s : SortSlot) → k < length slots → P s → ((j : ℕ) (d : SortSlot) → j < k → P (get_or slots j d)) → (j : ℕ) (d : SortSlot) → j < k + 1 → P (get_or (set slots k s) j d)
+each_more P slots k s lt here others j q l = dite (ℕ_discrete j k)
+    (λ z. subst P (sym (ap (λ (c : ℕ). get_or (set slots k s) c q) z ∙ get_or-set_same slots k s q lt)) here)
+    (λ z. subst P (sym (get_or-set_other slots k j s q z)) (others j q (omega arith)))
+
+pub same_kept : (es fs xs ys : List Entry) → IsPermutation es xs → es ≡ fs → xs ≡ ys → IsPermutation fs ys
+same_kept es fs xs ys p a b = subst (λ (ls : List Entry). IsPermutation ls ys) a (subst (IsPermutation es) b p)
+
+more_kept : (es fs xs ys : List Entry) (e : Entry) → IsPermutation es xs → es ++ e ∷ [] ≡ fs → xs ++ e ∷ [] ≡ ys → IsPermutation fs ys
+more_kept es fs xs ys e p a b = same_kept (es ++ e ∷ []) fs (xs ++ e ∷ []) ys (IsPermutation-append_left (e ∷ []) es xs p) a b
 
 -- the top bit of the value word is set with a value, and else not
 
@@ -83,23 +101,18 @@ module _ (m : RoomMemory) (r i : ℕ) (e : Entry) (is : e ≡ record { place = m
     read_kept s f pos word t v lt k d o = let many = h.many in let n = length-set slots x.kept s in record {
       many = omega arith;
       fits = omega arith;
-      front = ap (λ (n : ℕ). map entry_of (take n (set slots x.kept s))) k ∙ (ap (map entry_of) (take_more_set slots x.kept s lt) ∙ (map-append entry_of (take x.kept slots) (s ∷ []) ∙ ((λ q. h.front q ++ f q ∷ []) ∙ sym (kept_yes word v))));
-      named = λ j q l. each (λ (a : SortSlot). 0 < a.key) pos h.named j q (omega arith);
-      stored = λ j q l. each (λ (a : SortSlot). IsStored (key_of a) (keys a.key)) t h.stored j q (omega arith);
+      front = more_kept (kept (linked_among m r i)) (kept (linked_among m r (i + 1))) (map entry_of (take x.kept slots)) (map entry_of (take y.kept (set slots x.kept s))) e h.front (sym (kept_yes word v)) (sym (ap (λ (n : ℕ). map entry_of (take n (set slots x.kept s))) k ∙ front_more slots x.kept s e f lt));
+      named = λ j q l. each_more (λ (a : SortSlot). 0 < a.key) slots x.kept s lt pos h.named j q (omega arith);
+      stored = λ j q l. each_more (λ (a : SortSlot). IsStored (key_of a) (keys a.key)) slots x.kept s lt t h.stored j q (omega arith);
       base = o ∙ (h.base ∙ ap (greatest b) (sym (dropped_no word v)));
     }
-      where
-        each : (P : SortSlot → Type 0) → P s → ((j : ℕ) (d : SortSlot) → j < x.kept → P (get_or slots j d)) → (j : ℕ) (d : SortSlot) → j < x.kept + 1 → P (get_or (set slots x.kept s) j d)
-        each P here others j q l = dite (ℕ_discrete j x.kept)
-            (λ z. subst P (sym (ap (λ (c : ℕ). get_or (set slots x.kept s) c q) z ∙ get_or-set_same slots x.kept s q lt)) here)
-            (λ z. subst P (sym (get_or-set_other slots x.kept j s q z)) (others j q (omega arith)))
 
     -- the entry was dropped
     pub read_dropped : 0 < e.place → has_value e ≡ false → y.kept ≡ x.kept → y.dropped ≡ x.dropped + 1 → y.base ≡ max x.base e.value → HasRead keys m r b (i + 1) slots y
     read_dropped word v k d o = let many = h.many in let sf = h.fits in record {
       many = omega arith;
       fits = omega arith;
-      front = ap (λ (n : ℕ). map entry_of (take n slots)) k ∙ (h.front ∙ sym (kept_no word v));
+      front = same_kept (kept (linked_among m r i)) (kept (linked_among m r (i + 1))) (map entry_of (take x.kept slots)) (map entry_of (take y.kept slots)) h.front (sym (kept_no word v)) (ap (λ (n : ℕ). map entry_of (take n slots)) (sym k));
       named = λ j q l. h.named j q (omega arith);
       stored = λ j q l. h.stored j q (omega arith);
       base = o ∙ (ap (λ (n : ℕ). max n e.value) h.base ∙ (sym (greatest_more b (dropped (linked_among m r i)) e) ∙ ap (greatest b) (sym (dropped_yes word v))));
@@ -110,7 +123,7 @@ module _ (m : RoomMemory) (r i : ℕ) (e : Entry) (is : e ≡ record { place = m
     read_skipped z k d o = let many = h.many in let sf = h.fits in record {
       many = omega arith;
       fits = omega arith;
-      front = ap (λ (n : ℕ). map entry_of (take n slots)) k ∙ (h.front ∙ ap kept (sym (linked_no z)));
+      front = same_kept (kept (linked_among m r i)) (kept (linked_among m r (i + 1))) (map entry_of (take x.kept slots)) (map entry_of (take y.kept slots)) h.front (ap kept (sym (linked_no z))) (ap (λ (n : ℕ). map entry_of (take n slots)) (sym k));
       named = λ j q l. h.named j q (omega arith);
       stored = λ j q l. h.stored j q (omega arith);
       base = o ∙ (h.base ∙ ap (greatest b) (sym (dropped_none z)));
@@ -122,7 +135,7 @@ unfolding greatest rows
 read_none keys m r b slots x k d o = record {
   many = omega arith;
   fits = omega arith;
-  front = ap (λ (n : ℕ). map entry_of (take n slots)) k;
+  front = subst (IsPermutation []) (ap (λ (n : ℕ). map entry_of (take n slots)) (sym k)) (IsPermutation-refl []);
   named = λ j q l. absurd (omega arith);
   stored = λ j q l. absurd (omega arith);
   base = o;

@@ -24,6 +24,7 @@ use Rattle.rebalance.specs.declared.entries.Entry.{Entry}
 use Rattle.oak_core.specs.declared.sorting.SortSlot.{SortSlot}
 use Rattle.rebalance.specs.Compacted.{is_of, KeysRise}
 use Rattle.rebalance.specs.Slots.{entry_of, key_of, stored_cmp, has_key, AreDistinct, Rise}
+use Rattle.rebalance.proofs.FilledCopies.{permuted_total}
 
 -- the order of stored keys is total
 pub stored_total : IsTotalOrder stored_cmp
@@ -65,7 +66,7 @@ module _ (keys : ℕ → List ℕ) where
       λ t. one_if (is_eq (stored_order (key_of s) (key_of x) (keys s.key) (keys x.key) p here t)) + same_total s p xs rest t
 
   -- where no two entries have one key, no two slots have
-  pub distinct_slots : (es : List Entry) (xs : List SortSlot) → All IsSlot xs → map entry_of xs ≡ es → ((k : List ℕ) → total (is_of keys k) es ≤ 1) → AreDistinct xs
+  pub distinct_slots : (es : List Entry) (xs : List SortSlot) → All IsSlot xs → IsPermutation es (map entry_of xs) → ((k : List ℕ) → total (is_of keys k) es ≤ 1) → AreDistinct xs
   distinct_slots es xs all front once k = dite (dec_lt 0 (total (has_key k) xs)) (λ l. some_one (total_some (has_key k) xs l)) (λ n. omega arith)
     where
       some_one : (i : ℕ) × (v : SortSlot) × (get_elem? xs i ≡ some v) × (0 < has_key k v) → total (has_key k) xs ≤ 1
@@ -75,7 +76,7 @@ module _ (keys : ℕ → List ℕ) where
           let a : total (has_key k) xs ≡ total f xs = total_same (has_key k) f (λ x. ap (λ (o : Ordering). one_if (is_eq o)) (stored_total.congr k (key_of v) (key_of x) tied)) xs in
           let b : total f xs ≡ total (λ (x : SortSlot). is_of keys w (entry_of x)) xs = same_total v slot xs all in
           let c : total (is_of keys w) (map entry_of xs) ≡ total (λ (x : SortSlot). is_of keys w (entry_of x)) xs = total_map entry_of (is_of keys w) xs in
-          let d : total (is_of keys w) (map entry_of xs) ≡ total (is_of keys w) es = ap (total (is_of keys w)) front in
+          let d : total (is_of keys w) (map entry_of xs) ≡ total (is_of keys w) es = permuted_total (is_of keys w) es (map entry_of xs) front in
           let o = once w in omega arith
 
   -- slots rise as their entries' keys

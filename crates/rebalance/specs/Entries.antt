@@ -1,14 +1,18 @@
 -- The entries of a room, of which some have a value.
-use Rattle.std.specs.Prelude.{ℕ, ◌==◌, nat_lt, max, not, Bool, List, [], ◌∷◌}
+use Rattle.std.specs.Prelude.{◌≡◌, ℕ, ◌<◌, ◌==◌, nat_lt, max, not, Bool, List, [], ◌∷◌}
 use Rattle.std.specs.List.{filter}
 use Rattle.oak_model.specs.Counts.{rows}
 use Rattle.chunk_core.specs.Rooms.{RoomMemory}
 use Rattle.chunk_core.specs.ValueWord.{names_header}
 use Rattle.rebalance.specs.declared.entries.Entry.{Entry}
 
+-- its entry i
+abbrev pub entry_at : RoomMemory → ℕ → ℕ → Entry
+entry_at m r i = record { place = m.key r i; value = m.value r i }
+
 -- its first n entries
 abbrev pub entries : RoomMemory → ℕ → ℕ → List Entry
-entries m r n = rows 0 n (λ i. record { place = m.key r i; value = m.value r i })
+entries m r n = rows 0 n (λ i. entry_at m r i)
 
 -- the entry has a key word
 abbrev pub has_word : Entry → Bool
@@ -30,6 +34,10 @@ kept es = filter has_value es
 
 abbrev pub dropped : List Entry → List Entry
 dropped es = filter lacks_value es
+
+-- each of its first n entries has a key word and a value
+abbrev pub AreValued : RoomMemory → ℕ → ℕ → Type 0
+AreValued m r n = (i : ℕ) → i < n → (0 < m.key r i) × (names_header (m.value r i) ≡ 1)
 
 -- the greatest of a number and of the entries' value words
 unfoldable pub greatest : ℕ → List Entry → ℕ

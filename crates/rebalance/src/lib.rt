@@ -21,6 +21,7 @@ mod room_steps;
 mod settling;
 mod splitting;
 mod storing_halves;
+mod walking;
 
 pub use answers::{Busy, NoRoom, Split};
 pub use compacting::{compact, try_compact};

@@ -13,10 +13,12 @@ ghost use Rattle.rebalance.specs.Slots.{AllNamed};
 use crate::filling::fill_room;
 use crate::held_rooms::{HeldRooms, RoomWord};
 use crate::reading::{Read, read_entries};
+use crate::walking::read_along;
 use chunk_core::count_word::entries_in;
 
-/// Reads the entries in use of a held room: the linked ones with a value to the first slots, in their order;
-/// the others are dropped.
+/// Reads the entries in use of a held room: the linked ones with a value to the first slots; the others are
+/// dropped. Where the links come to each of them, and each has a value, the slots are in the order of the
+/// links, else in that of the entries' numbers.
 fn read_room<H: HeldRooms>(rooms: &mut H, room: u32) -> Read
     requires held { H.held rooms.old room }
     requires within { entries_in ((H.rooms rooms.old).count room) ≤ H.entries rooms.old }
@@ -32,6 +34,13 @@ fn read_room<H: HeldRooms>(rooms: &mut H, room: u32) -> Read
         (entries_in (m.count room)) (H.slots rooms.new) result }
 {
     let count = entries_in(rooms.load(room, RoomWord::Count));
+    if read_along(rooms, room, count) {
+        return Read {
+            kept: count as usize,
+            dropped: 0,
+            base: rooms.load(room, RoomWord::Base),
+        };
+    }
     read_entries(rooms, room, count)
 }
 

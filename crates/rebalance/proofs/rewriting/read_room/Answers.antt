@@ -1,18 +1,60 @@
-use Rattle.std.proofs.Common.{◌≡◌, ℕ, ◌<◌, List, sym, ap, ◌∙◌, subst}
+use Rattle.std.proofs.Common.{◌≡◌, ℕ, ◌<◌, List, sym, ap, ◌∙◌, refl, subst}
 use Rattle.chunk_core.specs.LinkedEntries.{entries_in}
 use Rattle.chunk_core.specs.Rooms.{RoomMemory}
 use Rattle.chunk_core.specs.ValueWord.{names_header}
 use Rattle.oak_core.specs.declared.sorting.SortSlot.{SortSlot}
 use Rattle.rebalance.specs.declared.reading.Read.{Read}
-use Rattle.rebalance.specs.Read.{HasRead}
+use Rattle.rebalance.specs.Dropping.{DropsKeys}
+use Rattle.rebalance.specs.Entries.{AreValued}
+use Rattle.rebalance.specs.Read.{HasAll, HasRead}
+use Rattle.rebalance.proofs.WalkLaws.{all_read, drops_nothing, ranges_same}
 use Rattle.rebalance.proofs.rewriting.read_room.Goals as goal
 
+pub returns-then-read_along-clause-sees : goal.returns-then-read_along-clause-sees
+returns-then-read_along-clause-sees g c = λ i l _ _. let rooms = c.args.rooms.now in let t = c.load.new.self in let u = c.read_along.new.rooms in let v = c.load-then-read_along.new.self in let r = c.args.room in
+    let count : c.entries_in-count.result ≡ entries_in ((g.H.HeldRooms.rooms rooms).count r) = c.entries_in-count.ensures ∙ ap entries_in c.load.ensures.word in
+    g.met.H.HeldRooms.sees_earlier rooms t v r i c.load.ensures.stays
+    (g.met.H.HeldRooms.sees_later t u v r i (c.read_along.ensures.sees c.if-read_along.true i (subst (λ (k : ℕ). i < k) (sym count) l)) c.load-then-read_along.ensures.stays)
+
+pub returns-then-read_along-clause-rooms : goal.returns-then-read_along-clause-rooms
+returns-then-read_along-clause-rooms g c = let rooms = c.args.rooms.now in let m : RoomMemory = g.H.HeldRooms.rooms rooms in let r = c.args.room in let n : ℕ = entries_in (m.count r) in
+    let count : c.entries_in-count.result ≡ n = c.entries_in-count.ensures ∙ ap entries_in c.load.ensures.word in
+    let valued : AreValued m r n = subst (AreValued m r) count (subst (λ (w : RoomMemory). AreValued w r c.entries_in-count.result) c.load.ensures.rooms (c.read_along.ensures.valued c.if-read_along.true)) in
+    subst (DropsKeys r n m) (sym (c.load-then-read_along.ensures.rooms ∙ (c.read_along.ensures.rooms ∙ c.load.ensures.rooms))) (drops_nothing m r n valued)
+
+pub returns-then-read_along-clause-ranges : goal.returns-then-read_along-clause-ranges
+returns-then-read_along-clause-ranges g c = let rooms = c.args.rooms.now in let m : RoomMemory = g.H.HeldRooms.rooms rooms in let r = c.args.room in let n : ℕ = entries_in (m.count r) in
+    let count : c.entries_in-count.result ≡ n = c.entries_in-count.ensures ∙ ap entries_in c.load.ensures.word in
+    let valued : AreValued m r n = subst (AreValued m r) count (subst (λ (w : RoomMemory). AreValued w r c.entries_in-count.result) c.load.ensures.rooms (c.read_along.ensures.valued c.if-read_along.true)) in
+    c.load-then-read_along.ensures.ranges ∙ (c.read_along.ensures.ranges ∙ (c.load.ensures.ranges ∙ sym (ranges_same m r n valued (g.H.HeldRooms.ranges rooms))))
+
+pub returns-then-read_along-clause-read : goal.returns-then-read_along-clause-read
+returns-then-read_along-clause-read g c = let rooms = c.args.rooms.now in let t = c.load.new.self in let m : RoomMemory = g.H.HeldRooms.rooms rooms in let r = c.args.room in let keys = g.H.HeldRooms.keys rooms in let n : ℕ = entries_in (m.count r) in
+    let same : g.H.HeldRooms.rooms t ≡ m = c.load.ensures.rooms in let k : ℕ = c.entries_in-count.result in
+    let count : k ≡ n = c.entries_in-count.ensures ∙ ap entries_in c.load.ensures.word in
+    let valued : AreValued m r n = subst (AreValued m r) count (subst (λ (w : RoomMemory). AreValued w r k) same (c.read_along.ensures.valued c.if-read_along.true)) in
+    let slots : List SortSlot = g.H.HeldRooms.slots c.read_along.new.rooms in let now : List SortSlot = g.H.HeldRooms.slots c.load-then-read_along.new.self in let x : Read = record { kept = k; dropped = 0; base = c.load-then-read_along.result } in
+    let is : (i : ℕ) → i < k → 0 < (g.H.HeldRooms.rooms t).key r i → names_header ((g.H.HeldRooms.rooms t).value r i) ≡ 1 → keys ((g.H.HeldRooms.rooms t).key r i) ≡ g.H.HeldRooms.keys t ((g.H.HeldRooms.rooms t).key r i)
+    = λ i l word top. sym (g.met.H.HeldRooms.still_names rooms t ((g.H.HeldRooms.rooms t).key r i) c.load.ensures.stays (subst (λ (w : RoomMemory). g.H.HeldRooms.names rooms (w.key r i)) (sym same)
+    (c.requires.room.named i (subst (λ (k : ℕ). i < k) count l) (subst (λ (w : RoomMemory). 0 < w.key r i) same word) (ap (λ (w : RoomMemory). names_header (w.value r i)) (sym same) ∙ top)))).1 in
+    let whole : HasAll keys m r n slots = subst (λ (q : ℕ). HasAll keys m r q slots) count (subst (λ (w : RoomMemory). HasAll keys w r k slots) same (c.read_along.ensures.read c.if-read_along.true keys is)) in
+    subst (λ (xs : List SortSlot). HasRead keys m r (m.base r) n xs x) (sym c.load-then-read_along.ensures.slots)
+    (all_read m r n valued keys (m.base r) slots x whole count refl (c.load-then-read_along.ensures.word ∙ ap (λ (w : RoomMemory). w.base r) (c.read_along.ensures.rooms ∙ same)))
+
+pub returns-clause-sees : goal.returns-clause-sees
+returns-clause-sees g c = λ i l word top. let rooms = c.args.rooms.now in let u = c.read_along.new.rooms in let m : RoomMemory = g.H.HeldRooms.rooms rooms in let r = c.args.room in
+    let count : c.entries_in-count.result ≡ entries_in (m.count r) = c.entries_in-count.ensures ∙ ap entries_in c.load.ensures.word in
+    let same : g.H.HeldRooms.rooms u ≡ m = c.read_along.ensures.rooms ∙ c.load.ensures.rooms in
+    g.met.H.HeldRooms.sees_earlier rooms u c.read_entries.new.rooms r i (g.met.H.HeldRooms.stays_on rooms c.load.new.self u c.load.ensures.stays c.read_along.ensures.stays)
+    (c.read_entries.ensures.sees i (subst (λ (k : ℕ). i < k) (sym count) l) (subst (λ (w : RoomMemory). 0 < w.key r i) (sym same) word) (ap (λ (w : RoomMemory). names_header (w.value r i)) same ∙ top))
+
 pub returns-clause-read : goal.returns-clause-read
-returns-clause-read g c = let rooms = c.args.rooms.now in let t = c.load.new.self in let m : RoomMemory = g.H.HeldRooms.rooms rooms in let r = c.args.room in let keys = g.H.HeldRooms.keys rooms in
-    let x : Read = c.read_entries.result in let slots : List SortSlot = g.H.HeldRooms.slots c.read_entries.new.rooms in let n : RoomMemory = g.H.HeldRooms.rooms t in let same : n ≡ m = c.load.ensures.rooms in
+returns-clause-read g c = let rooms = c.args.rooms.now in let t = c.read_along.new.rooms in let m : RoomMemory = g.H.HeldRooms.rooms rooms in let r = c.args.room in let keys = g.H.HeldRooms.keys rooms in
+    let x : Read = c.read_entries.result in let slots : List SortSlot = g.H.HeldRooms.slots c.read_entries.new.rooms in let n : RoomMemory = g.H.HeldRooms.rooms t in let same : n ≡ m = c.read_along.ensures.rooms ∙ c.load.ensures.rooms in
+    let stays : g.H.HeldRooms.stays rooms t = g.met.H.HeldRooms.stays_on rooms c.load.new.self t c.load.ensures.stays c.read_along.ensures.stays in
     let count : c.entries_in-count.result ≡ entries_in (m.count r) = c.entries_in-count.ensures ∙ ap entries_in c.load.ensures.word in
     let is : (i : ℕ) → i < c.entries_in-count.result → 0 < n.key r i → names_header (n.value r i) ≡ 1 → keys (n.key r i) ≡ g.H.HeldRooms.keys t (n.key r i)
-    = λ i l word top. sym (g.met.H.HeldRooms.still_names rooms t (n.key r i) c.load.ensures.stays (subst (λ (w : RoomMemory). g.H.HeldRooms.names rooms (w.key r i)) (sym same)
+    = λ i l word top. sym (g.met.H.HeldRooms.still_names rooms t (n.key r i) stays (subst (λ (w : RoomMemory). g.H.HeldRooms.names rooms (w.key r i)) (sym same)
     (c.requires.room.named i (subst (λ (k : ℕ). i < k) count l) (subst (λ (w : RoomMemory). 0 < w.key r i) same word) (ap (λ (w : RoomMemory). names_header (w.value r i)) (sym same) ∙ top)))).1 in
     subst (λ (k : ℕ). HasRead keys m r (m.base r) k slots x) count
     (subst (λ (w : RoomMemory). HasRead keys w r (w.base r) c.entries_in-count.result slots x) same (c.read_entries.ensures.read keys is))

@@ -1,0 +1,81 @@
+use Rattle.std.proofs.Common.{◌≡◌, ℕ, ◌+◌, ◌-◌, ◌<◌, Bool, false, true, List, [], map, take, length, get_or, replicate, sym, ap, refl, ◌∙◌, subst, arith}
+use Rattle.std.specs.List.Sorted.{IsPermutation}
+use Rattle.std.proofs.lemmas.Bool.{false≢true}
+use Rattle.std.proofs.lemmas.List.{length-set}
+use Rattle.std.proofs.lemmas.List.Sorted.{IsPermutation-refl}
+use Rattle.oak_model.proofs.Lists.{rows_at, rows_length}
+use Rattle.chunk_core.specs.Rooms.{RoomMemory}
+use Rattle.chunk_core.specs.ValueWord.{names_header}
+use Rattle.chunk_ops.specs.Stored.{IsStored}
+use Rattle.oak_core.specs.declared.sorting.SortSlot.{SortSlot}
+use Rattle.rebalance.specs.declared.entries.Entry.{Entry}
+use Rattle.rebalance.specs.Entries.{entries, entry_at}
+use Rattle.rebalance.specs.Read.{ReadsEntry}
+use Rattle.rebalance.specs.Slots.{entry_of, key_of}
+use Rattle.rebalance.proofs.WalkLaws.{marked, marked_none, unmarked, mark_set, front_set, each_set, front_whole, whole_seen}
+use Rattle.rebalance.proofs.walking.read_along.Goals as goal
+
+pub loop-at-init : goal.loop-at-init
+loop-at-init g c = let rooms = c.args.rooms.now in let m : RoomMemory = g.H.HeldRooms.rooms rooms in let w = c.load-link.ensures in let es : List Entry = entries m c.args.room c.args.count in record {
+  stays = w.stays;
+  rooms = w.rooms;
+  ranges = w.ranges;
+  long = refl;
+  sees = λ j _ e. absurd (false≢true (sym (unmarked 256 j) ∙ e));
+  valued = λ j _ e. absurd (false≢true (sym (unmarked 256 j) ∙ e));
+  front = subst (λ (xs : List Entry). IsPermutation xs []) (sym (marked_none (replicate 256 false) es (λ j _. unmarked 256 j))) (IsPermutation-refl []);
+  named = λ j d l. absurd (omega arith);
+  stored = λ keys same j d l. absurd (omega arith);
+}
+
+pub loop-at-preserved : goal.loop-at-preserved
+loop-at-preserved g c = let i = c.loop-at.invariant in let w = c.read_valued.ensures in let v = c.load-link-in-loop-at.ensures in let rooms = c.args.rooms.now in let now = c.loop-at.rooms in let t = c.read_valued.new.rooms in let u = c.load-link-in-loop-at.new.self in
+    let r = c.args.room in let n : ℕ = c.args.count in let k : ℕ = c.loop-at.at in let e : ℕ = c.loop-at.link - 1 in let seen : List Bool = c.loop-at.seen in
+    let m : RoomMemory = g.H.HeldRooms.rooms rooms in let x : Entry = entry_at m r e in let key : List ℕ = g.H.HeldRooms.keys now (m.key r e) in
+    let slots : List SortSlot = g.H.HeldRooms.slots now in let later : List SortSlot = g.H.HeldRooms.slots u in
+    let few : e < n = let a = c.if-link-eq0.false in let b = c.if-link-from.false in let f = c.from.ensures in omega arith in
+    let most = g.met.H.HeldRooms.few_entries rooms r c.requires.held in let inside = c.requires.within in let test = c.loop-at-test.true in let many = g.met.H.HeldRooms.many_slots now in
+    let lt : k < length slots = omega arith in let flag : e < length seen = let a = i.long in omega arith in
+    let done : c.read_valued.result ≡ true = c.if-not-read_valued.false in
+    let word : 0 < m.key r e = subst (λ (q : RoomMemory). 0 < q.key r e) i.rooms (w.word done) in
+    let top : names_header (m.value r e) ≡ 1 = subst (λ (q : RoomMemory). names_header (q.value r e) ≡ 1) i.rooms (w.valued done) in
+    let reads : ReadsEntry key x k slots later = subst (λ (xs : List SortSlot). ReadsEntry key x k slots xs) (sym v.slots)
+    (subst (λ (q : RoomMemory). ReadsEntry (g.H.HeldRooms.keys now (q.key r e)) (entry_at q r e) k slots (g.H.HeldRooms.slots t)) i.rooms (w.reads done)) in
+    let stays : g.H.HeldRooms.stays now u = g.met.H.HeldRooms.stays_on now t u w.stays v.stays in
+    let at_e : get_or (entries m r n) e x ≡ x = rows_at 0 n e (λ (j : ℕ). entry_at m r j) x few ∙ ap (λ (j : ℕ). entry_at m r j) (let z : 0 + e ≡ e = omega arith in z) in record {
+      stays = g.met.H.HeldRooms.stays_on rooms now u i.stays stays;
+      rooms = v.rooms ∙ (w.rooms ∙ i.rooms);
+      ranges = v.ranges ∙ (w.ranges ∙ i.ranges);
+      long = length-set seen e true ∙ i.long;
+      sees = λ j l. mark_set (λ (q : ℕ). g.H.HeldRooms.sees rooms u r q) seen e j
+          (g.met.H.HeldRooms.sees_earlier rooms now u r e i.stays (g.met.H.HeldRooms.sees_later now t u r e (w.sees done) v.stays))
+          (λ f. g.met.H.HeldRooms.sees_later rooms now u r j (i.sees j l f) stays);
+      valued = λ j l. mark_set (λ (q : ℕ). (0 < m.key r q) × (names_header (m.value r q) ≡ 1)) seen e j (word, top) (i.valued j l);
+      front = front_set key x k slots later lt reads seen (entries m r n) e flag (let z = rows_length 0 n (λ (j : ℕ). entry_at m r j) in omega arith) c.if-seen-i.false at_e i.front;
+      named = each_set key x k slots later lt reads (λ (s : SortSlot). 0 < s.key) (subst (λ (q : ℕ). 0 < q) (sym (ap (λ (y : Entry). y.place) reads.is)) word) i.named;
+      stored = λ keys same. each_set key x k slots later lt reads (λ (s : SortSlot). IsStored (key_of s) (keys s.key))
+          (subst (IsStored (key_of reads.slot)) ((g.met.H.HeldRooms.still_names rooms now (m.key r e) i.stays (c.requires.named e few word top)).1 ∙ (sym (same e few word top) ∙ ap keys (sym (ap (λ (y : Entry). y.place) reads.is)))) reads.stored)
+          (i.stored keys same);
+    }
+
+pub returns-clause-valued : goal.returns-clause-valued
+returns-clause-valued g c = λ _ j l. let i = c.loop-at.invariant in let m : RoomMemory = g.H.HeldRooms.rooms c.args.rooms.now in let r = c.args.room in let n : ℕ = c.args.count in let slots : List SortSlot = g.H.HeldRooms.slots c.loop-at.rooms in
+    let most = g.met.H.HeldRooms.few_entries c.args.rooms.now r c.requires.held in let inside = c.requires.within in let many = g.met.H.HeldRooms.many_slots c.loop-at.rooms in
+    let all : c.loop-at.at ≡ n = let t = c.loop-at-test.false in let a = c.loop-at.auto.at-end in omega arith in
+    i.valued j l (whole_seen m r n slots c.loop-at.seen (omega arith) (subst (λ (k : ℕ). IsPermutation (marked c.loop-at.seen (entries m r n)) (map entry_of (take k slots))) all i.front) j l)
+
+pub returns-clause-sees : goal.returns-clause-sees
+returns-clause-sees g c = λ _ j l. let i = c.loop-at.invariant in let m : RoomMemory = g.H.HeldRooms.rooms c.args.rooms.now in let r = c.args.room in let n : ℕ = c.args.count in let slots : List SortSlot = g.H.HeldRooms.slots c.loop-at.rooms in
+    let most = g.met.H.HeldRooms.few_entries c.args.rooms.now r c.requires.held in let inside = c.requires.within in let many = g.met.H.HeldRooms.many_slots c.loop-at.rooms in
+    let all : c.loop-at.at ≡ n = let t = c.loop-at-test.false in let a = c.loop-at.auto.at-end in omega arith in
+    i.sees j l (whole_seen m r n slots c.loop-at.seen (omega arith) (subst (λ (k : ℕ). IsPermutation (marked c.loop-at.seen (entries m r n)) (map entry_of (take k slots))) all i.front) j l)
+
+pub returns-clause-read : goal.returns-clause-read
+returns-clause-read g c = λ _ keys same. let i = c.loop-at.invariant in let m : RoomMemory = g.H.HeldRooms.rooms c.args.rooms.now in let r = c.args.room in let n : ℕ = c.args.count in let slots : List SortSlot = g.H.HeldRooms.slots c.loop-at.rooms in
+    let most = g.met.H.HeldRooms.few_entries c.args.rooms.now r c.requires.held in let inside = c.requires.within in let many = g.met.H.HeldRooms.many_slots c.loop-at.rooms in
+    let all : c.loop-at.at ≡ n = let t = c.loop-at-test.false in let a = c.loop-at.auto.at-end in omega arith in record {
+      fits = omega arith;
+      front = front_whole m r n slots c.loop-at.seen (omega arith) (subst (λ (k : ℕ). IsPermutation (marked c.loop-at.seen (entries m r n)) (map entry_of (take k slots))) all i.front);
+      named = λ j d l. i.named j d (omega arith);
+      stored = λ j d l. i.stored keys same j d (omega arith);
+    }
