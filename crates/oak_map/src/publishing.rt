@@ -53,8 +53,9 @@ fn upper_low<R: Wait + Drop + Send>(
 }
 
 /// Publishes where the chunk in the room begins, which a split of the chunk of the key has just opened as the upper one.
-/// The key is in one of the two, so what begins there is its chunk or the one above. Where another pass moved it
-/// meanwhile nothing is published.
+/// The key is in one of the two, so what begins there is its chunk or the one above. Where another pass moved one of them
+/// meanwhile, nothing may be published, or what is no chunk's beginning any more: a hint that misses, until the next
+/// settling.
 pub(crate) fn publish_upper<R: Wait + Drop + Send>(
     rt: &R,
     map: &OakMap<R>,
