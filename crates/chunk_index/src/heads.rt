@@ -68,6 +68,9 @@ fn count_upto(stretch: &[i64; STRETCH], number: i64) -> usize {
 pub struct Heads {
     heads: Vec<i64>,
     firsts: Vec<[i64; STRETCH]>,
+
+    // How many minima the heads are of.
+    count: usize,
 }
 
 impl Heads {
@@ -76,7 +79,12 @@ impl Heads {
         let stretches = count as usize / STRETCH + 1;
         let heads = Vec::with_capacity(alloc, stretches * STRETCH)?;
         let firsts = Vec::with_capacity(alloc, stretches.div_ceil(STRETCH))?;
-        Ok(Heads { heads, firsts })
+        let count = 0;
+        Ok(Heads {
+            heads,
+            firsts,
+            count,
+        })
     }
 
     /// Puts this number behind the firsts, of which there are so many.
@@ -116,16 +124,61 @@ impl Heads {
     fn try_take(&mut self, lows: &[Low]) -> Result<(), AllocError> {
         self.heads.clear();
         self.firsts.clear();
+        self.count = 0;
         self.push(i64::MIN)?;
         for low in lows {
             self.push(signed(low.head()))?;
+            self.count = self.count.wrapping_add(1);
         }
         self.fill()
     }
 
-    /// Takes the heads of these minima in place of those it has. Where there is no memory the others are left out.
-    pub fn take(&mut self, lows: &[Low]) {
-        let _ = self.try_take(lows);
+    /// Puts the first number of each stretch from this one on in its place among the firsts.
+    fn renew_firsts(&mut self, from: usize) {
+        for stretch in from..self.heads.len() / STRETCH {
+            let first = self.heads.get(stretch.wrapping_mul(STRETCH)).copied();
+            if let Some(firsts) = self.firsts.get_mut(stretch / STRETCH) {
+                firsts[stretch % STRETCH] = first.unwrap_or(i64::MAX);
+            }
+        }
+    }
+
+    /// Puts a number behind the first so many minima's. One of those behind all heads gives way to it; where there is none,
+    /// a stretch begins.
+    fn insert(&mut self, count: usize, number: i64) -> Result<(), AllocError> {
+        if self.heads.len() > self.count.saturating_add(1) {
+            self.heads.pop();
+        }
+        let place = count.saturating_add(1).min(self.heads.len());
+        let last = self.heads.len();
+        self.heads.insert(place, number).map_err(|_| AllocError)?;
+        self.count = self.count.wrapping_add(1);
+        if last % STRETCH == 0 {
+            self.push_first(last / STRETCH, i64::MAX)?;
+            self.fill()?;
+        }
+        self.renew_firsts(place / STRETCH);
+        Ok(())
+    }
+
+    /// Takes the heads of these minima in place of those it has, where none but the one behind the first so many is new, and
+    /// none is gone. `false` where it can't be that.
+    fn take_one_more(&mut self, lows: &[Low], count: usize) -> bool {
+        if self.heads.is_empty() || lows.len() != self.count.wrapping_add(1) {
+            return false;
+        }
+        match lows.get(count) {
+            Some(low) => self.insert(count, signed(low.head())).is_ok(),
+            None => false,
+        }
+    }
+
+    /// Takes the heads of these minima in place of those it has, of which the one behind the first so many was set last.
+    /// Where there is no memory the others are left out.
+    pub fn take(&mut self, lows: &[Low], count: usize) {
+        if !self.take_one_more(lows, count) {
+            let _ = self.try_take(lows);
+        }
     }
 
     /// Whether so many are not above this number, by the two beside. It takes both in one comparison, of how far the

@@ -247,7 +247,7 @@ impl Lows {
         keep_apart(&mut self.lows, &low);
         let place = self.count(low.head(), low.minimum(), false);
         let set = self.lows.insert(place, low).map_err(|_| AllocError);
-        self.heads.take(self.lows.as_slice());
+        self.heads.take(self.lows.as_slice(), place);
         set
     }
 }

@@ -29,6 +29,7 @@ impl Model for IndexReader {
 }
 
 /// The copy of the index that is shown, if there is one.
+#[inline(always)]
 fn shown(handle: &mut Option<ReadHandle<Lows>>) -> Option<ReadGuard<'_, Lows>> {
     handle.as_mut()?.enter()
 }
@@ -45,6 +46,7 @@ impl IndexReader {
 
     /// Where to look for the key first: the room of the greatest minimum that is not above it, in some copy of the
     /// index.
+    #[inline(always)]
     pub fn hint(&mut self, key: &[u8]) -> Hint {
         let Some(lows) = shown(&mut self.handle) else {
             return NO_HINT;

@@ -113,6 +113,7 @@ fn compare_bound(
 }
 
 /// How the key compares with the low bound.
+#[inline(always)]
 fn order_low(table: &OakTable, pass: &mut Pass, pin: &RoomPin, key: &[u8]) -> Ordering
     requires own { IsPassOf table.now pass.old }
     requires pinned { HasRoomPin (sizes table.now) pin.now.room (state pass.old) }
@@ -127,6 +128,7 @@ fn order_low(table: &OakTable, pass: &mut Pass, pin: &RoomPin, key: &[u8]) -> Or
 }
 
 /// How the key compares with the high bound. Where there is none each key is below it.
+#[inline(always)]
 fn order_high(table: &OakTable, pass: &mut Pass, pin: &RoomPin, key: &[u8]) -> Ordering
     requires own { IsPassOf table.now pass.old }
     requires pinned { HasRoomPin (sizes table.now) pin.now.room (state pass.old) }

@@ -20,6 +20,7 @@ use oak_core::{OakTable, Pass};
 /// a link that was loaded in this call steps over it: a key of the room's range was absent then. That link is
 /// of the entry behind which the key belongs, or the first one, and no entry that was found lies between. The
 /// call makes loads alone.
+#[inline(always)]
 pub fn find(table: &OakTable, pass: &mut Pass, pin: &RoomPin, key: &[u8]) -> Found
     requires own { IsPassOf table.now pass.old }
     requires key { IsKey key.now }

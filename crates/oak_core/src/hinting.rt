@@ -17,6 +17,7 @@ impl Pass {
 
     /// The room in which to look for the key first, as the pass's reader has it. It takes no step on the table, never
     /// waits and takes no memory.
+    #[inline(always)]
     pub fn hint(&mut self, key: &[u8]) -> Hint
         ensures { self.new ≡ self.old }
     {
