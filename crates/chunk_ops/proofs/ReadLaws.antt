@@ -3,6 +3,7 @@ use Rattle.std.proofs.Common.{◌≡◌, ℕ, suc, ◌+◌, ◌*◌, ◌<◌, Li
 use Rattle.oak_model.proofs.Lists.{each_append}
 use Rattle.chunk_ops.specs.Room.{Room, HasFound, key_at}
 use Rattle.arena_core.specs.Words.{word_at}
+use Rattle.chunk_ops.specs.Comparing.{Loaded}
 use Rattle.chunk_ops.specs.Reads.{is_key_load, key_loads, AreWords, LoadsKey, Compares, joined, AreReadings, Reads, Met, met_key, met_block}
 
 pub loads_append : (a b : List Met) → key_loads (a ++ b) ≡ key_loads a + key_loads b
@@ -43,10 +44,6 @@ module _ {S : Type 0} {pinned : S → Type 0} {room : S → Room} {meets : S →
     each = readings_both (P (room u)) p.more q.more (subst (λ (r : Room). AreReadings (P r) p.more) (sym q.same) p.each) q.each;
     few = omega arith;
   }
-
--- the key word of entry e was loaded, and then i words of its block
-abbrev pub Loaded : {S : Type 0} → (S → S → List Met → Type 0) → ℕ → ℕ → ℕ → S → S → Type 0
-Loaded meets e w i s t = (ws : List Met) × meets s t (met_key e w ∷ ws) × AreWords w 0 ws × (length ws ≡ i)
 
 pub loaded_more : {S : Type 0} {meets : S → S → List Met → Type 0} → ((s t u : S) (a b : List Met) → meets s t a → meets t u b → meets s u (a ++ b)) → (e w i : ℕ) (s t u : S) → Loaded meets e w i s t → (n : ℕ) × meets t u (met_block w i n ∷ []) → Loaded meets e w (i + 1) s u
 loaded_more on e w i s t u l m = let ws : List Met = l.0 in let b : List Met = met_block w i m.0 ∷ [] in let at : 0 + length ws ≡ i = let h = l.3 in omega arith in (

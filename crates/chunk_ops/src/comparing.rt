@@ -1,11 +1,11 @@
 //! How a key compares with that of an entry.
-ghost use Rattle.std.specs.Prelude.{◌≡◌, ℕ, ◌*◌, ◌<◌, [], ◌∷◌, length, take};
+ghost use Rattle.std.specs.Prelude.{◌≡◌, ℕ, ◌*◌, ◌<◌, [], ◌∷◌, length};
 ghost use Rattle.std.specs.Ordering.{nat_cmp};
 ghost use Rattle.oak_model.specs.Key.{key_cmp};
+ghost use Rattle.chunk_ops.specs.Comparing.{AreTied, Loaded};
 ghost use Rattle.chunk_ops.specs.Reads.{Reads, LoadsKey, Compares, met_block};
 ghost use Rattle.chunk_ops.specs.Room.{HasFound, key_at};
-ghost use Rattle.oak_model.specs.WordBytes.{word_bytes};
-ghost use Rattle.arena_core.specs.Words.{word_at, word_of};
+ghost use Rattle.arena_core.specs.Words.{word_at};
 
 use crate::room::SearchedRoom;
 use arena_core::place::length_in;
@@ -30,27 +30,6 @@ fn compare_word<R: SearchedRoom>(room: &mut R, key: &[u8], place: u64, i: usize)
     word_from(key, i).cmp(&word)
 }
 
-/// Of a word the first `n` bytes, fewer than eight. Most keys have eight, and for them it is not to be worked out.
-#[inline(never)]
-fn first_few_bytes(word: u64, n: usize) -> u64
-    requires { 0 < n }
-    ensures { result ≡ word_of (take n (word_bytes word)) }
-{
-    first_bytes(word, n)
-}
-
-/// Of a word the first `n` bytes, with zeros behind them, by a branch that is foreseen where most keys have eight.
-#[inline(always)]
-fn bytes_ahead(word: u64, n: usize) -> u64
-    requires { 0 < n }
-    ensures { result ≡ word_of (take n (word_bytes word)) }
-{
-    if n < WORD {
-        return first_few_bytes(word, n);
-    }
-    first_bytes(word, n)
-}
-
 /// The first word of a key, with zeros behind its last byte.
 pub(crate) fn head_of(key: &[u8]) -> u64
     ensures { 0 < length key.now → result ≡ word_at key.now 0 }
@@ -61,25 +40,49 @@ pub(crate) fn head_of(key: &[u8]) -> u64
     word_from(key, 0)
 }
 
-/// Compares the bytes in the first word, which is `head`, as numbers, with zeros behind the last bytes.
-#[inline(always)]
-fn compare_first<R: SearchedRoom>(room: &mut R, key: &[u8], head: u64, place: u64) -> Ordering
+/// How the key compares with that of an entry, of which this is the key word and whose first `from` words are the key's too.
+/// It stands out of line, as few keys are compared that far.
+#[inline(never)]
+fn compare_behind<R: SearchedRoom>(room: &mut R, key: &[u8], place: u64, from: usize) -> Ordering
     requires pinned { R.pinned room.old }
-    requires head { head ≡ word_at key.now 0 }
+    requires tied { (e : ℕ) × HasFound (R.room room.old) e × (place ≡ (R.room room.old).place e)
+        × AreTied from key.now (key_at (R.room room.old) e) }
+    ensures pinned { R.pinned room.new }
+    ensures same { R.room room.new ≡ R.room room.old }
+    ensures order { (e : ℕ) → HasFound (R.room room.old) e → place ≡ (R.room room.old).place e
+        → AreTied from key.now (key_at (R.room room.old) e) → result ≡ key_cmp key.now (key_at (R.room room.old) e) }
+    ensures loads { (s : _) (e : ℕ) → HasFound (R.room room.old) e → place ≡ (R.room room.old).place e
+        → AreTied from key.now (key_at (R.room room.old) e) → Loaded R.meets e place from s room.old
+        → LoadsKey R.meets e key.now (key_at (R.room room.old) e) s room.new }
+{
+    let length = length_in(place);
+    for i in from..key.len().min(length).div_ceil(WORD) {
+        let order = compare_word(room, key, place, i);
+        if order.is_ne() {
+            return order;
+        }
+    }
+    key.len().cmp(&length)
+}
+
+/// The first word of the key of an entry of which this is the key word, with zeros behind the key's last byte.
+#[inline(always)]
+fn first_word<R: SearchedRoom>(room: &mut R, place: u64) -> u64
+    requires pinned { R.pinned room.old }
     requires theirs { (e : ℕ) × HasFound (R.room room.old) e × (place ≡ (R.room room.old).place e)
         × (0 < length (key_at (R.room room.old) e)) }
     ensures pinned { R.pinned room.new }
     ensures same { R.room room.new ≡ R.room room.old }
-    ensures order { (e : ℕ) → HasFound (R.room room.old) e → place ≡ (R.room room.old).place e
-        → result ≡ nat_cmp (word_at key.now 0) (word_at (key_at (R.room room.old) e) 0) }
+    ensures word { (e : ℕ) → HasFound (R.room room.old) e → place ≡ (R.room room.old).place e
+        → result ≡ word_at (key_at (R.room room.old) e) 0 }
     ensures meets { (n : ℕ) × R.meets room.old room.new (met_block place 0 n ∷ []) }
 {
-    let word = bytes_ahead(room.block_word(place, 0), length_in(place));
-    head.cmp(&word)
+    let length = length_in(place);
+    first_bytes(room.block_word(place, 0), length)
 }
 
 /// How the key, whose first word is `head`, compares with that of an entry. Each word of the entry's key is loaded at most
-/// once, and none behind the first that differs. Most keys differ in the first.
+/// once, and none behind the first that differs. Most keys have eight bytes, and differ in these.
 #[inline(always)]
 pub(crate) fn compare<R: SearchedRoom>(room: &mut R, key: &[u8], head: u64, entry: u32) -> Ordering
     requires pinned { R.pinned room.old }
@@ -91,18 +94,15 @@ pub(crate) fn compare<R: SearchedRoom>(room: &mut R, key: &[u8], head: u64, entr
 {
     let place = room.key_word(entry);
     let length = length_in(place);
-    if key.is_empty() || length == 0 {
-        return key.len().cmp(&length);
+    if key.is_empty() || length < WORD {
+        return compare_behind(room, key, place, 0);
     }
-    let first = compare_first(room, key, head, place);
-    if first.is_ne() {
-        return first;
+    let word = first_word(room, place);
+    if head < word {
+        return Ordering::Less;
     }
-    for i in 1..key.len().min(length).div_ceil(WORD) {
-        let order = compare_word(room, key, place, i);
-        if order.is_ne() {
-            return order;
-        }
+    if word < head {
+        return Ordering::Greater;
     }
-    key.len().cmp(&length)
+    compare_behind(room, key, place, 1)
 }
