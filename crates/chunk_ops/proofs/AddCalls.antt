@@ -11,7 +11,7 @@ use Rattle.chunk_core.specs.declared.holds.RoomHolds.{RoomHolds}
 use Rattle.chunk_core.specs.PinnedRooms.{span_of}
 use Rattle.link_search.specs.Adds as added
 use Rattle.link_search.specs.Finds as search
-use Rattle.link_search.specs.Linked.{IsAboveFrom}
+use Rattle.link_search.specs.Linked.{IsAboveFrom, IsBelowTo}
 use Rattle.link_search.specs.Met.{Met}
 use Rattle.oak_core.specs.declared.states.PassState.{PassState}
 use Rattle.oak_core.specs.AloneWords.{Runs}
@@ -61,6 +61,9 @@ module _ (z : Sizes) (r floor named now : ℕ) (c : Class) (b call : ℕ) (k : L
   -- and it is above what it was above
   pub call_above : (from : Option ℕ) → IsAboveFrom (linked_in (room_pin u)) from k → IsAboveFrom (linked_in (room_pin v)) from k
   call_above from h = subst (λ (q : PinnedRoom). IsAboveFrom (linked_in q) from k) (sym pin_same) h
+
+  pub call_below : (link : ℕ) → IsBelowTo (linked_in (room_pin u)) link k → IsBelowTo (linked_in (room_pin v)) link k
+  call_below link h = subst (λ (q : PinnedRoom). IsBelowTo (linked_in q) link k) (sym pin_same) h
 
   pub class_said : class_from (class_in named) ≡ c
   class_said = class_is z named c b k v a.limits may a.place

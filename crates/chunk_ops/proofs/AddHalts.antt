@@ -84,21 +84,21 @@ module _ (s t : PinnedTable) (k : List ℕ) (u : PassState) (o : OnlyMeets (call
     abbrev c : PassState
     c = state f.counted.pass.now
 
-    abbrev l : Looked MeetsInTable f.from f.misses.link f.counted t
+    abbrev l : Looked MeetsInTable f.from f.link f.counted t
     l = f.misses.over.looked
 
     -- what came behind the load of the count
     abbrev behind : List Met
-    behind = l.before ++ met_link f.from f.misses.link ∷ l.between
+    behind = l.before ++ met_link f.from f.link ∷ l.between
 
     behind_on : MeetsInTable f.counted t behind
-    behind_on = meets_then f.counted l.moment t l.before (met_link f.from f.misses.link ∷ l.between) l.start l.on
+    behind_on = meets_then f.counted l.moment t l.before (met_link f.from f.link ∷ l.between) l.start l.on
 
     first : LoadsUnder z call r v c
     first = each_under z call r s.base s.place (met_count f.word ∷ []) v c has (tt, tt) f.on.does
 
     then : LoadsUnder z call r c w
-    then = each_under z call r s.base s.place behind c w first.under.pin.has (each_append IsLoad l.before (met_link f.from f.misses.link ∷ l.between) f.misses.over.loads (tt, others_load l.between f.misses.over.still)) (does_since s f.counted t (met_count f.word ∷ []) behind f.on behind_on)
+    then = each_under z call r s.base s.place behind c w first.under.pin.has (each_append IsLoad l.before (met_link f.from f.link ∷ l.between) f.misses.over.loads (tt, others_load l.between f.misses.over.still)) (does_since s f.counted t (met_count f.word ∷ []) behind f.on behind_on)
 
     quiet_all : Quiet u w
     quiet_all = only_both IsQuiet u v w o.quiet (each_under z call r s.base s.place f.met v w has f.loads f.whole.does).quiet

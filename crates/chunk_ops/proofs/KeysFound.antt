@@ -1,5 +1,5 @@
 -- What a search for a key found, by the pin that its pass has.
-use Rattle.std.proofs.Common.{◌≡◌, ◌≢◌, ℕ, List, sym, refl, ap, ◌∙◌, subst, Option, Some, None}
+use Rattle.std.proofs.Common.{◌≡◌, ◌≢◌, ℕ, ◌-◌, List, sym, refl, ap, ◌∙◌, subst, Option, Some, None}
 use Rattle.oak_model.specs.Counts.{Has}
 use Rattle.oak_model.specs.Key.{IsKey, AreBytes, IsKeyBefore}
 use Rattle.oak_model.specs.KeyNumber.{key_number}
@@ -11,7 +11,7 @@ use Rattle.chunk_core.specs.KeyWords.{key_bytes, key_length}
 use Rattle.chunk_core.specs.PinnedRooms.{found_in, found_key}
 use Rattle.link_search.specs.Finds as search
 use Rattle.link_search.specs.Linked as linked
-use Rattle.link_search.specs.Linked.{IsAboveFrom, IsFound}
+use Rattle.link_search.specs.Linked.{IsAboveFrom, IsBelowTo, IsFound}
 use Rattle.link_search.specs.Met.{Met}
 use Rattle.link_search.proofs.WalkLaws.{cut_grown}
 use Rattle.oak_core.specs.declared.states.PassState.{PassState}
@@ -22,7 +22,7 @@ use Rattle.oak_core.proofs.seats.AloneRuns.{runs_as}
 use Rattle.chunk_ops.specs.declared.pinned_table.PinnedTable.{PinnedTable}
 use Rattle.chunk_ops.specs.declared.entries.EntryNo.{EntryNo}
 use Rattle.chunk_ops.specs.declared.entries.Found.TheVariants.{Entry}
-use Rattle.chunk_ops.specs.Finds.{BelongsBehind, FindsMissing, LiesBehind, number_in}
+use Rattle.chunk_ops.specs.Finds.{BelongsBehind, FindsMissing, LiesBefore, LiesBehind, number_in}
 use Rattle.chunk_ops.specs.FindsAlone.{FindsIn, HasKeyAt, LacksIn, LacksKeyAt, as_entry}
 use Rattle.chunk_ops.specs.FoundNumbers.{entry_there, has_counted}
 use Rattle.chunk_ops.specs.LinkedTable.{MeetsInTable}
@@ -66,6 +66,13 @@ module _ (z : Sizes) (r : ℕ) (w : PassState) (p : HasRoomPin z r w) where
   lies_from None k h = tt
   lies_from (Some i) k h = entry_above (record { 0 = i }) k h
 
+  -- or before the one that a link names
+  pub before_below : (link : ℕ) (k : List ℕ) → LiesBefore r link k w → IsBelowTo (linked_in (room_pin w)) link k
+  before_below link k h ne = let l = h ne in let e = has_found (link - 1) l.0 l.1 in (e.0, subst (IsKeyBefore k) (sym e.1) l.2)
+
+  pub below_before : (link : ℕ) (k : List ℕ) → IsBelowTo (linked_in (room_pin w)) link k → LiesBefore r link k w
+  below_before link k h ne = let l = h ne in ((linked_in (room_pin w)).key (link - 1), entry_there z r w p (link - 1) l.0, l.1)
+
   -- and belongs right behind it
   pub place_found : (from : Option ℕ) (k : List ℕ) → linked.BelongsBehind (linked_in (room_pin w)) from k → BelongsBehind r (as_entry from) k w
   place_found from k b = record {
@@ -74,7 +81,7 @@ module _ (z : Sizes) (r : ℕ) (w : PassState) (p : HasRoomPin z r w) where
   }
 
 -- a link that leads over the key, behind the steps ms of the call
-module _ (s m t : PinnedTable) (ms : List Met) (on : MeetsInTable s m ms) (k : List ℕ) (is : IsKey k) (small : AreBytes k) (p : HasRoomPin (sizes s.table.now) s.room (state m.pass.now)) (q : HasRoomPin (sizes s.table.now) s.room (state t.pass.now)) {from : Option ℕ} (x : search.Misses view_of MeetsInTable k from m t) where
+module _ (s m t : PinnedTable) (ms : List Met) (on : MeetsInTable s m ms) (k : List ℕ) (is : IsKey k) (small : AreBytes k) (p : HasRoomPin (sizes s.table.now) s.room (state m.pass.now)) (q : HasRoomPin (sizes s.table.now) s.room (state t.pass.now)) {from : Option ℕ} {link : ℕ} (x : search.Misses view_of MeetsInTable k from link m t) where
   abbrev z : Sizes
   z = sizes s.table.now
 
@@ -87,14 +94,14 @@ module _ (s m t : PinnedTable) (ms : List Met) (on : MeetsInTable s m ms) (k : L
   abbrev w : PassState
   w = state t.pass.now
 
-  pub over_key : LeadsOver (sizes s.table.now) (call_of s.pass.now) s.room from x.link (state m.pass.now) (state t.pass.now)
-  over_key = leads_over s m t ms on p (λ (y : List ℕ). IsKeyBefore y k) (IsKeyBefore k) from x.link x.over
+  pub over_key : LeadsOver (sizes s.table.now) (call_of s.pass.now) s.room from link (state m.pass.now) (state t.pass.now)
+  over_key = leads_over s m t ms on p (λ (y : List ℕ). IsKeyBefore y k) (IsKeyBefore k) from link x.over
 
   above : IsAboveAt (room_pin w) from (key_number k)
   above = above_at z r w q (key_number k) (λ (y : List ℕ). IsKeyBefore y k) from (cut_grown (view_of x.over.looked.moment) (view_of t) from (λ (y : List ℕ). IsKeyBefore y k) x.over.grown x.over.cut) (λ y iy by l. key_number_rises y k by small is l)
 
-  below : IsBelowAt (room_pin w) x.link (key_number k)
-  below = below_at z r w q (key_number k) (IsKeyBefore k) x.link x.over.leads (λ y iy by l. key_number_rises k y small by iy l)
+  below : IsBelowAt (room_pin w) link (key_number k)
+  below = below_at z r w q (key_number k) (IsKeyBefore k) link x.over.leads (λ y iy by l. key_number_rises k y small by iy l)
 
   pub missing_found : FindsMissing (sizes s.table.now) (call_of s.pass.now) s.room k (state m.pass.now) (state t.pass.now)
   missing_found = record { none = none_found z r k w q is small x.none; read = λ covers. over_key.absent (key_number k) covers above below }

@@ -122,8 +122,8 @@ module _ (s t : PinnedTable) (k : List ℕ) (u : PassState) (o : OnlyMeets (call
     first : LoadsUnder z call r v x
     first = each_under z call r s.base s.place a.loads v x has a.are a.start.does
 
-    abbrev misses : search.Misses view_of MeetsInTable k a.from s a.moment
-    misses = record { link = a.link; over = a.over; none = a.none }
+    abbrev misses : search.Misses view_of MeetsInTable k a.from a.link s a.moment
+    misses = record { over = a.over; none = a.none }
 
     abbrev over : LeadsOver z call r a.from a.link v x
     over = over_key s s a.moment [] (meets_nothing s) k holds.names.is_key small has first.under.pin.has misses

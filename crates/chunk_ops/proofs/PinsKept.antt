@@ -1,5 +1,5 @@
 -- A pin that a call keeps is kept over several calls.
-use Rattle.std.proofs.Common.{◌≡◌, ℕ, List, sym, refl, ap, ◌∙◌, subst, Option, Some, None}
+use Rattle.std.proofs.Common.{◌≡◌, ℕ, ◌-◌, List, sym, refl, ap, ◌∙◌, subst, Option, Some, None}
 use Rattle.oak_model.specs.Limits.{Sizes}
 use Rattle.chunk_core.specs.declared.holds.PinnedRoom.{PinnedRoom}
 use Rattle.chunk_core.specs.declared.holds.RoomHolds.{RoomHolds}
@@ -7,7 +7,7 @@ use Rattle.chunk_core.specs.MayOnRooms.{FindsEntry}
 use Rattle.oak_core.specs.declared.states.PassState.{PassState}
 use Rattle.oak_core.proofs.calls.CallSteps.{learns_both, stands_learns}
 use Rattle.chunk_ops.specs.declared.entries.EntryNo.{EntryNo}
-use Rattle.chunk_ops.specs.Finds.{BelongsBehind, LiesBehind}
+use Rattle.chunk_ops.specs.Finds.{BelongsBehind, LiesBefore, LiesBehind}
 use Rattle.chunk_ops.specs.PinRecords.{HasEntry, HasRoomPin, RoomPinned, PinKept, PinStays, OnlyMeets, UnderPin, pin_or, with_room_pin}
 
 pub pins_same : (p : PinnedRoom) → PinStays p p
@@ -53,6 +53,9 @@ entry_kept r i key v w same h = record { entry = h.entry; finds = subst (λ (a :
 pub lies_kept : (r : ℕ) (behind : Option EntryNo) (key : List ℕ) (v w : PassState) → w.rooms ≡ v.rooms → LiesBehind r behind key v → LiesBehind r behind key w
 lies_kept r None key v w same h = tt
 lies_kept r (Some i) key v w same h = (h.0, entry_kept r i.0 h.0 v w same h.1, h.2)
+
+pub before_kept : (r link : ℕ) (key : List ℕ) (v w : PassState) → w.rooms ≡ v.rooms → LiesBefore r link key v → LiesBefore r link key w
+before_kept r link key v w same h ne = let l = h ne in (l.0, entry_kept r (link - 1) l.0 v w same l.1, l.2)
 
 pub belongs_kept : (r : ℕ) (behind : Option EntryNo) (key : List ℕ) (v w : PassState) → w.rooms ≡ v.rooms → BelongsBehind r behind key v → BelongsBehind r behind key w
 belongs_kept r behind key v w same b = record { above = lies_kept r behind key v w same b.above; next = λ i other e l before. b.next i other (entry_kept r i other w v (sym same) e) (lies_kept r behind other w v (sym same) l) before }

@@ -41,6 +41,10 @@ abbrev pub LiesBehind : ℕ → Option EntryNo → List ℕ → PassState → Ty
 LiesBehind r None key v = Unit {0}
 LiesBehind r (Some i) key v = (first : List ℕ) × HasEntry r i.0 first v × IsKeyBefore first key
 
+-- the key is below that of the entry that the link names, which the pin found, or it names none
+abbrev pub LiesBefore : ℕ → ℕ → List ℕ → PassState → Type 0
+LiesBefore r link key v = link ≢ 0 → (next : List ℕ) × HasEntry r (link - 1) next v × IsKeyBefore key next
+
 -- The key belongs right behind the entry, or before all where there is none: no entry that the pin found lies between.
 pub record BelongsBehind (r : ℕ) (behind : Option EntryNo) (key : List ℕ) (v : PassState) : Type 0 where
   pub above : LiesBehind r behind key v
@@ -48,7 +52,7 @@ pub record BelongsBehind (r : ℕ) (behind : Option EntryNo) (key : List ℕ) (v
 
 abbrev pub Finds : Found → Sizes → ℕ → ℕ → List ℕ → PassState → PassState → Type 0
 Finds (Entry i) z call r key v w = FindsKey z call r i.0 key v w
-Finds (Missing behind) z call r key v w = FindsMissing z call r key v w × BelongsBehind r behind key w
+Finds (Missing behind link) z call r key v w = FindsMissing z call r key v w × BelongsBehind r behind key w × LiesBefore r link key w
 
 -- the number of an entry, where there is one
 abbrev pub number_in : Option EntryNo → Option ℕ

@@ -28,7 +28,7 @@ LacksKeyAt m r key = (i : ℕ) → IsLinked m r i → linked_key m r i ≢ key
 -- the entry is linked and has the key, or none that is linked has it
 abbrev pub HasKeyAt : Memory → ℕ → List ℕ → Found → Type 0
 HasKeyAt m r key (Entry i) = IsLinked m r i.0 × (linked_key m r i.0 ≡ key)
-HasKeyAt m r key (Missing behind) = LacksKeyAt m r key
+HasKeyAt m r key (Missing behind link) = LacksKeyAt m r key
 
 -- the words stay, and say so
 abbrev pub FindsIn : Sizes → ℕ → List ℕ → Found → List ℕ → List ℕ → Type 0

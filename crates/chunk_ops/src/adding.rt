@@ -5,7 +5,7 @@ ghost use Rattle.oak_core.specs.Passes.{IsPassOf, Stays, state, key as sizes, ca
 ghost use Rattle.oak_core.specs.QuietSteps.{MetOnly, TookNone};
 ghost use Rattle.chunk_ops.specs.Adds.{MayAdd, AddsEntry, KeepsBlock, NotAddedBy};
 ghost use Rattle.chunk_ops.specs.AddsAlone.{AddsIn, NotAddedIn};
-ghost use Rattle.chunk_ops.specs.Finds.{LiesBehind};
+ghost use Rattle.chunk_ops.specs.Finds.{LiesBefore, LiesBehind};
 ghost use Rattle.chunk_ops.specs.PinRecords.{HasRoomPin};
 
 use crate::entries::{AddHalt, EntryNo, NotAdded, number_in};
@@ -18,7 +18,8 @@ use link_search::Outcome;
 use oak_core::{Block, OakTable, Pass};
 
 /// An entry of the key, which is in the block. The links are walked from the entry `behind`, as a search of
-/// this pin found it, or from the first. Where the room has none, the entry past its count is claimed, gets
+/// this pin found it, or from the first, and where they lead to the `link` by which that search ended, no key
+/// is compared again. Where the room has none, the entry past its count is claimed, gets
 /// the block and the room's base as its floor, and is linked in the order of the keys; else the block is
 /// given back. `Crowded` comes only where the room had as many entries as it may and
 /// none of the key, `Busy` only where the room's count or a link was found other than it was loaded before,
@@ -33,12 +34,14 @@ pub fn add(
     key: &[u8],
     block: Block,
     behind: Option<EntryNo>,
+    link: u32,
 ) -> Result<EntryNo, NotAdded>
     requires own { IsPassOf table.now pass.old }
     requires pinned { HasRoomPin (sizes table.now) pin.now.room (state pass.old) }
     requires claim { (state pass.old).rooms.claim ≡ None }
     requires key { MayAdd (sizes table.now) block.class block.number key.now (state pass.old) }
     requires behind { LiesBehind pin.now.room behind key.now (state pass.old) }
+    requires before { LiesBefore pin.now.room link key.now (state pass.old) }
     ensures own { Stays pass.old pass.new }
     ensures added { IfOk result (λ i. AddsEntry (sizes table.now) (call_of pass.old) pin.now.room i.0 block.class
         block.number key.now (state pass.old) (state pass.new)) }
@@ -61,7 +64,7 @@ pub fn add(
         base,
         place: place_word(block.class, block.number, key.len() as u16),
     };
-    match link_search::add(&mut room, key, number_in(behind), table.entries()) {
+    match link_search::add(&mut room, key, number_in(behind), link, table.entries()) {
         Outcome::Found(entry) => {
             give(table, pass, block);
             Ok(EntryNo(entry))

@@ -30,11 +30,12 @@ pub(crate) fn as_entry(number: Option<u32>) -> Option<EntryNo>
 }
 
 /// Whether a room has an entry of a key; where it has none, behind which entry the key belongs, `None` where
-/// that is before all.
+/// that is before all, and the link of that entry, or the first, which leads over the key: 0 for none, and
+/// else the number of the entry that it names plus one.
 #[derive(Clone, Copy, Debug, PartialEq, Eq)]
 pub enum Found {
     Entry(EntryNo),
-    Missing { behind: Option<EntryNo> },
+    Missing { behind: Option<EntryNo>, link: u32 },
 }
 
 /// What an entry's value word says: the header at a generation that has the key's value, or the stamp

@@ -41,8 +41,9 @@ pub fn find(table: &OakTable, pass: &mut Pass, pin: &RoomPin, key: &[u8]) -> Fou
     };
     match link_search::find(&mut room, key) {
         Sought::Entry(entry) => Found::Entry(EntryNo(entry)),
-        Sought::Missing { behind } => Found::Missing {
+        Sought::Missing { behind, link } => Found::Missing {
             behind: as_entry(behind),
+            link,
         },
     }
 }

@@ -44,7 +44,7 @@ greater_passed : (tie : Tie) → passes tie Greater ≡ true
 greater_passed Passed = refl
 greater_passed Reached = refl
 
-less_reached : (tie : Tie) → passes tie Less ≡ false
+pub less_reached : (tie : Tie) → passes tie Less ≡ false
 less_reached Passed = refl
 less_reached Reached = refl
 

@@ -2,6 +2,7 @@
 use Rattle.std.proofs.Common.{◌≡◌, ◌≢◌, ℕ, ◌-◌, List, ◌∷◌, ◌++◌, Option, Some, None, MatchOption, sym, ◌∙◌, subst, false, arith}
 use Rattle.std.specs.Ordering.{is_eq}
 use Rattle.std.specs.declared.cmp.Ordering.{Ordering}
+use Rattle.std.specs.declared.cmp.Ordering.TheVariants.{Less}
 use Rattle.oak_model.specs.Counts.{Each}
 use Rattle.oak_model.specs.Key.{IsKeyBefore}
 use Rattle.oak_model.proofs.Lists.{each_append, each_map}
@@ -10,10 +11,10 @@ use Rattle.link_search.specs.declared.finding.Sought.TheVariants.{Missing}
 use Rattle.link_search.specs.Finds.{IsEntryOf, Misses, Finds}
 use Rattle.link_search.specs.Linked.{Linked, Grown, Later, BelongsBehind, IsFound, IsAboveFrom, IsBelowTo, IsCut, IsPlaced, SkipsNone}
 use Rattle.link_search.specs.Met.{Met, met_count, met_link, met_key, tried_count, tried_link, stored_value, stored_link, stored_key, gave_up, IsLoad, IsEntryLoad, LoadsNoLink, LeavesLink, Looked}
-use Rattle.link_search.specs.Ties.{IsPassed, IsReached}
-use Rattle.link_search.specs.Walks.{StepsOver, TellsOrder, IsTied}
+use Rattle.link_search.specs.Ties.{IsPassed, IsReached, order_to}
+use Rattle.link_search.specs.Walks.{StepsOver, StopsAt, TellsOrder, IsTied}
 use Rattle.link_search.proofs.OrderLaws.{before_trans, below_passed, passed_below, reached_above, same_order, less_is_no}
-use Rattle.link_search.proofs.WalkLaws.{above_later, grown_both, grown_same, cut_grown}
+use Rattle.link_search.proofs.WalkLaws.{above_later, grown_both, grown_later, grown_same, cut_grown}
 
 entry_leaves_link : (from : Option ℕ) (m : Met) → IsEntryLoad m → LeavesLink from m
 entry_leaves_link from (met_count n) h = tt
@@ -76,10 +77,17 @@ pub above_is_cut : (r : Linked) (from : Option ℕ) (k : List ℕ) → IsAboveFr
 above_is_cut r None k h = tt
 above_is_cut r (Some i) k h = (h.0, below_passed k (r.key i) h.1)
 
+-- and below one that a link names
+pub below_grown : (r s : Linked) (link : ℕ) (k : List ℕ) → Grown r s → IsBelowTo r link k → IsBelowTo s link k
+below_grown r s link k g b ne = let h = b ne in (g.found (link - 1) h.0, subst (IsKeyBefore k) (sym (g.key (link - 1) h.0)) h.1)
+
+pub stops_grown : (r s : Linked) (bound : Option (List ℕ)) (link : ℕ) → Grown r s → StopsAt r bound link → StopsAt s bound link
+stops_grown r s bound link g b ne = let h = b ne in (g.found (link - 1) h.0, subst (λ (q : List ℕ). order_to bound q ≡ Less) (sym (g.key (link - 1) h.0)) h.1)
+
 pub placed_later : (r s : Linked) (from : Option ℕ) (link : ℕ) (k : List ℕ) → Later r s → IsPlaced r from link k → IsPlaced s from link k
 placed_later r s from link k l p = record {
   behind = above_later r s l from k p.behind;
-  before = λ ne. let h = p.before ne in (l.found (link - 1) h.0, subst (IsKeyBefore k) (sym (l.key (link - 1) h.0)) h.1);
+  before = below_grown r s link k (grown_later r s l) p.before;
 }
 
 -- the entry of the key, which a link names
@@ -196,11 +204,11 @@ module _ {S : Type 0} (view : S → Linked) (meets : S → S → List Met → Ty
       none = o.none;
     }
 
-    pub missed : is_eq order ≡ false → Misses view meets k from s t
-    missed e = record { link = link; over = over_key e; none = none_has e }
+    pub missed : is_eq order ≡ false → Misses view meets k from link s t
+    missed e = record { over = over_key e; none = none_has e }
 
     -- so it is missing, and belongs behind that entry
-    pub finds_none : is_eq order ≡ false → Finds view meets (Missing from) k s t
+    pub finds_none : is_eq order ≡ false → Finds view meets (Missing from link) k s t
     finds_none e = (missed e, belongs_here e)
 
     pub tied_here : (i : ℕ) → IsTied order i link → IsEntryOf (view t) k i

@@ -52,7 +52,8 @@ pub record FoundFull {S : Type 0} (view : S → Linked) (meets : S → S → Lis
   pub on : meets s counted (met_count word ∷ [])
   pub full : entries_in word ≡ most
   pub from : Option ℕ
-  pub misses : Misses view meets k from counted t
+  pub link : ℕ
+  pub misses : Misses view meets k from link counted t
   pub met : List Met
   pub whole : meets s t met
   pub loads : Each IsLoad met

@@ -31,15 +31,14 @@ abbrev pub IsEntryOf : Linked → List ℕ → ℕ → Type 0
 IsEntryOf r k i = IsFound r i × (r.key i ≡ k)
 
 -- the link of the entry, or the first one, was loaded and leads over the key, and no entry that was found has it
-pub record Misses {S : Type 0} (view : S → Linked) (meets : S → S → List Met → Type 0) (k : List ℕ) (from : Option ℕ) (s t : S) : Type 0 where
-  pub link : ℕ
+pub record Misses {S : Type 0} (view : S → Linked) (meets : S → S → List Met → Type 0) (k : List ℕ) (from : Option ℕ) (link : ℕ) (s t : S) : Type 0 where
   pub over : StepsOver view meets (λ q. IsKeyBefore q k) (IsKeyBefore k) from link s t
   pub none : (j : ℕ) → IsFound (view t) j → (view t).key j ≢ k
 
--- the entry of the key, or that it is missing, and the entry behind which it belongs
+-- the entry of the key, or that it is missing, the entry behind which it belongs, and the link that leads over it
 abbrev pub Finds : {S : Type 0} → (S → Linked) → (S → S → List Met → Type 0) → Sought → List ℕ → S → S → Type 0
 Finds view meets (Entry i) k s t = IsEntryOf (view t) k i
-Finds view meets (Missing behind) k s t = Misses view meets k behind s t × BelongsBehind (view t) behind k
+Finds view meets (Missing behind link) k s t = Misses view meets k behind link s t × BelongsBehind (view t) behind k
 
 -- Loads alone were made. The last of the count told how many entries are in use, and there are no more loads of key words than halving the prefix takes, and a walk over what that count has behind it, and one.
 pub record LoadsFew {S : Type 0} (meets : S → S → List Met → Type 0) (r : Linked) (s t : S) : Type 0 where

@@ -36,6 +36,10 @@ pub record StepsOver {S : Type 0} (view : S → Linked) (meets : S → S → Lis
   pub leads : link ≢ 0 → IsFound (view t) (link - 1) × Q ((view t).key (link - 1))
   pub none : SkipsNone (view t) from link
 
+-- a walk to the place stops at the link: what it names was found, and the key that is sought lies before it
+abbrev pub StopsAt : Linked → Option (List ℕ) → ℕ → Type 0
+StopsAt r bound link = link ≢ 0 → IsFound r (link - 1) × (order_to bound (r.key (link - 1)) ≡ Less)
+
 -- it is how the key that was sought compares with that of the entry that the link names, or `Less`
 pub record TellsOrder (order : Ordering) (r : Linked) (bound : Option (List ℕ)) (link : ℕ) : Type 0 where
   pub named : link ≢ 0 → order_to bound (r.key (link - 1)) ≡ order

@@ -1,7 +1,7 @@
 //! Entries are added along the links.
 ghost use Rattle.std.specs.Prelude.{◌≡◌, List, [], ◌∷◌};
 ghost use Rattle.link_search.specs.Adds.{AddedAs, LinkedAs, LinkedStraight, StraightAs, IfBusy};
-ghost use Rattle.link_search.specs.Linked.{Grown, Later, IsAboveFrom, IsPlaced};
+ghost use Rattle.link_search.specs.Linked.{Grown, Later, IsAboveFrom, IsBelowTo, IsPlaced};
 ghost use Rattle.link_search.specs.Met.{Met, Looked, gave_up};
 
 use crate::room::LinkedRoom;
@@ -63,7 +63,7 @@ fn link_claimed<R: LinkedRoom>(
             return Outcome::Busy;
         }
         left -= 1;
-        let next = walk(room, Some(key), Tie::Reached, place.from);
+        let next = walk(room, Some(key), Tie::Reached, place.from, place.link);
         if let Some(found) = next.entry_of_key() {
             give_back(room, key, entry);
             return Outcome::Found(found);
@@ -74,17 +74,25 @@ fn link_claimed<R: LinkedRoom>(
 }
 
 /// Adds an entry of the key, for which the pass has a block, unless the room has one: the links are walked
-/// from the entry `from`, as a search found it before, or from the first. The entry is claimed by the
+/// from the entry `from`, as a search found it before, or from the first, and where they lead to the link
+/// `seen`, by which that search ended, no key is compared again. The entry is claimed by the
 /// count, stored, and linked in the order of the keys. `Full` comes only where the count was found at the
 /// most that the room may have, before the link that leads over the key was loaded, and the call made
 /// loads alone. `Busy` comes only where the count or a link was found other than it was loaded before,
 /// with no step of the call between that changed it, and never to a pass that is alone, which adds an entry
 /// straight: by loads, the claim, the three words and the link, each at the first try. But where an entry is
 /// added the pass has the block still, and no claim.
-pub fn add<R: LinkedRoom>(room: &mut R, key: &[u8], from: Option<u32>, most: u32) -> Outcome
+pub fn add<R: LinkedRoom>(
+    room: &mut R,
+    key: &[u8],
+    from: Option<u32>,
+    seen: u32,
+    most: u32,
+) -> Outcome
     requires pinned { R.pinned room.old }
     requires holds { R.holds room.old key.now }
     requires behind { IsAboveFrom (R.view room.old) from key.now }
+    requires seen { IsBelowTo (R.view room.old) seen key.now }
     requires most { most ≡ R.most room.old }
     ensures pinned { R.pinned room.new }
     ensures grown { Grown (R.view room.old) (R.view room.new) }
@@ -94,7 +102,7 @@ pub fn add<R: LinkedRoom>(room: &mut R, key: &[u8], from: Option<u32>, most: u32
     ensures straight { R.lone room.old → StraightAs R.view R.meets result key.now room.old room.new }
 {
     let first = room.count();
-    let place = walk(room, Some(key), Tie::Reached, from);
+    let place = walk(room, Some(key), Tie::Reached, from, seen);
     if let Some(found) = place.entry_of_key() {
         return Outcome::Found(found);
     }

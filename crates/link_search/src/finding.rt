@@ -9,11 +9,11 @@ use crate::walking::walk;
 use chunk_core::count_word::prefix_in;
 
 /// What a search along the links finds: the entry of the key, or behind which entry it belongs, `None`
-/// where that is before all.
+/// where that is before all, and the link of that entry, or the first, which leads over the key.
 #[derive(Clone, Copy, Debug)]
 pub enum Sought {
     Entry(u32),
-    Missing { behind: Option<u32> },
+    Missing { behind: Option<u32>, link: u32 },
 }
 
 /// The last entry of the prefix that lies before a place, where the first `many` do.
@@ -40,11 +40,14 @@ pub fn find<R: LinkedRoom>(room: &mut R, key: &[u8]) -> Sought
         Sorted::At(entry) => Sought::Entry(entry),
         Sorted::Between(many) => {
             let from = before(many);
-            let place = walk(room, Some(key), Tie::Reached, from);
+            let place = walk(room, Some(key), Tie::Reached, from, 0);
             room.count();
             match place.entry_of_key() {
                 Some(entry) => Sought::Entry(entry),
-                None => Sought::Missing { behind: place.from },
+                None => Sought::Missing {
+                    behind: place.from,
+                    link: place.link,
+                },
             }
         }
     }

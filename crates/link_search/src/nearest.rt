@@ -61,7 +61,7 @@ fn step_over<R: LinkedRoom>(room: &mut R, bound: Option<&[u8]>, tie: Tie) -> Pla
     let count = room.count();
     let many = sorted_before(room, bound, tie, prefix_in(count));
     let from = before(many);
-    let place = walk(room, bound, tie, from);
+    let place = walk(room, bound, tie, from, 0);
     room.count();
     place
 }

@@ -5,7 +5,7 @@ ghost use Rattle.std.specs.declared.cmp.Ordering.TheVariants.{Less};
 ghost use Rattle.link_search.specs.Linked.{IsFound, IsCut};
 ghost use Rattle.link_search.specs.Met.{LoadsOneKey};
 ghost use Rattle.link_search.specs.Ties.{order_to, IsPassed, IsReached, bytes_in_option};
-ghost use Rattle.link_search.specs.Walks.{Walks, StepsOver, TellsOrder, IsTied};
+ghost use Rattle.link_search.specs.Walks.{Walks, StepsOver, StopsAt, TellsOrder, IsTied};
 
 use crate::room::LinkedRoom;
 use crate::ties::Tie;
@@ -52,15 +52,18 @@ fn order_to<R: LinkedRoom>(room: &mut R, bound: Option<&[u8]>, entry: u32) -> Or
 }
 
 /// Walks from an entry that lies before the place, or from the first link, to the link that leads over
-/// the place.
+/// the place. The link `seen` is known to lead over it, or is 0: where the walk comes to it, it compares no
+/// key.
 pub(crate) fn walk<R: LinkedRoom>(
     room: &mut R,
     bound: Option<&[u8]>,
     tie: Tie,
     from: Option<u32>,
+    seen: u32,
 ) -> Place
     requires pinned { R.pinned room.old }
     requires behind { IsCut (R.view room.old) from (IsPassed tie (bytes_in_option bound)) }
+    requires seen { StopsAt (R.view room.old) (bytes_in_option bound) seen }
     ensures walks { Walks R.pinned R.view R.meets from (IsPassed tie (bytes_in_option bound.entry)) 1 room.old room.new }
     ensures over { StepsOver R.view R.meets (IsPassed tie (bytes_in_option bound.entry)) (IsReached tie (bytes_in_option bound.entry)) result.from result.link room.old room.new }
     ensures order { TellsOrder result.order (R.view room.new) (bytes_in_option bound.entry) result.link }
@@ -69,7 +72,7 @@ pub(crate) fn walk<R: LinkedRoom>(
     let mut passed = 0u32;
     loop {
         let link = room.link(before);
-        if link == 0 {
+        if link == 0 || link == seen {
             let order = Ordering::Less;
             return Place {
                 from: before,

@@ -21,7 +21,7 @@ use Rattle.chunk_ops.specs.declared.entries.Content.TheVariants.{Value, Floor}
 use Rattle.chunk_ops.specs.declared.entries.EntryNo.{EntryNo}
 use Rattle.chunk_ops.specs.declared.entries.Found.{Found}
 use Rattle.chunk_ops.specs.declared.entries.Found.TheVariants.{Entry, Missing}
-use Rattle.chunk_ops.proofs.PinsKept.{belongs_kept, entry_kept, kept_same, under_both, under_only}
+use Rattle.chunk_ops.proofs.PinsKept.{before_kept, belongs_kept, entry_kept, kept_same, under_both, under_only}
 use Rattle.point_ops.specs.Spots.{FoundAway, FoundNamed, IsPlaceOf}
 use Rattle.point_ops.proofs.Composed.{last_in}
 use Rattle.value_ops.proofs.LoadedViews.{known_loaded, names_home}
@@ -41,7 +41,7 @@ entry_under z call r i key v w u x = record { entry = x.entry; finds = record { 
 -- so is the place of a key, while the pass has the same of rooms
 pub place_kept : (r : ℕ) (found : Found) (key : List ℕ) (v w : PassState) → w.rooms ≡ v.rooms → IsPlaceOf r found key v → IsPlaceOf r found key w
 place_kept r (Entry i) key v w same h = entry_kept r i.0 key v w same h
-place_kept r (Missing behind) key v w same h = belongs_kept r behind key v w same h
+place_kept r (Missing behind link) key v w same h = (belongs_kept r behind key v w same h.0, before_kept r link key v w same h.1)
 
 module _ (z : Sizes) (call r : ℕ) (v u w : PassState) (first : UnderPin z call r v u) (later : ℕ) (same : later ≡ call) where
   -- behind the search comes what leaves the pin

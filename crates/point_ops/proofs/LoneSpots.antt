@@ -35,7 +35,7 @@ pub spot_stays : (z : Sizes) (r : ℕ) (key : List ℕ) (s : Spot) (v u : PassSt
 spot_stays z r key s v u a = runs_as (SpotIn s z r key) WordsStay v u (stays s) a
   where
     stays : (t : Spot) (x y : List ℕ) → SpotIn t z r key x y → y ≡ x
-    stays (Absent (Missing behind) floor) x y d = d.0
+    stays (Absent (Missing behind link) floor) x y d = d.0
     stays (Absent (Entry i) floor) x y d = d.0.0
     stays (Present i o) x y d = d.0.0
 

@@ -12,7 +12,7 @@ use Rattle.chunk_ops.specs.declared.entries.EntryNo.{EntryNo}
 use Rattle.chunk_ops.specs.declared.entries.Found.{Found}
 use Rattle.chunk_ops.specs.declared.entries.Found.TheVariants.{Entry, Missing}
 use Rattle.chunk_ops.specs.Contents.{EntryNamed}
-use Rattle.chunk_ops.specs.Finds.{BelongsBehind}
+use Rattle.chunk_ops.specs.Finds.{BelongsBehind, LiesBefore}
 use Rattle.chunk_ops.specs.PinRecords.{HasEntry}
 use Rattle.value_ops.specs.Pinning.{KnowsLife}
 use Rattle.point_ops.specs.declared.spots.Spot.{Spot}
@@ -39,16 +39,16 @@ pub record FoundNamed (z : Sizes) (call r i h g : ℕ) (key : List ℕ) (v w : P
 -- the entry that was found, if there is one
 abbrev pub entry_in : Found → Option EntryNo
 entry_in (Entry i) = Some i
-entry_in (Missing behind) = None
+entry_in (Missing behind link) = None
 
 abbrev pub SpotIs : Spot → Sizes → (call r : ℕ) → List ℕ → PassState → PassState → Type 0
 SpotIs (Absent entry floor) z call r key v w = FoundAway call r (entry_in entry) floor key v w
 SpotIs (Present i o) z call r key v w = FoundNamed z call r i.0 o.header o.generation key v w
 
--- the pin found the entry of the key, or the one behind which the key belongs
+-- the pin found the entry of the key, or the one behind which the key belongs, and what the link that leads over the key names
 abbrev pub IsPlaceOf : ℕ → Found → List ℕ → PassState → Type 0
 IsPlaceOf r (Entry i) key w = HasEntry r i.0 key w
-IsPlaceOf r (Missing behind) key w = BelongsBehind r behind key w
+IsPlaceOf r (Missing behind link) key w = BelongsBehind r behind key w × LiesBefore r link key w
 
 abbrev pub SpotPlace : Spot → ℕ → List ℕ → PassState → Type 0
 SpotPlace (Absent entry floor) r key w = IsPlaceOf r entry key w

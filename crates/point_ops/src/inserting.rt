@@ -20,7 +20,7 @@ ghost use Rattle.oak_core.specs.MayWrite.{IsNewCall};
 ghost use Rattle.oak_core.specs.Passes.{IsPassOf, Stays, state, key as sizes, call_of};
 ghost use Rattle.oak_core.specs.QuietSteps.{MetOnly, Quiet};
 ghost use Rattle.chunk_ops.specs.AskedRanges.{CoversKey};
-ghost use Rattle.chunk_ops.specs.Finds.{BelongsBehind};
+ghost use Rattle.chunk_ops.specs.Finds.{BelongsBehind, LiesBefore};
 ghost use Rattle.chunk_ops.specs.PinRecords.{HasEntry, HasRoomPin, UnderPin, room_pin};
 ghost use Rattle.chunk_ops.specs.Setting.{FoundSet, SetsIn};
 ghost use Rattle.value_ops.specs.OneHeader.{IsOneHeader};
@@ -173,13 +173,15 @@ fn halt_of(why: AddHalt) -> Halt
     }
 }
 
-/// Gives the key an entry in the pinned room, which belongs behind the one that was found so.
+/// Gives the key an entry in the pinned room, which belongs behind the one that was found so, where the link
+/// that was found leads over the key.
 fn add_entry(
     table: &OakTable,
     pass: &mut Pass,
     pin: &RoomPin,
     key: &[u8],
     behind: Option<EntryNo>,
+    link: u32,
 ) -> Result<EntryNo, Halt>
     requires own { IsPassOf table.now pass.old }
     requires key { IsKey key.now }
@@ -188,6 +190,7 @@ fn add_entry(
     requires claim { (state pass.old).rooms.claim ≡ None }
     requires none { (state pass.old).blocks ≡ no_blocks }
     requires behind { BelongsBehind pin.now.room behind key.now (state pass.old) }
+    requires before { LiesBefore pin.now.room link key.now (state pass.old) }
     ensures own { Stays pass.old pass.new }
     ensures under { UnderPin (sizes table.now) (call_of pass.old) pin.now.room (state pass.old) (state pass.new) }
     ensures added { IfOk result (λ i. HasEntry pin.now.room i.0 key.now (state pass.new)) }
@@ -199,7 +202,7 @@ fn add_entry(
     ensures alone_halted { IfErr result (λ why. Runs (AddingHaltsIn why (sizes table.now) pin.now.room key.now) (state pass.old) (state pass.new)) }
 {
     let block = take_block(table, pass, class_for(key.len()), key)?;
-    match add(table, pass, pin, key, block, behind) {
+    match add(table, pass, pin, key, block, behind, link) {
         Ok(entry) => Ok(entry),
         Err(NotAdded { why, block }) => {
             give(table, pass, block);
@@ -236,7 +239,7 @@ fn entry_for(
 {
     match entry {
         Found::Entry(entry) => Ok(entry),
-        Found::Missing { behind } => add_entry(table, pass, pin, key, behind),
+        Found::Missing { behind, link } => add_entry(table, pass, pin, key, behind, link),
     }
 }
 

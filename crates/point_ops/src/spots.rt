@@ -36,8 +36,8 @@ pub(crate) fn look_up(table: &OakTable, pass: &mut Pass, pin: &RoomPin, key: &[u
     ensures alone { Runs (SpotIn result (sizes table.now) pin.now.room key.now) (state pass.old) (state pass.new) }
 {
     match find(table, pass, pin, key) {
-        Found::Missing { behind } => Spot::Absent {
-            entry: Found::Missing { behind },
+        Found::Missing { behind, link } => Spot::Absent {
+            entry: Found::Missing { behind, link },
             floor: base_of(table, pass, pin),
         },
         Found::Entry(entry) => match content(table, pass, pin, entry) {

@@ -68,7 +68,7 @@ fn look_up(table: &OakTable, pass: &mut Pass, pin: &RoomPin, key: &[u8]) -> Opti
             Content::Value { header, generation } => Some((header, generation)),
             Content::Floor { stamp: _ } => None,
         },
-        Found::Missing { behind: _ } => None,
+        Found::Missing { behind: _, link: _ } => None,
     }
 }
 

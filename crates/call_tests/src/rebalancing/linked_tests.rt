@@ -18,7 +18,7 @@ use std::test::Fail;
 fn is_right(rt: &impl Abort, key: &[u8], found: Found, due: bool) {
     let right = match found {
         Found::Entry(_) => due,
-        Found::Missing { behind } => !due && behind.is_some(),
+        Found::Missing { behind, link: _ } => !due && behind.is_some(),
     };
     assert!(rt; right, "{key:?}");
 }

@@ -7,7 +7,7 @@ ghost use Rattle.oak_core.specs.Passes.{IsPassOf, Stays, state, key as sizes, ca
 ghost use Rattle.oak_core.specs.PassState.{HoldsNothing, IsAlone};
 ghost use Rattle.chunk_ops.specs.Adds.{MayAdd};
 ghost use Rattle.chunk_ops.specs.AskedRanges.{IsKeyOrNone, bytes_in_option};
-ghost use Rattle.chunk_ops.specs.Finds.{LiesBehind};
+ghost use Rattle.chunk_ops.specs.Finds.{LiesBefore, LiesBehind};
 ghost use Rattle.chunk_ops.specs.PinRecords.{HasRoomPin, HasEntry, UnderPin};
 ghost use Rattle.chunk_ops.specs.TestStates.{HoldsAPin, HoldsKey, IsIdleAgain, StillPinned, but_block};
 
@@ -40,18 +40,20 @@ fn key_block(rt: &impl Abort, table: &OakTable, pass: &mut Pass, key: &[u8]) -> 
     block
 }
 
-/// The entry of the pinned room behind which the key belongs; none, too, where it has one of its own.
-fn place_of(table: &OakTable, pass: &mut Pass, pin: &RoomPin, key: &[u8]) -> Option<EntryNo>
+/// The entry of the pinned room behind which the key belongs, and the link that leads over the key; none, too,
+/// where it has an entry of its own.
+fn place_of(table: &OakTable, pass: &mut Pass, pin: &RoomPin, key: &[u8]) -> (Option<EntryNo>, u32)
     requires own { IsPassOf table.now pass.old }
     requires key { IsKey key.now }
     requires pinned { HasRoomPin (sizes table.now) pin.now.room (state pass.old) }
     ensures own { Stays pass.old pass.new }
     ensures under { UnderPin (sizes table.now) (call_of pass.old) pin.now.room (state pass.old) (state pass.new) }
-    ensures behind { LiesBehind pin.now.room result key.now (state pass.new) }
+    ensures behind { LiesBehind pin.now.room result.0 key.now (state pass.new) }
+    ensures before { LiesBefore pin.now.room result.1 key.now (state pass.new) }
 {
     match find(table, pass, pin, key) {
-        Found::Missing { behind } => behind,
-        Found::Entry(_) => None,
+        Found::Missing { behind, link } => (behind, link),
+        Found::Entry(_) => (None, 0),
     }
 }
 
@@ -71,8 +73,8 @@ fn add_pinned(
     ensures own { Stays pass.old pass.new }
     ensures idle { IsIdleAgain (state pass.old) (state pass.new) }
 {
-    let behind = place_of(table, pass, &pin, key);
-    let added = add(table, pass, &pin, key, block, behind);
+    let place = place_of(table, pass, &pin, key);
+    let added = add(table, pass, &pin, key, block, place.0, place.1);
     unpin(table, pass, pin);
     match added {
         Ok(entry) => Ok(entry),
@@ -213,18 +215,19 @@ fn found_of(rt: &impl Abort, table: &OakTable, pass: &mut Pass, key: &[u8]) -> F
     found
 }
 
-/// No entry was found, and the key belongs behind that one.
-fn is_missing(rt: &impl Abort, found: Found, behind: Option<EntryNo>) {
-    assert!(rt; found == Found::Missing { behind });
+/// No entry was found, and the key belongs behind that one, where this link leads over it.
+fn is_missing(rt: &impl Abort, found: Found, behind: Option<EntryNo>, link: u32) {
+    assert!(rt; found == Found::Missing { behind, link });
 }
 
-/// The key of this byte has no entry, and belongs behind that one.
+/// The key of this byte has no entry, and belongs behind that one, where this link leads over it.
 fn missing_behind(
     rt: &impl Abort,
     table: &OakTable,
     pass: &mut Pass,
     byte: u8,
     behind: Option<EntryNo>,
+    link: u32,
 )
     requires own { IsPassOf table.now pass.old }
     requires idle { HoldsNothing (state pass.old) }
@@ -232,7 +235,7 @@ fn missing_behind(
     ensures idle { IsIdleAgain (state pass.old) (state pass.new) }
 {
     let found = found_of(rt, table, pass, &[byte]);
-    is_missing(rt, found, behind);
+    is_missing(rt, found, behind, link);
 }
 
 /// The content is a floor of 0.
@@ -253,7 +256,7 @@ fn has_no_floor(rt: &impl Abort, table: &OakTable, pass: &mut Pass, pin: &RoomPi
             let found = content(table, pass, pin, entry);
             is_no_floor(rt, found);
         }
-        Found::Missing { behind: _ } => panic!(rt; "missing"),
+        Found::Missing { behind: _, link: _ } => panic!(rt; "missing"),
     }
 }
 
@@ -307,8 +310,8 @@ fn neighbours(rt: &impl Abort, table: &OakTable, pass: &mut Pass)
     beside_is(rt, table, pass, true, Some(&[0x63]), None);
     beside_is(rt, table, pass, false, None, Some(0x63));
     beside_is(rt, table, pass, false, Some(&[0x61]), None);
-    missing_behind(rt, table, pass, 0x64, Some(EntryNo(2)));
-    missing_behind(rt, table, pass, 0x60, None);
+    missing_behind(rt, table, pass, 0x64, Some(EntryNo(2)), 0);
+    missing_behind(rt, table, pass, 0x60, None, 2);
     begins_at_none(rt, table, pass, &[0x61]);
 }
 

@@ -14,11 +14,11 @@ use Rattle.chunk_ops.specs.Adds.{AddsEntry, KeepsBlock, NotAddedBy}
 use Rattle.chunk_ops.specs.AddsAlone.{AddsIn, NotAddedIn}
 use Rattle.chunk_ops.specs.PinRecords.{room_pin}
 use Rattle.chunk_ops.specs.RoomLoads.{linked_in}
-use Rattle.chunk_ops.proofs.AddCalls.{calls_add, call_above, call_added_lone, call_adds, call_changed, call_crowded, call_crowded_lone, call_found, call_found_lone, call_keeps, call_holds, call_took}
+use Rattle.chunk_ops.proofs.AddCalls.{calls_add, call_above, call_added_lone, call_adds, call_below, call_changed, call_crowded, call_crowded_lone, call_found, call_found_lone, call_keeps, call_holds, call_took}
 use Rattle.chunk_ops.proofs.AddedKeys.{took_back}
 use Rattle.chunk_ops.proofs.CompareFacts.{slice_bytes}
 use Rattle.chunk_ops.proofs.FoundEntries.{pin_still}
-use Rattle.chunk_ops.proofs.KeysFound.{lies_above}
+use Rattle.chunk_ops.proofs.KeysFound.{before_below, lies_above}
 use Rattle.chunk_ops.proofs.LoneAdds.{never_lone, where_lone}
 use Rattle.chunk_ops.proofs.adding.add.Goals as goal
 
@@ -35,6 +35,11 @@ pub add-requires-clause-behind : goal.add-requires-clause-behind
 add-requires-clause-behind c = let z : Sizes = sizes c.args.table.now in let call = call_of c.args.pass.now in let r = c.args.pin.now.room in let b = c.args.block in let k = c.args.key.now in let u = state c.args.pass.now in let g = c.base_of-base in let v = state g.new.pass in
     let a = calls_add z r g.result c.place_word.result (call_of g.new.pass) b.class b.number call k u v g.ensures.own.call g.ensures.only c.requires.claim c.requires.pinned g.ensures.base c.place_word.ensures c.requires.key in let from = c.number_in.result in
     call_above z r g.result c.place_word.result (call_of g.new.pass) b.class b.number call k u v a from (subst (λ (o : Option ℕ). IsAboveFrom (linked_in (room_pin u)) o k) (sym c.number_in.ensures) (lies_above z r u c.requires.pinned c.args.behind k c.requires.behind))
+
+pub add-requires-clause-seen : goal.add-requires-clause-seen
+add-requires-clause-seen c = let z : Sizes = sizes c.args.table.now in let call = call_of c.args.pass.now in let r = c.args.pin.now.room in let b = c.args.block in let k = c.args.key.now in let u = state c.args.pass.now in let g = c.base_of-base in let v = state g.new.pass in
+    let a = calls_add z r g.result c.place_word.result (call_of g.new.pass) b.class b.number call k u v g.ensures.own.call g.ensures.only c.requires.claim c.requires.pinned g.ensures.base c.place_word.ensures c.requires.key in
+    call_below z r g.result c.place_word.result (call_of g.new.pass) b.class b.number call k u v a c.args.link (before_below z r u c.requires.pinned c.args.link k c.requires.before)
 
 pub add-requires-clause-most : goal.add-requires-clause-most
 add-requires-clause-most c = c.entries.ensures.is

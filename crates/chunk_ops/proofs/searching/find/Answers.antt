@@ -4,12 +4,12 @@ use Rattle.oak_core.specs.AloneWords.{Runs}
 use Rattle.oak_core.specs.Passes.{state, key as sizes, call_of}
 use Rattle.chunk_ops.specs.declared.entries.EntryNo.{EntryNo}
 use Rattle.chunk_ops.specs.declared.entries.Found.TheVariants.{Entry}
-use Rattle.chunk_ops.specs.Finds.{BelongsBehind, FindsMissing}
+use Rattle.chunk_ops.specs.Finds.{BelongsBehind, FindsMissing, LiesBefore}
 use Rattle.chunk_ops.specs.FindsAlone.{FindsIn, LacksIn}
 use Rattle.chunk_ops.specs.PinRecords.{HasEntry, UnderPin}
 use Rattle.chunk_ops.specs.TableLaws.{meets_nothing}
 use Rattle.chunk_ops.proofs.CompareFacts.{slice_bytes}
-use Rattle.chunk_ops.proofs.KeysFound.{entry_found, found_alone, missing_alone, missing_found, place_found}
+use Rattle.chunk_ops.proofs.KeysFound.{below_before, entry_found, found_alone, missing_alone, missing_found, place_found}
 use Rattle.chunk_ops.proofs.SearchLoads.{searched}
 use Rattle.chunk_ops.proofs.searching.find.Goals as goal
 
@@ -46,10 +46,11 @@ returns-in-Missing-clause-own c = let f = c.in-Missing.ensures.loads.on.same.own
 
 pub returns-in-Missing-clause-found : goal.returns-in-Missing-clause-found
 returns-in-Missing-clause-found c = let z = sizes c.args.table.now in let r = c.args.pin.now.room in let k = c.args.key.now in let v = state c.args.pass.now in let t = c.find.new.room in let s = searched _ t c.requires.pinned c.in-Missing.ensures.loads in
-    let behind = c.in-Missing.behind in let there = s.loads.under.pin.has in
-    subst (λ (w : PassState). FindsMissing z (call_of c.args.pass.now) r k v w × BelongsBehind r c.as_entry.result k w) (search rules) (
+    let behind = c.in-Missing.behind in let link = c.in-Missing.link in let there = s.loads.under.pin.has in
+    subst (λ (w : PassState). FindsMissing z (call_of c.args.pass.now) r k v w × BelongsBehind r c.as_entry.result k w × LiesBefore r link k w) (search rules) (
       missing_found _ _ t [] (meets_nothing _) k c.requires.key (slice_bytes k c.type_inv.key) c.requires.pinned there c.in-Missing.ensures.finds.0,
       subst (λ (o : Option EntryNo). BelongsBehind r o k (state t.pass.now)) (sym c.as_entry.ensures) (place_found z r (state t.pass.now) there behind k c.in-Missing.ensures.finds.1),
+      below_before z r (state t.pass.now) there link k c.in-Missing.ensures.finds.0.over.leads,
     )
 
 pub returns-in-Missing-clause-under : goal.returns-in-Missing-clause-under

@@ -9,7 +9,7 @@ use Rattle.link_search.specs.Met.{Met, met_count, tried_count, stored_value, sto
 use Rattle.link_search.specs.Ties.{IsPassed, IsReached}
 use Rattle.link_search.specs.Walks.{TellsOrder}
 use Rattle.link_search.proofs.AddLaws.{added_by, busy_never, count_never, link_never, straight_by}
-use Rattle.link_search.proofs.StepLaws.{above_is_cut, placed_later, placed_here, tied_here, missed, none_has, over_key, looked_still, looked_since, over_since, over_still, over_cut, entries_load}
+use Rattle.link_search.proofs.StepLaws.{above_is_cut, below_grown, placed_later, placed_here, tied_here, missed, none_has, over_key, looked_still, looked_since, over_since, over_still, over_cut, entries_load}
 use Rattle.link_search.proofs.WalkLaws.{counted_later, grown_both, grown_same, grown_later, cut_grown, from_found}
 use Rattle.link_search.proofs.adding.add.Goals as goal
 
@@ -18,6 +18,9 @@ use Rattle.link_search.proofs.adding.add.Goals as goal
 pub walk-place-requires-clause-behind : goal.walk-place-requires-clause-behind
 walk-place-requires-clause-behind g c = let V = g.R.LinkedRoom.view in let s = c.args.room.now in let k = c.count-first in let from = c.args.from in let key = c.args.key.now in
     cut_grown (V s) (V k.new.self) from (IsPassed Reached (Some key)) k.ensures.grown (above_is_cut (V s) from key c.requires.behind)
+
+pub walk-place-requires-clause-seen : goal.walk-place-requires-clause-seen
+walk-place-requires-clause-seen g c = let V = g.R.LinkedRoom.view in let k = c.count-first in below_grown (V c.args.room.now) (V k.new.self) c.args.seen c.args.key.now k.ensures.grown c.requires.seen
 
 pub entry_of_key-requires : goal.entry_of_key-requires
 entry_of_key-requires g c = c.walk-place.ensures.order.none
@@ -58,6 +61,7 @@ returns-then-entries_in-most-clause-added g c = let V = g.R.LinkedRoom.view in l
         on = k.ensures.meets;
         full = sym c.entries_in.ensures ∙ c.if-entries_in-most.true;
         from = p.from;
+        link = p.link;
         misses = missed V M both a v key p.from p.link p.order w.over w.order c.in_default.ensures;
         met = ms;
         whole = on;

@@ -5,7 +5,7 @@ use Rattle.link_search.specs.Met.{Met, met_link, tried_link, stored_link, gave_u
 use Rattle.link_search.specs.Ties.{IsPassed, IsReached}
 use Rattle.link_search.specs.declared.walking.Place.{Place}
 use Rattle.link_search.proofs.AddLaws.{link_holds}
-use Rattle.link_search.proofs.StepLaws.{above_is_cut, placed_later, placed_here, tied_here, entry_grown, looked_still, looked_since, looked_whole, over_cut}
+use Rattle.link_search.proofs.StepLaws.{above_is_cut, below_grown, placed_later, placed_here, tied_here, entry_grown, looked_still, looked_since, looked_whole, over_cut}
 use Rattle.link_search.proofs.WalkLaws.{above_later, grown_both, grown_none, grown_later, from_found}
 use Rattle.link_search.proofs.adding.link_claimed.Goals as goal
 
@@ -100,6 +100,10 @@ returns-then-left-eq0-clause-straight g c = let l = c.loop-place.room in let p =
 pub walk-next-requires-clause-behind : goal.walk-next-requires-clause-behind
 walk-next-requires-clause-behind g c = let V = g.R.LinkedRoom.view in let k = c.link_to in let l = c.loop-place.room in
     above_is_cut (V k.new.self) c.loop-place.place.from c.args.key.now (above_later (V l) (V k.new.self) k.ensures.later c.loop-place.place.from c.args.key.now c.loop-place.invariant.placed.behind)
+
+pub walk-next-requires-clause-seen : goal.walk-next-requires-clause-seen
+walk-next-requires-clause-seen g c = let V = g.R.LinkedRoom.view in let k = c.link_to in let l = c.loop-place.room in
+    below_grown (V l) (V k.new.self) c.loop-place.place.link c.args.key.now (grown_later (V l) (V k.new.self) k.ensures.later) c.loop-place.invariant.placed.before
 
 pub entry_of_key-requires : goal.entry_of_key-requires
 entry_of_key-requires g c = c.walk-next.ensures.order.none

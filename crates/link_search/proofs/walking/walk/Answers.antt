@@ -3,14 +3,15 @@ use Rattle.oak_model.specs.declared.limits.TheConstants.{GREATEST_ENTRIES}
 use Rattle.oak_model.specs.Counts.{Each}
 use Rattle.oak_model.specs.Key.{IsKeyBefore}
 use Rattle.oak_model.proofs.Lists.{each_append}
-use Rattle.link_search.specs.Linked.{Linked, IsFound, IsAboveFrom, IsCut, SkipsNone}
+use Rattle.link_search.specs.Linked.{Linked, Grown, IsFound, IsAboveFrom, IsCut, SkipsNone}
 use Rattle.link_search.specs.Met.{Met, met_link, IsEntryLoad}
 use Rattle.link_search.specs.Ties.{passes, order_to, IsPassed, IsReached, bytes_in_option}
-use Rattle.link_search.specs.Walks.{ArePassed}
-use Rattle.link_search.proofs.FindLaws.{link_loads}
-use Rattle.link_search.proofs.StepLaws.{cut_leads, entries_leave, entries_load}
+use Rattle.link_search.specs.Walks.{ArePassed, StopsAt}
+use Rattle.link_search.proofs.FindLaws.{less_reached, link_loads}
+use Rattle.link_search.proofs.StepLaws.{cut_leads, entries_leave, entries_load, stops_grown}
 use Rattle.link_search.proofs.WalkLaws.{later_none, later_both, later_same, grown_later, loads_append, no_loads, above_later, above_sooner, passed_later, tops_later, passed_more, passed_fewer, above_more, from_found, walks_on}
 use Rattle.link_search.proofs.walking.walk.Goals as goal
+use Rattle.link_search.proofs.walking.walk.Goals.{then-link-eq0-via-then-link-eq0, then-link-eq0-via-else-link-eq0+then-link-seen}
 
 pub loop-tie-init : goal.loop-tie-init
 loop-tie-init g c = let s = c.args.room.now in record {
@@ -24,25 +25,35 @@ loop-tie-init g c = let s = c.args.room.now in record {
 pub link-link-requires-clause-leads : goal.link-link-requires-clause-leads
 link-link-requires-clause-leads g c = let i = c.loop-tie.invariant in cut_leads (g.R.LinkedRoom.view c.loop-tie.room) c.loop-tie.before (IsPassed c.args.tie (bytes_in_option c.args.bound)) i.cut
 
--- the link names none
+-- the link names none, or is the one that was seen
 
 pub returns-then-link-eq0-clause-walks : goal.returns-then-link-eq0-clause-walks
 returns-then-link-eq0-clause-walks g c = let k = c.link-link in let from = c.loop-tie.before in
     walks_on g.met.R.LinkedRoom.meets_both 0 1 c.args.room.now c.loop-tie.room k.new.self c.loop-tie.invariant.walks (met_link from k.result ∷ []) k.ensures.pinned k.ensures.later k.ensures.meets (tt, tt) (let n = link_loads from k.result [] in let z = no_loads in omega arith)
 
 pub returns-then-link-eq0-clause-over : goal.returns-then-link-eq0-clause-over
-returns-then-link-eq0-clause-over g c = let V = g.R.LinkedRoom.view in let k = c.link-link in let l = c.loop-tie.room in let i = c.loop-tie.invariant in record {
-  looked = record { moment = l; before = i.walks.met; between = []; start = i.walks.on; on = k.ensures.meets; kept = tt };
-  loads = entries_load i.walks.met i.walks.loads;
-  still = tt;
-  cut = i.cut;
-  grown = grown_later (V l) (V k.new.self) k.ensures.later;
-  leads = λ ne. absurd (ne c.if-link-eq0.true);
-  none = k.ensures.none;
-}
+returns-then-link-eq0-clause-over g c = let V = g.R.LinkedRoom.view in let k = c.link-link in let s = c.args.room.now in let l = c.loop-tie.room in let t = k.new.self in let i = c.loop-tie.invariant in let b = bytes_in_option c.args.bound in
+    let grown : Grown (V s) (V t) = grown_later (V s) (V t) (later_both (V s) (V l) (V t) i.walks.later k.ensures.later) in
+    let stops : StopsAt (V t) b k.result = elim c.then-link-eq0.branch [
+      | then-link-eq0-via-then-link-eq0 w ↦ (λ ne. absurd (ne w.if-link-eq0.true))
+      | then-link-eq0-via-else-link-eq0+then-link-seen w ↦ subst (StopsAt (V t) b) (sym w.if-link-seen.true) (stops_grown (V s) (V t) b c.args.seen grown c.requires.seen)
+    ] in record {
+      looked = record { moment = l; before = i.walks.met; between = []; start = i.walks.on; on = k.ensures.meets; kept = tt };
+      loads = entries_load i.walks.met i.walks.loads;
+      still = tt;
+      cut = i.cut;
+      grown = grown_later (V l) (V t) k.ensures.later;
+      leads = λ ne. let h = stops ne in (h.0, ap (passes c.args.tie) h.1 ∙ less_reached c.args.tie);
+      none = k.ensures.none;
+    }
 
 pub returns-then-link-eq0-clause-order : goal.returns-then-link-eq0-clause-order
-returns-then-link-eq0-clause-order g c = record { named = λ ne. absurd (ne c.if-link-eq0.true); none = λ z. refl }
+returns-then-link-eq0-clause-order g c = let V = g.R.LinkedRoom.view in let k = c.link-link in let s = c.args.room.now in let l = c.loop-tie.room in let t = k.new.self in let i = c.loop-tie.invariant in let b = bytes_in_option c.args.bound in
+    let grown : Grown (V s) (V t) = grown_later (V s) (V t) (later_both (V s) (V l) (V t) i.walks.later k.ensures.later) in
+    let stops : StopsAt (V t) b k.result = elim c.then-link-eq0.branch [
+      | then-link-eq0-via-then-link-eq0 w ↦ (λ ne. absurd (ne w.if-link-eq0.true))
+      | then-link-eq0-via-else-link-eq0+then-link-seen w ↦ subst (StopsAt (V t) b) (sym w.if-link-seen.true) (stops_grown (V s) (V t) b c.args.seen grown c.requires.seen)
+    ] in record { named = λ ne. (stops ne).1; none = λ z. refl }
 
 -- the entry that it names is not passed
 

@@ -12,7 +12,7 @@ use Rattle.arena_ops.specs.Taking.{Gives}
 use Rattle.point_ops.specs.Inserts.{AddingHalts}
 use Rattle.point_ops.specs.declared.halts.Halt.{Halt}
 use Rattle.point_ops.proofs.EntriesMade.{may_add, added_under, unadded_under, unadded_halts}
-use Rattle.chunk_ops.proofs.PinsKept.{belongs_kept}
+use Rattle.chunk_ops.proofs.PinsKept.{before_kept, belongs_kept}
 use Rattle.point_ops.proofs.inserting.add_entry.Goals as goal
 
 pub add-requires-clause-key : goal.add-requires-clause-key
@@ -21,6 +21,9 @@ add-requires-clause-key c = let b = c.in_ok-block.block in let u = state c.take_
 
 pub add-requires-clause-behind : goal.add-requires-clause-behind
 add-requires-clause-behind c = (belongs_kept c.args.pin.now.room c.args.behind c.args.key.now (state c.args.pass.now) (state c.take_block.new.pass) c.in_ok-block.ensures.made.1.rooms c.requires.behind).above
+
+pub add-requires-clause-before : goal.add-requires-clause-before
+add-requires-clause-before c = before_kept c.args.pin.now.room c.args.link c.args.key.now (state c.args.pass.now) (state c.take_block.new.pass) c.in_ok-block.ensures.made.1.rooms c.requires.before
 
 pub returns-in-Ok-clause-under : goal.returns-in-Ok-clause-under
 returns-in-Ok-clause-under c = let z = sizes c.args.table.now in let call = call_of c.args.pass.now in let r = c.args.pin.now.room in let b = c.in_ok-block.block in let key = c.args.key.now in

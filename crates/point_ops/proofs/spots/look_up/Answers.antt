@@ -4,7 +4,7 @@ use Rattle.oak_core.specs.Passes.{state, key as sizes, call_of}
 use Rattle.oak_core.specs.QuietSteps.{IsQuiet}
 use Rattle.oak_core.proofs.calls.QuietCalls.{only_both}
 use Rattle.point_ops.proofs.FoundSpots.{away_at_base, away_at_floor, named_life, under_learns, under_meets}
-use Rattle.chunk_ops.proofs.PinsKept.{belongs_kept, entry_kept}
+use Rattle.chunk_ops.proofs.PinsKept.{before_kept, belongs_kept, entry_kept}
 use Rattle.point_ops.proofs.spots.look_up.Goals as goal
 
 pub returns-in-Missing-clause-under : goal.returns-in-Missing-clause-under
@@ -15,7 +15,8 @@ returns-in-Missing-clause-spot c = away_at_base (sizes c.args.table.now) (call_o
     c.args.key.now c.base_of.result c.requires.covers c.in-Missing.ensures.found.0 c.base_of.ensures.base c.base_of.ensures.only
 
 pub returns-in-Missing-clause-place : goal.returns-in-Missing-clause-place
-returns-in-Missing-clause-place c = belongs_kept c.args.pin.now.room c.in-Missing.behind c.args.key.now (state c.find.new.pass) (state c.base_of.new.pass) c.base_of.ensures.only.rooms c.in-Missing.ensures.found.1
+returns-in-Missing-clause-place c = let r = c.args.pin.now.room in let key = c.args.key.now in let v = state c.find.new.pass in let w = state c.base_of.new.pass in let same = c.base_of.ensures.only.rooms in let f = c.in-Missing.ensures.found in
+    (belongs_kept r c.in-Missing.behind key v w same f.1, before_kept r c.in-Missing.link key v w same f.2)
 
 pub returns-in-Floor-clause-under : goal.returns-in-Floor-clause-under
 returns-in-Floor-clause-under c = under_learns (sizes c.args.table.now) (call_of c.args.pass.now) c.args.pin.now.room (state c.args.pass.now) (state c.find.new.pass) (state c.content.new.pass) c.find.ensures.under (call_of c.find.new.pass) c.find.ensures.own.call c.content.ensures.only
