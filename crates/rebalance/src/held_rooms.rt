@@ -33,7 +33,7 @@ pub(crate) enum RoomWord {
     Next(u32),
 }
 
-/// Rooms that a pass holds alone, with their table and the pass. Each load and each store is one step.
+/// Rooms that a pass holds alone, with their table and the pass. Each load and each store of a word is one step.
 pub(crate) trait HeldRooms {
     // that the pass holds the room
     ghost held: { Self → ℕ → Type 0 };

@@ -243,12 +243,20 @@ fn store_entry(table: &OakTable, pass: &mut Pass, room: u32, entry: u32, words: 
     ensures ranges { (state pass.new).rooms.moving ≡ (state pass.old).rooms.moving }
     ensures stored { held_memory (state pass.new).rooms.held ≡ put_entry (held_memory (state pass.old).rooms.held) room entry words }
 {
+    let Entry { place, value } = words.entry;
     let key_at = table.key_at(room, entry);
     let value_at = table.value_at(room, entry);
     let next_at = table.next_at(room, entry);
-    store_at(table, pass, room, RoomWord::Key(entry), key_at, words.entry.place);
-    store_at(table, pass, room, RoomWord::Value(entry), value_at, words.entry.value);
-    store_at(table, pass, room, RoomWord::Next(entry), next_at, words.next);
+    store_at(table, pass, room, RoomWord::Key(entry), key_at, place);
+    store_at(table, pass, room, RoomWord::Value(entry), value_at, value);
+    store_at(
+        table,
+        pass,
+        room,
+        RoomWord::Next(entry),
+        next_at,
+        words.next,
+    );
 }
 
 /// Loads word `i` of the block that a key word names, of a carried entry that has a value.

@@ -1,4 +1,4 @@
-use Rattle.std.proofs.Common.{ℕ, ap, ◌∙◌}
+use Rattle.std.proofs.Common.{ap, ◌∙◌}
 use Rattle.oak_model.specs.Limits.{Sizes}
 use Rattle.chunk_core.specs.RoomStep.{put_room}
 use Rattle.chunk_core.specs.Rooms.{RoomMemory, at_value, at_next}

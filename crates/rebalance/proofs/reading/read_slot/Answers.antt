@@ -1,4 +1,4 @@
-use Rattle.std.proofs.Common.{◌≡◌, List, ap, set, sym, ◌∙◌, subst}
+use Rattle.std.proofs.Common.{List, ap, set, sym, ◌∙◌, subst}
 use Rattle.chunk_ops.specs.Stored.{IsStored}
 use Rattle.oak_core.specs.declared.sorting.SortSlot.{SortSlot}
 use Rattle.rebalance.proofs.reading.read_slot.Goals as goal
