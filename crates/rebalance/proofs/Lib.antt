@@ -3,6 +3,7 @@ pub mod LoadedBounds
 pub mod RangeKeys
 pub mod LeastKey
 pub mod HeldMemory
+pub mod HeldParts
 pub mod StoredMemory
 mod LoneStores
 pub mod RoomWorks

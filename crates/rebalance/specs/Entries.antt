@@ -2,13 +2,23 @@
 use Rattle.std.specs.Prelude.{◌≡◌, ℕ, ◌<◌, ◌==◌, nat_lt, max, not, Bool, List, [], ◌∷◌}
 use Rattle.std.specs.List.{filter}
 use Rattle.oak_model.specs.Counts.{rows}
-use Rattle.chunk_core.specs.Rooms.{RoomMemory}
+use Rattle.chunk_core.specs.RoomStep.{put_room}
+use Rattle.chunk_core.specs.Rooms.{RoomMemory, at_key, at_value, at_next}
 use Rattle.chunk_core.specs.ValueWord.{names_header}
 use Rattle.rebalance.specs.declared.entries.Entry.{Entry}
+use Rattle.rebalance.specs.declared.entries.LinkedEntry.{LinkedEntry}
 
 -- its entry i
 abbrev pub entry_at : RoomMemory → ℕ → ℕ → Entry
 entry_at m r i = record { place = m.key r i; value = m.value r i }
+
+-- the same with its link
+abbrev pub linked_entry : RoomMemory → ℕ → ℕ → LinkedEntry
+linked_entry m r i = record { entry = entry_at m r i; next = m.next r i }
+
+-- the memory with these words at entry i
+abbrev pub put_entry : RoomMemory → ℕ → ℕ → LinkedEntry → RoomMemory
+put_entry m r i e = put_room (put_room (put_room m (at_key r i) e.entry.place) (at_value r i) e.entry.value) (at_next r i) e.next
 
 -- its first n entries
 abbrev pub entries : RoomMemory → ℕ → ℕ → List Entry

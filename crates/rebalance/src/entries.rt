@@ -11,6 +11,13 @@ pub(crate) struct Entry {
     pub(crate) value: u64,
 }
 
+/// An entry with its link.
+#[derive(Clone, Copy)]
+pub(crate) struct LinkedEntry {
+    pub(crate) entry: Entry,
+    pub(crate) next: u64,
+}
+
 impl Entry {
     /// Whether the entry has a value.
     pub(crate) fn has_value(self) -> bool

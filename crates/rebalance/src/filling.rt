@@ -7,6 +7,7 @@ ghost use Rattle.rebalance.specs.HeldRooms.{AllValued};
 ghost use Rattle.rebalance.specs.Slots.{AllNamed};
 
 use crate::clearing::clear_entries;
+use crate::entries::{Entry, LinkedEntry};
 use crate::held_rooms::{HeldRooms, RoomWord};
 use chunk_core::count_word::SORTED_ENTRY;
 use oak_core::SortSlot;
@@ -47,9 +48,11 @@ fn store_slot<H: HeldRooms>(rooms: &mut H, room: u32, i: u32, slot: SortSlot, ne
     ensures slots { H.slots rooms.new ≡ H.slots rooms.old }
     ensures rooms { H.rooms rooms.new ≡ write_slot (H.rooms rooms.old) room i slot next }
 {
-    rooms.store(room, RoomWord::Key(i), slot.key);
-    rooms.store(room, RoomWord::Value(i), slot.value);
-    rooms.store(room, RoomWord::Next(i), next);
+    let entry = Entry {
+        place: slot.key,
+        value: slot.value,
+    };
+    rooms.store_entry(room, i, LinkedEntry { entry, next });
 }
 
 /// Stores `n` slots, the first of which is slot `from`, as entries of a held room from entry `start` on,

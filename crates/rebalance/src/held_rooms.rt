@@ -12,9 +12,12 @@ ghost use Rattle.chunk_core.specs.RoomStep.{put_room};
 ghost use Rattle.chunk_core.specs.Rooms.{RoomMemory, read_room, at_key};
 ghost use Rattle.chunk_core.specs.ValueWord.{names_header};
 ghost use Rattle.oak_core.specs.declared.sorting.SortSlot.{SortSlot};
+ghost use Rattle.rebalance.specs.Entries.{linked_entry, put_entry};
+ghost use Rattle.rebalance.specs.Filled.{bare_entry};
 ghost use Rattle.rebalance.specs.HeldRooms.{AllValued, IsNamed, IsLoose, IsPlain, IsWithin, spot};
 ghost use Rattle.rebalance.specs.Slots.{AreDistinct, Rise};
 
+use crate::entries::LinkedEntry;
 use oak_core::SortSlot;
 
 /// A word of a held room.
@@ -30,7 +33,7 @@ pub(crate) enum RoomWord {
     Next(u32),
 }
 
-/// Rooms that a pass holds alone, with their table and the pass. Each load and each store is one step.
+/// Rooms that a pass holds alone, with their table and the pass. Each load and each store of a word is one step.
 pub(crate) trait HeldRooms {
     // that the pass holds the room
     ghost held: { Self → ℕ → Type 0 };
@@ -70,6 +73,17 @@ pub(crate) trait HeldRooms {
         ensures word { result ≡ read_room (rooms self.old) (spot room word) }
         ensures sees { (i : ℕ) → word ≡ RoomWord.Value i → names_header result ≡ 1 → sees self.old self.new room i };
 
+    /// Loads the words of an entry.
+    fn load_entry(&mut self, room: u32, entry: u32) -> LinkedEntry
+        requires held { held self.old room }
+        requires within { entry < entries self.old }
+        ensures stays { stays self.old self.new }
+        ensures rooms { rooms self.new ≡ rooms self.old }
+        ensures ranges { ranges self.new ≡ ranges self.old }
+        ensures slots { slots self.new ≡ slots self.old }
+        ensures words { result ≡ linked_entry (rooms self.old) room entry }
+        ensures sees { names_header result.entry.value ≡ 1 → sees self.old self.new room entry };
+
     /// Loads word `i` of the block that a key word names. Behind the key's last byte it has any bytes.
     fn block_word(&mut self, place: u64, i: usize) -> u64
         requires named { names self.old place }
@@ -90,6 +104,16 @@ pub(crate) trait HeldRooms {
         ensures slots { slots self.new ≡ slots self.old }
         ensures stored { rooms self.new ≡ put_room (rooms self.old) (spot room word) number };
 
+    /// Stores to the words of an entry, and no 0 to its key word.
+    fn store_entry(&mut self, room: u32, entry: u32, words: LinkedEntry)
+        requires held { held self.old room }
+        requires within { entry < entries self.old }
+        requires named { 0 < words.entry.place }
+        ensures stays { stays self.old self.new }
+        ensures ranges { ranges self.new ≡ ranges self.old }
+        ensures slots { slots self.new ≡ slots self.old }
+        ensures stored { rooms self.new ≡ put_entry (rooms self.old) room entry words };
+
     /// Stores 0 to the key word of an entry without a value, and gives the block of its key back. The base of
     /// the range that carried the entry is not below its floor then.
     fn drop_entry(&mut self, room: u32, entry: u32, place: u64)
@@ -102,15 +126,16 @@ pub(crate) trait HeldRooms {
         ensures dropped { rooms self.new ≡ put_room (rooms self.old) (at_key room entry) 0 }
         ensures ranges { ranges self.new ≡ ranges_with place (ranges self.old) };
 
-    /// Stores 0 to the key word of an entry, where each carried entry has a value, so that none is dropped.
-    fn clear_key(&mut self, room: u32, entry: u32)
+    /// Makes the key word and the value word of an entry 0, where each carried entry has a value, so that none is
+    /// dropped.
+    fn clear_entry(&mut self, room: u32, entry: u32)
         requires held { held self.old room }
         requires within { entry < entries self.old }
         requires valued { Each AllValued (ranges self.old) }
         ensures stays { stays self.old self.new }
         ensures ranges { ranges self.new ≡ ranges self.old }
         ensures slots { slots self.new ≡ slots self.old }
-        ensures cleared { rooms self.new ≡ put_room (rooms self.old) (at_key room entry) 0 };
+        ensures cleared { rooms self.new ≡ bare_entry (rooms self.old) room entry };
 
     /// How many entries a room has.
     fn entries_each(&self) -> u32

@@ -1,6 +1,8 @@
 //! Reads the entries of a held room, and drops those that are not linked or have no value.
 ghost use Rattle.std.specs.Prelude.{◌≡◌, ◌≢◌, ℕ, ◌+◌, ◌<◌, ◌≤◌, List};
 ghost use Rattle.oak_model.specs.declared.limits.TheConstants.{GREATEST_ENTRIES};
+ghost use Rattle.arena_core.specs.Place.{length_in};
+ghost use Rattle.arena_core.specs.declared.words.TheConstants.{WORD};
 ghost use Rattle.chunk_core.specs.declared.holds.MovingRange.{MovingRange};
 ghost use Rattle.chunk_core.specs.Rooms.{RoomMemory};
 ghost use Rattle.chunk_core.specs.ValueWord.{names_header};
@@ -8,7 +10,8 @@ ghost use Rattle.chunk_ops.specs.Stored.{IsStored};
 ghost use Rattle.rebalance.specs.Dropping.{DropsKeys, dropped_ranges};
 ghost use Rattle.rebalance.specs.Entries.{dropped, linked_among};
 ghost use Rattle.rebalance.specs.HeldRooms.{IsLoose};
-ghost use Rattle.rebalance.specs.Read.{HasRead};
+ghost use Rattle.rebalance.specs.Read.{HasRead, ReadsEntry};
+ghost use Rattle.rebalance.specs.Slots.{entry_of, key_of};
 
 use crate::entries::Entry;
 use crate::held_rooms::{HeldRooms, RoomWord};
@@ -26,7 +29,7 @@ pub(crate) struct Read {
 }
 
 /// Loads the key that a key word names, each of its words once.
-pub(crate) fn load_key<H: HeldRooms>(rooms: &mut H, place: u64) -> StoredKey
+fn load_key<H: HeldRooms>(rooms: &mut H, place: u64) -> StoredKey
     requires { H.names rooms.old place }
     ensures stays { H.stays rooms.old rooms.new }
     ensures rooms { H.rooms rooms.new ≡ H.rooms rooms.old }
@@ -40,6 +43,57 @@ pub(crate) fn load_key<H: HeldRooms>(rooms: &mut H, place: u64) -> StoredKey
         words[i] = first_bytes(rooms.block_word(place, i), length - WORD * i);
     }
     StoredKey::from_words(words, length)
+}
+
+/// Loads the key of one word that a key word names.
+fn load_short_key<H: HeldRooms>(rooms: &mut H, place: u64) -> StoredKey
+    requires named { H.names rooms.old place }
+    requires short { length_in place ≤ WORD }
+    ensures stays { H.stays rooms.old rooms.new }
+    ensures rooms { H.rooms rooms.new ≡ H.rooms rooms.old }
+    ensures ranges { H.ranges rooms.new ≡ H.ranges rooms.old }
+    ensures slots { H.slots rooms.new ≡ H.slots rooms.old }
+    ensures key { IsStored result (H.keys rooms.old place) }
+{
+    let length = length_in(place);
+    let word = first_bytes(rooms.block_word(place, 0), length);
+    let mut words = [0; KEY_WORDS];
+    words[0] = word;
+    StoredKey::from_words(words, length)
+}
+
+/// The slot of an entry with its key.
+fn slot_of(entry: Entry, key: &StoredKey) -> SortSlot
+    ensures entry { entry_of result ≡ entry }
+    ensures key { key_of result ≡ key.now }
+{
+    let (length, words) = key.parts();
+    SortSlot {
+        words,
+        length,
+        key: entry.place,
+        value: entry.value,
+    }
+}
+
+/// Reads an entry that has a value to slot `at`, with its key.
+#[inline(always)]
+pub(crate) fn read_slot<H: HeldRooms>(rooms: &mut H, entry: Entry, at: usize)
+    requires named { H.names rooms.old entry.place }
+    requires few { at < GREATEST_ENTRIES }
+    ensures stays { H.stays rooms.old rooms.new }
+    ensures rooms { H.rooms rooms.new ≡ H.rooms rooms.old }
+    ensures ranges { H.ranges rooms.new ≡ H.ranges rooms.old }
+    ensures reads { ReadsEntry (H.keys rooms.old entry.place) entry at (H.slots rooms.old) (H.slots rooms.new) }
+{
+    if length_in(entry.place) <= WORD {
+        // With no loop over its words the key goes to the slot at once.
+        let key = load_short_key(rooms, entry.place);
+        rooms.put(at, slot_of(entry, &key));
+        return;
+    }
+    let key = load_key(rooms, entry.place);
+    rooms.put(at, slot_of(entry, &key));
 }
 
 /// Reads one entry: to the next slot where it is linked and has a value; else it is dropped. One that was
@@ -65,28 +119,19 @@ fn read_entry<H: HeldRooms>(rooms: &mut H, room: u32, i: u32, read: &mut Read)
         → DropsKeys room i m now → HasRead keys m room b i (H.slots rooms.old) read.old
         → HasRead keys m room b (i + 1) (H.slots rooms.new) read.new }
 {
-    let place = rooms.load(room, RoomWord::Key(i));
-    if place == 0 {
+    let entry = rooms.load_entry(room, i).entry;
+    if entry.place == 0 {
         read.dropped += 1;
         return;
     }
-    let value = rooms.load(room, RoomWord::Value(i));
-    let entry = Entry { place, value };
     if entry.has_value() {
-        let (length, words) = load_key(rooms, place).parts();
-        let slot = SortSlot {
-            words,
-            length,
-            key: place,
-            value,
-        };
-        rooms.put(read.kept, slot);
+        read_slot(rooms, entry, read.kept);
         read.kept += 1;
         return;
     }
-    rooms.drop_entry(room, i, place);
+    rooms.drop_entry(room, i, entry.place);
     read.dropped += 1;
-    read.base = read.base.max(value);
+    read.base = read.base.max(entry.value);
 }
 
 /// Reads the first `count` entries of a held room: the linked ones with a value to the first slots, in their

@@ -9,9 +9,11 @@ use Rattle.chunk_core.specs.ValueWord.{names_header}
 use Rattle.chunk_ops.specs.Stored.{IsStored}
 use Rattle.oak_core.specs.declared.sorting.SortSlot.{SortSlot}
 use Rattle.rebalance.specs.declared.entries.Entry.{Entry}
+use Rattle.rebalance.specs.declared.entries.LinkedEntry.{LinkedEntry}
 use Rattle.rebalance.specs.Entries.{entries, entry_at}
 use Rattle.rebalance.specs.Read.{ReadsEntry}
 use Rattle.rebalance.specs.Slots.{entry_of, key_of}
+use Rattle.rebalance.proofs.ReadLaws.{has_top}
 use Rattle.rebalance.proofs.WalkLaws.{marked, marked_none, unmarked, mark_set, front_set, each_set, front_whole, whole_seen}
 use Rattle.rebalance.proofs.walking.read_along.Goals as goal
 
@@ -28,33 +30,48 @@ loop-at-init g c = let rooms = c.args.rooms.now in let m : RoomMemory = g.H.Held
   stored = λ keys same j d l. absurd (omega arith);
 }
 
+pub read_slot-requires-clause-named : goal.read_slot-requires-clause-named
+read_slot-requires-clause-named g c = let i = c.loop-at.invariant in let w = c.load_entry-linked.ensures in let rooms = c.args.rooms.now in let now = c.loop-at.rooms in let s = c.load_entry-linked.new.self in
+    let r = c.args.room in let e : ℕ = c.loop-at.link - 1 in let m : RoomMemory = g.H.HeldRooms.rooms rooms in let y : Entry = c.load_entry-linked.result.entry in
+    let few : e < c.args.count = let a = c.if-link-eq0.false in let b = c.if-link-from.false in let f = c.from.ensures in omega arith in
+    let place : y.place ≡ m.key r e = ap (λ (z : LinkedEntry). z.entry.place) w.words ∙ ap (λ (q : RoomMemory). q.key r e) i.rooms in
+    let value : y.value ≡ m.value r e = ap (λ (z : LinkedEntry). z.entry.value) w.words ∙ ap (λ (q : RoomMemory). q.value r e) i.rooms in
+    let word : 0 < y.place = let n = c.if-entry-eq0.false in omega arith in
+    let named = c.requires.named e few (subst (λ (k : ℕ). 0 < k) place word) (ap names_header (sym value) ∙ has_top y (sym c.has_value.ensures ∙ c.if-not-has_value.false)) in
+    (g.met.H.HeldRooms.still_names now s y.place w.stays (subst (g.H.HeldRooms.names now) (sym place) (g.met.H.HeldRooms.still_names rooms now (m.key r e) i.stays named).0)).0
+
 pub loop-at-preserved : goal.loop-at-preserved
-loop-at-preserved g c = let i = c.loop-at.invariant in let w = c.read_valued.ensures in let v = c.load-link-in-loop-at.ensures in let rooms = c.args.rooms.now in let now = c.loop-at.rooms in let t = c.read_valued.new.rooms in let u = c.load-link-in-loop-at.new.self in
+loop-at-preserved g c = let i = c.loop-at.invariant in let v = c.load_entry-linked.ensures in let w = c.read_slot.ensures in let rooms = c.args.rooms.now in let now = c.loop-at.rooms in let s = c.load_entry-linked.new.self in let u = c.read_slot.new.rooms in
     let r = c.args.room in let n : ℕ = c.args.count in let k : ℕ = c.loop-at.at in let e : ℕ = c.loop-at.link - 1 in let seen : List Bool = c.loop-at.seen in
-    let m : RoomMemory = g.H.HeldRooms.rooms rooms in let x : Entry = entry_at m r e in let key : List ℕ = g.H.HeldRooms.keys now (m.key r e) in
+    let m : RoomMemory = g.H.HeldRooms.rooms rooms in let x : Entry = entry_at m r e in let key : List ℕ = g.H.HeldRooms.keys now (m.key r e) in let y : Entry = c.load_entry-linked.result.entry in
     let slots : List SortSlot = g.H.HeldRooms.slots now in let later : List SortSlot = g.H.HeldRooms.slots u in
     let few : e < n = let a = c.if-link-eq0.false in let b = c.if-link-from.false in let f = c.from.ensures in omega arith in
     let most = g.met.H.HeldRooms.few_entries rooms r c.requires.held in let inside = c.requires.within in let test = c.loop-at-test.true in let many = g.met.H.HeldRooms.many_slots now in
     let lt : k < length slots = omega arith in let flag : e < length seen = let a = i.long in omega arith in
-    let done : c.read_valued.result ≡ true = c.if-not-read_valued.false in
-    let word : 0 < m.key r e = subst (λ (q : RoomMemory). 0 < q.key r e) i.rooms (w.word done) in
-    let top : names_header (m.value r e) ≡ 1 = subst (λ (q : RoomMemory). names_header (q.value r e) ≡ 1) i.rooms (w.valued done) in
-    let reads : ReadsEntry key x k slots later = subst (λ (xs : List SortSlot). ReadsEntry key x k slots xs) (sym v.slots)
-    (subst (λ (q : RoomMemory). ReadsEntry (g.H.HeldRooms.keys now (q.key r e)) (entry_at q r e) k slots (g.H.HeldRooms.slots t)) i.rooms (w.reads done)) in
-    let stays : g.H.HeldRooms.stays now u = g.met.H.HeldRooms.stays_on now t u w.stays v.stays in
+    let place : y.place ≡ m.key r e = ap (λ (z : LinkedEntry). z.entry.place) v.words ∙ ap (λ (q : RoomMemory). q.key r e) i.rooms in
+    let value : y.value ≡ m.value r e = ap (λ (z : LinkedEntry). z.entry.value) v.words ∙ ap (λ (q : RoomMemory). q.value r e) i.rooms in
+    let is : y ≡ x = λ q. record { place = place q; value = value q } in
+    let named_value : names_header y.value ≡ 1 = has_top y (sym c.has_value.ensures ∙ c.if-not-has_value.false) in
+    let word : 0 < m.key r e = subst (λ (q : ℕ). 0 < q) place (let z = c.if-entry-eq0.false in let p : 0 < y.place = omega arith in p) in
+    let top : names_header (m.value r e) ≡ 1 = ap names_header (sym value) ∙ named_value in
+    let named = g.met.H.HeldRooms.still_names rooms now (m.key r e) i.stays (c.requires.named e few word top) in
+    let same_key : g.H.HeldRooms.keys s y.place ≡ key = (g.met.H.HeldRooms.still_names now s y.place v.stays (subst (g.H.HeldRooms.names now) (sym place) named.0)).1 ∙ ap (g.H.HeldRooms.keys now) place in
+    let reads : ReadsEntry key x k slots later = subst (λ (xs : List SortSlot). ReadsEntry key x k xs later) v.slots
+    (subst (λ (z : Entry). ReadsEntry key z k (g.H.HeldRooms.slots s) later) is (subst (λ (q : List ℕ). ReadsEntry q y k (g.H.HeldRooms.slots s) later) same_key w.reads)) in
+    let stays : g.H.HeldRooms.stays now u = g.met.H.HeldRooms.stays_on now s u v.stays w.stays in
     let at_e : get_or (entries m r n) e x ≡ x = rows_at 0 n e (λ (j : ℕ). entry_at m r j) x few ∙ ap (λ (j : ℕ). entry_at m r j) (let z : 0 + e ≡ e = omega arith in z) in record {
       stays = g.met.H.HeldRooms.stays_on rooms now u i.stays stays;
-      rooms = v.rooms ∙ (w.rooms ∙ i.rooms);
-      ranges = v.ranges ∙ (w.ranges ∙ i.ranges);
+      rooms = w.rooms ∙ (v.rooms ∙ i.rooms);
+      ranges = w.ranges ∙ (v.ranges ∙ i.ranges);
       long = length-set seen e true ∙ i.long;
       sees = λ j l. mark_set (λ (q : ℕ). g.H.HeldRooms.sees rooms u r q) seen e j
-          (g.met.H.HeldRooms.sees_earlier rooms now u r e i.stays (g.met.H.HeldRooms.sees_later now t u r e (w.sees done) v.stays))
+          (g.met.H.HeldRooms.sees_earlier rooms now u r e i.stays (g.met.H.HeldRooms.sees_later now s u r e (v.sees named_value) w.stays))
           (λ f. g.met.H.HeldRooms.sees_later rooms now u r j (i.sees j l f) stays);
       valued = λ j l. mark_set (λ (q : ℕ). (0 < m.key r q) × (names_header (m.value r q) ≡ 1)) seen e j (word, top) (i.valued j l);
       front = front_set key x k slots later lt reads seen (entries m r n) e flag (let z = rows_length 0 n (λ (j : ℕ). entry_at m r j) in omega arith) c.if-seen-i.false at_e i.front;
       named = each_set key x k slots later lt reads (λ (s : SortSlot). 0 < s.key) (subst (λ (q : ℕ). 0 < q) (sym (ap (λ (y : Entry). y.place) reads.is)) word) i.named;
       stored = λ keys same. each_set key x k slots later lt reads (λ (s : SortSlot). IsStored (key_of s) (keys s.key))
-          (subst (IsStored (key_of reads.slot)) ((g.met.H.HeldRooms.still_names rooms now (m.key r e) i.stays (c.requires.named e few word top)).1 ∙ (sym (same e few word top) ∙ ap keys (sym (ap (λ (y : Entry). y.place) reads.is)))) reads.stored)
+          (subst (IsStored (key_of reads.slot)) (named.1 ∙ (sym (same e few word top) ∙ ap keys (sym (ap (λ (y : Entry). y.place) reads.is)))) reads.stored)
           (i.stored keys same);
     }
 
