@@ -1,21 +1,22 @@
 //! The entries of a pinned room, loaded once into the slots of the pass, along the room's links, in batches.
 ghost use Rattle.std.specs.Prelude.{◌≡◌, ◌+◌, ◌<◌, ◌≤◌, ℕ, List, MatchOption, true, false};
-ghost use Rattle.oak_model.specs.declared.limits.TheConstants.{GREATEST_ENTRIES, GREATEST_KEY};
+ghost use Rattle.oak_model.specs.declared.limits.TheConstants.{GREATEST_ENTRIES};
 ghost use Rattle.oak_model.specs.Key.{IsKey, is_key};
 ghost use Rattle.oak_core.specs.AloneWords.{Runs};
 ghost use Rattle.oak_core.specs.Passes.{IsPassOf, Stays, state, key as sizes, call_of, slots_of};
 ghost use Rattle.oak_core.specs.Scratch.{StaysButSlots};
-ghost use Rattle.chunk_ops.specs.PinRecords.{HasEntry, HasRoomPin, OnlyLearns, WordsStay};
+ghost use Rattle.chunk_ops.specs.PinRecords.{HasEntry, HasRoomPin, OnlyLearns, OnlyMeets, WordsStay};
 ghost use Rattle.chunk_ops.specs.Stored.{IsStored};
 ghost use Rattle.scan_cursor.specs.Batches.{IsFull, Starts, end_bound};
 ghost use Rattle.scan_cursor.specs.Gathered.{IsGathered, slots_ahead};
 ghost use Rattle.scan_cursor.specs.Holding.{Covers, HasRoom, IsAhead, IsRoom, ahead_from, ahead_past, bound_in, cut_room, room_at};
-ghost use Rattle.scan_cursor.specs.Loading.{IsBehind, IsEnd, LoadsSlot};
+ghost use Rattle.scan_cursor.specs.Loading.{IsBehind, LoadsEntry, ReadsSlot};
 ghost use Rattle.scan_cursor.specs.Views.{Later, view_of};
 
 use crate::ways::Way;
+use arena_core::words::WORD;
 use chunk_ops::{
-    Content, EntryNo, KeyBytes, RoomPin, StoredKey, content_of, entry_key, next_entry,
+    Content, EntryNo, KEY_WORDS, KeyBytes, RoomPin, StoredKey, content_of, entry_key, next_entry,
     prefix_below, value_word,
 };
 use oak_core::{OakTable, Pass, SortSlot};
@@ -45,39 +46,41 @@ fn is_behind(key: &StoredKey, from: &StoredKey, way: Way) -> bool
     }
 }
 
-/// Whether a batch ends before an entry of this key: one up that has as many pairs as it wants, and one down at the key
-/// that it began below.
-fn ends_batch(key: &StoredKey, from: &StoredKey, full: bool, way: Way) -> bool
-    ensures { (k q : List ℕ) → IsStored from.now k → IsStored key.now q → IsKey k → IsKey q → result ≡ true → IsEnd way full k q }
+/// Which slot an entry fills, whether the batch has as many pairs as it wants before it, and the direction of the scan.
+#[derive(Clone, Copy)]
+struct Aim {
+    slot: usize,
+    full: bool,
+    way: Way,
+}
+
+/// What an entry came to: the batch ends before it; it was passed, since its key does not lie ahead or has no value; or it
+/// stands in its slot.
+#[derive(Clone, Copy)]
+enum Outcome {
+    Ends,
+    Passed,
+    Kept,
+}
+
+/// Whether a batch ends before an entry whose key lies ahead: one up that has as many pairs as it wants.
+fn ends_full(full: bool, way: Way) -> bool
+    ensures { result ≡ true → (way ≡ Way.Up) × (full ≡ true) }
 {
-    let behind = is_behind(key, from, way);
     match way {
-        Way::Up => full && behind,
-        Way::Down => !behind,
+        Way::Up => full,
+        Way::Down => false,
     }
 }
 
-/// The bound of a batch that ends before an entry of this key.
-fn bound_at(key: &StoredKey, near: Option<KeyBytes>, way: Way) -> Option<KeyBytes>
-    requires { key.now.length ≤ GREATEST_KEY }
-    ensures { (q : List ℕ) → IsStored key.now q → result ≡ end_bound way q near }
-{
-    match way {
-        Way::Up => Some(KeyBytes::of(key)),
-        Way::Down => near,
-    }
-}
-
-/// Loads the value word of an entry whose key lies behind `from`: the slot of one that has a value. A scan needs no key
-/// words, so none is kept in its slots.
+/// Loads the value word of an entry of this key: the slot of one that has a value. A scan needs no key words, so none is
+/// kept in its slots.
 fn load_slot(
     table: &OakTable,
     pass: &mut Pass,
     pin: &RoomPin,
     entry: EntryNo,
     key: &StoredKey,
-    from: &StoredKey,
-    way: Way,
 ) -> Option<SortSlot>
     requires own { IsPassOf table.now pass.old }
     requires pinned { HasRoomPin (sizes table.now) pin.now.room (state pass.old) }
@@ -85,13 +88,10 @@ fn load_slot(
     requires key { (q : List ℕ) → HasEntry pin.now.room entry.0 q (state pass.old) → IsStored key.now q × IsKey q }
     ensures own { Stays pass.old pass.new }
     ensures only { OnlyLearns (call_of pass.old) (state pass.old) (state pass.new) }
-    ensures loads { let z = sizes table.now in let call = call_of pass.old in (k q : List ℕ) → IsStored from.now k
-        → IsKey k → HasEntry pin.now.room entry.0 q (state pass.old) → LoadsSlot result way k q
+    ensures reads { let z = sizes table.now in let call = call_of pass.old in (q : List ℕ)
+        → HasEntry pin.now.room entry.0 q (state pass.old) → ReadsSlot result q
         (view_of z call (state pass.old)) (view_of z call (state pass.new)) }
 {
-    if !is_behind(key, from, way) {
-        return None;
-    }
     let value = value_word(table, pass, pin, entry);
     match content_of(value) {
         Content::Floor { stamp: _ } => None,
@@ -107,6 +107,105 @@ fn load_slot(
                 value,
             })
         }
+    }
+}
+
+/// Goes on at an entry of this key: a batch up ends before it where it has as many pairs as it wants, and one down where
+/// the key does not lie below that which it began at. An entry whose key lies ahead is loaded into its slot.
+#[inline(always)] // once for each pair of a scan
+fn load_known(
+    table: &OakTable,
+    pass: &mut Pass,
+    pin: &RoomPin,
+    entry: EntryNo,
+    key: &StoredKey,
+    from: &StoredKey,
+    aim: Aim,
+) -> Outcome
+    requires own { IsPassOf table.now pass.old }
+    requires pinned { HasRoomPin (sizes table.now) pin.now.room (state pass.old) }
+    requires entry { (q : List ℕ) × HasEntry pin.now.room entry.0 q (state pass.old) }
+    requires key { (q : List ℕ) → HasEntry pin.now.room entry.0 q (state pass.old) → IsStored key.now q × IsKey q }
+    requires slot { aim.slot < GREATEST_ENTRIES }
+    ensures own { StaysButSlots pass.old pass.new }
+    ensures only { OnlyLearns (call_of pass.old) (state pass.old) (state pass.new) }
+    ensures loads { let z = sizes table.now in let call = call_of pass.old in (k q : List ℕ) → IsStored from.now k
+        → IsKey k → HasEntry pin.now.room entry.0 q (state pass.old) → LoadsEntry result aim k q (slots_of pass.old)
+        (slots_of pass.new) (view_of z call (state pass.old)) (view_of z call (state pass.new)) }
+{
+    if !is_behind(key, from, aim.way) {
+        return match aim.way {
+            Way::Up => Outcome::Passed,
+            Way::Down => Outcome::Ends,
+        };
+    }
+    if ends_full(aim.full, aim.way) {
+        return Outcome::Ends;
+    }
+    match load_slot(table, pass, pin, entry, key) {
+        Some(slot) => {
+            pass.sorting_mut().set(aim.slot, slot);
+            Outcome::Kept
+        }
+        None => Outcome::Passed,
+    }
+}
+
+/// Goes on at an entry of this key as [`load_known`] does. A key of one word, as most are, is taken apart: so its other
+/// words are known to be zero, and none of it goes through memory.
+#[inline(always)] // once for each pair of a scan
+fn load_found(
+    table: &OakTable,
+    pass: &mut Pass,
+    pin: &RoomPin,
+    entry: EntryNo,
+    key: &StoredKey,
+    from: &StoredKey,
+    aim: Aim,
+) -> Outcome
+    requires own { IsPassOf table.now pass.old }
+    requires pinned { HasRoomPin (sizes table.now) pin.now.room (state pass.old) }
+    requires entry { (q : List ℕ) × HasEntry pin.now.room entry.0 q (state pass.old) }
+    requires key { (q : List ℕ) → HasEntry pin.now.room entry.0 q (state pass.old) → IsStored key.now q × IsKey q }
+    requires slot { aim.slot < GREATEST_ENTRIES }
+    ensures own { StaysButSlots pass.old pass.new }
+    ensures only { OnlyLearns (call_of pass.old) (state pass.old) (state pass.new) }
+    ensures loads { let z = sizes table.now in let call = call_of pass.old in (k q : List ℕ) → IsStored from.now k
+        → IsKey k → HasEntry pin.now.room entry.0 q (state pass.old) → LoadsEntry result aim k q (slots_of pass.old)
+        (slots_of pass.new) (view_of z call (state pass.old)) (view_of z call (state pass.new)) }
+{
+    let (length, words) = key.parts();
+    if length <= WORD {
+        let mut only = [0; KEY_WORDS];
+        only[0] = words[0];
+        let short = StoredKey::from_words(only, length);
+        return load_known(table, pass, pin, entry, &short, from, aim);
+    }
+    load_known(table, pass, pin, entry, key, from, aim)
+}
+
+/// The bound of a batch that ends before an entry.
+fn entry_bound(
+    table: &OakTable,
+    pass: &mut Pass,
+    pin: &RoomPin,
+    entry: EntryNo,
+    near: Option<KeyBytes>,
+    way: Way,
+) -> Option<KeyBytes>
+    requires own { IsPassOf table.now pass.old }
+    requires pinned { HasRoomPin (sizes table.now) pin.now.room (state pass.old) }
+    requires entry { (q : List ℕ) × HasEntry pin.now.room entry.0 q (state pass.old) }
+    ensures own { Stays pass.old pass.new }
+    ensures only { OnlyMeets (call_of pass.old) (state pass.old) (state pass.new) }
+    ensures bound { (q : List ℕ) → HasEntry pin.now.room entry.0 q (state pass.old) → result ≡ end_bound way q near }
+{
+    match way {
+        Way::Up => {
+            let key = entry_key(table, pass, pin, entry);
+            Some(KeyBytes::of(&key))
+        }
+        Way::Down => near,
     }
 }
 
@@ -229,14 +328,18 @@ pub(crate) fn gather(
             return Batch { filled, bound };
         };
         let this = entry_key(table, pass, pin, entry);
-        let full = filled >= many as usize;
-        if ends_batch(&this, &from, full, way) {
-            let bound = bound_at(&this, start.near, way);
-            return Batch { filled, bound };
-        }
-        if let Some(slot) = load_slot(table, pass, pin, entry, &this, &from, way) {
-            pass.sorting_mut().set(filled, slot);
-            filled += 1;
+        let aim = Aim {
+            slot: filled,
+            full: filled >= many as usize,
+            way,
+        };
+        match load_found(table, pass, pin, entry, &this, &from, aim) {
+            Outcome::Ends => {
+                let bound = entry_bound(table, pass, pin, entry, start.near, way);
+                return Batch { filled, bound };
+            }
+            Outcome::Passed => {}
+            Outcome::Kept => filled += 1,
         }
         next = next_entry(table, pass, pin, Some(entry));
         passed += 1;

@@ -1,4 +1,4 @@
-use Rattle.std.proofs.Common.{◌≡◌, ◌<◌, ◌≤◌, ◌+◌, ◌++◌, ◌∷◌, [], ℕ, List, length, set, take, Option, Some, suc, sym, refl, ap, ◌∙◌, subst, true, arith}
+use Rattle.std.proofs.Common.{◌≡◌, ◌<◌, ◌≤◌, ◌+◌, ◌++◌, ◌∷◌, [], ℕ, leb, List, length, set, take, Option, Some, suc, sym, refl, ap, ◌∙◌, subst, true, arith}
 use Rattle.std.proofs.lemmas.Bool.{leb-true}
 use Rattle.std.proofs.lemmas.List.{length-set}
 use Rattle.oak_model.specs.declared.limits.TheConstants.{GREATEST_ENTRIES}
@@ -6,7 +6,6 @@ use Rattle.oak_model.specs.Limits.{Sizes}
 use Rattle.oak_model.proofs.KeyLaws.{is_key-is}
 use Rattle.chunk_core.specs.KeyWords.{key_bytes}
 use Rattle.oak_core.specs.declared.sorting.SortSlot.{SortSlot}
-use Rattle.oak_core.specs.declared.states.PassState.{PassState}
 use Rattle.oak_core.specs.Passes.{call_of, key as sizes, slots_of, state}
 use Rattle.oak_core.specs.Scratch.{StaysButSlots}
 use Rattle.chunk_ops.specs.declared.entries.EntryNo.{EntryNo}
@@ -14,14 +13,16 @@ use Rattle.chunk_ops.specs.Listing.{StepsTo}
 use Rattle.scan_cursor.specs.Batches.{IsFull, end_bound}
 use Rattle.scan_cursor.specs.Gathered.{IsGathered, slots_ahead}
 use Rattle.scan_cursor.specs.Holding.{Covers, IsRoom, ahead_from, ahead_past, bound_in, cut_room, room_at}
-use Rattle.scan_cursor.specs.Loading.{LoadsSlot}
+use Rattle.scan_cursor.specs.declared.gathering.Outcome.{Outcome}
+use Rattle.scan_cursor.specs.Loading.{LoadsEntry}
 use Rattle.scan_cursor.specs.Views.{view_of}
-use Rattle.scan_cursor.proofs.FilledPasses.{slots_kept, slots_more, slots_put}
+use Rattle.scan_cursor.proofs.FilledPasses.{slots_kept, slots_more}
 use Rattle.scan_cursor.proofs.FilledRooms.{Comes, Walked, comes_few, comes_first, comes_later, comes_next, end_covers, end_full, end_real, entry_here, from_of, key_here_is, loaded_all, loaded_end, many_more, open_full, past_of, walked_more, walked_past}
 use Rattle.scan_cursor.proofs.GatherViews.{entry_kept, learned_in, learns_only}
 use Rattle.scan_cursor.proofs.OrderedSlots.{gathered_slots}
 use Rattle.scan_cursor.proofs.PinnedSteps.{goes_has, goes_later, goes_room}
-use Rattle.scan_cursor.proofs.gathering.gather.Goals.{in-Some-load_slot, in_default-load_slot}
+use Rattle.scan_cursor.proofs.StepLaws.{but_both}
+use Rattle.scan_cursor.proofs.gathering.gather.Goals.{in-Kept, in-Passed}
 use Rattle.scan_cursor.proofs.gathering.gather.Goals as goal
 
 pub loop-next-init : goal.loop-next-init
@@ -77,135 +78,181 @@ entry_key-this-requires-clause-entry c = let z : Sizes = sizes c.args.table.now 
     let a = cut_room way (room_at v) c.start_of-start.result.near in let xs = take c.loop-next.filled (slots_of c.loop-next.pass) in let many = c.loop-next.passed in let e = c.in-Some.entry in
     let g = subst (λ (o : Option EntryNo). Comes z call r way k v a o many w xs) c.in-Some.is c.loop-next.invariant.comes in (_, entry_here z call r way k v a e many w xs g)
 
--- before which the batch ends
+-- which is loaded
 
-pub bound_at-bound-requires : goal.bound_at-bound-requires
-bound_at-bound-requires c = let z : Sizes = sizes c.args.table.now in let call = call_of c.args.pass.now in let r = c.args.pin.now.room in let v = state c.args.pass.now in let p = c.loop-next.pass in let q = c.entry_key-this.new.pass in let way = c.args.way in let k = c.args.key.now in
+pub load_found-requires-clause-pinned : goal.load_found-requires-clause-pinned
+load_found-requires-clause-pinned c = let z : Sizes = sizes c.args.table.now in let call = call_of c.args.pass.now in let r = c.args.pin.now.room in let v = state c.args.pass.now in let p = c.loop-next.pass in let q = c.entry_key-this.new.pass in let way = c.args.way in let k = c.args.key.now in
     let near = c.start_of-start.result.near in let a = cut_room way (room_at v) near in let n = c.loop-next.filled in let xs = take n (slots_of p) in let many = c.loop-next.passed in let e = c.in-Some.entry in let i = c.loop-next.invariant in
     let g = subst (λ (o : Option EntryNo). Comes z call r way k v a o many (state p) xs) c.in-Some.is i.comes in
     let h = comes_later z call r way k v a (Some e) many (state p) (state q) xs (learned_in call (call_of p) (state p) (state q) i.own.call (learns_only (call_of p) (state p) (state q) c.entry_key-this.ensures.only)) g in
-    let b = key_bytes h.is.0.word h.is.0.words in let stored = c.entry_key-this.ensures.key b (entry_kept r e.0 b (state q) (state p) (sym c.entry_key-this.ensures.only.rooms) (entry_here z call r way k v a e many (state q) xs h)) in
-    let l = stored.0.long in let f = stored.0.few in omega arith
-
-pub returns-then-ends_batch-clause-own : goal.returns-then-ends_batch-clause-own
-returns-then-ends_batch-clause-own c = slots_kept c.args.pass.now c.loop-next.pass c.entry_key-this.new.pass c.loop-next.invariant.own c.entry_key-this.ensures.own c.entry_key-this.new.pass refl
-
-pub returns-then-ends_batch-clause-few : goal.returns-then-ends_batch-clause-few
-returns-then-ends_batch-clause-few c = let i = c.loop-next.invariant in let f = i.few in let m = comes_few _ _ _ _ _ _ _ _ _ _ _ i.comes in omega arith
-
-pub returns-then-ends_batch-clause-full : goal.returns-then-ends_batch-clause-full
-returns-then-ends_batch-clause-full c = let z : Sizes = sizes c.args.table.now in let call = call_of c.args.pass.now in let r = c.args.pin.now.room in let v = state c.args.pass.now in let p = c.loop-next.pass in let q = c.entry_key-this.new.pass in let way = c.args.way in let k = c.args.key.now in
-    let near = c.start_of-start.result.near in let a = cut_room way (room_at v) near in let n = c.loop-next.filled in let xs = take n (slots_of p) in let many = c.loop-next.passed in let e = c.in-Some.entry in let i = c.loop-next.invariant in
-    let g = subst (λ (o : Option EntryNo). Comes z call r way k v a o many (state p) xs) c.in-Some.is i.comes in
-    let h = comes_later z call r way k v a (Some e) many (state p) (state q) xs (learned_in call (call_of p) (state p) (state q) i.own.call (learns_only (call_of p) (state p) (state q) c.entry_key-this.ensures.only)) g in
-    let b = key_bytes h.is.0.word h.is.0.words in let stored = c.entry_key-this.ensures.key b (entry_kept r e.0 b (state q) (state p) (sym c.entry_key-this.ensures.only.rooms) (entry_here z call r way k v a e many (state q) xs h)) in
-    let stop = c.ends_batch.ensures k b c.of-from.ensures stored.0 (is_key-is k c.requires.key).0 stored.1 c.if-ends_batch.true in let bound = c.bound_at-bound.ensures b stored.0 in
-    subst (λ (o : Option (List ℕ)). IsFull way c.args.many o n) (sym bound) (end_full way _ k b near c.args.many n stop (λ t. leb-true c.args.many n t))
-
-pub returns-then-ends_batch-clause-has : goal.returns-then-ends_batch-clause-has
-returns-then-ends_batch-clause-has c = let z : Sizes = sizes c.args.table.now in let call = call_of c.args.pass.now in let r = c.args.pin.now.room in let v = state c.args.pass.now in let p = c.loop-next.pass in let q = c.entry_key-this.new.pass in let way = c.args.way in let k = c.args.key.now in
-    let near = c.start_of-start.result.near in let a = cut_room way (room_at v) near in let n = c.loop-next.filled in let xs = take n (slots_of p) in let many = c.loop-next.passed in let e = c.in-Some.entry in let i = c.loop-next.invariant in
-    let g = subst (λ (o : Option EntryNo). Comes z call r way k v a o many (state p) xs) c.in-Some.is i.comes in
-    let h = comes_later z call r way k v a (Some e) many (state p) (state q) xs (learned_in call (call_of p) (state p) (state q) i.own.call (learns_only (call_of p) (state p) (state q) c.entry_key-this.ensures.only)) g in
-    let b = key_bytes h.is.0.word h.is.0.words in let stored = c.entry_key-this.ensures.key b (entry_kept r e.0 b (state q) (state p) (sym c.entry_key-this.ensures.only.rooms) (entry_here z call r way k v a e many (state q) xs h)) in
-    goes_has z call r v (state q) h.goes c.requires.ahead.has
-
-pub returns-then-ends_batch-clause-room : goal.returns-then-ends_batch-clause-room
-returns-then-ends_batch-clause-room c = let z : Sizes = sizes c.args.table.now in let call = call_of c.args.pass.now in let r = c.args.pin.now.room in let v = state c.args.pass.now in let p = c.loop-next.pass in let q = c.entry_key-this.new.pass in let way = c.args.way in let k = c.args.key.now in
-    let near = c.start_of-start.result.near in let a = cut_room way (room_at v) near in let n = c.loop-next.filled in let xs = take n (slots_of p) in let many = c.loop-next.passed in let e = c.in-Some.entry in let i = c.loop-next.invariant in
-    let g = subst (λ (o : Option EntryNo). Comes z call r way k v a o many (state p) xs) c.in-Some.is i.comes in
-    let h = comes_later z call r way k v a (Some e) many (state p) (state q) xs (learned_in call (call_of p) (state p) (state q) i.own.call (learns_only (call_of p) (state p) (state q) c.entry_key-this.ensures.only)) g in
-    let b = key_bytes h.is.0.word h.is.0.words in let stored = c.entry_key-this.ensures.key b (entry_kept r e.0 b (state q) (state p) (sym c.entry_key-this.ensures.only.rooms) (entry_here z call r way k v a e many (state q) xs h)) in
-    goes_room z call r v (state q) h.goes
-
-pub returns-then-ends_batch-clause-later : goal.returns-then-ends_batch-clause-later
-returns-then-ends_batch-clause-later c = let z : Sizes = sizes c.args.table.now in let call = call_of c.args.pass.now in let r = c.args.pin.now.room in let v = state c.args.pass.now in let p = c.loop-next.pass in let q = c.entry_key-this.new.pass in let way = c.args.way in let k = c.args.key.now in
-    let near = c.start_of-start.result.near in let a = cut_room way (room_at v) near in let n = c.loop-next.filled in let xs = take n (slots_of p) in let many = c.loop-next.passed in let e = c.in-Some.entry in let i = c.loop-next.invariant in
-    let g = subst (λ (o : Option EntryNo). Comes z call r way k v a o many (state p) xs) c.in-Some.is i.comes in
-    let h = comes_later z call r way k v a (Some e) many (state p) (state q) xs (learned_in call (call_of p) (state p) (state q) i.own.call (learns_only (call_of p) (state p) (state q) c.entry_key-this.ensures.only)) g in
-    let b = key_bytes h.is.0.word h.is.0.words in let stored = c.entry_key-this.ensures.key b (entry_kept r e.0 b (state q) (state p) (sym c.entry_key-this.ensures.only.rooms) (entry_here z call r way k v a e many (state q) xs h)) in
-    goes_later z call r v (state q) h.goes
-
-pub returns-then-ends_batch-clause-real : goal.returns-then-ends_batch-clause-real
-returns-then-ends_batch-clause-real c = let z : Sizes = sizes c.args.table.now in let call = call_of c.args.pass.now in let r = c.args.pin.now.room in let v = state c.args.pass.now in let p = c.loop-next.pass in let q = c.entry_key-this.new.pass in let way = c.args.way in let k = c.args.key.now in
-    let near = c.start_of-start.result.near in let a = cut_room way (room_at v) near in let n = c.loop-next.filled in let xs = take n (slots_of p) in let many = c.loop-next.passed in let e = c.in-Some.entry in let i = c.loop-next.invariant in
-    let g = subst (λ (o : Option EntryNo). Comes z call r way k v a o many (state p) xs) c.in-Some.is i.comes in
-    let h = comes_later z call r way k v a (Some e) many (state p) (state q) xs (learned_in call (call_of p) (state p) (state q) i.own.call (learns_only (call_of p) (state p) (state q) c.entry_key-this.ensures.only)) g in
-    let b = key_bytes h.is.0.word h.is.0.words in let stored = c.entry_key-this.ensures.key b (entry_kept r e.0 b (state q) (state p) (sym c.entry_key-this.ensures.only.rooms) (entry_here z call r way k v a e many (state q) xs h)) in
-    let stop = c.ends_batch.ensures k b c.of-from.ensures stored.0 (is_key-is k c.requires.key).0 stored.1 c.if-ends_batch.true in let bound = c.bound_at-bound.ensures b stored.0 in
-    subst (λ (o : Option (List ℕ)). IsRoom (cut_room way (room_at v) o)) (sym bound) (end_real way b near (room_at v) (key_here_is z call r way k v a e many (state q) xs h) c.start_of-start.ensures.starts.real)
-
-pub returns-then-ends_batch-clause-covers : goal.returns-then-ends_batch-clause-covers
-returns-then-ends_batch-clause-covers c = let z : Sizes = sizes c.args.table.now in let call = call_of c.args.pass.now in let r = c.args.pin.now.room in let v = state c.args.pass.now in let p = c.loop-next.pass in let q = c.entry_key-this.new.pass in let way = c.args.way in let k = c.args.key.now in
-    let near = c.start_of-start.result.near in let a = cut_room way (room_at v) near in let n = c.loop-next.filled in let xs = take n (slots_of p) in let many = c.loop-next.passed in let e = c.in-Some.entry in let i = c.loop-next.invariant in
-    let g = subst (λ (o : Option EntryNo). Comes z call r way k v a o many (state p) xs) c.in-Some.is i.comes in
-    let h = comes_later z call r way k v a (Some e) many (state p) (state q) xs (learned_in call (call_of p) (state p) (state q) i.own.call (learns_only (call_of p) (state p) (state q) c.entry_key-this.ensures.only)) g in
-    let b = key_bytes h.is.0.word h.is.0.words in let stored = c.entry_key-this.ensures.key b (entry_kept r e.0 b (state q) (state p) (sym c.entry_key-this.ensures.only.rooms) (entry_here z call r way k v a e many (state q) xs h)) in
-    let stop = c.ends_batch.ensures k b c.of-from.ensures stored.0 (is_key-is k c.requires.key).0 stored.1 c.if-ends_batch.true in let bound = c.bound_at-bound.ensures b stored.0 in
-    subst (λ (o : Option (List ℕ)). Covers way true k (cut_room way (room_at v) o)) (sym bound) (end_covers way _ k b near (room_at v) stop c.start_of-start.ensures.starts.covers)
-
-pub returns-then-ends_batch-clause-gathered : goal.returns-then-ends_batch-clause-gathered
-returns-then-ends_batch-clause-gathered c = let z : Sizes = sizes c.args.table.now in let call = call_of c.args.pass.now in let r = c.args.pin.now.room in let v = state c.args.pass.now in let p = c.loop-next.pass in let q = c.entry_key-this.new.pass in let way = c.args.way in let k = c.args.key.now in
-    let near = c.start_of-start.result.near in let a = cut_room way (room_at v) near in let n = c.loop-next.filled in let xs = take n (slots_of p) in let many = c.loop-next.passed in let e = c.in-Some.entry in let i = c.loop-next.invariant in
-    let g = subst (λ (o : Option EntryNo). Comes z call r way k v a o many (state p) xs) c.in-Some.is i.comes in
-    let h = comes_later z call r way k v a (Some e) many (state p) (state q) xs (learned_in call (call_of p) (state p) (state q) i.own.call (learns_only (call_of p) (state p) (state q) c.entry_key-this.ensures.only)) g in
-    let b = key_bytes h.is.0.word h.is.0.words in let stored = c.entry_key-this.ensures.key b (entry_kept r e.0 b (state q) (state p) (sym c.entry_key-this.ensures.only.rooms) (entry_here z call r way k v a e many (state q) xs h)) in
-    let stop = c.ends_batch.ensures k b c.of-from.ensures stored.0 (is_key-is k c.requires.key).0 stored.1 c.if-ends_batch.true in let bound = c.bound_at-bound.ensures b stored.0 in
-    let t = cut_room way (room_at v) (end_bound way b near) in
-    subst (λ (o : Option (List ℕ)). IsGathered way (view_of z call v) (view_of z call (state q)) (ahead_from way k (bound_in way (cut_room way (room_at v) o))) (ahead_past way k (bound_in way (cut_room way (room_at v) o))) (slots_ahead way 0 n (slots_of q))) (sym bound)
-    (gathered_slots (view_of z call v) (view_of z call (state q)) (from_of way k t) (past_of way k t) way n (slots_of q) xs (ap (take n) c.entry_key-this.ensures.own.sorting) (loaded_end z call r k v near e many (state q) xs _ way h stop))
-
-pub returns-then-ends_batch-clause-still : goal.returns-then-ends_batch-clause-still
-returns-then-ends_batch-clause-still c = let z : Sizes = sizes c.args.table.now in let call = call_of c.args.pass.now in let r = c.args.pin.now.room in let v = state c.args.pass.now in let p = c.loop-next.pass in let q = c.entry_key-this.new.pass in let way = c.args.way in let k = c.args.key.now in
-    let near = c.start_of-start.result.near in let a = cut_room way (room_at v) near in let n = c.loop-next.filled in let xs = take n (slots_of p) in let many = c.loop-next.passed in let e = c.in-Some.entry in let i = c.loop-next.invariant in
-    let g = subst (λ (o : Option EntryNo). Comes z call r way k v a o many (state p) xs) c.in-Some.is i.comes in
-    let h = comes_later z call r way k v a (Some e) many (state p) (state q) xs (learned_in call (call_of p) (state p) (state q) i.own.call (learns_only (call_of p) (state p) (state q) c.entry_key-this.ensures.only)) g in
-    let b = key_bytes h.is.0.word h.is.0.words in let stored = c.entry_key-this.ensures.key b (entry_kept r e.0 b (state q) (state p) (sym c.entry_key-this.ensures.only.rooms) (entry_here z call r way k v a e many (state q) xs h)) in
-    h.goes.still
-
--- or which is loaded
-
-pub load_slot-requires-clause-pinned : goal.load_slot-requires-clause-pinned
-load_slot-requires-clause-pinned c = let z : Sizes = sizes c.args.table.now in let call = call_of c.args.pass.now in let r = c.args.pin.now.room in let v = state c.args.pass.now in let p = c.loop-next.pass in let q = c.entry_key-this.new.pass in let way = c.args.way in let k = c.args.key.now in
-    let near = c.start_of-start.result.near in let a = cut_room way (room_at v) near in let n = c.loop-next.filled in let xs = take n (slots_of p) in let many = c.loop-next.passed in let e = c.in-Some.entry in let i = c.loop-next.invariant in
-    let g = subst (λ (o : Option EntryNo). Comes z call r way k v a o many (state p) xs) c.in-Some.is i.comes in
-    let h = comes_later z call r way k v a (Some e) many (state p) (state q) xs (learned_in call (call_of p) (state p) (state q) i.own.call (learns_only (call_of p) (state p) (state q) c.entry_key-this.ensures.only)) g in
-    let b = key_bytes h.is.0.word h.is.0.words in let stored = c.entry_key-this.ensures.key b (entry_kept r e.0 b (state q) (state p) (sym c.entry_key-this.ensures.only.rooms) (entry_here z call r way k v a e many (state q) xs h)) in
     h.goes.under.pin.has
 
-pub load_slot-requires-clause-entry : goal.load_slot-requires-clause-entry
-load_slot-requires-clause-entry c = let z : Sizes = sizes c.args.table.now in let call = call_of c.args.pass.now in let r = c.args.pin.now.room in let v = state c.args.pass.now in let p = c.loop-next.pass in let q = c.entry_key-this.new.pass in let way = c.args.way in let k = c.args.key.now in
+pub load_found-requires-clause-entry : goal.load_found-requires-clause-entry
+load_found-requires-clause-entry c = let z : Sizes = sizes c.args.table.now in let call = call_of c.args.pass.now in let r = c.args.pin.now.room in let v = state c.args.pass.now in let p = c.loop-next.pass in let q = c.entry_key-this.new.pass in let way = c.args.way in let k = c.args.key.now in
     let near = c.start_of-start.result.near in let a = cut_room way (room_at v) near in let n = c.loop-next.filled in let xs = take n (slots_of p) in let many = c.loop-next.passed in let e = c.in-Some.entry in let i = c.loop-next.invariant in
     let g = subst (λ (o : Option EntryNo). Comes z call r way k v a o many (state p) xs) c.in-Some.is i.comes in
     let h = comes_later z call r way k v a (Some e) many (state p) (state q) xs (learned_in call (call_of p) (state p) (state q) i.own.call (learns_only (call_of p) (state p) (state q) c.entry_key-this.ensures.only)) g in
-    let b = key_bytes h.is.0.word h.is.0.words in let stored = c.entry_key-this.ensures.key b (entry_kept r e.0 b (state q) (state p) (sym c.entry_key-this.ensures.only.rooms) (entry_here z call r way k v a e many (state q) xs h)) in
-    (b, entry_here z call r way k v a e many (state q) xs h)
+    (key_bytes h.is.0.word h.is.0.words, entry_here z call r way k v a e many (state q) xs h)
 
-pub load_slot-requires-clause-key : goal.load_slot-requires-clause-key
-load_slot-requires-clause-key c = λ d t. c.entry_key-this.ensures.key d (entry_kept c.args.pin.now.room c.in-Some.entry.0 d (state c.entry_key-this.new.pass) (state c.loop-next.pass) (sym c.entry_key-this.ensures.only.rooms) t)
+pub load_found-requires-clause-key : goal.load_found-requires-clause-key
+load_found-requires-clause-key c = λ d t. c.entry_key-this.ensures.key d (entry_kept c.args.pin.now.room c.in-Some.entry.0 d (state c.entry_key-this.new.pass) (state c.loop-next.pass) (sym c.entry_key-this.ensures.only.rooms) t)
 
-pub set-requires : goal.set-requires
-set-requires c = let z : Sizes = sizes c.args.table.now in let call = call_of c.args.pass.now in let r = c.args.pin.now.room in let v = state c.args.pass.now in let p = c.loop-next.pass in let q = c.entry_key-this.new.pass in let way = c.args.way in let k = c.args.key.now in
+pub load_found-requires-clause-slot : goal.load_found-requires-clause-slot
+load_found-requires-clause-slot c = let z : Sizes = sizes c.args.table.now in let call = call_of c.args.pass.now in let r = c.args.pin.now.room in let v = state c.args.pass.now in let p = c.loop-next.pass in let q = c.entry_key-this.new.pass in let way = c.args.way in let k = c.args.key.now in
     let near = c.start_of-start.result.near in let a = cut_room way (room_at v) near in let n = c.loop-next.filled in let xs = take n (slots_of p) in let many = c.loop-next.passed in let e = c.in-Some.entry in let i = c.loop-next.invariant in
     let g = subst (λ (o : Option EntryNo). Comes z call r way k v a o many (state p) xs) c.in-Some.is i.comes in
     let h = comes_later z call r way k v a (Some e) many (state p) (state q) xs (learned_in call (call_of p) (state p) (state q) i.own.call (learns_only (call_of p) (state p) (state q) c.entry_key-this.ensures.only)) g in
-    let b = key_bytes h.is.0.word h.is.0.words in let stored = c.entry_key-this.ensures.key b (entry_kept r e.0 b (state q) (state p) (sym c.entry_key-this.ensures.only.rooms) (entry_here z call r way k v a e many (state q) xs h)) in
     let m = many_more z call r way k v a e many (state p) xs g in let f = i.few in omega arith
+
+-- and before which the batch ends
+
+pub entry_bound-bound-requires-clause-pinned : goal.entry_bound-bound-requires-clause-pinned
+entry_bound-bound-requires-clause-pinned c = let z : Sizes = sizes c.args.table.now in let call = call_of c.args.pass.now in let r = c.args.pin.now.room in let v = state c.args.pass.now in let p = c.loop-next.pass in let q = c.entry_key-this.new.pass in let way = c.args.way in let k = c.args.key.now in
+    let near = c.start_of-start.result.near in let a = cut_room way (room_at v) near in let n = c.loop-next.filled in let xs = take n (slots_of p) in let many = c.loop-next.passed in let e = c.in-Some.entry in let i = c.loop-next.invariant in
+    let g = subst (λ (o : Option EntryNo). Comes z call r way k v a o many (state p) xs) c.in-Some.is i.comes in
+    let h = comes_later z call r way k v a (Some e) many (state p) (state q) xs (learned_in call (call_of p) (state p) (state q) i.own.call (learns_only (call_of p) (state p) (state q) c.entry_key-this.ensures.only)) g in
+    let t = c.load_found.new.pass in let now : call_of q ≡ call = c.entry_key-this.ensures.own.call ∙ i.own.call in
+    let l = comes_later z call r way k v a (Some e) many (state q) (state t) xs (learned_in call (call_of q) (state q) (state t) now c.load_found.ensures.only) h in
+    l.goes.under.pin.has
+
+pub entry_bound-bound-requires-clause-entry : goal.entry_bound-bound-requires-clause-entry
+entry_bound-bound-requires-clause-entry c = let z : Sizes = sizes c.args.table.now in let call = call_of c.args.pass.now in let r = c.args.pin.now.room in let v = state c.args.pass.now in let p = c.loop-next.pass in let q = c.entry_key-this.new.pass in let way = c.args.way in let k = c.args.key.now in
+    let near = c.start_of-start.result.near in let a = cut_room way (room_at v) near in let n = c.loop-next.filled in let xs = take n (slots_of p) in let many = c.loop-next.passed in let e = c.in-Some.entry in let i = c.loop-next.invariant in
+    let g = subst (λ (o : Option EntryNo). Comes z call r way k v a o many (state p) xs) c.in-Some.is i.comes in
+    let h = comes_later z call r way k v a (Some e) many (state p) (state q) xs (learned_in call (call_of p) (state p) (state q) i.own.call (learns_only (call_of p) (state p) (state q) c.entry_key-this.ensures.only)) g in
+    let t = c.load_found.new.pass in let now : call_of q ≡ call = c.entry_key-this.ensures.own.call ∙ i.own.call in
+    let l = comes_later z call r way k v a (Some e) many (state q) (state t) xs (learned_in call (call_of q) (state q) (state t) now c.load_found.ensures.only) h in
+    (key_bytes l.is.0.word l.is.0.words, entry_here z call r way k v a e many (state t) xs l)
+
+pub returns-in-Ends-clause-own : goal.returns-in-Ends-clause-own
+returns-in-Ends-clause-own c = let z : Sizes = sizes c.args.table.now in let call = call_of c.args.pass.now in let r = c.args.pin.now.room in let v = state c.args.pass.now in let p = c.loop-next.pass in let q = c.entry_key-this.new.pass in let way = c.args.way in let k = c.args.key.now in
+    let near = c.start_of-start.result.near in let a = cut_room way (room_at v) near in let n = c.loop-next.filled in let xs = take n (slots_of p) in let many = c.loop-next.passed in let e = c.in-Some.entry in let i = c.loop-next.invariant in
+    let g = subst (λ (o : Option EntryNo). Comes z call r way k v a o many (state p) xs) c.in-Some.is i.comes in
+    let h = comes_later z call r way k v a (Some e) many (state p) (state q) xs (learned_in call (call_of p) (state p) (state q) i.own.call (learns_only (call_of p) (state p) (state q) c.entry_key-this.ensures.only)) g in
+    let t = c.load_found.new.pass in let now : call_of q ≡ call = c.entry_key-this.ensures.own.call ∙ i.own.call in
+    let l = comes_later z call r way k v a (Some e) many (state q) (state t) xs (learned_in call (call_of q) (state q) (state t) now c.load_found.ensures.only) h in
+    let d = c.entry_bound-bound.new.pass in let then : call_of t ≡ call = c.load_found.ensures.own.call ∙ now in
+    let m = comes_later z call r way k v a (Some e) many (state t) (state d) xs (learned_in call (call_of t) (state t) (state d) then (learns_only (call_of t) (state t) (state d) c.entry_bound-bound.ensures.only)) l in
+    let o = c.args.pass.now in slots_kept o t d (but_both o q t (slots_kept o p q i.own c.entry_key-this.ensures.own q refl) c.load_found.ensures.own) c.entry_bound-bound.ensures.own d refl
+
+pub returns-in-Ends-clause-few : goal.returns-in-Ends-clause-few
+returns-in-Ends-clause-few c = let i = c.loop-next.invariant in let f = i.few in let m = comes_few _ _ _ _ _ _ _ _ _ _ _ i.comes in omega arith
+
+pub returns-in-Ends-clause-full : goal.returns-in-Ends-clause-full
+returns-in-Ends-clause-full c = let z : Sizes = sizes c.args.table.now in let call = call_of c.args.pass.now in let r = c.args.pin.now.room in let v = state c.args.pass.now in let p = c.loop-next.pass in let q = c.entry_key-this.new.pass in let way = c.args.way in let k = c.args.key.now in
+    let near = c.start_of-start.result.near in let a = cut_room way (room_at v) near in let n = c.loop-next.filled in let xs = take n (slots_of p) in let many = c.loop-next.passed in let e = c.in-Some.entry in let i = c.loop-next.invariant in
+    let g = subst (λ (o : Option EntryNo). Comes z call r way k v a o many (state p) xs) c.in-Some.is i.comes in
+    let h = comes_later z call r way k v a (Some e) many (state p) (state q) xs (learned_in call (call_of p) (state p) (state q) i.own.call (learns_only (call_of p) (state p) (state q) c.entry_key-this.ensures.only)) g in
+    let t = c.load_found.new.pass in let now : call_of q ≡ call = c.entry_key-this.ensures.own.call ∙ i.own.call in
+    let l = comes_later z call r way k v a (Some e) many (state q) (state t) xs (learned_in call (call_of q) (state q) (state t) now c.load_found.ensures.only) h in
+    let d = c.entry_bound-bound.new.pass in let then : call_of t ≡ call = c.load_found.ensures.own.call ∙ now in
+    let m = comes_later z call r way k v a (Some e) many (state t) (state d) xs (learned_in call (call_of t) (state t) (state d) then (learns_only (call_of t) (state t) (state d) c.entry_bound-bound.ensures.only)) l in
+    let b = key_bytes m.is.0.word m.is.0.words in let there = entry_kept r e.0 b (state d) (state t) (sym c.entry_bound-bound.ensures.only.rooms) (entry_here z call r way k v a e many (state d) xs m) in
+    let here = entry_kept r e.0 b (state t) (state q) (sym c.load_found.ensures.only.rooms) there in
+    let ends = subst (λ (o : Outcome). LoadsEntry o record { slot = n; full = leb c.args.many n; way = way } k b (slots_of q) (slots_of t) (view_of z (call_of q) (state q)) (view_of z (call_of q) (state t))) c.in-Ends.is (c.load_found.ensures.loads k b c.of-from.ensures (is_key-is k c.requires.key).0 here) in
+    let bound = c.entry_bound-bound.ensures.bound b there in
+    subst (λ (o : Option (List ℕ)). IsFull way c.args.many o n) (sym bound) (end_full way _ k b near c.args.many n ends.1 (λ t. leb-true c.args.many n t))
+
+pub returns-in-Ends-clause-has : goal.returns-in-Ends-clause-has
+returns-in-Ends-clause-has c = let z : Sizes = sizes c.args.table.now in let call = call_of c.args.pass.now in let r = c.args.pin.now.room in let v = state c.args.pass.now in let p = c.loop-next.pass in let q = c.entry_key-this.new.pass in let way = c.args.way in let k = c.args.key.now in
+    let near = c.start_of-start.result.near in let a = cut_room way (room_at v) near in let n = c.loop-next.filled in let xs = take n (slots_of p) in let many = c.loop-next.passed in let e = c.in-Some.entry in let i = c.loop-next.invariant in
+    let g = subst (λ (o : Option EntryNo). Comes z call r way k v a o many (state p) xs) c.in-Some.is i.comes in
+    let h = comes_later z call r way k v a (Some e) many (state p) (state q) xs (learned_in call (call_of p) (state p) (state q) i.own.call (learns_only (call_of p) (state p) (state q) c.entry_key-this.ensures.only)) g in
+    let t = c.load_found.new.pass in let now : call_of q ≡ call = c.entry_key-this.ensures.own.call ∙ i.own.call in
+    let l = comes_later z call r way k v a (Some e) many (state q) (state t) xs (learned_in call (call_of q) (state q) (state t) now c.load_found.ensures.only) h in
+    let d = c.entry_bound-bound.new.pass in let then : call_of t ≡ call = c.load_found.ensures.own.call ∙ now in
+    let m = comes_later z call r way k v a (Some e) many (state t) (state d) xs (learned_in call (call_of t) (state t) (state d) then (learns_only (call_of t) (state t) (state d) c.entry_bound-bound.ensures.only)) l in
+    goes_has z call r v (state d) m.goes c.requires.ahead.has
+
+pub returns-in-Ends-clause-room : goal.returns-in-Ends-clause-room
+returns-in-Ends-clause-room c = let z : Sizes = sizes c.args.table.now in let call = call_of c.args.pass.now in let r = c.args.pin.now.room in let v = state c.args.pass.now in let p = c.loop-next.pass in let q = c.entry_key-this.new.pass in let way = c.args.way in let k = c.args.key.now in
+    let near = c.start_of-start.result.near in let a = cut_room way (room_at v) near in let n = c.loop-next.filled in let xs = take n (slots_of p) in let many = c.loop-next.passed in let e = c.in-Some.entry in let i = c.loop-next.invariant in
+    let g = subst (λ (o : Option EntryNo). Comes z call r way k v a o many (state p) xs) c.in-Some.is i.comes in
+    let h = comes_later z call r way k v a (Some e) many (state p) (state q) xs (learned_in call (call_of p) (state p) (state q) i.own.call (learns_only (call_of p) (state p) (state q) c.entry_key-this.ensures.only)) g in
+    let t = c.load_found.new.pass in let now : call_of q ≡ call = c.entry_key-this.ensures.own.call ∙ i.own.call in
+    let l = comes_later z call r way k v a (Some e) many (state q) (state t) xs (learned_in call (call_of q) (state q) (state t) now c.load_found.ensures.only) h in
+    let d = c.entry_bound-bound.new.pass in let then : call_of t ≡ call = c.load_found.ensures.own.call ∙ now in
+    let m = comes_later z call r way k v a (Some e) many (state t) (state d) xs (learned_in call (call_of t) (state t) (state d) then (learns_only (call_of t) (state t) (state d) c.entry_bound-bound.ensures.only)) l in
+    goes_room z call r v (state d) m.goes
+
+pub returns-in-Ends-clause-later : goal.returns-in-Ends-clause-later
+returns-in-Ends-clause-later c = let z : Sizes = sizes c.args.table.now in let call = call_of c.args.pass.now in let r = c.args.pin.now.room in let v = state c.args.pass.now in let p = c.loop-next.pass in let q = c.entry_key-this.new.pass in let way = c.args.way in let k = c.args.key.now in
+    let near = c.start_of-start.result.near in let a = cut_room way (room_at v) near in let n = c.loop-next.filled in let xs = take n (slots_of p) in let many = c.loop-next.passed in let e = c.in-Some.entry in let i = c.loop-next.invariant in
+    let g = subst (λ (o : Option EntryNo). Comes z call r way k v a o many (state p) xs) c.in-Some.is i.comes in
+    let h = comes_later z call r way k v a (Some e) many (state p) (state q) xs (learned_in call (call_of p) (state p) (state q) i.own.call (learns_only (call_of p) (state p) (state q) c.entry_key-this.ensures.only)) g in
+    let t = c.load_found.new.pass in let now : call_of q ≡ call = c.entry_key-this.ensures.own.call ∙ i.own.call in
+    let l = comes_later z call r way k v a (Some e) many (state q) (state t) xs (learned_in call (call_of q) (state q) (state t) now c.load_found.ensures.only) h in
+    let d = c.entry_bound-bound.new.pass in let then : call_of t ≡ call = c.load_found.ensures.own.call ∙ now in
+    let m = comes_later z call r way k v a (Some e) many (state t) (state d) xs (learned_in call (call_of t) (state t) (state d) then (learns_only (call_of t) (state t) (state d) c.entry_bound-bound.ensures.only)) l in
+    goes_later z call r v (state d) m.goes
+
+pub returns-in-Ends-clause-real : goal.returns-in-Ends-clause-real
+returns-in-Ends-clause-real c = let z : Sizes = sizes c.args.table.now in let call = call_of c.args.pass.now in let r = c.args.pin.now.room in let v = state c.args.pass.now in let p = c.loop-next.pass in let q = c.entry_key-this.new.pass in let way = c.args.way in let k = c.args.key.now in
+    let near = c.start_of-start.result.near in let a = cut_room way (room_at v) near in let n = c.loop-next.filled in let xs = take n (slots_of p) in let many = c.loop-next.passed in let e = c.in-Some.entry in let i = c.loop-next.invariant in
+    let g = subst (λ (o : Option EntryNo). Comes z call r way k v a o many (state p) xs) c.in-Some.is i.comes in
+    let h = comes_later z call r way k v a (Some e) many (state p) (state q) xs (learned_in call (call_of p) (state p) (state q) i.own.call (learns_only (call_of p) (state p) (state q) c.entry_key-this.ensures.only)) g in
+    let t = c.load_found.new.pass in let now : call_of q ≡ call = c.entry_key-this.ensures.own.call ∙ i.own.call in
+    let l = comes_later z call r way k v a (Some e) many (state q) (state t) xs (learned_in call (call_of q) (state q) (state t) now c.load_found.ensures.only) h in
+    let d = c.entry_bound-bound.new.pass in let then : call_of t ≡ call = c.load_found.ensures.own.call ∙ now in
+    let m = comes_later z call r way k v a (Some e) many (state t) (state d) xs (learned_in call (call_of t) (state t) (state d) then (learns_only (call_of t) (state t) (state d) c.entry_bound-bound.ensures.only)) l in
+    let b = key_bytes m.is.0.word m.is.0.words in let there = entry_kept r e.0 b (state d) (state t) (sym c.entry_bound-bound.ensures.only.rooms) (entry_here z call r way k v a e many (state d) xs m) in
+    let here = entry_kept r e.0 b (state t) (state q) (sym c.load_found.ensures.only.rooms) there in
+    let bound = c.entry_bound-bound.ensures.bound b there in
+    subst (λ (o : Option (List ℕ)). IsRoom (cut_room way (room_at v) o)) (sym bound) (end_real way b near (room_at v) (key_here_is z call r way k v a e many (state d) xs m) c.start_of-start.ensures.starts.real)
+
+pub returns-in-Ends-clause-covers : goal.returns-in-Ends-clause-covers
+returns-in-Ends-clause-covers c = let z : Sizes = sizes c.args.table.now in let call = call_of c.args.pass.now in let r = c.args.pin.now.room in let v = state c.args.pass.now in let p = c.loop-next.pass in let q = c.entry_key-this.new.pass in let way = c.args.way in let k = c.args.key.now in
+    let near = c.start_of-start.result.near in let a = cut_room way (room_at v) near in let n = c.loop-next.filled in let xs = take n (slots_of p) in let many = c.loop-next.passed in let e = c.in-Some.entry in let i = c.loop-next.invariant in
+    let g = subst (λ (o : Option EntryNo). Comes z call r way k v a o many (state p) xs) c.in-Some.is i.comes in
+    let h = comes_later z call r way k v a (Some e) many (state p) (state q) xs (learned_in call (call_of p) (state p) (state q) i.own.call (learns_only (call_of p) (state p) (state q) c.entry_key-this.ensures.only)) g in
+    let t = c.load_found.new.pass in let now : call_of q ≡ call = c.entry_key-this.ensures.own.call ∙ i.own.call in
+    let l = comes_later z call r way k v a (Some e) many (state q) (state t) xs (learned_in call (call_of q) (state q) (state t) now c.load_found.ensures.only) h in
+    let d = c.entry_bound-bound.new.pass in let then : call_of t ≡ call = c.load_found.ensures.own.call ∙ now in
+    let m = comes_later z call r way k v a (Some e) many (state t) (state d) xs (learned_in call (call_of t) (state t) (state d) then (learns_only (call_of t) (state t) (state d) c.entry_bound-bound.ensures.only)) l in
+    let b = key_bytes m.is.0.word m.is.0.words in let there = entry_kept r e.0 b (state d) (state t) (sym c.entry_bound-bound.ensures.only.rooms) (entry_here z call r way k v a e many (state d) xs m) in
+    let here = entry_kept r e.0 b (state t) (state q) (sym c.load_found.ensures.only.rooms) there in
+    let ends = subst (λ (o : Outcome). LoadsEntry o record { slot = n; full = leb c.args.many n; way = way } k b (slots_of q) (slots_of t) (view_of z (call_of q) (state q)) (view_of z (call_of q) (state t))) c.in-Ends.is (c.load_found.ensures.loads k b c.of-from.ensures (is_key-is k c.requires.key).0 here) in
+    let bound = c.entry_bound-bound.ensures.bound b there in
+    subst (λ (o : Option (List ℕ)). Covers way true k (cut_room way (room_at v) o)) (sym bound) (end_covers way _ k b near (room_at v) ends.1 c.start_of-start.ensures.starts.covers)
+
+pub returns-in-Ends-clause-gathered : goal.returns-in-Ends-clause-gathered
+returns-in-Ends-clause-gathered c = let z : Sizes = sizes c.args.table.now in let call = call_of c.args.pass.now in let r = c.args.pin.now.room in let v = state c.args.pass.now in let p = c.loop-next.pass in let q = c.entry_key-this.new.pass in let way = c.args.way in let k = c.args.key.now in
+    let near = c.start_of-start.result.near in let a = cut_room way (room_at v) near in let n = c.loop-next.filled in let xs = take n (slots_of p) in let many = c.loop-next.passed in let e = c.in-Some.entry in let i = c.loop-next.invariant in
+    let g = subst (λ (o : Option EntryNo). Comes z call r way k v a o many (state p) xs) c.in-Some.is i.comes in
+    let h = comes_later z call r way k v a (Some e) many (state p) (state q) xs (learned_in call (call_of p) (state p) (state q) i.own.call (learns_only (call_of p) (state p) (state q) c.entry_key-this.ensures.only)) g in
+    let t = c.load_found.new.pass in let now : call_of q ≡ call = c.entry_key-this.ensures.own.call ∙ i.own.call in
+    let l = comes_later z call r way k v a (Some e) many (state q) (state t) xs (learned_in call (call_of q) (state q) (state t) now c.load_found.ensures.only) h in
+    let d = c.entry_bound-bound.new.pass in let then : call_of t ≡ call = c.load_found.ensures.own.call ∙ now in
+    let m = comes_later z call r way k v a (Some e) many (state t) (state d) xs (learned_in call (call_of t) (state t) (state d) then (learns_only (call_of t) (state t) (state d) c.entry_bound-bound.ensures.only)) l in
+    let b = key_bytes m.is.0.word m.is.0.words in let there = entry_kept r e.0 b (state d) (state t) (sym c.entry_bound-bound.ensures.only.rooms) (entry_here z call r way k v a e many (state d) xs m) in
+    let here = entry_kept r e.0 b (state t) (state q) (sym c.load_found.ensures.only.rooms) there in
+    let ends = subst (λ (o : Outcome). LoadsEntry o record { slot = n; full = leb c.args.many n; way = way } k b (slots_of q) (slots_of t) (view_of z (call_of q) (state q)) (view_of z (call_of q) (state t))) c.in-Ends.is (c.load_found.ensures.loads k b c.of-from.ensures (is_key-is k c.requires.key).0 here) in
+    let bound = c.entry_bound-bound.ensures.bound b there in
+    let u = cut_room way (room_at v) (end_bound way b near) in
+    subst (λ (o : Option (List ℕ)). IsGathered way (view_of z call v) (view_of z call (state d)) (ahead_from way k (bound_in way (cut_room way (room_at v) o))) (ahead_past way k (bound_in way (cut_room way (room_at v) o))) (slots_ahead way 0 n (slots_of d))) (sym bound)
+    (gathered_slots (view_of z call v) (view_of z call (state d)) (from_of way k u) (past_of way k u) way n (slots_of d) xs (ap (take n) (c.entry_bound-bound.ensures.own.sorting ∙ (ends.0 ∙ c.entry_key-this.ensures.own.sorting))) (loaded_end z call r k v near e many (state d) xs _ way m ends.1))
+
+pub returns-in-Ends-clause-still : goal.returns-in-Ends-clause-still
+returns-in-Ends-clause-still c = let z : Sizes = sizes c.args.table.now in let call = call_of c.args.pass.now in let r = c.args.pin.now.room in let v = state c.args.pass.now in let p = c.loop-next.pass in let q = c.entry_key-this.new.pass in let way = c.args.way in let k = c.args.key.now in
+    let near = c.start_of-start.result.near in let a = cut_room way (room_at v) near in let n = c.loop-next.filled in let xs = take n (slots_of p) in let many = c.loop-next.passed in let e = c.in-Some.entry in let i = c.loop-next.invariant in
+    let g = subst (λ (o : Option EntryNo). Comes z call r way k v a o many (state p) xs) c.in-Some.is i.comes in
+    let h = comes_later z call r way k v a (Some e) many (state p) (state q) xs (learned_in call (call_of p) (state p) (state q) i.own.call (learns_only (call_of p) (state p) (state q) c.entry_key-this.ensures.only)) g in
+    let t = c.load_found.new.pass in let now : call_of q ≡ call = c.entry_key-this.ensures.own.call ∙ i.own.call in
+    let l = comes_later z call r way k v a (Some e) many (state q) (state t) xs (learned_in call (call_of q) (state q) (state t) now c.load_found.ensures.only) h in
+    let d = c.entry_bound-bound.new.pass in let then : call_of t ≡ call = c.load_found.ensures.own.call ∙ now in
+    let m = comes_later z call r way k v a (Some e) many (state t) (state d) xs (learned_in call (call_of t) (state t) (state d) then (learns_only (call_of t) (state t) (state d) c.entry_bound-bound.ensures.only)) l in
+    m.goes.still
 
 pub overflow_add-passed : goal.overflow_add-passed
 overflow_add-passed c = let z : Sizes = sizes c.args.table.now in let call = call_of c.args.pass.now in let r = c.args.pin.now.room in let v = state c.args.pass.now in let p = c.loop-next.pass in let q = c.entry_key-this.new.pass in let way = c.args.way in let k = c.args.key.now in
     let near = c.start_of-start.result.near in let a = cut_room way (room_at v) near in let n = c.loop-next.filled in let xs = take n (slots_of p) in let many = c.loop-next.passed in let e = c.in-Some.entry in let i = c.loop-next.invariant in
     let g = subst (λ (o : Option EntryNo). Comes z call r way k v a o many (state p) xs) c.in-Some.is i.comes in
-    let h = comes_later z call r way k v a (Some e) many (state p) (state q) xs (learned_in call (call_of p) (state p) (state q) i.own.call (learns_only (call_of p) (state p) (state q) c.entry_key-this.ensures.only)) g in
-    let b = key_bytes h.is.0.word h.is.0.words in let stored = c.entry_key-this.ensures.key b (entry_kept r e.0 b (state q) (state p) (sym c.entry_key-this.ensures.only.rooms) (entry_here z call r way k v a e many (state q) xs h)) in
     let m = many_more z call r way k v a e many (state p) xs g in omega arith
 
 pub loop-next-smaller : goal.loop-next-smaller
 loop-next-smaller c = let z : Sizes = sizes c.args.table.now in let call = call_of c.args.pass.now in let r = c.args.pin.now.room in let v = state c.args.pass.now in let p = c.loop-next.pass in let q = c.entry_key-this.new.pass in let way = c.args.way in let k = c.args.key.now in
     let near = c.start_of-start.result.near in let a = cut_room way (room_at v) near in let n = c.loop-next.filled in let xs = take n (slots_of p) in let many = c.loop-next.passed in let e = c.in-Some.entry in let i = c.loop-next.invariant in
     let g = subst (λ (o : Option EntryNo). Comes z call r way k v a o many (state p) xs) c.in-Some.is i.comes in
-    let h = comes_later z call r way k v a (Some e) many (state p) (state q) xs (learned_in call (call_of p) (state p) (state q) i.own.call (learns_only (call_of p) (state p) (state q) c.entry_key-this.ensures.only)) g in
-    let b = key_bytes h.is.0.word h.is.0.words in let stored = c.entry_key-this.ensures.key b (entry_kept r e.0 b (state q) (state p) (sym c.entry_key-this.ensures.only.rooms) (entry_here z call r way k v a e many (state q) xs h)) in
     let m = many_more z call r way k v a e many (state p) xs g in omega arith
 
 -- and behind it the next
@@ -215,24 +262,22 @@ next_entry-next-requires-clause-pinned c = let z : Sizes = sizes c.args.table.no
     let near = c.start_of-start.result.near in let a = cut_room way (room_at v) near in let n = c.loop-next.filled in let xs = take n (slots_of p) in let many = c.loop-next.passed in let e = c.in-Some.entry in let i = c.loop-next.invariant in
     let g = subst (λ (o : Option EntryNo). Comes z call r way k v a o many (state p) xs) c.in-Some.is i.comes in
     let h = comes_later z call r way k v a (Some e) many (state p) (state q) xs (learned_in call (call_of p) (state p) (state q) i.own.call (learns_only (call_of p) (state p) (state q) c.entry_key-this.ensures.only)) g in
-    let b = key_bytes h.is.0.word h.is.0.words in let stored = c.entry_key-this.ensures.key b (entry_kept r e.0 b (state q) (state p) (sym c.entry_key-this.ensures.only.rooms) (entry_here z call r way k v a e many (state q) xs h)) in
-    let t = c.load_slot.new.pass in let y = c.match-load_slot.pass in let m = c.match-load_slot.filled in
+    let b = key_bytes h.is.0.word h.is.0.words in
+    let t = c.load_found.new.pass in let y = t in let m = c.match-load_found.filled in
     let now : call_of q ≡ call = c.entry_key-this.ensures.own.call ∙ i.own.call in
-    let learns = learned_in call (call_of q) (state q) (state t) now c.load_slot.ensures.only in
-    let loads = subst (λ (j : ℕ). LoadsSlot c.load_slot.result way k b (view_of z j (state q)) (view_of z j (state t))) now (c.load_slot.ensures.loads k b c.of-from.ensures (is_key-is k c.requires.key).0 (entry_here z call r way k v a e many (state q) xs h)) in
-    let same : slots_of t ≡ slots_of p = c.load_slot.ensures.own.sorting ∙ c.entry_key-this.ensures.own.sorting in
+    let learns = learned_in call (call_of q) (state q) (state t) now c.load_found.ensures.only in
+    let loads = subst (λ (j : ℕ). LoadsEntry c.load_found.result record { slot = n; full = leb c.args.many n; way = way } k b (slots_of q) (slots_of t) (view_of z j (state q)) (view_of z j (state t))) now (c.load_found.ensures.loads k b c.of-from.ensures (is_key-is k c.requires.key).0 (entry_here z call r way k v a e many (state q) xs h)) in
+    let same : slots_of q ≡ slots_of p = c.entry_key-this.ensures.own.sorting in
     let mm = many_more z call r way k v a e many (state p) xs g in
-    let walked : Walked z call r way k v a e (suc many) (state y) (take m (slots_of y)) = elim c.match-load_slot.branch [
-      | in-Some-load_slot w ↦ let slot = w.in-Some-load_slot.slot in
-          let is : slots_of y ≡ set (slots_of p) n slot = ap slots_of w.pass-is ∙ (w.set.ensures ∙ ap (λ (zs : List SortSlot). set zs n slot) (w.sorting_mut.ensures.value ∙ same)) in
-          let me : state y ≡ state t = ap state w.pass-is in let lt : n < length (slots_of p) = (let f = i.few in let l = i.long in omega arith) in
+    let lt : n < length (slots_of p) = (let f = i.few in let l = i.long in omega arith) in
+    let walked : Walked z call r way k v a e (suc many) (state y) (take m (slots_of y)) = elim c.match-load_found.branch [
+      | in-Kept w ↦ let kept = subst (λ (o : Outcome). LoadsEntry o record { slot = n; full = leb c.args.many n; way = way } k b (slots_of q) (slots_of t) (view_of z call (state q)) (view_of z call (state t))) w.in-Kept.is loads in let slot = kept.0 in
+          let is : slots_of y ≡ set (slots_of p) n slot = kept.1 ∙ ap (λ (zs : List SortSlot). set zs n slot) same in
           subst (λ (zs : List SortSlot). Walked z call r way k v a e (suc many) (state y) zs) (sym (slots_more (slots_of p) (slots_of y) n m slot is w.filled-is lt))
-          (subst (λ (s : PassState). Walked z call r way k v a e (suc many) s (xs ++ slot ∷ [])) (sym me)
-          (walked_more z call r way k v a e many (state q) xs h (state t) learns slot (subst (λ (s : Option SortSlot). LoadsSlot s way k b (view_of z call (state q)) (view_of z call (state t))) w.in-Some-load_slot.is loads)))
-      | in_default-load_slot w ↦ let me : state y ≡ state t = ap state w.pass-is in let is : slots_of y ≡ slots_of p = ap slots_of w.pass-is ∙ same in
+          (walked_more z call r way k v a e many (state q) xs h (state t) learns slot kept.2)
+      | in-Passed w ↦ let passed = subst (λ (o : Outcome). LoadsEntry o record { slot = n; full = leb c.args.many n; way = way } k b (slots_of q) (slots_of t) (view_of z call (state q)) (view_of z call (state t))) w.in-Passed.is loads in let is : slots_of y ≡ slots_of p = passed.0 ∙ same in
           subst (λ (zs : List SortSlot). Walked z call r way k v a e (suc many) (state y) zs) (λ j. take (sym w.filled-is j) (sym is j))
-          (subst (λ (s : PassState). Walked z call r way k v a e (suc many) s xs) (sym me)
-          (walked_past z call r way k v a e many (state q) xs h (state t) learns (subst (λ (s : Option SortSlot). LoadsSlot s way k b (view_of z call (state q)) (view_of z call (state t))) w.in_default-load_slot.is loads)))
+          (walked_past z call r way k v a e many (state q) xs h (state t) learns passed.1)
     ] in
     walked.goes.under.pin.has
 
@@ -241,24 +286,22 @@ next_entry-next-requires-clause-from c = let z : Sizes = sizes c.args.table.now 
     let near = c.start_of-start.result.near in let a = cut_room way (room_at v) near in let n = c.loop-next.filled in let xs = take n (slots_of p) in let many = c.loop-next.passed in let e = c.in-Some.entry in let i = c.loop-next.invariant in
     let g = subst (λ (o : Option EntryNo). Comes z call r way k v a o many (state p) xs) c.in-Some.is i.comes in
     let h = comes_later z call r way k v a (Some e) many (state p) (state q) xs (learned_in call (call_of p) (state p) (state q) i.own.call (learns_only (call_of p) (state p) (state q) c.entry_key-this.ensures.only)) g in
-    let b = key_bytes h.is.0.word h.is.0.words in let stored = c.entry_key-this.ensures.key b (entry_kept r e.0 b (state q) (state p) (sym c.entry_key-this.ensures.only.rooms) (entry_here z call r way k v a e many (state q) xs h)) in
-    let t = c.load_slot.new.pass in let y = c.match-load_slot.pass in let m = c.match-load_slot.filled in
+    let b = key_bytes h.is.0.word h.is.0.words in
+    let t = c.load_found.new.pass in let y = t in let m = c.match-load_found.filled in
     let now : call_of q ≡ call = c.entry_key-this.ensures.own.call ∙ i.own.call in
-    let learns = learned_in call (call_of q) (state q) (state t) now c.load_slot.ensures.only in
-    let loads = subst (λ (j : ℕ). LoadsSlot c.load_slot.result way k b (view_of z j (state q)) (view_of z j (state t))) now (c.load_slot.ensures.loads k b c.of-from.ensures (is_key-is k c.requires.key).0 (entry_here z call r way k v a e many (state q) xs h)) in
-    let same : slots_of t ≡ slots_of p = c.load_slot.ensures.own.sorting ∙ c.entry_key-this.ensures.own.sorting in
+    let learns = learned_in call (call_of q) (state q) (state t) now c.load_found.ensures.only in
+    let loads = subst (λ (j : ℕ). LoadsEntry c.load_found.result record { slot = n; full = leb c.args.many n; way = way } k b (slots_of q) (slots_of t) (view_of z j (state q)) (view_of z j (state t))) now (c.load_found.ensures.loads k b c.of-from.ensures (is_key-is k c.requires.key).0 (entry_here z call r way k v a e many (state q) xs h)) in
+    let same : slots_of q ≡ slots_of p = c.entry_key-this.ensures.own.sorting in
     let mm = many_more z call r way k v a e many (state p) xs g in
-    let walked : Walked z call r way k v a e (suc many) (state y) (take m (slots_of y)) = elim c.match-load_slot.branch [
-      | in-Some-load_slot w ↦ let slot = w.in-Some-load_slot.slot in
-          let is : slots_of y ≡ set (slots_of p) n slot = ap slots_of w.pass-is ∙ (w.set.ensures ∙ ap (λ (zs : List SortSlot). set zs n slot) (w.sorting_mut.ensures.value ∙ same)) in
-          let me : state y ≡ state t = ap state w.pass-is in let lt : n < length (slots_of p) = (let f = i.few in let l = i.long in omega arith) in
+    let lt : n < length (slots_of p) = (let f = i.few in let l = i.long in omega arith) in
+    let walked : Walked z call r way k v a e (suc many) (state y) (take m (slots_of y)) = elim c.match-load_found.branch [
+      | in-Kept w ↦ let kept = subst (λ (o : Outcome). LoadsEntry o record { slot = n; full = leb c.args.many n; way = way } k b (slots_of q) (slots_of t) (view_of z call (state q)) (view_of z call (state t))) w.in-Kept.is loads in let slot = kept.0 in
+          let is : slots_of y ≡ set (slots_of p) n slot = kept.1 ∙ ap (λ (zs : List SortSlot). set zs n slot) same in
           subst (λ (zs : List SortSlot). Walked z call r way k v a e (suc many) (state y) zs) (sym (slots_more (slots_of p) (slots_of y) n m slot is w.filled-is lt))
-          (subst (λ (s : PassState). Walked z call r way k v a e (suc many) s (xs ++ slot ∷ [])) (sym me)
-          (walked_more z call r way k v a e many (state q) xs h (state t) learns slot (subst (λ (s : Option SortSlot). LoadsSlot s way k b (view_of z call (state q)) (view_of z call (state t))) w.in-Some-load_slot.is loads)))
-      | in_default-load_slot w ↦ let me : state y ≡ state t = ap state w.pass-is in let is : slots_of y ≡ slots_of p = ap slots_of w.pass-is ∙ same in
+          (walked_more z call r way k v a e many (state q) xs h (state t) learns slot kept.2)
+      | in-Passed w ↦ let passed = subst (λ (o : Outcome). LoadsEntry o record { slot = n; full = leb c.args.many n; way = way } k b (slots_of q) (slots_of t) (view_of z call (state q)) (view_of z call (state t))) w.in-Passed.is loads in let is : slots_of y ≡ slots_of p = passed.0 ∙ same in
           subst (λ (zs : List SortSlot). Walked z call r way k v a e (suc many) (state y) zs) (λ j. take (sym w.filled-is j) (sym is j))
-          (subst (λ (s : PassState). Walked z call r way k v a e (suc many) s xs) (sym me)
-          (walked_past z call r way k v a e many (state q) xs h (state t) learns (subst (λ (s : Option SortSlot). LoadsSlot s way k b (view_of z call (state q)) (view_of z call (state t))) w.in_default-load_slot.is loads)))
+          (walked_past z call r way k v a e many (state q) xs h (state t) learns passed.1)
     ] in
     (key_bytes walked.last.word walked.last.words, record { entry = walked.last; finds = walked.finds; key_is = refl })
 
@@ -267,32 +310,31 @@ loop-next-preserved c = let z : Sizes = sizes c.args.table.now in let call = cal
     let near = c.start_of-start.result.near in let a = cut_room way (room_at v) near in let n = c.loop-next.filled in let xs = take n (slots_of p) in let many = c.loop-next.passed in let e = c.in-Some.entry in let i = c.loop-next.invariant in
     let g = subst (λ (o : Option EntryNo). Comes z call r way k v a o many (state p) xs) c.in-Some.is i.comes in
     let h = comes_later z call r way k v a (Some e) many (state p) (state q) xs (learned_in call (call_of p) (state p) (state q) i.own.call (learns_only (call_of p) (state p) (state q) c.entry_key-this.ensures.only)) g in
-    let b = key_bytes h.is.0.word h.is.0.words in let stored = c.entry_key-this.ensures.key b (entry_kept r e.0 b (state q) (state p) (sym c.entry_key-this.ensures.only.rooms) (entry_here z call r way k v a e many (state q) xs h)) in
-    let t = c.load_slot.new.pass in let y = c.match-load_slot.pass in let m = c.match-load_slot.filled in
+    let b = key_bytes h.is.0.word h.is.0.words in
+    let t = c.load_found.new.pass in let y = t in let m = c.match-load_found.filled in
     let now : call_of q ≡ call = c.entry_key-this.ensures.own.call ∙ i.own.call in
-    let learns = learned_in call (call_of q) (state q) (state t) now c.load_slot.ensures.only in
-    let loads = subst (λ (j : ℕ). LoadsSlot c.load_slot.result way k b (view_of z j (state q)) (view_of z j (state t))) now (c.load_slot.ensures.loads k b c.of-from.ensures (is_key-is k c.requires.key).0 (entry_here z call r way k v a e many (state q) xs h)) in
-    let same : slots_of t ≡ slots_of p = c.load_slot.ensures.own.sorting ∙ c.entry_key-this.ensures.own.sorting in
+    let learns = learned_in call (call_of q) (state q) (state t) now c.load_found.ensures.only in
+    let loads = subst (λ (j : ℕ). LoadsEntry c.load_found.result record { slot = n; full = leb c.args.many n; way = way } k b (slots_of q) (slots_of t) (view_of z j (state q)) (view_of z j (state t))) now (c.load_found.ensures.loads k b c.of-from.ensures (is_key-is k c.requires.key).0 (entry_here z call r way k v a e many (state q) xs h)) in
+    let same : slots_of q ≡ slots_of p = c.entry_key-this.ensures.own.sorting in
     let mm = many_more z call r way k v a e many (state p) xs g in
-    let walked : Walked z call r way k v a e (suc many) (state y) (take m (slots_of y)) = elim c.match-load_slot.branch [
-      | in-Some-load_slot w ↦ let slot = w.in-Some-load_slot.slot in
-          let is : slots_of y ≡ set (slots_of p) n slot = ap slots_of w.pass-is ∙ (w.set.ensures ∙ ap (λ (zs : List SortSlot). set zs n slot) (w.sorting_mut.ensures.value ∙ same)) in
-          let me : state y ≡ state t = ap state w.pass-is in let lt : n < length (slots_of p) = (let f = i.few in let l = i.long in omega arith) in
+    let lt : n < length (slots_of p) = (let f = i.few in let l = i.long in omega arith) in
+    let walked : Walked z call r way k v a e (suc many) (state y) (take m (slots_of y)) = elim c.match-load_found.branch [
+      | in-Kept w ↦ let kept = subst (λ (o : Outcome). LoadsEntry o record { slot = n; full = leb c.args.many n; way = way } k b (slots_of q) (slots_of t) (view_of z call (state q)) (view_of z call (state t))) w.in-Kept.is loads in let slot = kept.0 in
+          let is : slots_of y ≡ set (slots_of p) n slot = kept.1 ∙ ap (λ (zs : List SortSlot). set zs n slot) same in
           subst (λ (zs : List SortSlot). Walked z call r way k v a e (suc many) (state y) zs) (sym (slots_more (slots_of p) (slots_of y) n m slot is w.filled-is lt))
-          (subst (λ (s : PassState). Walked z call r way k v a e (suc many) s (xs ++ slot ∷ [])) (sym me)
-          (walked_more z call r way k v a e many (state q) xs h (state t) learns slot (subst (λ (s : Option SortSlot). LoadsSlot s way k b (view_of z call (state q)) (view_of z call (state t))) w.in-Some-load_slot.is loads)))
-      | in_default-load_slot w ↦ let me : state y ≡ state t = ap state w.pass-is in let is : slots_of y ≡ slots_of p = ap slots_of w.pass-is ∙ same in
+          (walked_more z call r way k v a e many (state q) xs h (state t) learns slot kept.2)
+      | in-Passed w ↦ let passed = subst (λ (o : Outcome). LoadsEntry o record { slot = n; full = leb c.args.many n; way = way } k b (slots_of q) (slots_of t) (view_of z call (state q)) (view_of z call (state t))) w.in-Passed.is loads in let is : slots_of y ≡ slots_of p = passed.0 ∙ same in
           subst (λ (zs : List SortSlot). Walked z call r way k v a e (suc many) (state y) zs) (λ j. take (sym w.filled-is j) (sym is j))
-          (subst (λ (s : PassState). Walked z call r way k v a e (suc many) s xs) (sym me)
-          (walked_past z call r way k v a e many (state q) xs h (state t) learns (subst (λ (s : Option SortSlot). LoadsSlot s way k b (view_of z call (state q)) (view_of z call (state t))) w.in_default-load_slot.is loads)))
+          (walked_past z call r way k v a e many (state q) xs h (state t) learns passed.1)
     ] in
     let d = c.next_entry-next.new.pass in let s = c.start_of-start.ensures.starts in let o = c.args.pass.now in
-    let own_q = slots_kept o p q i.own c.entry_key-this.ensures.own q refl in
-    let parts : StaysButSlots o y × (length (slots_of y) ≡ GREATEST_ENTRIES) × (m ≤ many + 1) = elim c.match-load_slot.branch [
-      | in-Some-load_slot w ↦ let slot = w.in-Some-load_slot.slot in let is : slots_of y ≡ set (slots_of p) n slot = ap slots_of w.pass-is ∙ (w.set.ensures ∙ ap (λ (zs : List SortSlot). set zs n slot) (w.sorting_mut.ensures.value ∙ same)) in
-          (slots_put o q t own_q c.load_slot.ensures.own y w.set.new.self w.pass-is, ap length is ∙ (length-set (slots_of p) n slot ∙ i.long), (let f = i.few in let d = w.filled-is in omega arith))
-      | in_default-load_slot w ↦ let is : slots_of y ≡ slots_of p = ap slots_of w.pass-is ∙ same in
-          (slots_kept o q t own_q c.load_slot.ensures.own y w.pass-is, ap length is ∙ i.long, (let f = i.few in let d = w.filled-is in omega arith))
+    let own_t = but_both o q t (slots_kept o p q i.own c.entry_key-this.ensures.own q refl) c.load_found.ensures.own in
+    let parts : StaysButSlots o y × (length (slots_of y) ≡ GREATEST_ENTRIES) × (m ≤ many + 1) = elim c.match-load_found.branch [
+      | in-Kept w ↦ let kept = subst (λ (o : Outcome). LoadsEntry o record { slot = n; full = leb c.args.many n; way = way } k b (slots_of q) (slots_of t) (view_of z call (state q)) (view_of z call (state t))) w.in-Kept.is loads in let slot = kept.0 in
+          let is : slots_of y ≡ set (slots_of p) n slot = kept.1 ∙ ap (λ (zs : List SortSlot). set zs n slot) same in
+          (own_t, ap length is ∙ (length-set (slots_of p) n slot ∙ i.long), (let f = i.few in let d = w.filled-is in omega arith))
+      | in-Passed w ↦ let passed = subst (λ (o : Outcome). LoadsEntry o record { slot = n; full = leb c.args.many n; way = way } k b (slots_of q) (slots_of t) (view_of z call (state q)) (view_of z call (state t))) w.in-Passed.is loads in
+          (own_t, ap length (passed.0 ∙ same) ∙ i.long, (let f = i.few in let d = w.filled-is in omega arith))
     ] in
     let yc : call_of y ≡ call = parts.0.call in let next = c.next_entry-next.ensures in let count : suc many ≡ many + 1 = omega arith in let slots = next.own.sorting in
     let steps = subst (λ (j : ℕ). StepsTo z j r (Some e) c.next_entry-next.result (state y) (state d)) yc next.steps in
