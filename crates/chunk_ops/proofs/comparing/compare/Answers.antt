@@ -1,6 +1,5 @@
-use Rattle.std.proofs.Common.{◌≡◌, ℕ, [], ◌+◌, ◌*◌, ◌<◌, List, length, refl, sym, ◌∙◌, subst, arith}
-use Rattle.chunk_ops.specs.Comparing.{AreTied, Loaded}
-use Rattle.chunk_ops.specs.Reads.{LoadsKey}
+use Rattle.std.proofs.Common.{◌≡◌, ℕ, [], ◌+◌, ◌<◌, List, length, refl, ◌∙◌, subst, arith}
+use Rattle.chunk_ops.specs.Comparing.{AreTied}
 use Rattle.chunk_ops.specs.Room.{Room, key_at}
 use Rattle.arena_core.specs.Words.{word_at}
 use Rattle.chunk_ops.proofs.CompareFacts.{slice_bytes, stored_long, first_of, tied_in, order_behind, loads_behind, first_less, first_greater}

@@ -1,4 +1,4 @@
-use Rattle.std.proofs.Common.{◌≡◌, ℕ, ◌+◌, ◌*◌, length, refl, sym, ◌∙◌, ap, arith}
+use Rattle.std.proofs.Common.{◌≡◌, ◌+◌, ◌*◌, length, sym, ◌∙◌, arith}
 use Rattle.std.specs.declared.cmp.Ordering.{Ordering}
 use Rattle.chunk_ops.specs.Room.{Room, key_at}
 use Rattle.chunk_ops.proofs.CompareFacts.{slice_bytes, stored_long, words_order, agree_more, tied_words, order_step, lengths_last}

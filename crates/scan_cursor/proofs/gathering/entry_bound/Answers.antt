@@ -1,4 +1,4 @@
-use Rattle.std.proofs.Common.{◌≡◌, List, ℕ, Option, Some, arith, sym, subst, ap}
+use Rattle.std.proofs.Common.{◌≡◌, Some, arith, sym, subst, ap}
 use Rattle.scan_cursor.specs.declared.ways.Way.{Way}
 use Rattle.scan_cursor.specs.Batches.{end_bound}
 use Rattle.scan_cursor.proofs.gathering.entry_bound.Goals as goal

@@ -1,4 +1,4 @@
-use Rattle.std.proofs.Common.{◌≡◌, ◌<◌, ◌≤◌, ◌+◌, ◌++◌, ◌∷◌, [], ℕ, leb, List, length, set, take, Option, Some, suc, sym, refl, ap, ◌∙◌, subst, true, arith}
+use Rattle.std.proofs.Common.{◌≡◌, ◌<◌, ◌≤◌, ◌+◌, ℕ, leb, List, length, set, take, Option, Some, suc, sym, refl, ap, ◌∙◌, subst, true, arith}
 use Rattle.std.proofs.lemmas.Bool.{leb-true}
 use Rattle.std.proofs.lemmas.List.{length-set}
 use Rattle.oak_model.specs.declared.limits.TheConstants.{GREATEST_ENTRIES}

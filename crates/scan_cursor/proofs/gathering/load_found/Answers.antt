@@ -1,6 +1,6 @@
-use Rattle.std.proofs.Common.{◌≡◌, ◌∙◌, ℕ, List, ap, arith, get_or, refl, set, sym}
+use Rattle.std.proofs.Common.{◌≡◌, ◌∙◌, ℕ, List, ap, arith, get_or, refl}
 use Rattle.arena_core.specs.Words.{word_at}
-use Rattle.chunk_ops.specs.Stored.{IsStored, key_words}
+use Rattle.chunk_ops.specs.Stored.{key_words}
 use Rattle.oak_model.specs.Counts.{rows}
 use Rattle.chunk_ops.proofs.StoredLaws.{filled_all, filled_more, filled_none}
 use Rattle.scan_cursor.proofs.gathering.load_found.Goals as goal

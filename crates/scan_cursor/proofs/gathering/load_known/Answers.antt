@@ -1,4 +1,4 @@
-use Rattle.std.proofs.Common.{◌≡◌, ◌∙◌, ℕ, List, Option, ap, refl, set, subst, sym}
+use Rattle.std.proofs.Common.{◌∙◌, List, Option, ap, refl, set, subst, sym}
 use Rattle.oak_model.specs.Limits.{Sizes}
 use Rattle.oak_core.specs.declared.sorting.SortSlot.{SortSlot}
 use Rattle.oak_core.specs.Passes.{call_of, key as sizes, state}
