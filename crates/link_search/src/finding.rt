@@ -28,6 +28,7 @@ pub(crate) fn before(many: u32) -> Option<u32>
 /// where a link that was loaded in the call leads from a smaller key, or from the low bound, to a greater
 /// one, or to the high bound, and no entry that was found has the key. That link is of the entry behind
 /// which the key belongs, and none that was found lies between the two. The call makes loads alone.
+#[inline(always)] // an answer goes through memory at a call
 pub fn find<R: LinkedRoom>(room: &mut R, key: &[u8]) -> Sought
     requires pinned { R.pinned room.old }
     ensures pinned { R.pinned room.new }
