@@ -102,7 +102,8 @@ fn take_in_word(table: &OakTable, pass: &mut Pass, class: Class, i: u32) -> Opti
     None
 }
 
-/// Takes a block of the words from `from` on, and below `to`.
+/// Takes a block of the words from `from` on, and below `to`. Few searches come to it.
+#[inline(never)]
 fn take_between(table: &OakTable, pass: &mut Pass, class: Class, from: u32, to: u32) -> Option<u32>
     requires own { IsPassOf table.now pass.old }
     requires inside { to ≤ bit_words (key table.now) (class_number class) }
@@ -122,6 +123,7 @@ fn take_between(table: &OakTable, pass: &mut Pass, class: Class, from: u32, to: 
 
 /// Takes a block of the class. The search begins where the pass's last one ended, with the block
 /// behind the one taken there, and goes round once.
+#[inline(always)] // an answer goes through memory at a call
 pub(crate) fn search(table: &OakTable, pass: &mut Pass, class: Class) -> Option<u32>
     requires own { IsPassOf table.now pass.old }
     ensures own { Stays pass.old pass.new }
