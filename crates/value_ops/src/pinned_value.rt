@@ -26,6 +26,7 @@ pub struct PinnedValue {
 
 impl HeaderPin {
     /// Loads where the value lies that the header had at the pin. It makes loads alone.
+    #[inline(always)] // once for each pair of a scan
     pub fn value(self, table: &OakTable, pass: &mut Pass) -> PinnedValue
         requires own { IsPassOf table.now pass.old }
         requires pinned { (p : PinnedHeader) × HasPin (key table.now) self.header self.generation p (state pass.old) }
