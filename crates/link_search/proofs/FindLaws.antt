@@ -1,5 +1,5 @@
 -- From the halved prefix to the walk, and the loads of both.
-use Rattle.std.proofs.Common.{◌≡◌, ℕ, ◌+◌, ◌<◌, ◌≤◌, true, false, List, [], ◌∷◌, ◌++◌, Option, Some, None, MatchOption, refl, ap, ◌∙◌, subst, arith}
+use Rattle.std.proofs.Common.{◌≡◌, ℕ, ◌+◌, ◌-◌, ◌<◌, ◌≤◌, true, false, List, [], ◌∷◌, ◌++◌, Option, Some, None, MatchOption, refl, ap, ◌∙◌, subst, arith}
 use mathlib.Core.Logic.{dite}
 use native.Mathlib.Decide.{ℕ_discrete, dec_lt}
 use Rattle.std.specs.declared.cmp.Ordering.TheVariants.{Less, Equal, Greater}
@@ -14,7 +14,7 @@ use Rattle.link_search.specs.Finds.{IsAt, IsBetween, LoadsFew}
 use Rattle.link_search.specs.Linked.{Linked, Later, FrontStands, IsAboveFrom, IsFound, IsFront, IsCut, IsBare, IsSplit}
 use Rattle.link_search.specs.Met.{Met, met_count, met_link, key_loads, IsLoad, IsEntryLoad}
 use Rattle.link_search.specs.Ties.{passes, lower_at, IsPassed}
-use Rattle.link_search.specs.Walks.{Walks}
+use Rattle.link_search.specs.Walks.{Walks, StopsAt}
 use Rattle.link_search.proofs.OrderLaws.{before_trans, not_before, not_both, turned_back, tied}
 use Rattle.link_search.proofs.StepLaws.{entries_load}
 use Rattle.link_search.proofs.WalkLaws.{above_sooner, cut_grown, from_found, grown_later, loads_append, no_loads, later_same, passed_later, passed_few}
@@ -60,6 +60,13 @@ split_all r tie n e = record { within = omega arith; lower = λ j l. greater_pas
 
 pub split_between : (r : Linked) (tie : Tie) (k : List ℕ) (n : ℕ) → IsBetween r k n → IsSplit r (IsPassed tie (Some k)) n
 split_between r tie k n b = record { within = b.within; lower = λ j l. lower_passed tie k (r.key j) (b.below j l); upper = λ j a l p. upper_not tie k (r.key j) (b.above j a l) p }
+
+-- a walk stops at the entry of the prefix behind the smaller ones
+pub stops_behind : (r : Linked) (front : IsFront r) (k : List ℕ) (n : ℕ) → IsBetween r k n → (prefix link : ℕ) → prefix ≡ r.prefix → (n < prefix → link ≡ n + 1) → (prefix ≤ n → link ≡ 0) → StopsAt r (Some k) link
+stops_behind r front k n b prefix link e named none some = dite (dec_lt n prefix)
+    (λ less. let is = named less in let at : n ≡ link - 1 = omega arith in
+    (subst (IsFound r) at (front.found n (omega arith)), subst (λ (j : ℕ). IsKeyBefore k (r.key j)) at (b.above n (omega arith) (omega arith))))
+    (λ no. absurd (some (none (omega arith))))
 
 module _ (r : Linked) (front : IsFront r) (k : List ℕ) (i : ℕ) (at_i : IsAt r k i) where
   before_i : (j : ℕ) → j < i → IsKeyBefore (r.key j) k

@@ -1,5 +1,5 @@
 //! The entry of a key.
-ghost use Rattle.std.specs.Prelude.{◌≡◌, ◌+◌, MatchOption};
+ghost use Rattle.std.specs.Prelude.{◌≡◌, ◌+◌, ◌<◌, ◌≤◌, MatchOption};
 ghost use Rattle.link_search.specs.Finds.{Finds, LoadsFew};
 ghost use Rattle.link_search.specs.Linked.{Grown};
 
@@ -23,7 +23,16 @@ pub(crate) fn before(many: u32) -> Option<u32>
     if many == 0 { None } else { Some(many - 1) }
 }
 
-/// The entry of the key: the sorted prefix is halved, and the links from there are walked. The count is
+/// The link that names the entry of the prefix behind the first so many, 0 where there is none.
+fn link_behind(many: u32, prefix: u32) -> u32
+    ensures named { many < prefix → result ≡ many + 1 }
+    ensures none { prefix ≤ many → result ≡ 0 }
+{
+    if many < prefix { many + 1 } else { 0 }
+}
+
+/// The entry of the key: the sorted prefix is halved, and the links from there are walked. Where they lead
+/// to the next entry of the prefix, whose key was found to be greater, none is compared. The count is
 /// loaded behind the walk, too, so that all entries that were passed are below it. It is missing only
 /// where a link that was loaded in the call leads from a smaller key, or from the low bound, to a greater
 /// one, or to the high bound, and no entry that was found has the key. That link is of the entry behind
@@ -37,11 +46,13 @@ pub fn find<R: LinkedRoom>(room: &mut R, key: &[u8]) -> Sought
     ensures loads { LoadsFew R.meets (R.view room.new) room.old room.new }
 {
     let count = room.count();
-    match room.search(key, prefix_in(count)) {
+    let prefix = prefix_in(count);
+    match room.search(key, prefix) {
         Sorted::At(entry) => Sought::Entry(entry),
         Sorted::Between(many) => {
             let from = before(many);
-            let place = walk(room, Some(key), Tie::Reached, from, 0);
+            let seen = link_behind(many, prefix);
+            let place = walk(room, Some(key), Tie::Reached, from, seen);
             room.count();
             match place.entry_of_key() {
                 Some(entry) => Sought::Entry(entry),
