@@ -54,6 +54,7 @@ fn order_to<R: LinkedRoom>(room: &mut R, bound: Option<&[u8]>, entry: u32) -> Or
 /// Walks from an entry that lies before the place, or from the first link, to the link that leads over
 /// the place. The link `seen` is known to lead over it, or is 0: where the walk comes to it, it compares no
 /// key.
+#[inline(always)] // an answer goes through memory at a call
 pub(crate) fn walk<R: LinkedRoom>(
     room: &mut R,
     bound: Option<&[u8]>,
