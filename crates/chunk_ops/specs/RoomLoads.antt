@@ -14,7 +14,7 @@ use Rattle.chunk_core.specs.PinnedRooms.{found_in}
 use Rattle.chunk_core.specs.Rooms.{at_key}
 use Rattle.link_search.specs.Linked.{Linked}
 use Rattle.oak_core.specs.declared.states.PassState.{PassState}
-use Rattle.oak_core.specs.Memory.{Spot, in_arena, in_rooms}
+use Rattle.oak_core.specs.Memory.{Spot, in_arena, in_rooms, index}
 use Rattle.oak_core.specs.Passes.{IsPassOf, Stays, state, key as sizes, call_of}
 use Rattle.oak_core.specs.Step.{load, Told}
 use Rattle.chunk_ops.specs.declared.pinned_table.PinnedTable.{PinnedTable}
@@ -73,10 +73,15 @@ room_of s = room_in (room_pin (state s.pass.now))
 abbrev pub view_of : PinnedTable → Linked
 view_of s = linked_in (room_pin (state s.pass.now))
 
+-- it has the number of the key word of the room's first entry
+abbrev pub IsFirstKey : PinnedTable → Type 0
+IsFirstKey s = s.first ≡ index (sizes s.table.now) (in_rooms (at_key s.room 0))
+
 -- its pin stands
 pub record IsPinnedTable (s : PinnedTable) : Type 0 where
   pub own : IsPassOf s.table.now s.pass.now
   pub pin : HasRoomPin (sizes s.table.now) s.room (state s.pass.now)
+  pub first : IsFirstKey s
 
 -- the later one is of the same pin and pass, with the same base and the same block
 pub record IsSameTable (s t : PinnedTable) : Type 0 where

@@ -10,7 +10,7 @@ ghost use Rattle.chunk_ops.specs.PinRecords.{HasRoomPin};
 
 use crate::entries::{AddHalt, EntryNo, NotAdded, number_in};
 use crate::loading::base_of;
-use crate::pinned_table::PinnedTable;
+use crate::pinned_table::{PinnedTable, first_key_at};
 use crate::room_pins::RoomPin;
 use arena_core::place::place_word;
 use arena_ops::give;
@@ -61,6 +61,7 @@ pub fn add(
         table,
         pass,
         room: pin.room,
+        first: first_key_at(table, pin.room),
         base,
         place: place_word(block.class, block.number, key.len() as u16),
     };

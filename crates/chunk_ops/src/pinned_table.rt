@@ -1,14 +1,14 @@
 //! The real table as a room whose entries are linked.
-ghost use Rattle.std.specs.Prelude.{◌≡◌};
+ghost use Rattle.std.specs.Prelude.{◌≡◌, ◌<◌};
 ghost use Rattle.chunk_core.specs.LinkWords.{link_spot};
-ghost use Rattle.chunk_core.specs.Rooms.{IsInRooms};
+ghost use Rattle.chunk_core.specs.Rooms.{IsInRooms, at_key, at_next, at_value};
 ghost use Rattle.oak_core.specs.Memory.{in_rooms, index};
 ghost use Rattle.oak_core.specs.Passes.{key as sizes};
 ghost use Rattle.chunk_ops.specs.ClaimLaws.{claim_apart, claims_still, holds_still};
 ghost use Rattle.chunk_ops.specs.LinkedTable.{ClaimsKey, FreesClaim, HoldsKey, IsLone, MeetsInTable, PointsTo, most_of};
 ghost use Rattle.chunk_ops.specs.FoundNumbers.{table_room};
 ghost use Rattle.chunk_ops.specs.OwnLinks.{own_link};
-ghost use Rattle.chunk_ops.specs.RoomLoads.{IsPinnedTable, LoadsInTable, loads_nothing, loads_then, room_of, view_of};
+ghost use Rattle.chunk_ops.specs.RoomLoads.{IsFirstKey, IsPinnedTable, LoadsInTable, loads_nothing, loads_then, room_of, view_of};
 ghost use Rattle.chunk_ops.specs.TableLaws.{lone_still, meets_nothing, meets_then, most_stays, own_count, table_few};
 
 use crate::comparing::{compare, head_of};
@@ -16,30 +16,73 @@ use crate::finding::search_sorted;
 use crate::room::SearchedRoom;
 use arena_core::place::{block_in, class_in};
 use chunk_core::count_word::entries_in;
+use chunk_core::layout::ENTRY_WORDS;
 use link_search::{LinkedRoom, Sorted};
 use oak_core::{OakTable, Pass, load, steps};
 use std::cmp::Ordering;
 
-/// The first link word of a room, or that of an entry.
-pub(crate) fn link_at(table: &OakTable, room: u32, from: Option<u32>) -> u32
-    requires inside { IsInRooms (sizes table.now) (link_spot room from) }
-    ensures { result ≡ index (sizes table.now) (in_rooms (link_spot room from)) }
-{
-    match from {
-        None => table.first_at(room),
-        Some(entry) => table.next_at(room, entry),
-    }
-}
-
-/// A pinned room of the table. Where an entry is to be added, the room's base, which is the entry's floor, and
-/// the key word that names the block of the key.
+/// A pinned room of the table, with the number of its first entry's key word, behind which the words of its
+/// entries lie. Where an entry is to be added, the room's base, which is the entry's floor, and the key word
+/// that names the block of the key.
 #[derive(Drop)]
 pub(crate) struct PinnedTable<'p> {
     pub(crate) table: &'p OakTable,
     pub(crate) pass: &'p mut Pass,
     pub(crate) room: u32,
+    pub(crate) first: u32,
     pub(crate) base: u64,
     pub(crate) place: u64,
+}
+
+/// The number of the key word of a room's first entry.
+pub(crate) fn first_key_at(table: &OakTable, room: u32) -> u32
+    requires { room < (sizes table.now).chunks }
+    ensures { result ≡ index (sizes table.now) (in_rooms (at_key room 0)) }
+{
+    // Each room has an entry.
+    let _entries = table.entries();
+    table.key_at(room, 0)
+}
+
+impl PinnedTable<'_> {
+    /// The number of an entry's key word.
+    fn key_at(&self, entry: u32) -> u32
+        requires first { IsFirstKey self.now }
+        requires inside { IsInRooms (sizes self.now.table.now) (at_key self.now.room entry) }
+        ensures { result ≡ index (sizes self.now.table.now) (in_rooms (at_key self.now.room entry)) }
+    {
+        self.first + entry * ENTRY_WORDS as u32
+    }
+
+    /// The number of an entry's value word.
+    fn value_at(&self, entry: u32) -> u32
+        requires first { IsFirstKey self.now }
+        requires inside { IsInRooms (sizes self.now.table.now) (at_value self.now.room entry) }
+        ensures { result ≡ index (sizes self.now.table.now) (in_rooms (at_value self.now.room entry)) }
+    {
+        self.key_at(entry) + 1
+    }
+
+    /// The number of an entry's link.
+    fn next_at(&self, entry: u32) -> u32
+        requires first { IsFirstKey self.now }
+        requires inside { IsInRooms (sizes self.now.table.now) (at_next self.now.room entry) }
+        ensures { result ≡ index (sizes self.now.table.now) (in_rooms (at_next self.now.room entry)) }
+    {
+        self.key_at(entry) + 2
+    }
+
+    /// The number of the room's first link, or of an entry's.
+    fn link_at(&self, from: Option<u32>) -> u32
+        requires first { IsFirstKey self.now }
+        requires inside { IsInRooms (sizes self.now.table.now) (link_spot self.now.room from) }
+        ensures { result ≡ index (sizes self.now.table.now) (in_rooms (link_spot self.now.room from)) }
+    {
+        match from {
+            None => self.table.first_at(self.room),
+            Some(entry) => self.next_at(entry),
+        }
+    }
 }
 
 impl SearchedRoom for PinnedTable<'_> {
@@ -56,7 +99,7 @@ impl SearchedRoom for PinnedTable<'_> {
     ghost meets_both = { loads_then };
 
     fn key_word(&mut self, entry: u32) -> u64 {
-        let word = self.table.key_at(self.room, entry);
+        let word = self.key_at(entry);
         load(self.table, self.pass, word)
     }
 
@@ -113,7 +156,7 @@ impl LinkedRoom for PinnedTable<'_> {
     }
 
     fn link(&mut self, from: Option<u32>) -> u32 {
-        let word = link_at(self.table, self.room, from);
+        let word = self.link_at(from);
         load(self.table, self.pass, word) as u32
     }
 
@@ -134,17 +177,17 @@ impl LinkedRoom for PinnedTable<'_> {
             return false;
         }
         let entry = entries_in(old);
-        let value = self.table.value_at(self.room, entry);
+        let value = self.value_at(entry);
         steps::own_entry(self.table, self.pass, value, self.base);
-        let next = self.table.next_at(self.room, entry);
+        let next = self.next_at(entry);
         steps::own_entry(self.table, self.pass, next, u64::from(link));
-        let place = self.table.key_at(self.room, entry);
+        let place = self.key_at(entry);
         steps::own_entry(self.table, self.pass, place, self.place);
         true
     }
 
     fn link_to(&mut self, key: &[u8], from: Option<u32>, entry: u32, old: u32) -> bool {
-        let word = link_at(self.table, self.room, from);
+        let word = self.link_at(from);
         let found = steps::link(
             self.table,
             self.pass,
@@ -156,12 +199,12 @@ impl LinkedRoom for PinnedTable<'_> {
     }
 
     fn point(&mut self, key: &[u8], entry: u32, link: u32) {
-        let word = self.table.next_at(self.room, entry);
+        let word = self.next_at(entry);
         steps::own_entry(self.table, self.pass, word, u64::from(link));
     }
 
     fn give_up(&mut self, key: &[u8], entry: u32) {
-        let word = self.table.key_at(self.room, entry);
+        let word = self.key_at(entry);
         steps::own_entry(self.table, self.pass, word, 0);
     }
 }

@@ -6,7 +6,7 @@ ghost use Rattle.oak_core.specs.QuietSteps.{Quiet};
 ghost use Rattle.chunk_ops.specs.PinRecords.{HasRoomPin, UnderPin, WordsStay};
 ghost use Rattle.chunk_ops.specs.Prefixes.{HalvesPrefix, SplitsPrefix};
 
-use crate::pinned_table::PinnedTable;
+use crate::pinned_table::{PinnedTable, first_key_at};
 use crate::room_pins::RoomPin;
 use chunk_core::count_word::prefix_in;
 use link_search::{LinkedRoom, Sorted};
@@ -29,6 +29,7 @@ pub fn prefix_below(table: &OakTable, pass: &mut Pass, pin: &RoomPin, key: &[u8]
         table,
         pass,
         room: pin.room,
+        first: first_key_at(table, pin.room),
         base: 0,
         place: 0,
     };

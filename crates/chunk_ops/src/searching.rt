@@ -11,7 +11,7 @@ ghost use Rattle.chunk_ops.specs.PinRecords.{HasRoomPin, UnderPin};
 ghost use Rattle.chunk_ops.specs.Ways.{Up, Down};
 
 use crate::entries::{EntryNo, Found, as_entry};
-use crate::pinned_table::PinnedTable;
+use crate::pinned_table::{PinnedTable, first_key_at};
 use crate::room_pins::RoomPin;
 use link_search::{Sought, Tie};
 use oak_core::{OakTable, Pass};
@@ -36,6 +36,7 @@ pub fn find(table: &OakTable, pass: &mut Pass, pin: &RoomPin, key: &[u8]) -> Fou
         table,
         pass,
         room: pin.room,
+        first: first_key_at(table, pin.room),
         base: 0,
         place: 0,
     };
@@ -74,6 +75,7 @@ pub fn above(
         table,
         pass,
         room: pin.room,
+        first: first_key_at(table, pin.room),
         base: 0,
         place: 0,
     };
@@ -104,6 +106,7 @@ pub fn below(
         table,
         pass,
         room: pin.room,
+        first: first_key_at(table, pin.room),
         base: 0,
         place: 0,
     };

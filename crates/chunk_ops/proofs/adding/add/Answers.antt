@@ -24,7 +24,7 @@ use Rattle.chunk_ops.proofs.adding.add.Goals as goal
 
 pub add-requires-clause-pinned : goal.add-requires-clause-pinned
 add-requires-clause-pinned c = let z : Sizes = sizes c.args.table.now in let call = call_of c.args.pass.now in let r = c.args.pin.now.room in let b = c.args.block in let k = c.args.key.now in let u = state c.args.pass.now in let g = c.base_of-base in let v = state g.new.pass in
-    record { own = (search rules); pin = pin_still z call r u v g.ensures.only c.requires.pinned }
+    record { own = (search rules); pin = pin_still z call r u v g.ensures.only c.requires.pinned; first = c.first_key_at.ensures }
 
 pub add-requires-clause-holds : goal.add-requires-clause-holds
 add-requires-clause-holds c = let z : Sizes = sizes c.args.table.now in let call = call_of c.args.pass.now in let r = c.args.pin.now.room in let b = c.args.block in let k = c.args.key.now in let u = state c.args.pass.now in let g = c.base_of-base in let v = state g.new.pass in

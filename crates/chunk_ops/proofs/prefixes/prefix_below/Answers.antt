@@ -11,7 +11,7 @@ use Rattle.chunk_ops.proofs.PrefixSplits.{halved, halves, met_all, splits_at, sp
 use Rattle.chunk_ops.proofs.prefixes.prefix_below.Goals as goal
 
 pub count-count-requires : goal.count-count-requires
-count-count-requires c = record { own = c.requires.own; pin = c.requires.pinned }
+count-count-requires c = record { own = c.requires.own; pin = c.requires.pinned; first = c.first_key_at.ensures }
 
 -- an entry of the prefix has the key
 

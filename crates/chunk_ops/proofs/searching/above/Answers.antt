@@ -12,7 +12,7 @@ use Rattle.chunk_ops.proofs.SearchLoads.{searched}
 use Rattle.chunk_ops.proofs.searching.above.Goals as goal
 
 pub above-requires : goal.above-requires
-above-requires c = record { pinned = record { own = c.requires.own; pin = c.requires.pinned } }
+above-requires c = record { pinned = record { own = c.requires.own; pin = c.requires.pinned; first = c.first_key_at.ensures } }
 
 pub returns-clause-own : goal.returns-clause-own
 returns-clause-own c = let f = c.above.ensures.loads.on.same.own in search (rules, f)

@@ -12,7 +12,7 @@ use Rattle.chunk_ops.proofs.SearchLoads.{searched}
 use Rattle.chunk_ops.proofs.searching.below.Goals as goal
 
 pub below-requires : goal.below-requires
-below-requires c = record { pinned = record { own = c.requires.own; pin = c.requires.pinned } }
+below-requires c = record { pinned = record { own = c.requires.own; pin = c.requires.pinned; first = c.first_key_at.ensures } }
 
 pub returns-clause-own : goal.returns-clause-own
 returns-clause-own c = let f = c.below.ensures.loads.on.same.own in search (rules, f)

@@ -14,7 +14,7 @@ use Rattle.chunk_ops.proofs.SearchLoads.{searched}
 use Rattle.chunk_ops.proofs.searching.find.Goals as goal
 
 pub find-requires : goal.find-requires
-find-requires c = record { pinned = record { own = c.requires.own; pin = c.requires.pinned } }
+find-requires c = record { pinned = record { own = c.requires.own; pin = c.requires.pinned; first = c.first_key_at.ensures } }
 
 -- an entry of the key
 

@@ -59,7 +59,7 @@ returns-clause-pinned c = let s = c.args.self.now in let z : Sizes = key s.table
     let call2 = call_of c.own_entry.new.pass in let v3 = state c.own_entry-2.new.pass in let t3 : OwnsEntry z call2 of_next r i c.args.link v2 v3 = subst (λ (x : ℕ). OwnsEntry z call2 of_next r i x v2 v3) c.from.ensures (c.own_entry-2.ensures.told of_next r i names3) in
     let names4 : NamesEntryWord z of_key r i c.key_at-place.result = record { inside = p.inside; entry = few; word_is = c.key_at-place.ensures ∙ ap (λ (j : ℕ). index z (in_rooms (at_key r j))) e } in
     let call3 = call_of c.own_entry-2.new.pass in let v4 = state c.own_entry-3.new.pass in let t4 : OwnsEntry z call3 of_key r i s.place v3 v4 = c.own_entry-3.ensures.told of_key r i names4 in
-    record { own = c.own_entry-3.ensures.own.table ∙ (c.own_entry-2.ensures.own.table ∙ (c.own_entry.ensures.own.table ∙ (c.claim_entry.ensures.own.table ∙ c.requires.pinned.own))); pin = pinned_then z r s.base s.place c.args.old c.args.link k v p h few call n v1 t1 same call1 t2.0 v2 t2.1 call2 t3.0 v3 t3.1 call3 t4.0 v4 t4.1 }
+    record { own = c.own_entry-3.ensures.own.table ∙ (c.own_entry-2.ensures.own.table ∙ (c.own_entry.ensures.own.table ∙ (c.claim_entry.ensures.own.table ∙ c.requires.pinned.own))); pin = pinned_then z r s.base s.place c.args.old c.args.link k v p h few call n v1 t1 same call1 t2.0 v2 t2.1 call2 t3.0 v3 t3.1 call3 t4.0 v4 t4.1; first = c.requires.pinned.first }
 
 pub returns-clause-later : goal.returns-clause-later
 returns-clause-later c = let s = c.args.self.now in let z : Sizes = key s.table.now in let call = call_of s.pass.now in let v = state s.pass.now in let h = c.requires.holds in let p = c.requires.pinned.pin in let r = s.room in let k = c.args.key.now in let few = c.requires.room in let i : ℕ = entries_in c.args.old in let e : c.entries_in-entry.result ≡ i = c.entries_in-entry.ensures in let same = c.if-claim_entry-old.false in

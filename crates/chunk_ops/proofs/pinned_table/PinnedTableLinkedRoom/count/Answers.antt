@@ -19,6 +19,7 @@ returns-clause-pinned c = let s = c.args.self.now in let z : Sizes = key s.table
     let k = counts_now z call s.room v n w c.requires.pin (load_at z call c.count_at-word.result n v w (in_rooms (at_count s.room)) (c.requires.pin.inside, omega arith) c.count_at-word.ensures c.load.ensures.loaded) in record {
       own = c.load.ensures.own.table ∙ c.requires.own;
       pin = k.under.pin.has;
+      first = c.requires.first;
     }
 
 pub returns-clause-counted : goal.returns-clause-counted

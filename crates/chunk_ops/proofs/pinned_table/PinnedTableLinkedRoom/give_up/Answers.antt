@@ -7,8 +7,8 @@ use Rattle.chunk_ops.proofs.KeyClaims.{may_drop, pin_stays, pinned_still, view_s
 use Rattle.chunk_ops.proofs.KeyDrops.{drop_rooms, holds_again}
 use Rattle.chunk_ops.proofs.pinned_table.PinnedTableLinkedRoom.give_up.Goals as goal
 
-pub key_at-word-requires-clause-entry : goal.key_at-word-requires-clause-entry
-key_at-word-requires-clause-entry c = c.requires.claimed.entry
+pub key_at-word-requires-clause-inside : goal.key_at-word-requires-clause-inside
+key_at-word-requires-clause-inside c = (c.requires.pinned.pin.inside, c.requires.claimed.entry)
 
 pub own_entry-requires-clause-names : goal.own_entry-requires-clause-names
 own_entry-requires-clause-names c = let s = c.args.self.now in let z : Sizes = key s.table.now in let h = c.requires.claimed in let p = c.requires.pinned.pin in
@@ -19,6 +19,7 @@ returns-clause-pinned c = let s = c.args.self.now in let z : Sizes = key s.table
     let t = c.own_entry.ensures.told of_key s.room c.args.entry (record { inside = p.inside; entry = h.entry; word_is = c.key_at-word.ensures }) in record {
       own = c.own_entry.ensures.own.table ∙ c.requires.pinned.own;
       pin = pinned_still z s.room v w None (drop_rooms z (call_of s.pass.now) s.room c.args.entry s.base s.place c.args.key.now v h t.0 w t.1) p;
+      first = c.requires.pinned.first;
     }
 
 pub returns-clause-later : goal.returns-clause-later

@@ -11,7 +11,7 @@ use Rattle.chunk_ops.proofs.WordLoads.{load_at}
 use Rattle.chunk_ops.proofs.pinned_table.PinnedTableLinkedRoom.link.Goals as goal
 
 pub link_at-word-requires : goal.link_at-word-requires
-link_at-word-requires c = let s = c.args.self.now in record { inside = link_inside (key s.table.now) s.room c.args.from (state s.pass.now) c.requires.pinned.pin c.requires.leads }
+link_at-word-requires c = let s = c.args.self.now in record { first = c.requires.pinned.first; inside = link_inside (key s.table.now) s.room c.args.from (state s.pass.now) c.requires.pinned.pin c.requires.leads }
 
 pub load-requires-clause-inside : goal.load-requires-clause-inside
 load-requires-clause-inside c = let s = c.args.self.now in let l = index_below (key s.table.now) (in_rooms (link_spot s.room c.args.from)) (link_inside (key s.table.now) s.room c.args.from (state s.pass.now) c.requires.pinned.pin c.requires.leads) in let e = c.link_at-word.ensures in omega arith
@@ -26,6 +26,7 @@ returns-clause-pinned c = let s = c.args.self.now in let z : Sizes = key s.table
     let k = links_now z call s.room v n w p c.args.from (leads_found (room_pin v) c.args.from c.requires.leads) (load_at z call c.link_at-word.result n v w (in_rooms (link_spot s.room c.args.from)) (link_inside z s.room c.args.from v p c.requires.leads) c.link_at-word.ensures c.load.ensures.loaded) in record {
       own = c.load.ensures.own.table ∙ c.requires.pinned.own;
       pin = k.under.pin.has;
+      first = c.requires.pinned.first;
     }
 
 pub returns-clause-later : goal.returns-clause-later

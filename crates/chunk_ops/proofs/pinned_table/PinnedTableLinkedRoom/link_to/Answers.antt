@@ -9,7 +9,7 @@ use Rattle.chunk_ops.proofs.pinned_table.PinnedTableLinkedRoom.link_to.Goals as 
 
 pub link_at-word-requires : goal.link_at-word-requires
 link_at-word-requires c = let s = c.args.self.now in let z : Sizes = key s.table.now in let call = call_of s.pass.now in let v = state s.pass.now in let h = c.requires.claimed in let p = c.requires.pinned.pin in let r = s.room in let from = c.args.from in let i = c.args.entry in let k = c.args.key.now in
-    record { inside = above_inside z r i s.base s.place k v p h from c.requires.behind }
+    record { first = c.requires.pinned.first; inside = above_inside z r i s.base s.place k v p h from c.requires.behind }
 
 pub link-found-requires-clause-names : goal.link-found-requires-clause-names
 link-found-requires-clause-names c = let s = c.args.self.now in let z : Sizes = key s.table.now in let call = call_of s.pass.now in let v = state s.pass.now in let h = c.requires.claimed in let p = c.requires.pinned.pin in let r = s.room in let from = c.args.from in let i = c.args.entry in let k = c.args.key.now in (
@@ -25,7 +25,7 @@ pub returns-clause-pinned : goal.returns-clause-pinned
 returns-clause-pinned c = let s = c.args.self.now in let z : Sizes = key s.table.now in let call = call_of s.pass.now in let v = state s.pass.now in let h = c.requires.claimed in let p = c.requires.pinned.pin in let r = s.room in let from = c.args.from in let i = c.args.entry in let k = c.args.key.now in let w = state c.link-found.new.pass in let n = c.link-found.result in
     let names : NamesLink z r from c.link_at-word.result = record { inside = above_inside z r i s.base s.place k v p h from c.requires.behind; word_is = c.link_at-word.ensures } in
     let t : LinksEntry z call r from i c.args.old v n w = subst (λ (x : ℕ). LinksEntry z call r from i x v n w) c.from.ensures (c.link-found.ensures.told r from i names c.from-2.ensures) in
-    record { own = c.link-found.ensures.own.table ∙ c.requires.pinned.own; pin = tried_pinned z call r from i c.args.old v n w p t }
+    record { own = c.link-found.ensures.own.table ∙ c.requires.pinned.own; pin = tried_pinned z call r from i c.args.old v n w p t; first = c.requires.pinned.first }
 
 pub returns-clause-later : goal.returns-clause-later
 returns-clause-later c = let s = c.args.self.now in let z : Sizes = key s.table.now in let call = call_of s.pass.now in let v = state s.pass.now in let h = c.requires.claimed in let p = c.requires.pinned.pin in let r = s.room in let from = c.args.from in let i = c.args.entry in let k = c.args.key.now in let w = state c.link-found.new.pass in let n = c.link-found.result in

@@ -8,8 +8,8 @@ use Rattle.chunk_ops.proofs.KeyClaims.{may_next, pin_stays, pinned_still, view_s
 use Rattle.chunk_ops.proofs.KeyStores.{claims_next, next_rooms, points_next}
 use Rattle.chunk_ops.proofs.pinned_table.PinnedTableLinkedRoom.point.Goals as goal
 
-pub next_at-word-requires-clause-entry : goal.next_at-word-requires-clause-entry
-next_at-word-requires-clause-entry c = c.requires.claimed.entry
+pub next_at-word-requires-clause-inside : goal.next_at-word-requires-clause-inside
+next_at-word-requires-clause-inside c = (c.requires.pinned.pin.inside, c.requires.claimed.entry)
 
 pub own_entry-requires-clause-names : goal.own_entry-requires-clause-names
 own_entry-requires-clause-names c = let s = c.args.self.now in let z : Sizes = key s.table.now in let h = c.requires.claimed in let p = c.requires.pinned.pin in
@@ -20,6 +20,7 @@ returns-clause-pinned c = let s = c.args.self.now in let z : Sizes = key s.table
     let t = subst (λ (x : ℕ). OwnsEntry (key s.table.now) (call_of s.pass.now) of_next s.room c.args.entry x (state s.pass.now) (state c.own_entry.new.pass)) c.from.ensures (c.own_entry.ensures.told of_next s.room c.args.entry (record { inside = p.inside; entry = h.entry; word_is = c.next_at-word.ensures })) in record {
       own = c.own_entry.ensures.own.table ∙ c.requires.pinned.own;
       pin = pinned_still z s.room v w _ (next_rooms z (call_of s.pass.now) s.room c.args.entry s.base s.place c.args.link c.args.key.now v h t.0 w t.1) p;
+      first = c.requires.pinned.first;
     }
 
 pub returns-clause-later : goal.returns-clause-later

@@ -37,6 +37,7 @@ returns-clause-pinned c = let s = c.args.self.now in let z : Sizes = key s.table
     let only = only_loaded z (call_of s.pass.now) c.bytes_at-word.result c.load.result v w (in_arena (at_bytes (class_in word) (block_in word) c.args.i)) n tt is c.load.ensures.loaded in record {
       own = c.load.ensures.own.table ∙ c.requires.pinned.own;
       pin = subst (RoomPinned z s.room) (sym only.rooms) c.requires.pinned.pin;
+      first = c.requires.pinned.first;
     }
 
 pub returns-clause-same : goal.returns-clause-same

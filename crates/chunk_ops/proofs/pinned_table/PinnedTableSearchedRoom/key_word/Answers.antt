@@ -11,8 +11,8 @@ use Rattle.chunk_ops.proofs.PinnedWords.{entry_inside, word_is}
 use Rattle.chunk_ops.proofs.WordLoads.{load_at, only_loaded}
 use Rattle.chunk_ops.proofs.pinned_table.PinnedTableSearchedRoom.key_word.Goals as goal
 
-pub key_at-word-requires-clause-entry : goal.key_at-word-requires-clause-entry
-key_at-word-requires-clause-entry c = let s = c.args.self.now in (entry_inside (key s.table.now) s.room c.args.entry (state s.pass.now) c.requires.pinned.pin c.requires.found).1
+pub key_at-word-requires-clause-inside : goal.key_at-word-requires-clause-inside
+key_at-word-requires-clause-inside c = let s = c.args.self.now in entry_inside (key s.table.now) s.room c.args.entry (state s.pass.now) c.requires.pinned.pin c.requires.found
 
 pub load-requires-clause-inside : goal.load-requires-clause-inside
 load-requires-clause-inside c = let s = c.args.self.now in let l = index_below (key s.table.now) (in_rooms (at_key s.room c.args.entry)) (entry_inside (key s.table.now) s.room c.args.entry (state s.pass.now) c.requires.pinned.pin c.requires.found) in let e = c.key_at-word.ensures in omega arith
@@ -23,6 +23,7 @@ returns-clause-pinned c = let s = c.args.self.now in let z : Sizes = key s.table
     let only = only_loaded z (call_of s.pass.now) c.key_at-word.result c.load.result v w (in_rooms (at_key s.room c.args.entry)) inside tt c.key_at-word.ensures c.load.ensures.loaded in record {
       own = c.load.ensures.own.table ∙ c.requires.pinned.own;
       pin = subst (RoomPinned z s.room) (sym only.rooms) c.requires.pinned.pin;
+      first = c.requires.pinned.first;
     }
 
 pub returns-clause-same : goal.returns-clause-same
