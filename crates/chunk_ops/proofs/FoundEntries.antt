@@ -1,16 +1,14 @@
 -- What stands of an entry that a pin found: its key word names a block of the table, in which its key stands.
 use Rattle.std.proofs.Common.{◌≡◌, ℕ, ◌+◌, ◌*◌, ◌/◌, ◌%◌, ◌<◌, ◌≤◌, List, map, length, get_or, take, sym, refl, ap, ◌∙◌, subst, arith}
-use Rattle.oak_model.specs.declared.classes.Class.{Class}
 use Rattle.oak_model.specs.declared.limits.TheConstants.{CLASSES}
-use Rattle.oak_model.specs.Class.{class_number}
 use Rattle.oak_model.specs.Counts.{one_at, total}
 use Rattle.oak_model.specs.Key.{IsKey}
 use Rattle.oak_model.specs.Limits.{Sizes}
 use Rattle.oak_model.specs.WordBytes.{word_bytes, bytes_of}
 use Rattle.oak_model.proofs.Lists.{rows_length, rows_at}
 use Rattle.arena_core.specs.Arena.{at_bytes, block_words, blocks, IsInArena}
-use Rattle.arena_core.specs.Place.{class_in, block_in, class_from, length_in, content}
-use Rattle.arena_core.proofs.PlaceLaws.{class_below, class_number-from}
+use Rattle.arena_core.specs.Place.{class_in, block_in, length_in, content}
+use Rattle.arena_core.proofs.PlaceLaws.{class_below}
 use Rattle.chunk_core.specs.declared.holds.FoundEntry.{FoundEntry}
 use Rattle.chunk_core.specs.declared.holds.RoomHolds.{RoomHolds}
 use Rattle.chunk_core.specs.CoverSums.{weight}
@@ -105,14 +103,6 @@ module _ (z : Sizes) (call r : ℕ) (x : Step) (v : PassState) (n : ℕ) (w : Pa
 -- the word that has a byte of the key is one of the table's
 pub block_inside : (z : Sizes) (k : List ℕ) (e : FoundEntry) (word : ℕ) → FindsKeyWord z k e word → (j : ℕ) → j < length k → IsInArena z (at_bytes (class_in word) (block_in word) (j / 8))
 block_inside z k e word f j lt = let a = f.room in let b : ℕ = block_words (class_in word) in (f.class, f.block, (let q : j / 8 < b = omega arith in q))
-
--- the class of the key word
-pub class_is : (k : Class) (y : ℕ) → k ≡ class_from (class_in y) → class_in y < CLASSES → class_number k ≡ class_in y
-class_is k y e lt = ap class_number e ∙ class_number-from (class_in y) lt
-
--- the number of a word of the block that it names
-pub word_at : (z : Sizes) (at b y j : ℕ) (k : Class) → at ≡ index z (in_arena (at_bytes (class_number k) b j)) → class_number k ≡ class_in y → b ≡ block_in y → at ≡ index z (in_arena (at_bytes (class_in y) (block_in y) j))
-word_at z at b y j k e f g = e ∙ (λ i. index z (in_arena (at_bytes (f i) (g i) j)))
 
 -- ---- the loads
 

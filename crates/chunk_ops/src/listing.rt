@@ -10,10 +10,11 @@ ghost use Rattle.chunk_ops.specs.PinRecords.{HasEntry, HasRoomPin, OnlyMeets};
 ghost use Rattle.chunk_ops.specs.Stored.{IsStored};
 
 use crate::entries::EntryNo;
+use crate::key_blocks::key_block_at;
 use crate::loading::key_word;
 use crate::room_pins::RoomPin;
 use crate::stored::{KEY_WORDS, StoredKey};
-use arena_core::place::{block_in, class_in, length_in};
+use arena_core::place::length_in;
 use arena_core::words::{WORD, first_bytes};
 use oak_core::{OakTable, Pass, load};
 
@@ -58,12 +59,10 @@ pub fn entry_key(table: &OakTable, pass: &mut Pass, pin: &RoomPin, entry: EntryN
     ensures only { OnlyMeets (call_of pass.old) (state pass.old) (state pass.new) }
 {
     let place = key_word(table, pass, pin, entry);
-    let class = class_in(place);
-    let block = block_in(place);
     let length = length_in(place);
     if length <= WORD {
         // With no loop over its words the key of one word stays out of memory.
-        let first = table.bytes_at(class, block, 0);
+        let first = key_block_at(table, place, 0);
         let loaded = load(table, pass, first);
         let only = first_bytes(loaded, length);
         let mut alone = [0; KEY_WORDS];
@@ -72,7 +71,7 @@ pub fn entry_key(table: &OakTable, pass: &mut Pass, pin: &RoomPin, entry: EntryN
     }
     let mut words = [0; KEY_WORDS];
     for i in 0..length.div_ceil(WORD) {
-        let at = table.bytes_at(class, block, i as u32);
+        let at = key_block_at(table, place, i);
         let word = load(table, pass, at);
         words[i] = first_bytes(word, length - WORD * i);
     }

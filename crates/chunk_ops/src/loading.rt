@@ -6,8 +6,9 @@ ghost use Rattle.chunk_ops.specs.PinRecords.{HasEntry, HasRoomPin, OnlyMeets};
 ghost use Rattle.chunk_ops.specs.RoomWords.{FindsBase, FindsKeyWord};
 
 use crate::entries::EntryNo;
+use crate::key_blocks::key_block_at;
 use crate::room_pins::RoomPin;
-use arena_core::place::{block_in, class_in, length_in};
+use arena_core::place::length_in;
 use arena_core::words::WORD;
 use oak_core::{OakTable, Pass, load};
 
@@ -59,7 +60,7 @@ pub fn key_byte(table: &OakTable, pass: &mut Pass, pin: &RoomPin, entry: EntryNo
     ensures only { OnlyMeets (call_of pass.old) (state pass.old) (state pass.new) }
 {
     let place = key_word(table, pass, pin, entry);
-    let at = table.bytes_at(class_in(place), block_in(place), (i / WORD) as u32);
+    let at = key_block_at(table, place, i / WORD);
     let word = load(table, pass, at);
     word.to_be_bytes()[i % WORD]
 }

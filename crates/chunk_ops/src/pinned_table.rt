@@ -13,8 +13,8 @@ ghost use Rattle.chunk_ops.specs.TableLaws.{lone_still, meets_nothing, meets_the
 
 use crate::comparing::{compare, head_of};
 use crate::finding::search_sorted;
+use crate::key_blocks::key_block_at;
 use crate::room::SearchedRoom;
-use arena_core::place::{block_in, class_in};
 use chunk_core::count_word::entries_in;
 use chunk_core::layout::ENTRY_WORDS;
 use link_search::{LinkedRoom, Sorted};
@@ -104,9 +104,7 @@ impl SearchedRoom for PinnedTable<'_> {
     }
 
     fn block_word(&mut self, place: u64, i: usize) -> u64 {
-        let word = self
-            .table
-            .bytes_at(class_in(place), block_in(place), i as u32);
+        let word = key_block_at(self.table, place, i);
         load(self.table, self.pass, word)
     }
 }

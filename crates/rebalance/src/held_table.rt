@@ -21,6 +21,7 @@ use crate::entries::{Entry, LinkedEntry};
 use crate::held_rooms::{HeldRooms, RoomWord};
 use arena_core::place::{block_in, class_in};
 use arena_ops::give;
+use chunk_ops::key_block_at;
 use oak_core::steps::store_room;
 use oak_core::{Block, OakTable, Pass, SortSlot, load};
 
@@ -270,7 +271,7 @@ fn load_block(table: &OakTable, pass: &mut Pass, place: u64, i: usize) -> u64
     ensures bytes { (k : List ℕ) → k ≡ key_of_entry (with_word place (valued (state pass.old).rooms.moving))
         → take (length k - 8 * i) (word_bytes result) ≡ bytes_in i k }
 {
-    let at = table.bytes_at(class_in(place), block_in(place), i as u32);
+    let at = key_block_at(table, place, i);
     load(table, pass, at)
 }
 

@@ -1,35 +1,27 @@
-use Rattle.std.proofs.Common.{◌≡◌, ℕ, ◌-◌, ◌*◌, ◌<◌, length, take, ap, sym, subst, ◌∙◌, arith}
+use Rattle.std.proofs.Common.{◌≡◌, ℕ, ◌-◌, ◌*◌, length, take, ap, ◌∙◌, arith}
 use Rattle.oak_model.specs.Limits.{Sizes}
 use Rattle.oak_model.specs.WordBytes.{word_bytes}
-use Rattle.arena_core.specs.Arena.{at_bytes, block_words, blocks}
+use Rattle.arena_core.specs.Arena.{at_bytes}
 use Rattle.arena_core.specs.Place.{class_in, block_in}
 use Rattle.arena_core.specs.Words.{word_of}
 use Rattle.oak_core.specs.Memory.{in_arena}
 use Rattle.oak_core.specs.Passes.{state, key as sizes, call_of}
 use Rattle.oak_core.proofs.seats.SamePass.{stays_both}
 use Rattle.oak_core.proofs.memory.Words.{index_below}
-use Rattle.chunk_ops.proofs.FoundEntries.{class_is, word_at, pin_still, entry_still}
+use Rattle.chunk_ops.proofs.FoundEntries.{pin_still, entry_still}
 use Rattle.chunk_ops.proofs.KeyLoads.{key_inside, key_bytes_small, key_word_part}
 use Rattle.chunk_ops.proofs.MeetingCalls.{only_both, only_in}
 use Rattle.chunk_ops.proofs.StoredLaws.{filled_none, filled_more, filled_all}
 use Rattle.chunk_ops.proofs.WordLoads.{only_loaded}
 use Rattle.chunk_ops.proofs.listing.entry_key.Goals as goal
 
-pub bytes_at-at-requires-clause-block : goal.bytes_at-at-requires-clause-block
-bytes_at-at-requires-clause-block c = let z : Sizes = sizes c.args.table.now in let e = c.requires.entry in let f = c.key_word-place.ensures.word e.0 e.1 in
-    subst (λ (t : ℕ × ℕ). t.0 < blocks z t.1) (λ j. (sym c.block_in-block.ensures j, sym (class_is c.class_in-class.result c.key_word-place.result c.class_in-class.ensures f.class) j)) f.block
-
-pub bytes_at-first-requires-clause-block : goal.bytes_at-first-requires-clause-block
-bytes_at-first-requires-clause-block c = let z : Sizes = sizes c.args.table.now in let e = c.requires.entry in let f = c.key_word-place.ensures.word e.0 e.1 in
-    subst (λ (t : ℕ × ℕ). t.0 < blocks z t.1) (λ j. (sym c.block_in-block.ensures j, sym (class_is c.class_in-class.result c.key_word-place.result c.class_in-class.ensures f.class) j)) f.block
-
-pub bytes_at-first-requires-clause-inside : goal.bytes_at-first-requires-clause-inside
-bytes_at-first-requires-clause-inside c = let z : Sizes = sizes c.args.table.now in let e = c.requires.entry in let word = c.key_word-place.result in let f = c.key_word-place.ensures.word e.0 e.1 in let some = f.key.0 in
-    subst (λ (t : ℕ). 0 < block_words t) (sym (class_is c.class_in-class.result word c.class_in-class.ensures f.class)) (key_inside z c.args.pin.now.room c.args.entry.0 e.0 (state c.args.pass.now) e.1 word f 0 (omega arith)).2
+pub key_block_at-first-requires : goal.key_block_at-first-requires
+key_block_at-first-requires c = let e = c.requires.entry in let f = c.key_word-place.ensures.word e.0 e.1 in let some = f.key.0 in
+    key_inside (sizes c.args.table.now) c.args.pin.now.room c.args.entry.0 e.0 (state c.args.pass.now) e.1 c.key_word-place.result f 0 (omega arith)
 
 pub load-loaded-requires-clause-inside : goal.load-loaded-requires-clause-inside
 load-loaded-requires-clause-inside c = let z : Sizes = sizes c.args.table.now in let e = c.requires.entry in let word = c.key_word-place.result in let f = c.key_word-place.ensures.word e.0 e.1 in let some = f.key.0 in
-    let is = word_at z c.bytes_at-first.result c.block_in-block.result word 0 c.class_in-class.result c.bytes_at-first.ensures (class_is c.class_in-class.result word c.class_in-class.ensures f.class) c.block_in-block.ensures in
+    let is = c.key_block_at-first.ensures in
     let b = index_below z (in_arena (at_bytes (class_in word) (block_in word) 0)) (key_inside z c.args.pin.now.room c.args.entry.0 e.0 (state c.args.pass.now) e.1 word f 0 (omega arith)) in omega arith
 
 pub first_bytes-only-requires : goal.first_bytes-only-requires
@@ -41,18 +33,18 @@ returns-then-length-le-WORD-clause-own c = stays_both c.key_word-place.ensures.o
 pub returns-then-length-le-WORD-clause-only : goal.returns-then-length-le-WORD-clause-only
 returns-then-length-le-WORD-clause-only c = let z : Sizes = sizes c.args.table.now in let e = c.requires.entry in let word = c.key_word-place.result in let f = c.key_word-place.ensures.word e.0 e.1 in let some = f.key.0 in
     let call = call_of c.args.pass.now in let now = call_of c.key_word-place.new.pass in let v = state c.args.pass.now in let w = state c.key_word-place.new.pass in let x = state c.load-loaded.new.pass in let s = c.key_word-place.ensures in
-    let is = word_at z c.bytes_at-first.result c.block_in-block.result word 0 c.class_in-class.result c.bytes_at-first.ensures (class_is c.class_in-class.result word c.class_in-class.ensures f.class) c.block_in-block.ensures in
-    only_both call v w x s.only (only_in call now w x s.own.call (only_loaded z now c.bytes_at-first.result c.load-loaded.result w x (in_arena (at_bytes (class_in word) (block_in word) 0))
+    let is = c.key_block_at-first.ensures in
+    only_both call v w x s.only (only_in call now w x s.own.call (only_loaded z now c.key_block_at-first.result c.load-loaded.result w x (in_arena (at_bytes (class_in word) (block_in word) 0))
     (key_inside z c.args.pin.now.room c.args.entry.0 e.0 v e.1 word f 0 (omega arith)) tt is c.load-loaded.ensures.loaded))
 
 pub returns-then-length-le-WORD-clause-key : goal.returns-then-length-le-WORD-clause-key
 returns-then-length-le-WORD-clause-key c = λ k h. let z : Sizes = sizes c.args.table.now in let word = c.key_word-place.result in let g = c.key_word-place.ensures.word k h in let some = g.key.0 in
     let call = call_of c.args.pass.now in let now = call_of c.key_word-place.new.pass in let r = c.args.pin.now.room in let at = c.args.entry.0 in
     let v = state c.args.pass.now in let w = state c.key_word-place.new.pass in let x = state c.load-loaded.new.pass in let s = c.key_word-place.ensures in
-    let is = word_at z c.bytes_at-first.result c.block_in-block.result word 0 c.class_in-class.result c.bytes_at-first.ensures (class_is c.class_in-class.result word c.class_in-class.ensures g.class) c.block_in-block.ensures in
+    let is = c.key_block_at-first.ensures in
     let long : c.length_in-length.result ≡ length k = c.length_in-length.ensures.is ∙ g.long in let t = c.if-length-le-WORD.true in let made = c.from_words.ensures in
     let first : c.first_bytes-only.result ≡ word_of (take (length k - 8 * 0) (word_bytes c.load-loaded.result)) = c.first_bytes-only.ensures ∙ ap (λ (m : ℕ). word_of (take m (word_bytes c.load-loaded.result))) (let e : c.length_in-length.result ≡ length k - 8 * 0 = omega arith in e) in
-    let part = key_word_part z now r c.load-loaded.result w x (pin_still z call r v w s.only c.requires.pinned) at k (entry_still call r at k v w s.only h) 0 c.bytes_at-first.result word g (omega arith) is c.load-loaded.ensures.loaded in (
+    let part = key_word_part z now r c.load-loaded.result w x (pin_still z call r v w s.only c.requires.pinned) at k (entry_still call r at k v w s.only h) 0 c.key_block_at-first.result word g (omega arith) is c.load-loaded.ensures.loaded in (
       record {
         words = ap (λ a. a.words) made ∙ filled_all k _ 1 (filled_more k _ 0 c.first_bytes-only.result (filled_none k) (omega arith) (first ∙ part)) (omega arith);
         long = ap (λ a. a.length) made ∙ long;
@@ -63,15 +55,15 @@ returns-then-length-le-WORD-clause-key c = λ k h. let z : Sizes = sizes c.args.
     )
 
 -- the byte where the word begins is one of the key's
-pub bytes_at-at-requires-clause-inside : goal.bytes_at-at-requires-clause-inside
-bytes_at-at-requires-clause-inside c = let z : Sizes = sizes c.args.table.now in let e = c.requires.entry in let word = c.key_word-place.result in let f = c.key_word-place.ensures.word e.0 e.1 in
+pub key_block_at-at-requires : goal.key_block_at-at-requires
+key_block_at-at-requires c = let e = c.requires.entry in let f = c.key_word-place.ensures.word e.0 e.1 in
     let l = f.long in let n = c.length_in-length.ensures.is in let d = c.div_ceil-i-end.ensures in let t = c.loop-i-test.true in
-    subst (λ (t : ℕ). c.loop-i.i < block_words t) (sym (class_is c.class_in-class.result word c.class_in-class.ensures f.class)) (key_inside z c.args.pin.now.room c.args.entry.0 e.0 (state c.args.pass.now) e.1 word f c.loop-i.i (omega arith)).2
+    key_inside (sizes c.args.table.now) c.args.pin.now.room c.args.entry.0 e.0 (state c.args.pass.now) e.1 c.key_word-place.result f c.loop-i.i (omega arith)
 
 pub load-word-requires-clause-inside : goal.load-word-requires-clause-inside
 load-word-requires-clause-inside c = let z : Sizes = sizes c.args.table.now in let e = c.requires.entry in let word = c.key_word-place.result in let f = c.key_word-place.ensures.word e.0 e.1 in
     let l = f.long in let n = c.length_in-length.ensures.is in let d = c.div_ceil-i-end.ensures in let t = c.loop-i-test.true in let i = c.loop-i.i in
-    let is = word_at z c.bytes_at-at.result c.block_in-block.result word i c.class_in-class.result c.bytes_at-at.ensures (class_is c.class_in-class.result word c.class_in-class.ensures f.class) c.block_in-block.ensures in
+    let is = c.key_block_at-at.ensures in
     let b = index_below z (in_arena (at_bytes (class_in word) (block_in word) i)) (key_inside z c.args.pin.now.room c.args.entry.0 e.0 (state c.args.pass.now) e.1 word f i (omega arith)) in omega arith
 
 pub bounds-words-i : goal.bounds-words-i
@@ -83,13 +75,13 @@ loop-i-preserved c = let z : Sizes = sizes c.args.table.now in let e = c.require
     let call = call_of c.args.pass.now in let now = call_of c.loop-i.pass in let r = c.args.pin.now.room in let at = c.args.entry.0 in let i = c.loop-i.i in
     let v = state c.args.pass.now in let w = state c.loop-i.pass in let x = state c.load-word.new.pass in let s = c.loop-i.invariant in let o = c.load-word.ensures in
     let l = f.long in let n = c.length_in-length.ensures.is in let d = c.div_ceil-i-end.ensures in let t = c.loop-i-test.true in let few = f.key.1 in
-    let is = word_at z c.bytes_at-at.result c.block_in-block.result word i c.class_in-class.result c.bytes_at-at.ensures (class_is c.class_in-class.result word c.class_in-class.ensures f.class) c.block_in-block.ensures in record {
+    let is = c.key_block_at-at.ensures in record {
       own = stays_both s.own o.own;
-      only = only_both call v w x s.only (only_in call now w x s.own.call (only_loaded z now c.bytes_at-at.result c.load-word.result w x (in_arena (at_bytes (class_in word) (block_in word) i)) (key_inside z r at e.0 v e.1 word f i (omega arith)) tt is o.loaded));
+      only = only_both call v w x s.only (only_in call now w x s.own.call (only_loaded z now c.key_block_at-at.result c.load-word.result w x (in_arena (at_bytes (class_in word) (block_in word) i)) (key_inside z r at e.0 v e.1 word f i (omega arith)) tt is o.loaded));
       words = λ k h. let g = c.key_word-place.ensures.word k h in let long : c.length_in-length.result ≡ length k = n ∙ g.long in
           filled_more k c.loop-i.words i c.first_bytes.result (s.words k h) (omega arith)
           (c.first_bytes.ensures ∙ (ap (λ (m : ℕ). word_of (take (m - 8 * i) (word_bytes c.load-word.result))) long
-          ∙ key_word_part z now r c.load-word.result w x (pin_still z call r v w s.only c.requires.pinned) at k (entry_still call r at k v w s.only h) i c.bytes_at-at.result word g (omega arith) is o.loaded));
+          ∙ key_word_part z now r c.load-word.result w x (pin_still z call r v w s.only c.requires.pinned) at k (entry_still call r at k v w s.only h) i c.key_block_at-at.result word g (omega arith) is o.loaded));
     }
 
 pub returns-clause-key : goal.returns-clause-key
