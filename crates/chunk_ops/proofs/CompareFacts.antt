@@ -1,5 +1,5 @@
 -- A comparison, word by word.
-use Rattle.std.proofs.Common.{◌≡◌, ℕ, zero, suc, refl, ◌+◌, ◌-◌, take, ◌*◌, ◌/◌, ◌<◌, ◌≤◌, min, ◌⊎◌, inl, inr, List, length, get_or, Fits, w8, sym, ◌∙◌, ap, subst, arith}
+use Rattle.std.proofs.Common.{◌≡◌, ◌≢◌, ℕ, zero, suc, refl, ◌+◌, ◌-◌, take, ◌*◌, ◌/◌, ◌<◌, ◌≤◌, min, ◌⊎◌, inl, inr, List, length, get_or, Fits, w8, sym, ◌∙◌, ap, subst, arith}
 use Rattle.std.specs.Ordering.{nat_cmp}
 use Rattle.std.specs.declared.cmp.Ordering.{Ordering}
 use Rattle.std.specs.declared.cmp.Ordering.TheVariants.{Less, Equal, Greater}
@@ -66,9 +66,35 @@ tied_words a b zero s t h = refl
 tied_words a b (suc n) s t h = ap (λ (m : ℕ). padded_cmp m a b) (let e : 8 * suc n ≡ 8 * n + 8 = omega arith in e)
     ∙ (sym (word_order a b n s t (tied_words a b n s t (λ j l. h j (omega arith)))) ∙ cmp_equal (word_at a n) (word_at b n) (h n (omega arith)))
 
--- first words that differ decide
-pub first_less : (a b : List ℕ) (x y : ℕ) → AreBytes a → AreBytes b → x ≡ word_at a 0 → y ≡ word_at b 0 → x < y → Less ≡ key_cmp a b
-first_less a b x y s t p q l = sym (padded_decides (8 * 0 + 8) a b Less (sym (word_order a b 0 s t refl) ∙ cmp_less (word_at a 0) (word_at b 0) (omega arith)) (λ e. cc))
+-- two keys, and their first words
+pub record FirstWords (a b : List ℕ) (x y : ℕ) : Type 0 where
+  pub first_bytes : AreBytes a
+  pub second_bytes : AreBytes b
+  pub first : x ≡ word_at a 0
+  pub second : y ≡ word_at b 0
 
-pub first_greater : (a b : List ℕ) (x y : ℕ) → AreBytes a → AreBytes b → x ≡ word_at a 0 → y ≡ word_at b 0 → y < x → Greater ≡ key_cmp a b
-first_greater a b x y s t p q l = sym (padded_decides (8 * 0 + 8) a b Greater (sym (word_order a b 0 s t refl) ∙ cmp_greater (word_at a 0) (word_at b 0) (omega arith)) (λ e. cc))
+module _ {a b : List ℕ} {x y : ℕ} (w : FirstWords a b x y) where
+  first_order : nat_cmp x y ≡ padded_cmp 8 a b
+  first_order = (λ i. nat_cmp (w.first i) (w.second i)) ∙ word_order a b 0 w.first_bytes w.second_bytes refl
+
+  -- where they differ they decide
+  first_decides : (o : Ordering) → nat_cmp x y ≡ o → o ≢ Equal → o ≡ key_cmp a b
+  first_decides o e n = sym (padded_decides 8 a b o (sym first_order ∙ e) n)
+
+  pub first_less : x < y → Less ≡ key_cmp a b
+  first_less l = first_decides Less (cmp_less x y l) (λ e. cc)
+
+  pub first_greater : y < x → Greater ≡ key_cmp a b
+  first_greater l = first_decides Greater (cmp_greater x y l) (λ e. cc)
+
+  -- where they are the same, keys of one word are
+  pub one_word : x ≡ y → length a ≡ 8 → length b ≡ 8 → Equal ≡ key_cmp a b
+  one_word e m n = sym (lengths_decide 8 a b (sym first_order ∙ cmp_equal x y e) (inl (let l : length a ≤ 8 = omega arith in l)) ∙ cmp_equal (length a) (length b) (m ∙ sym n))
+
+  -- and longer ones go on behind them
+  pub first_tied : x ≡ y → 0 < length a → 0 < length b → AreTied 1 a b
+  first_tied e f g = record {
+    agree = λ j l. subst (λ (k : ℕ). word_at a k ≡ word_at b k) (let z : 0 ≡ j = omega arith in z) (sym w.first ∙ e ∙ w.second);
+    first = omega arith;
+    second = omega arith;
+  }

@@ -82,7 +82,8 @@ fn first_word<R: SearchedRoom>(room: &mut R, place: u64) -> u64
 }
 
 /// How the key, whose first word is `head`, compares with that of an entry. Each word of the entry's key is loaded at most
-/// once, and none behind the first that differs. Most keys have eight bytes, and differ in these.
+/// once, and none behind the first that differs. Most keys have eight bytes: there one word of each decides, with no
+/// step more.
 #[inline(always)]
 pub(crate) fn compare<R: SearchedRoom>(room: &mut R, key: &[u8], head: u64, entry: u32) -> Ordering
     requires pinned { R.pinned room.old }
@@ -103,6 +104,9 @@ pub(crate) fn compare<R: SearchedRoom>(room: &mut R, key: &[u8], head: u64, entr
     }
     if word < head {
         return Ordering::Greater;
+    }
+    if key.len() == WORD && length == WORD {
+        return Ordering::Equal;
     }
     compare_behind(room, key, place, 1)
 }
