@@ -156,6 +156,7 @@ impl PinnedValue {
 
     /// Copies the front of the value to `out`, as many bytes as it has places. Each word in which they stand is loaded
     /// once.
+    #[inline(always)]
     fn copy_front(self, table: &OakTable, pass: &mut Pass, out: &mut [u8])
         requires own { IsPassOf table.now pass.old }
         requires pinned { IsPinnedValue (key table.now) self (state pass.old) }
