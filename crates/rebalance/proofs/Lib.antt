@@ -5,6 +5,7 @@ pub mod LeastKey
 pub mod HeldMemory
 pub mod HeldParts
 pub mod StoredMemory
+pub mod SameWords
 mod LoneStores
 pub mod RoomWorks
 pub mod RoomStores

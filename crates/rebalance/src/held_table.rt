@@ -6,7 +6,7 @@ ghost use Rattle.oak_model.specs.Counts.{Each};
 ghost use Rattle.arena_core.specs.Words.{bytes_in};
 ghost use Rattle.chunk_core.specs.MovingRanges.{ranges_with};
 ghost use Rattle.chunk_core.specs.RoomStep.{put_room};
-ghost use Rattle.chunk_core.specs.Rooms.{at_key, at_value, read_room};
+ghost use Rattle.chunk_core.specs.Rooms.{at_key, read_room};
 ghost use Rattle.chunk_core.specs.ValueWord.{names_header};
 ghost use Rattle.oak_core.specs.Memory.{in_rooms, index};
 ghost use Rattle.oak_core.specs.Passes.{IsPassOf, Stays, state, key as sizes, call_of};
@@ -218,7 +218,27 @@ fn store_at(table: &OakTable, pass: &mut Pass, room: u32, word: RoomWord, at: u3
     store_room(table, pass, at, number);
 }
 
-/// Stores to a word of a room that the pass holds. No key word becomes 0 by it.
+/// Makes a word of a room that the pass holds this number, by the word's number. No key word becomes 0 by it.
+fn set_at(table: &OakTable, pass: &mut Pass, room: u32, word: RoomWord, at: u32, number: u64)
+    requires own { IsPassOf table.now pass.old }
+    requires held { HoldsAlone (sizes table.now) room (state pass.old) }
+    requires within { IsWithin (sizes table.now).entries word }
+    requires number { at ≡ index (sizes table.now) (in_rooms (spot room word)) }
+    requires plain { IsPlain word number }
+    ensures own { Stays pass.old pass.new }
+    ensures works { WorksOnRooms (sizes table.now) (call_of pass.old) (state pass.old) (state pass.new) }
+    ensures ranges { (state pass.new).rooms.moving ≡ (state pass.old).rooms.moving }
+    ensures stored { held_memory (state pass.new).rooms.held ≡ put_room (held_memory (state pass.old).rooms.held) (spot room word) number }
+{
+    // A load costs less than a store, and most words that come here have the number already.
+    let found = load_at(table, pass, room, word, at);
+    if found == number {
+        return;
+    }
+    store_at(table, pass, room, word, at, number);
+}
+
+/// Makes a word of a room that the pass holds this number. No key word becomes 0 by it.
 fn store_word(table: &OakTable, pass: &mut Pass, room: u32, word: RoomWord, number: u64)
     requires own { IsPassOf table.now pass.old }
     requires held { HoldsAlone (sizes table.now) room (state pass.old) }
@@ -230,7 +250,7 @@ fn store_word(table: &OakTable, pass: &mut Pass, room: u32, word: RoomWord, numb
     ensures stored { held_memory (state pass.new).rooms.held ≡ put_room (held_memory (state pass.old).rooms.held) (spot room word) number }
 {
     let at = number_of(table, room, word);
-    store_at(table, pass, room, word, at, number);
+    set_at(table, pass, room, word, at, number);
 }
 
 /// Stores to the words of an entry of a room that the pass holds.
@@ -333,24 +353,6 @@ fn empty_key(table: &OakTable, pass: &mut Pass, room: u32, entry: u32, at: u32)
     clear_key(table, pass, room, entry, at);
 }
 
-/// Makes the value word of an entry of a room that the pass holds 0. It is word `at`.
-fn empty_value(table: &OakTable, pass: &mut Pass, room: u32, entry: u32, at: u32)
-    requires own { IsPassOf table.now pass.old }
-    requires held { HoldsAlone (sizes table.now) room (state pass.old) }
-    requires within { entry < (sizes table.now).entries }
-    requires number { at ≡ index (sizes table.now) (in_rooms (at_value room entry)) }
-    ensures own { Stays pass.old pass.new }
-    ensures works { WorksOnRooms (sizes table.now) (call_of pass.old) (state pass.old) (state pass.new) }
-    ensures ranges { (state pass.new).rooms.moving ≡ (state pass.old).rooms.moving }
-    ensures cleared { held_memory (state pass.new).rooms.held ≡ put_room (held_memory (state pass.old).rooms.held) (at_value room entry) 0 }
-{
-    let value = load_at(table, pass, room, RoomWord::Value(entry), at);
-    if value == 0 {
-        return;
-    }
-    store_at(table, pass, room, RoomWord::Value(entry), at, 0);
-}
-
 /// Makes the key word and the value word of an entry of a room that the pass holds 0, where each entry that
 /// the room's ranges carry has a value.
 fn clear_entry(table: &OakTable, pass: &mut Pass, room: u32, entry: u32)
@@ -366,5 +368,5 @@ fn clear_entry(table: &OakTable, pass: &mut Pass, room: u32, entry: u32)
     let key_at = table.key_at(room, entry);
     let value_at = table.value_at(room, entry);
     empty_key(table, pass, room, entry, key_at);
-    empty_value(table, pass, room, entry, value_at);
+    set_at(table, pass, room, RoomWord::Value(entry), value_at, 0);
 }
