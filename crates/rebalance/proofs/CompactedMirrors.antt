@@ -1,33 +1,39 @@
 -- A held room that was compacted has the entries of its range still, without those that were dropped.
-use Rattle.std.proofs.Common.{◌≡◌, ℕ, ◌≤◌, List, map, length, sym, ◌∙◌, ap, refl, subst, arith}
+use Rattle.std.proofs.Common.{◌≡◌, ℕ, ◌<◌, ◌≤◌, List, [], map, length, sym, ◌∙◌, ap, refl, subst, arith}
 use Rattle.std.specs.Prelude.{slice_index}
 use Rattle.std.specs.List.Sorted.{IsPermutation}
 use Rattle.std.proofs.lemmas.List.{length-map}
 use Rattle.oak_model.specs.declared.limits.TheConstants.{GREATEST_ENTRIES}
-use Rattle.oak_model.specs.Counts.{rows, total}
+use Rattle.oak_model.specs.Counts.{rows, total, Each, Has}
 use Rattle.oak_model.specs.Limits.{Sizes}
 use Rattle.oak_model.proofs.Lists.{rows_length}
+use Rattle.oak_model.proofs.RowLaws.{each_rows}
+use Rattle.chunk_core.specs.declared.holds.Carried.{Carried}
 use Rattle.chunk_core.specs.declared.holds.EntryWords.{EntryWords}
 use Rattle.chunk_core.specs.declared.holds.MovingRange.{MovingRange}
 use Rattle.chunk_core.specs.declared.layout.TheConstants.{BOUND_WORDS}
-use Rattle.chunk_core.specs.LinkedEntries.{entries_in}
+use Rattle.chunk_core.specs.LinkedEntries.{entries_in, reached, Rises}
+use Rattle.chunk_core.specs.RoomCopies.{next_held, word_held}
 use Rattle.chunk_core.specs.RoomReads.{copy_at}
 use Rattle.chunk_core.specs.RoomRule.{AreBounds}
 use Rattle.chunk_core.specs.Rooms.{RoomMemory}
+use Rattle.chunk_core.proofs.EntryNumbers.{few_entries}
+use Rattle.chunk_core.proofs.WholeChains.{rises_rows, whole_chain}
 use Rattle.oak_core.specs.declared.sorting.SortSlot.{SortSlot}
 use Rattle.rebalance.specs.declared.entries.Entry.{Entry}
-use Rattle.rebalance.specs.CarriedKeys.{HaveKeys}
+use Rattle.rebalance.specs.CarriedKeys.{HasKey, HaveKeys}
 use Rattle.rebalance.specs.Compacted.{linked_in, KeysRise}
 use Rattle.rebalance.specs.DroppedRange.{sum_of, sum_carried, dropped_range, WordsDiffer}
 use Rattle.rebalance.specs.Dropping.{DropsKeys}
-use Rattle.rebalance.specs.Copies.{AllLinked}
+use Rattle.rebalance.specs.Copies.{AllLinked, reached_in}
 use Rattle.rebalance.specs.Entries.{entries, greatest, has_word, kept, dropped}
 use Rattle.rebalance.specs.Filled.{IsFilled, Fills}
-use Rattle.rebalance.specs.Mirrors.{Mirrors, RangeStands}
+use Rattle.rebalance.specs.Mirrors.{Mirrors, RangeStands, carried_key}
 use Rattle.rebalance.specs.SlotRanges.{SlotsHave, BoundsAre}
 use Rattle.rebalance.specs.Slots.{entry_of}
 use Rattle.rebalance.proofs.DroppedRange.{parted_sum}
-use Rattle.rebalance.proofs.FilledCopies.{copied_sum, filled_linked, filled_many, filled_prefix, filled_sum, filled_rises, permuted_total, length_total}
+use Rattle.rebalance.proofs.FilledChains.{filled_chained}
+use Rattle.rebalance.proofs.FilledCopies.{copied_sum, copied_word, filled_key, filled_linked, filled_many, filled_prefix, filled_sum, filled_rises, permuted_total, length_total}
 use Rattle.rebalance.proofs.LinkedCopies.{linked_are}
 use Rattle.rebalance.proofs.MirroredEntries.{drops, kept_left, all_valued}
 use Rattle.rebalance.proofs.PassedOnes.{fewer_pass}
@@ -36,6 +42,22 @@ use Rattle.rebalance.proofs.SlotKeys.{slot_carried}
 -- Each entry of a room that was filled with the entries of a range is linked.
 pub slots_linked : (z : Sizes) (m : RoomMemory) (r : ℕ) (xs : List SortSlot) (base : ℕ) (g : MovingRange) (keys : ℕ → List ℕ) → z.entries ≤ GREATEST_ENTRIES → IsFilled z.entries r xs base m → length xs ≤ z.entries → SlotsHave keys xs g → AllLinked (copy_at z m r)
 slots_linked z m r xs base g keys limit filled few slots = filled_linked z m r xs base filled few limit (λ i d l. let t = slot_carried keys xs g slots i d l in let k = t.3.named.some_word in let w = t.2 in omega arith)
+
+-- Links reach them in turn, and their keys rise.
+module _ (z : Sizes) (m : RoomMemory) (r : ℕ) (xs : List SortSlot) (base : ℕ) (limit : z.entries ≤ GREATEST_ENTRIES) (filled : IsFilled z.entries r xs base m) (few : length xs ≤ z.entries) where
+  filled_reached : reached_in (copy_at z m r) ≡ rows 0 (entries_in (m.count r)) (λ j. j)
+  filled_reached = let chained = filled_chained z m r xs base filled few limit in ap (reached (next_held (copy_at z m r))) chained.begins ∙ whole_chain (entries_in (m.count r)) (next_held (copy_at z m r)) chained.links chained.ends (few_entries (m.count r))
+
+  filled_used : Each (λ i. i < entries_in (m.count r)) (reached_in (copy_at z m r))
+  filled_used = subst (Each (λ i. i < entries_in (m.count r))) (sym filled_reached) (each_rows (λ i. i < entries_in (m.count r)) 0 (entries_in (m.count r)) (λ j. j) (λ k _ l. omega arith))
+
+  filled_along : (g : MovingRange) (keys : ℕ → List ℕ) → SlotsHave keys xs g → (f : ℕ → ℕ) → ((c : Carried) → Has c g.carried → f c.word ≡ carried_key c) → Rises (λ i. f (word_held (copy_at z m r) i)) (reached_in (copy_at z m r))
+  filled_along g keys slots f is = let n : ℕ = entries_in (m.count r) in let many = filled_many z m r xs base filled few limit in subst (Rises (λ i. f (word_held (copy_at z m r) i))) (sym filled_reached)
+      (rises_rows (λ i. f (word_held (copy_at z m r) i)) n 0 n (λ i j lt l. let c = at i (omega arith) in let d = at j (omega arith) in let a = is c.0 c.1 in let b = is d.0 d.1 in let p = ap f c.2 in let q = ap f d.2 in
+      let rise = filled_rises z m r xs base filled few limit keys slots.rise i j c.0 d.0 lt (omega arith) c.3 d.3 c.2 d.2 in omega arith) (omega arith))
+    where
+      at : (i : ℕ) → i < length xs → (c : Carried) × Has c g.carried × (c.word ≡ word_held (copy_at z m r) i) × HasKey keys c
+      at i l = let s : SortSlot = record { words = []; length = 0; key = 0; value = 0 } in let t = slot_carried keys xs g slots i s l in (t.0, t.1, t.2 ∙ (sym (filled_key z m r xs base filled few limit i s l) ∙ sym (copied_word z m r i (omega arith))), t.3)
 
 -- A room that was filled with the entries of a range mirrors it.
 pub filled_mirrors : (z : Sizes) (m : RoomMemory) (r : ℕ) (xs : List SortSlot) (base : ℕ) (g : MovingRange) (keys : ℕ → List ℕ) → z.entries ≤ GREATEST_ENTRIES → IsFilled z.entries r xs base m → length xs ≤ z.entries → base ≡ g.base → BoundsAre m r g → SlotsHave keys xs g → Mirrors z (copy_at z m r) g
@@ -49,6 +71,8 @@ filled_mirrors z m r xs base g keys limit filled few base_is bounds slots = let 
   entries = λ f. ap (total (λ (e : EntryWords). f e.word e.value)) (linked_are (copy_at z m r) (slots_linked z m r xs base g keys limit filled few slots)) ∙ (filled_sum z m r xs base filled few limit f ∙ slots.sums f);
   bounds = subst (λ (p : List ℕ × List ℕ). AreBounds (slice_index p.0 0) (slice_index p.1 0)) (λ t. (sym bounds.low t, sym bounds.high t)) bounds.fit;
   sorted = λ i j c d lt l ch dh ci dj. filled_rises z m r xs base filled few limit keys slots.rise i j c d lt (omega arith) (slots.have c ch (slots.valued c ch)) (slots.have d dh (slots.valued d dh)) ci dj;
+  used = filled_used z m r xs base limit filled few;
+  along = filled_along z m r xs base limit filled few g keys slots;
 }
 
 -- A room that mirrors a range has its bounds.

@@ -22,6 +22,8 @@ pub mod PassedOnes
 pub mod ReadLaws
 pub mod SortLaws
 pub mod WalkLaws
+pub mod AlongLaws
+pub mod ReadSorted
 pub mod CompactedMirrors
 pub mod DroppedRange
 pub mod FilledCopies

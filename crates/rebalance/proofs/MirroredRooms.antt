@@ -6,30 +6,32 @@ use Rattle.pin_word.specs.PinWord.{count_of}
 use Rattle.oak_model.specs.Counts.{one_at, one_if, total, rows, Each, Has}
 use Rattle.oak_model.specs.Limits.{Sizes}
 use Rattle.oak_model.proofs.Counting.{total_map}
+use Rattle.oak_model.proofs.Changes.{each_unmap}
 use Rattle.oak_model.proofs.Lists.{each_map, rows_at}
-use Rattle.oak_model.proofs.MemberLaws.{each_has}
+use Rattle.oak_model.proofs.MemberLaws.{each_has, each_in}
 use Rattle.chunk_core.specs.declared.layout.TheConstants.{BOUND_WORDS}
 use Rattle.chunk_core.specs.declared.holds.Carried.{Carried}
 use Rattle.chunk_core.specs.declared.holds.EntryWords.{EntryWords}
+use Rattle.chunk_core.specs.declared.holds.RoomCopy.{RoomCopy}
 use Rattle.chunk_core.specs.declared.holds.RoomHolds.{RoomHolds}
 use Rattle.chunk_core.specs.Covers.{key_at}
 use Rattle.chunk_core.specs.CoverSums.{weight}
 use Rattle.chunk_core.specs.KeyWords.{key_in}
-use Rattle.chunk_core.specs.LinkedEntries.{entries_in, farthest, linked}
+use Rattle.chunk_core.specs.LinkedEntries.{entries_in, farthest, linked, Rises}
 use Rattle.chunk_core.specs.RoomCopies.{entries_held, next_held, word_held}
 use Rattle.chunk_core.specs.RoomHolds.{claims_on}
 use Rattle.chunk_core.specs.RoomReads.{words_at, copy_at, carried_at, moving_at}
 use Rattle.chunk_core.specs.RoomRule.{AreBounds, IsInOrder, RoomsStand}
 use Rattle.chunk_core.specs.Rooms.{RoomMemory}
 use Rattle.chunk_core.proofs.ChainedRooms.{copied_word, copied_next}
-use Rattle.chunk_core.proofs.Chains.{chain_same}
+use Rattle.chunk_core.proofs.Chains.{chain_same, rises_same}
 use Rattle.chunk_core.proofs.Claims.{unclaimed_free}
 use Rattle.chunk_core.proofs.EntryNumbers.{each_at, take_rows, rows_total}
 use Rattle.chunk_core.proofs.UsedEntries.{keyed_linked, used_linked}
 use Rattle.rebalance.specs.Copies.{LinksReach, has_key_word, linked_held, reached_in}
 use Rattle.rebalance.specs.Mirrors.{Mirrors, RangeStands, carried_key}
 use Rattle.rebalance.proofs.DroppedRange.{total_filter}
-use Rattle.rebalance.proofs.MirroredEntries.{words_some}
+use Rattle.rebalance.proofs.MirroredEntries.{words_some, each_of as each_members}
 use Rattle.rebalance.proofs.SlotKeys.{total_members}
 
 -- P holds of each number of a list, so it does of what is made of them
@@ -91,6 +93,13 @@ module _ (z : Sizes) (m : RoomMemory) (content : ℕ → List ℕ) (hs : List Ro
   key_there : (c : Carried) (i : ℕ) → i < z.entries → Has c (moving_at m content r).carried → c.word ≡ word_held (copy_at z m r) i → carried_key c ≡ key_at content (m.key r i)
   key_there c i l has e = ap (key_in c.word) (sym (each_has (λ (d : Carried). content d.word ≡ d.words) (moving_at m content r).carried c true_words has)) ∙ ap (key_at content) (e ∙ copied_word z m r i l)
 
+  -- and their keys rise along the links of the copy
+  rise_along : weight (m.pin r) ≡ 1 → count_of (m.pin r) ≡ 0 → (f : ℕ → ℕ) → ((c : Carried) → Has c (moving_at m content r).carried → f c.word ≡ carried_key c) → Rises (λ i. f (word_held (copy_at z m r) i)) (reached_in (copy_at z m r))
+  rise_along weighs free f is = let order = rule.ordered r weighs in let w : RoomCopy = copy_at z m r in let xs : List ℕ = linked m r in
+      let keyed : Each (λ i. f (m.key r i) ≡ key_at content (m.key r i)) xs = each_unmap (carried_at m content r) (λ (c : Carried). f c.word ≡ carried_key c) xs (each_members (λ (c : Carried). f c.word ≡ carried_key c) (moving_at m content r).carried is) in
+      subst (Rises (λ i. f (word_held w i))) (sym (same_links weighs free)) (rises_same (λ i. key_at content (m.key r i)) (λ i. f (word_held w i)) xs
+      (each_in (λ i. i < entries_in (m.count r)) (λ i. f (word_held w i) ≡ key_at content (m.key r i)) xs (λ i has l. ap f (copied_word z m r i (let few = order.few in omega arith)) ∙ each_has (λ j. f (m.key r j) ≡ key_at content (m.key r j)) xs i keyed has) order.used) order.rises)
+
   first_word : (f : ℕ → ℕ) → get_or (rows 0 BOUND_WORDS f) 0 0 ≡ f 0
   first_word f = rows_at 0 BOUND_WORDS 0 f 0 (omega arith)
 
@@ -107,6 +116,8 @@ module _ (z : Sizes) (m : RoomMemory) (content : ℕ → List ℕ) (hs : List Ro
     bounds = subst (λ (b : ℕ × ℕ). AreBounds b.0 b.1) (λ i. (sym (first_word (m.low r)) i, sym (first_word (m.high r)) i)) order.bounds;
     sorted = λ i j c d lt before has_c has_d e f. subst (λ (k : ℕ × ℕ). k.0 < k.1)
         (λ t. (sym (key_there c i (let a = order.few in let b = order.prefix in omega arith) has_c e) t, sym (key_there d j (let a = order.few in let b = order.prefix in omega arith) has_d f) t)) (order.sorted i j lt before);
+    used = subst (Each (λ i. i < entries_in (m.count r))) (sym (same_links weighs free)) order.used;
+    along = rise_along weighs free;
   }
 
   -- and in its words links reach the entries that have a key word

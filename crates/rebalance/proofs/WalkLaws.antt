@@ -114,7 +114,7 @@ filter_no p f i (suc n) h = ap (λ (c : Bool). cond c (f i ∷ filter p (rows (s
 -- each of the first n entries has a key word and a value
 
 module _ (m : RoomMemory) (r n : ℕ) (valued : AreValued m r n) where
-  linked_all : linked_among m r n ≡ entries m r n
+  pub linked_all : linked_among m r n ≡ entries m r n
   linked_all = filter_yes has_word (λ i. entry_at m r i) 0 n (λ k _ l. lt-ltb 0 (m.key r k) (valued k (omega arith)).0)
 
   kept_all : kept (linked_among m r n) ≡ entries m r n

@@ -5,7 +5,7 @@ use Rattle.std.specs.List.Sorted.{IsPermutation}
 use Rattle.oak_model.specs.Counts.{one_if, total}
 use Rattle.oak_model.specs.Key.{IsKeyBefore, same_key}
 use Rattle.chunk_core.specs.declared.holds.MovingRange.{MovingRange}
-use Rattle.chunk_core.specs.LinkedEntries.{entries_in}
+use Rattle.chunk_core.specs.LinkedEntries.{entries_in, linked}
 use Rattle.chunk_core.specs.Rooms.{RoomMemory}
 use Rattle.chunk_core.specs.ValueWord.{names_header}
 use Rattle.chunk_ops.specs.Stored.{IsStored}
@@ -13,7 +13,7 @@ use Rattle.oak_core.specs.declared.sorting.SortSlot.{SortSlot}
 use Rattle.rebalance.specs.declared.entries.Entry.{Entry}
 use Rattle.rebalance.specs.declared.reading.Read.{Read}
 use Rattle.rebalance.specs.Dropping.{DropsKeys}
-use Rattle.rebalance.specs.Entries.{kept, dropped, greatest, linked_among}
+use Rattle.rebalance.specs.Entries.{AreValued, kept, dropped, greatest, linked_among}
 use Rattle.rebalance.specs.Filled.{Fills}
 use Rattle.rebalance.specs.HeldRooms.{IsLoose}
 use Rattle.rebalance.specs.Slots.{entry_of, key_of}
@@ -26,12 +26,17 @@ linked_in m r = linked_among m r (entries_in (m.count r))
 abbrev pub is_of : (ℕ → List ℕ) → List ℕ → Entry → ℕ
 is_of keys k e = one_if (same_key k (keys e.place))
 
--- Of the linked ones of the first n entries each with a value names a key, and no two the same; each without a value may be dropped; and no two have one key word.
+-- the keys of the entries that links reach strictly rise along the links
+abbrev pub KeysRiseAlong : (ℕ → List ℕ) → RoomMemory → ℕ → Type 0
+KeysRiseAlong keys m r = (i j d : ℕ) → i < j → j < length (linked m r) → IsKeyBefore (keys (m.key r (slice_index_or (linked m r) i d))) (keys (m.key r (slice_index_or (linked m r) j d)))
+
+-- Of the linked ones of the first n entries each with a value names a key, and no two the same; each without a value may be dropped; and no two have one key word. Where each has a value, their keys rise along the links.
 pub record IsHeldRoom (names : ℕ → Type 0) (keys : ℕ → List ℕ) (gs : List MovingRange) (m : RoomMemory) (r n : ℕ) : Type 0 where
   pub named : (i : ℕ) → i < n → 0 < m.key r i → names_header (m.value r i) ≡ 1 → names (m.key r i)
   pub distinct : (k : List ℕ) → total (is_of keys k) (kept (linked_among m r n)) ≤ 1
   pub loose : (i : ℕ) → i < n → 0 < m.key r i → names_header (m.value r i) ≡ 0 → IsLoose (m.key r i) gs
   pub apart : (i j : ℕ) → i < j → j < n → 0 < m.key r i → m.key r i ≢ m.key r j
+  pub along : AreValued m r n → KeysRiseAlong keys m r
 
 -- the keys of the slots' entries strictly rise
 abbrev pub KeysRise : (ℕ → List ℕ) → List SortSlot → Type 0

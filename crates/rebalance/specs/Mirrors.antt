@@ -8,14 +8,14 @@ use Rattle.chunk_core.specs.declared.holds.HeldRoom.{HeldRoom}
 use Rattle.chunk_core.specs.declared.holds.MovingRange.{MovingRange}
 use Rattle.chunk_core.specs.declared.holds.RoomCopy.{RoomCopy}
 use Rattle.chunk_core.specs.KeyWords.{key_in, low_number, high_number}
-use Rattle.chunk_core.specs.LinkedEntries.{entries_in, prefix_in}
+use Rattle.chunk_core.specs.LinkedEntries.{entries_in, prefix_in, Rises}
 use Rattle.chunk_core.specs.RoomCopies.{copy_of, word_held}
 use Rattle.chunk_core.specs.RoomRule.{AreBounds}
 use Rattle.chunk_core.specs.Rooms.{RoomMemory}
 use Rattle.chunk_core.specs.Spans.{Span, within}
 use Rattle.chunk_core.specs.ValueWord.{names_header}
 use Rattle.oak_core.specs.EntryOwners.{is_key_word}
-use Rattle.rebalance.specs.Copies.{linked_held}
+use Rattle.rebalance.specs.Copies.{linked_held, reached_in}
 
 -- the copy, or words that say nothing where there is none
 abbrev pub copy_or : Option RoomCopy → RoomCopy
@@ -57,7 +57,7 @@ pub record RangeStands (g : MovingRange) : Type 0 where
   pub placed : Each (λ (c : Carried). is_key_word c.word ≡ 1) g.carried
   pub floor : names_header g.base ≡ 0
 
--- The words of the room are those of the range: the room has its bounds and its base, and its linked entries are the ones carried there.
+-- The words of the room are those of the range: the room has its bounds and its base, and its linked entries are the ones carried there, whose keys rise along the links.
 pub record Mirrors (z : Sizes) (w : RoomCopy) (g : MovingRange) : Type 0 where
   pub base : w.base ≡ g.base
   pub low : w.low ≡ g.low
@@ -68,3 +68,5 @@ pub record Mirrors (z : Sizes) (w : RoomCopy) (g : MovingRange) : Type 0 where
   pub entries : (f : ℕ → ℕ → ℕ) → total (λ (e : EntryWords). f e.word e.value) (linked_held w) ≡ total (λ (c : Carried). f c.word c.value) g.carried
   pub bounds : AreBounds (slice_index w.low 0) (slice_index w.high 0)
   pub sorted : (i j : ℕ) (c d : Carried) → i < j → j < prefix_in w.count → Has c g.carried → Has d g.carried → c.word ≡ word_held w i → d.word ≡ word_held w j → carried_key c < carried_key d
+  pub used : Each (λ i. i < entries_in w.count) (reached_in w)
+  pub along : (f : ℕ → ℕ) → ((c : Carried) → Has c g.carried → f c.word ≡ carried_key c) → Rises (λ i. f (word_held w i)) (reached_in w)

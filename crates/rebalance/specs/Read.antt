@@ -2,12 +2,14 @@
 use Rattle.std.specs.Prelude.{◌≡◌, ℕ, ◌+◌, ◌<◌, ◌≤◌, List, map, take, length, slice_set}
 use Rattle.std.specs.List.{slice_index_or}
 use Rattle.std.specs.List.Sorted.{IsPermutation}
+use Rattle.oak_model.specs.Counts.{Begins}
+use Rattle.chunk_core.specs.LinkedEntries.{linked}
 use Rattle.chunk_core.specs.Rooms.{RoomMemory}
 use Rattle.chunk_ops.specs.Stored.{IsStored}
 use Rattle.oak_core.specs.declared.sorting.SortSlot.{SortSlot}
 use Rattle.rebalance.specs.declared.entries.Entry.{Entry}
 use Rattle.rebalance.specs.declared.reading.Read.{Read}
-use Rattle.rebalance.specs.Entries.{entries, kept, dropped, greatest, linked_among}
+use Rattle.rebalance.specs.Entries.{entries, entry_at, kept, dropped, greatest, linked_among}
 use Rattle.rebalance.specs.Slots.{entry_of, key_of}
 
 -- Of the first n entries the first slots have the linked ones with a value, in some order and each with its key, and the others were dropped; the base is the greatest of b and of the floors of the linked ones among these.
@@ -25,6 +27,10 @@ pub record HasAll (keys : ℕ → List ℕ) (m : RoomMemory) (r n : ℕ) (slots 
   pub front : IsPermutation (entries m r n) (map entry_of (take n slots))
   pub named : (j : ℕ) (d : SortSlot) → j < n → 0 < (slice_index_or slots j d).key
   pub stored : (j : ℕ) (d : SortSlot) → j < n → IsStored (key_of (slice_index_or slots j d)) (keys (slice_index_or slots j d).key)
+
+-- The first n slots have the first entries that links reach, in the order of the links.
+abbrev pub AreAlong : RoomMemory → ℕ → ℕ → List SortSlot → Type 0
+AreAlong m r n slots = Begins (map entry_of (take n slots)) (map (entry_at m r) (linked m r))
 
 -- Slot i became that of the entry, with its key.
 pub record ReadsEntry (key : List ℕ) (e : Entry) (i : ℕ) (slots slots' : List SortSlot) : Type 0 where

@@ -3,7 +3,7 @@ ghost use Rattle.std.specs.Prelude.{◌≡◌, ℕ, ◌<◌, ◌≤◌, List, tr
 ghost use Rattle.oak_model.specs.declared.limits.TheConstants.{GREATEST_ENTRIES};
 ghost use Rattle.chunk_core.specs.ValueWord.{names_header};
 ghost use Rattle.rebalance.specs.Entries.{AreValued};
-ghost use Rattle.rebalance.specs.Read.{HasAll};
+ghost use Rattle.rebalance.specs.Read.{AreAlong, HasAll};
 
 use crate::held_rooms::{HeldRooms, RoomWord};
 use crate::reading::read_slot;
@@ -25,6 +25,7 @@ pub(crate) fn read_along<H: HeldRooms>(rooms: &mut H, room: u32, count: u32) -> 
     ensures read { result ≡ true → (keys : ℕ → List ℕ) → let m = H.rooms rooms.old in
         ((i : ℕ) → i < count → 0 < m.key room i → names_header (m.value room i) ≡ 1 → keys (m.key room i) ≡ H.keys rooms.old
         (m.key room i)) → HasAll keys m room count (H.slots rooms.new) }
+    ensures along { result ≡ true → AreAlong (H.rooms rooms.old) room count (H.slots rooms.new) }
 {
     let mut seen = [false; GREATEST_ENTRIES as usize];
     let mut link = rooms.load(room, RoomWord::First);

@@ -1,9 +1,10 @@
-use Rattle.std.proofs.Common.{◌≡◌, ℕ, ◌+◌, ◌-◌, ◌<◌, Bool, false, true, List, [], map, take, length, get_or, replicate, sym, ap, refl, ◌∙◌, subst, arith}
+use Rattle.std.proofs.Common.{◌≡◌, ℕ, ◌+◌, ◌-◌, ◌<◌, Bool, false, true, List, [], ◌++◌, map, take, length, get_or, replicate, sym, ap, refl, ◌∙◌, subst, arith}
 use Rattle.std.specs.List.Sorted.{IsPermutation}
 use Rattle.std.proofs.lemmas.Bool.{false≢true}
 use Rattle.std.proofs.lemmas.List.{length-set}
 use Rattle.std.proofs.lemmas.List.Sorted.{IsPermutation-refl}
 use Rattle.oak_model.proofs.Lists.{rows_at, rows_length}
+use Rattle.chunk_core.specs.LinkedEntries.{farthest, linked}
 use Rattle.chunk_core.specs.Rooms.{RoomMemory}
 use Rattle.chunk_core.specs.ValueWord.{names_header}
 use Rattle.chunk_ops.specs.Stored.{IsStored}
@@ -13,6 +14,7 @@ use Rattle.rebalance.specs.declared.entries.LinkedEntry.{LinkedEntry}
 use Rattle.rebalance.specs.Entries.{entries, entry_at}
 use Rattle.rebalance.specs.Read.{ReadsEntry}
 use Rattle.rebalance.specs.Slots.{entry_of, key_of}
+use Rattle.rebalance.proofs.AlongLaws.{along_next, along_none, along_set, few_chained, left_along}
 use Rattle.rebalance.proofs.ReadLaws.{has_top}
 use Rattle.rebalance.proofs.WalkLaws.{marked, marked_none, unmarked, mark_set, front_set, each_set, front_whole, whole_seen}
 use Rattle.rebalance.proofs.walking.read_along.Goals as goal
@@ -27,6 +29,7 @@ loop-at-init g c = let rooms = c.args.rooms.now in let m : RoomMemory = g.H.Held
   valued = λ j _ e. absurd (false≢true (sym (unmarked 256 j) ∙ e));
   front = subst (λ (xs : List Entry). IsPermutation xs []) (sym (marked_none (replicate 256 false) es (λ j _. unmarked 256 j))) (IsPermutation-refl []);
   named = λ j d l. absurd (omega arith);
+  along = along_none m c.args.room c.load-link.result w.word;
   stored = λ keys same j d l. absurd (omega arith);
 }
 
@@ -59,6 +62,7 @@ loop-at-preserved g c = let i = c.loop-at.invariant in let v = c.load_entry-link
     let reads : ReadsEntry key x k slots later = subst (λ (xs : List SortSlot). ReadsEntry key x k xs later) v.slots
     (subst (λ (z : Entry). ReadsEntry key z k (g.H.HeldRooms.slots s) later) is (subst (λ (q : List ℕ). ReadsEntry q y k (g.H.HeldRooms.slots s) later) same_key w.reads)) in
     let stays : g.H.HeldRooms.stays now u = g.met.H.HeldRooms.stays_on now s u v.stays w.stays in
+    let near : k < farthest = few_chained k (omega arith) in
     let at_e : get_or (entries m r n) e x ≡ x = rows_at 0 n e (λ (j : ℕ). entry_at m r j) x few ∙ ap (λ (j : ℕ). entry_at m r j) (let z : 0 + e ≡ e = omega arith in z) in record {
       stays = g.met.H.HeldRooms.stays_on rooms now u i.stays stays;
       rooms = w.rooms ∙ (v.rooms ∙ i.rooms);
@@ -69,6 +73,8 @@ loop-at-preserved g c = let i = c.loop-at.invariant in let v = c.load_entry-link
           (λ f. g.met.H.HeldRooms.sees_later rooms now u r j (i.sees j l f) stays);
       valued = λ j l. mark_set (λ (q : ℕ). (0 < m.key r q) × (names_header (m.value r q) ≡ 1)) seen e j (word, top) (i.valued j l);
       front = front_set key x k slots later lt reads seen (entries m r n) e flag (let z = rows_length 0 n (λ (j : ℕ). entry_at m r j) in omega arith) c.if-seen-i.false at_e i.front;
+      along = along_set key x k slots later lt reads (map (entry_at m r) (linked m r)) (left_along m r k c.loop-at.link) (left_along m r (k + 1) c.load_entry-linked.result.next)
+          (along_next m r k c.loop-at.link c.load_entry-linked.result.next near c.if-link-eq0.false (ap (λ (z : LinkedEntry). z.next) v.words ∙ ap (λ (q : RoomMemory). q.next r e) i.rooms)) i.along;
       named = each_set key x k slots later lt reads (λ (s : SortSlot). 0 < s.key) (subst (λ (q : ℕ). 0 < q) (sym (ap (λ (y : Entry). y.place) reads.is)) word) i.named;
       stored = λ keys same. each_set key x k slots later lt reads (λ (s : SortSlot). IsStored (key_of s) (keys s.key))
           (subst (IsStored (key_of reads.slot)) (named.1 ∙ (sym (same e few word top) ∙ ap keys (sym (ap (λ (y : Entry). y.place) reads.is)))) reads.stored)
@@ -96,3 +102,8 @@ returns-clause-read g c = λ _ keys same. let i = c.loop-at.invariant in let m :
       named = λ j d l. i.named j d (omega arith);
       stored = λ j d l. i.stored keys same j d (omega arith);
     }
+
+pub returns-clause-along : goal.returns-clause-along
+returns-clause-along g c = λ _. let i = c.loop-at.invariant in let m : RoomMemory = g.H.HeldRooms.rooms c.args.rooms.now in let r = c.args.room in let slots : List SortSlot = g.H.HeldRooms.slots c.loop-at.rooms in
+    let all : c.loop-at.at ≡ c.args.count = let t = c.loop-at-test.false in let a = c.loop-at.auto.at-end in omega arith in let left : List Entry = left_along m r c.loop-at.at c.loop-at.link in
+    (left, subst (λ (k : ℕ). map (entry_at m r) (linked m r) ≡ map entry_of (take k slots) ++ left) all i.along)
