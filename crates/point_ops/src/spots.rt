@@ -22,6 +22,7 @@ pub(crate) enum Spot {
 }
 
 /// Looks for a key that the pinned room covers.
+#[inline(always)] // an answer goes through memory at a call
 pub(crate) fn look_up(table: &OakTable, pass: &mut Pass, pin: &RoomPin, key: &[u8]) -> Spot
     requires own { IsPassOf table.now pass.old }
     requires key { IsKey key.now }
