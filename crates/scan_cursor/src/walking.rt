@@ -104,7 +104,8 @@ pub(crate) fn is_above(a: &[u8], b: &[u8]) -> bool
     cmp_keys(a, b).is_gt()
 }
 
-/// Whether the key is behind the bound to which the scan goes.
+/// Whether the key is behind the bound to which the scan goes. It stands out of line, as few keys are compared.
+#[inline(never)]
 fn is_beyond(way: Way, key: &[u8], low: &[u8], high: &[u8]) -> bool
     requires key { is_key key.now ≡ true }
     requires low { is_key low.now ≡ true }
@@ -120,6 +121,7 @@ fn is_beyond(way: Way, key: &[u8], low: &[u8], high: &[u8]) -> bool
 
 /// Whether the key at the mark, which is one of a batch, is behind the bound to which the scan goes. It is not compared
 /// where the batch shows that none of its keys is.
+#[inline(always)] // once for each pair of a scan
 fn is_past_end(walk: &Walk, low: &[u8], high: &[u8], way: Way) -> bool
     requires key { is_key walk.now.mark.key ≡ true }
     requires low { is_key low.now ≡ true }
@@ -128,7 +130,10 @@ fn is_past_end(walk: &Walk, low: &[u8], high: &[u8], way: Way) -> bool
     ensures { MatchBool result (IsBeyond way (key_number low.now) (key_number high.now) walk.now.mark.key)
         (IsBeyond way (key_number low.now) (key_number high.now) walk.now.mark.key → ⊥) }
 {
-    !walk.within && is_beyond(way, walk.mark.key.as_slice(), low, high)
+    if walk.within {
+        return false;
+    }
+    is_beyond(way, walk.mark.key.as_slice(), low, high)
 }
 
 /// Goes on at the bound of a room or a batch, or ends where that is none of the scan's range.
