@@ -487,8 +487,15 @@ pub(crate) fn try_walk(
 }
 
 /// Whether one of the slots that are loaded is left, and comes next.
+#[inline(always)] // once for each pair of a scan
 pub(crate) fn has_slot(walk: &Walk) -> bool
     ensures { IsTrue result → (walk.now.mark.past ≡ true) × (walk.now.gathered ≡ true) × (walk.now.from < walk.now.to) }
 {
-    walk.mark.past && walk.gathered && walk.from < walk.to
+    if !walk.mark.past {
+        return false;
+    }
+    if !walk.gathered {
+        return false;
+    }
+    walk.from < walk.to
 }
