@@ -37,7 +37,7 @@ use Rattle.oak_core.proofs.calls.CallSteps.{step_alone, step_since}
 use Rattle.chunk_ops.proofs.MeetingCalls.{stays_then}
 use Rattle.chunk_ops.proofs.PinSteps.{pin_found}
 use Rattle.chunk_ops.proofs.WordLoads.{load_reads}
-use Rattle.rebalance.specs.Holding.{Claims, FindsUsed, HasHeld, HasOnly, with_claimed}
+use Rattle.rebalance.specs.Holding.{Claims, FindsTaken, FindsUsed, HasHeld, HasOnly, with_claimed}
 use Rattle.rebalance.specs.LoneWords.{MovesWith}
 use Rattle.rebalance.proofs.HeldAlone.{copy_first}
 use Rattle.rebalance.proofs.LoneSteps.{room_moves_with}
@@ -126,8 +126,13 @@ used_since z call r u v w more f = record {
 }
 
 -- one room more was found used
-pub used_more : (z : Sizes) (call but k : ℕ) (u v w : PassState) → MetMore call v w → ((r : ℕ) → r < k → r ≢ but → FindsUsed z u v r) → (k ≢ but → FindsUsed z u w k) → (r : ℕ) → r < k + 1 → r ≢ but → FindsUsed z u w r
-used_more z call but k u v w more before now r lt ne = dite (dec_lt r k) (λ l. used_longer z call r u v w more (before r l ne)) (λ n. let e : k ≡ r = omega arith in subst (λ (j : ℕ). FindsUsed z u w j) e (now (λ q. ne (sym e ∙ q))))
+pub used_more : (z : Sizes) (call but from k : ℕ) (u v w : PassState) → MetMore call v w → ((r : ℕ) → from ≤ r → r < k → r ≢ but → FindsUsed z u v r) → (k ≢ but → FindsUsed z u w k) → (r : ℕ) → from ≤ r → r < k + 1 → r ≢ but → FindsUsed z u w r
+used_more z call but from k u v w more before now r ge lt ne = dite (dec_lt r k) (λ l. used_longer z call r u v w more (before r ge l ne)) (λ n. let e : k ≡ r = omega arith in subst (λ (j : ℕ). FindsUsed z u w j) e (now (λ q. ne (sym e ∙ q))))
+
+-- each other room was found used, those from one on first
+pub used_round : (z : Sizes) (call but first : ℕ) (u v w : PassState) → FindsTaken z call but first z.chunks u v → FindsTaken z call but 0 first v w → (r : ℕ) → r < z.chunks → r ≢ but → FindsUsed z u w r
+used_round z call but first u v w upper lower r lt ne = dite (dec_lt r first) (λ l. used_since z call r u v w upper.only.stands.met (lower.used r (omega arith) l ne))
+    (λ n. used_longer z call r u v w lower.only.stands.met (upper.used r (omega arith) lt ne))
 
 -- ---- the claim
 

@@ -16,7 +16,10 @@ use Rattle.oak_core.specs.RoomCalls.{ClaimsRoom}
 use Rattle.oak_core.specs.Step.{load, on_rooms, Told}
 use Rattle.oak_core.proofs.seats.AloneRuns.{DoesStep, Then, load_runs, runs_as, runs_then, step_runs}
 use Rattle.chunk_ops.proofs.WordLoads.{load_reads}
-use Rattle.rebalance.specs.LoneWords.{IsTaken, NoneFree, state_in}
+use Rattle.rebalance.specs.Holding.{FindsNoneFree, FindsTaken}
+use Rattle.rebalance.specs.LoneWords.{IsTaken, NoneFree, TakenBetween, state_in}
+use Rattle.rebalance.specs.Resting.{trying_both}
+use Rattle.rebalance.proofs.ClaimedRooms.{used_round}
 use Rattle.rebalance.proofs.LoneChunks.{lone_count}
 use Rattle.rebalance.proofs.LoneSteps.{StepAt, moment_at, step_at}
 
@@ -40,23 +43,37 @@ exchange_taken z call r old n k u v w l found t ne = let i : ℕ = index z (in_r
 
 -- ---- one room behind another
 
--- none of the first rooms is free but one, in words that stay
-abbrev pub TakenBelow : Sizes → ℕ → ℕ → List ℕ → List ℕ → Type 0
-TakenBelow z but k before after = (after ≡ before) × ((r : ℕ) → r < k → r ≢ but → state_in z before r ≢ FREE)
-
 -- one room more
-pub taken_more : (z : Sizes) (but k : ℕ) (u v w : PassState) → Runs (TakenBelow z but k) u v → Runs (IsTaken z k) v w → Runs (TakenBelow z but (k + 1)) u w
-taken_more z but k u v w before now = runs_as (Then (TakenBelow z but k) (IsTaken z k)) (TakenBelow z but (k + 1)) u w
-    (λ a c d. (d.2.0 ∙ d.1.0, λ r lt ne. dite (dec_lt r k) (λ l. d.1.1 r l ne) (λ n. let e : k ≡ r = omega arith in subst (λ (j : ℕ). state_in z a j ≢ FREE) e (subst (λ (ws : List ℕ). state_in z ws k ≢ FREE) d.1.0 d.2.1))))
-    (runs_then (TakenBelow z but k) (IsTaken z k) u v w before now)
+pub taken_more : (z : Sizes) (but from k : ℕ) (u v w : PassState) → Runs (TakenBetween z but from k) u v → Runs (IsTaken z k) v w → Runs (TakenBetween z but from (k + 1)) u w
+taken_more z but from k u v w before now = runs_as (Then (TakenBetween z but from k) (IsTaken z k)) (TakenBetween z but from (k + 1)) u w
+    (λ a c d. (d.2.0 ∙ d.1.0, λ r ge lt ne. dite (dec_lt r k) (λ l. d.1.1 r ge l ne) (λ n. let e : k ≡ r = omega arith in subst (λ (j : ℕ). state_in z a j ≢ FREE) e (subst (λ (ws : List ℕ). state_in z ws k ≢ FREE) d.1.0 d.2.1))))
+    (runs_then (TakenBetween z but from k) (IsTaken z k) u v w before now)
 
 -- the one is passed over
-pub taken_but : (z : Sizes) (but k : ℕ) (u v : PassState) → k ≡ but → Runs (TakenBelow z but k) u v → Runs (TakenBelow z but (k + 1)) u v
-taken_but z but k u v is before = runs_as (TakenBelow z but k) (TakenBelow z but (k + 1)) u v (λ a b d. (d.0, λ r lt ne. d.1 r (past r lt ne) ne)) before
+pub taken_but : (z : Sizes) (but from k : ℕ) (u v : PassState) → k ≡ but → Runs (TakenBetween z but from k) u v → Runs (TakenBetween z but from (k + 1)) u v
+taken_but z but from k u v is before = runs_as (TakenBetween z but from k) (TakenBetween z but from (k + 1)) u v (λ a b d. (d.0, λ r ge lt ne. d.1 r ge (past r lt ne) ne)) before
   where
     past : (r : ℕ) → r < k + 1 → r ≢ but → r < k
     past r lt ne = dite (dec_lt r k) (λ l. l) (λ n. let e : r ≡ k = omega arith in absurd (ne (e ∙ is)))
 
--- all were looked at
-pub none_free : (z : Sizes) (but k : ℕ) (u v : PassState) → z.chunks ≤ k → Runs (TakenBelow z but k) u v → Runs (NoneFree z but) u v
-none_free z but k u v all t = runs_as (TakenBelow z but k) (NoneFree z but) u v (λ a b d. record { stay = d.0; used = λ r lt ne. d.1 r (omega arith) ne }) t
+-- at most so many were looked at
+pub taken_upto : (z : Sizes) (but from to k : ℕ) (u v : PassState) → to ≤ k → Runs (TakenBetween z but from k) u v → Runs (TakenBetween z but from to) u v
+taken_upto z but from to k u v all t = runs_as (TakenBetween z but from k) (TakenBetween z but from to) u v (λ a b d. (d.0, λ r ge lt ne. d.1 r ge (omega arith) ne)) t
+
+-- all were looked at, those from one on first
+pub none_free : (z : Sizes) (but first : ℕ) (u v w : PassState) → Runs (TakenBetween z but first z.chunks) u v → Runs (TakenBetween z but 0 first) v w → Runs (NoneFree z but) u w
+none_free z but first u v w upper lower = runs_as (Then (TakenBetween z but first z.chunks) (TakenBetween z but 0 first)) (NoneFree z but) u w
+    (λ a c d. record {
+      stay = d.2.0 ∙ d.1.0;
+      used = λ r lt ne. dite (dec_lt r first) (λ l. subst (λ (ws : List ℕ). state_in z ws r ≢ FREE) d.1.0 (d.2.1 r (omega arith) l ne)) (λ n. d.1.1 r (omega arith) lt ne);
+    })
+    (runs_then (TakenBetween z but first z.chunks) (TakenBetween z but 0 first) u v w upper lower)
+
+-- so each other room was found used
+pub none_round : (z : Sizes) (call but first : ℕ) (u v w : PassState) → FindsTaken z call but first z.chunks u v → FindsTaken z call but 0 first v w → FindsNoneFree z call but u w
+none_round z call but first u v w upper lower = record {
+  used = used_round z call but first u v w upper lower;
+  only = trying_both call u v w upper.only lower.only;
+  moment = λ h. lower.moment (upper.moment h);
+  alone = none_free z but first u v w upper.alone lower.alone;
+}

@@ -29,7 +29,7 @@ use Rattle.chunk_ops.specs.AddsAlone.{Never}
 use Rattle.chunk_ops.specs.LoneRooms.{NeverUnfrozen}
 use Rattle.chunk_ops.specs.RoomPins.{HadMoment}
 use Rattle.rebalance.specs.Copies.{LinksReach}
-use Rattle.rebalance.specs.LoneWords.{FreezesWords, MovesRoom, MovesWith, NoneFree}
+use Rattle.rebalance.specs.LoneWords.{FreezesWords, MovesRoom, MovesWith, NoneFree, TakenBetween}
 use Rattle.rebalance.specs.Mirrors.{Mirrors, RangeStands}
 use Rattle.rebalance.specs.Repeating.{RepeatsIn}
 use Rattle.rebalance.specs.Resting.{OnlyRests, OnlyTries, Rests, Tries}
@@ -182,7 +182,15 @@ pub record Claims (z : Sizes) (call r : ℕ) (copy : RoomCopy) (v w : PassState)
 abbrev pub FindsUsed : Sizes → PassState → PassState → ℕ → Type 0
 FindsUsed z v w r = FoundUsed z (length v.findings.met) (length w.findings.met) w.findings.met r
 
--- so was each room but one, and the pass only met more; where there was a moment of the rule before, there is one behind
+-- so was each room from one on and below another, but one, and the pass only met more; where there was a moment of the rule before, there is one behind
+pub record FindsTaken (z : Sizes) (call but from to : ℕ) (v w : PassState) : Type 0 where
+  pub used : (r : ℕ) → from ≤ r → r < to → r ≢ but → FindsUsed z v w r
+  pub only : OnlyTries call v w
+  pub moment : HadMoment z v → HadMoment z w
+  -- to a pass that is alone
+  pub alone : Runs (TakenBetween z but from to) v w
+
+-- so was each room but one
 pub record FindsNoneFree (z : Sizes) (call but : ℕ) (v w : PassState) : Type 0 where
   pub used : (r : ℕ) → r < z.chunks → r ≢ but → FindsUsed z v w r
   pub only : OnlyTries call v w

@@ -1,5 +1,5 @@
 -- What the parts of a rebalance do to the table's words, where their pass is alone.
-use Rattle.std.specs.Prelude.{◌≡◌, ◌≢◌, ℕ, ◌<◌, ◌⊎◌, List, refl}
+use Rattle.std.specs.Prelude.{◌≡◌, ◌≢◌, ℕ, ◌<◌, ◌≤◌, ◌⊎◌, List, refl}
 use Rattle.std.proofs.Common.{sym, ◌∙◌, subst}
 use Rattle.pin_word.specs.PinWord.{state_of}
 use Rattle.oak_model.specs.Limits.{Sizes}
@@ -102,6 +102,10 @@ pub record TakesRoom (z : Sizes) (v : PassState) (r : ℕ) (w : RoomCopy) (befor
 -- the room is not free, in words that stay
 abbrev pub IsTaken : Sizes → ℕ → List ℕ → List ℕ → Type 0
 IsTaken z r before after = (after ≡ before) × (state_in z before r ≢ FREE)
+
+-- none from one on and below another is free but one, in words that stay
+abbrev pub TakenBetween : Sizes → ℕ → ℕ → ℕ → List ℕ → List ℕ → Type 0
+TakenBetween z but from to before after = (after ≡ before) × ((r : ℕ) → from ≤ r → r < to → r ≢ but → state_in z before r ≢ FREE)
 
 -- no other room is free, in words that stay
 pub record NoneFree (z : Sizes) (but : ℕ) (before after : List ℕ) : Type 0 where

@@ -1,5 +1,5 @@
 //! Rooms are frozen, held alone, claimed, opened again and retired.
-ghost use Rattle.std.specs.Prelude.{◌≡◌, ◌≢◌, ℕ, ◌<◌, None, IfSome, IfNone, true, false};
+ghost use Rattle.std.specs.Prelude.{◌≡◌, ◌≢◌, ℕ, ◌<◌, ◌≤◌, None, IfSome, IfNone, true, false};
 ghost use Rattle.chunk_core.specs.declared.holds.MovingRange.{MovingRange};
 ghost use Rattle.chunk_core.specs.declared.holds.RoomCopy.{RoomCopy};
 ghost use Rattle.chunk_core.specs.declared.states.TheConstants.{FROZEN, HELD};
@@ -12,7 +12,7 @@ ghost use Rattle.oak_core.specs.Passes.{IsPassOf, Stays, state, key, call_of};
 ghost use Rattle.chunk_ops.specs.PinRecords.{HasRoomPin};
 ghost use Rattle.chunk_ops.specs.RoomPins.{HadMoment};
 ghost use Rattle.rebalance.specs.LoneWords.{IsTaken};
-ghost use Rattle.rebalance.specs.Holding.{Freezes, LeavesUnfrozen, Holds, Thaws, HasOnly, Claims, ClaimsOthers, FindsUsed, FindsNoneFree, Opens, Retires};
+ghost use Rattle.rebalance.specs.Holding.{Freezes, LeavesUnfrozen, Holds, Thaws, HasOnly, Claims, ClaimsOthers, FindsUsed, FindsTaken, FindsNoneFree, Opens, Retires};
 ghost use Rattle.rebalance.specs.Resting.{OnlyTries};
 
 use chunk_core::{FREE, FROZEN, HELD, OPEN};
@@ -91,6 +91,39 @@ fn try_claim(table: &OakTable, pass: &mut Pass, room: u32) -> bool
     steps::claim_room(table, pass, word, free, pack(0, HELD, 0)) == free
 }
 
+/// Claims one of the rooms from `from` on and below `to`, if one of them is free, other than this one.
+fn claim_between(table: &OakTable, pass: &mut Pass, but: u32, from: u32, to: u32) -> Option<u32>
+    requires own { IsPassOf table.now pass.old }
+    requires only { HasOnly but (state pass.old).rooms }
+    requires inside { to ≤ (key table.now).chunks }
+    ensures own { Stays pass.old pass.new }
+    ensures claims { IfSome result (λ r. (r ≢ but)
+        × ((w : RoomCopy) × Claims (key table.now) (call_of pass.old) r w (state pass.old) (state pass.new))) }
+    ensures none { IfNone result (FindsTaken (key table.now) (call_of pass.old) but from to (state pass.old) (state pass.new)) }
+    ensures others { ClaimsOthers (key table.now) but (state pass.old) (state pass.new) }
+{
+    for room in from..to {
+        if room != but && try_claim(table, pass, room) {
+            return Some(room);
+        }
+    }
+    None
+}
+
+/// How far apart the looks for a free room begin of two chunks whose rooms are neighbours: the greatest number of
+/// rooms, divided by the golden ratio, so that those of many lie far from each other ("Fibonacci hashing", D. Knuth,
+/// The Art of Computer Programming, volume 3, section 6.4).
+const APART: u32 = 633;
+
+/// At which of so many rooms the look for a free one begins, for a chunk in this room. Used rooms come to be spread over
+/// the table, with free ones between them, so that few are looked at.
+fn look_from(rooms: u32, room: u32) -> u32
+    requires { 0 < rooms }
+    ensures { result < rooms }
+{
+    room.wrapping_mul(APART) % rooms
+}
+
 /// Claims a free room other than this one, which is all that the pass has of rooms. `None` comes only
 /// where each other one was found not free in this call. It waits for nobody.
 pub(crate) fn claim_free(table: &OakTable, pass: &mut Pass, but: u32) -> Option<u32>
@@ -102,12 +135,12 @@ pub(crate) fn claim_free(table: &OakTable, pass: &mut Pass, but: u32) -> Option<
     ensures none { IfNone result (FindsNoneFree (key table.now) (call_of pass.old) but (state pass.old) (state pass.new)) }
     ensures others { ClaimsOthers (key table.now) but (state pass.old) (state pass.new) }
 {
-    for room in 0..table.rooms() {
-        if room != but && try_claim(table, pass, room) {
-            return Some(room);
-        }
+    let rooms = table.rooms();
+    let first = look_from(rooms, but);
+    if let Some(room) = claim_between(table, pass, but, first, rooms) {
+        return Some(room);
     }
-    None
+    claim_between(table, pass, but, 0, first)
 }
 
 /// Opens the room that the pass holds, over a range that moves with the pass, or over its upper part.
