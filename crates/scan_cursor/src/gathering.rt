@@ -1,7 +1,9 @@
 //! The entries of a pinned room, loaded once into the slots of the pass, along the room's links, in batches.
 ghost use Rattle.std.specs.Prelude.{◌≡◌, ◌+◌, ◌<◌, ◌≤◌, ℕ, List, MatchOption, true, false};
+ghost use Rattle.std.specs.Ordering.{is_lt};
 ghost use Rattle.oak_model.specs.declared.limits.TheConstants.{GREATEST_ENTRIES};
-ghost use Rattle.oak_model.specs.Key.{IsKey, is_key};
+ghost use Rattle.oak_model.specs.Key.{IsKey, is_key, key_cmp};
+ghost use Rattle.arena_core.specs.Words.{word_at};
 ghost use Rattle.oak_core.specs.AloneWords.{Runs};
 ghost use Rattle.oak_core.specs.Passes.{IsPassOf, Stays, state, key as sizes, call_of, slots_of};
 ghost use Rattle.oak_core.specs.Scratch.{StaysButSlots};
@@ -35,14 +37,40 @@ struct Start {
     near: Option<KeyBytes>,
 }
 
+/// The first word of a key, with zeros behind its last byte.
+#[inline(always)]
+fn first_word(key: &StoredKey) -> u64
+    ensures { (k : List ℕ) → IsStored key.now k → result ≡ word_at k 0 }
+{
+    key.parts().1[0]
+}
+
+/// Whether the first key comes before the second. Most keys differ in the first word. The whole comparison stands in line
+/// too: a key that is lent to a call has to stand in memory, also where the first words tell.
+#[inline(always)] // once for each pair of a scan
+fn is_below(a: &StoredKey, b: &StoredKey) -> bool
+    ensures { (k q : List ℕ) → IsStored a.now k → IsStored b.now q → result ≡ is_lt (key_cmp k q) }
+{
+    let ours = first_word(a);
+    let theirs = first_word(b);
+    if ours < theirs {
+        return true;
+    }
+    if theirs < ours {
+        return false;
+    }
+    a.order(b).is_lt()
+}
+
 /// Whether `key` lies behind `from` in the direction of the scan.
+#[inline(always)] // once for each pair of a scan
 fn is_behind(key: &StoredKey, from: &StoredKey, way: Way) -> bool
     ensures { (k q : List ℕ) → IsStored from.now k → IsStored key.now q → IsKey k → IsKey q
         → (result ≡ true → IsBehind way k q) × (result ≡ false → IsBehind way k q → ⊥) }
 {
     match way {
-        Way::Up => from.order(key).is_lt(),
-        Way::Down => key.order(from).is_lt(),
+        Way::Up => is_below(from, key),
+        Way::Down => is_below(key, from),
     }
 }
 
