@@ -4,6 +4,7 @@ ghost use Rattle.std.specs.Prelude.{◌≡◌, slice_index};
 ghost use Rattle.chunk_index.specs.Heads.{key_head};
 
 use crate::low::Low;
+use oak_model::{Hint, NO_HINT};
 use std::alloc::{AllocError, Global};
 
 /// The byte at this place, and 0 behind the last one.
@@ -59,8 +60,8 @@ fn count_upto(stretch: &[i64; STRETCH], number: i64) -> usize {
     count
 }
 
-/// The heads of minima, in their order, and again the first of each stretch of them. Of what it counts nothing is promised:
-/// who asks looks at the minima beside.
+/// The heads of minima, in their order, and again the first of each stretch of them, with the rooms of their chunks. Of what
+/// it counts nothing is promised: who asks looks at the minima beside.
 ///
 /// In front of the heads stands the least number, so that some are always not above a head, and behind them the greatest,
 /// so that each stretch is whole.
@@ -68,6 +69,7 @@ fn count_upto(stretch: &[i64; STRETCH], number: i64) -> usize {
 pub struct Heads {
     heads: Vec<i64>,
     firsts: Vec<[i64; STRETCH]>,
+    rooms: Vec<u32>,
 
     // How many minima the heads are of.
     count: usize,
@@ -79,10 +81,12 @@ impl Heads {
         let stretches = count as usize / STRETCH + 1;
         let heads = Vec::with_capacity(alloc, stretches * STRETCH)?;
         let firsts = Vec::with_capacity(alloc, stretches.div_ceil(STRETCH))?;
+        let rooms = Vec::with_capacity(alloc, count as usize)?;
         let count = 0;
         Ok(Heads {
             heads,
             firsts,
+            rooms,
             count,
         })
     }
@@ -120,17 +124,34 @@ impl Heads {
         Ok(())
     }
 
-    /// Takes the heads of these minima in place of those it has.
-    fn try_take(&mut self, lows: &[Low]) -> Result<(), AllocError> {
+    /// Leaves all that it has.
+    fn clear(&mut self) {
         self.heads.clear();
         self.firsts.clear();
+        self.rooms.clear();
         self.count = 0;
+    }
+
+    /// Takes the heads of these minima in place of those it has.
+    fn try_take(&mut self, lows: &[Low]) -> Result<(), AllocError> {
+        self.clear();
         self.push(i64::MIN)?;
         for low in lows {
             self.push(signed(low.head()))?;
+            self.rooms.push(low.room()).map_err(|_| AllocError)?;
             self.count = self.count.wrapping_add(1);
         }
         self.fill()
+    }
+
+    /// Takes what another has in place of what it has. It fails where there is no memory for that, and then has but a part.
+    pub fn copy_from(&mut self, other: &Heads) -> Result<(), AllocError> {
+        self.clear();
+        self.heads.extend_from_slice(&other.heads)?;
+        self.firsts.extend_from_slice(&other.firsts)?;
+        self.rooms.extend_from_slice(&other.rooms)?;
+        self.count = other.count;
+        Ok(())
     }
 
     /// Puts the first number of each stretch from this one on in its place among the firsts.
@@ -143,9 +164,11 @@ impl Heads {
         }
     }
 
-    /// Puts a number behind the first so many minima's. One of those behind all heads gives way to it; where there is none,
-    /// a stretch begins.
-    fn insert(&mut self, count: usize, number: i64) -> Result<(), AllocError> {
+    /// Puts a number and a room behind the first so many minima's. One of the numbers behind all heads gives way to it; where
+    /// there is none, a stretch begins.
+    fn insert(&mut self, count: usize, number: i64, room: u32) -> Result<(), AllocError> {
+        let behind = count.min(self.rooms.len());
+        self.rooms.insert(behind, room).map_err(|_| AllocError)?;
         if self.heads.len() > self.count.saturating_add(1) {
             self.heads.pop();
         }
@@ -168,7 +191,7 @@ impl Heads {
             return false;
         }
         match lows.get(count) {
-            Some(low) => self.insert(count, signed(low.head())).is_ok(),
+            Some(low) => self.insert(count, signed(low.head()), low.room()).is_ok(),
             None => false,
         }
     }
@@ -231,5 +254,20 @@ impl Heads {
             return near;
         }
         self.count_heads(number)
+    }
+
+    /// The room of the last of so many minima, and none where there are none, unless the last has this very head: then
+    /// others may have it too, and their bytes have to be asked.
+    #[inline(always)]
+    pub fn hint_below(&self, head: u64, count: usize) -> Option<Hint> {
+        if *self.heads.get(count)? == signed(head) {
+            return None;
+        }
+        match count.checked_sub(1) {
+            Some(last) => Some(Hint {
+                room: self.rooms.get(last).copied(),
+            }),
+            None => Some(NO_HINT),
+        }
     }
 }

@@ -7,7 +7,7 @@ ghost use Rattle.std.specs.List.Sorted.{IsPartitionPoint};
 ghost use Rattle.std.specs.Vec.{vec_len, vec_capacity};
 ghost use Rattle.oak_model.specs.Key.{key_cmp};
 ghost use Rattle.chunk_index.specs.Heads.{key_head};
-ghost use Rattle.chunk_index.specs.Lows.{Low as Pair, IsRising, NamesGreatest, comes, comes_before, comes_under, comes_upto, is_apart, set_low};
+ghost use Rattle.chunk_index.specs.Lows.{Low as Pair, IsRising, NamesGreatest, comes, comes_under, comes_upto, is_apart, set_low};
 
 use crate::heads::{Heads, head_of};
 use crate::low::Low;
@@ -207,6 +207,11 @@ impl Lows {
             Some(key) => self.count_near(key, false, near),
             None => self.lows.len(),
         }
+    }
+
+    /// The heads of the minima, with their rooms.
+    pub fn heads(&self) -> &Heads {
+        &self.heads
     }
 
     /// The room of the last of the first so many minima.

@@ -5,12 +5,13 @@ ghost use Rattle.oak_model.specs.Key.{IsKey};
 ghost use Rattle.chunk_index.specs.Lows.{IsOnePerRoom, IsRising, set_low};
 ghost use Rattle.left_right.specs.Handles.{published};
 
+use crate::heads::Heads;
 use crate::low::Low;
 use crate::lows::Lows;
 use crate::readers::IndexReader;
 use left_right::WriteHandle;
 use oak_model::OutOfMemory;
-use std::alloc::AllocGlobal;
+use std::alloc::{AllocGlobal, Global};
 use std::fmt::{self, Debug, Formatter};
 use std::sync::Wait;
 
@@ -19,6 +20,8 @@ use std::sync::Wait;
 #[derive(Drop)]
 pub struct IndexWriter<R: Wait + Drop + Send> {
     writer: WriteHandle<Lows, Low, R>,
+    alloc: Global,
+    chunks: u32,
     ghost rising: { IsRising (published writer) },
     ghost rooms: { IsOnePerRoom (published writer) },
 }
@@ -44,7 +47,11 @@ impl<R: Wait + Drop + Send> IndexWriter<R> {
         let first = Lows::new(rt.alloc(), chunks)?;
         let second = Lows::new(rt.alloc(), chunks)?;
         let writer = WriteHandle::new(rt.alloc(), rt.clone()?, first, second, readers as usize)?;
-        Ok(IndexWriter { writer })
+        Ok(IndexWriter {
+            writer,
+            alloc: rt.alloc(),
+            chunks,
+        })
     }
 
     /// Sets the minimum of a chunk in a room, behind those that wait, for readers that look from now on. It waits for
@@ -75,6 +82,7 @@ impl<R: Wait + Drop + Send> IndexWriter<R> {
         ensures minima { minima self.new ≡ minima self.old }
         ensures waiting { waiting self.new ≡ waiting self.old }
     {
-        IndexReader::new(self.writer.handle().ok())
+        let own = Heads::new(self.alloc, self.chunks).ok();
+        IndexReader::new(self.writer.handle().ok(), own)
     }
 }

@@ -102,7 +102,27 @@ fn first_room(table: &OakTable, hint: Hint) -> u32
     }
 }
 
-/// Pins a room whose range is what is asked. The hinted one, or room 0, is tried first, then each that a load finds open.
+/// Tries the room that the index names for the key as it is now, where the hint was wrong: the pass's reader gave it by a
+/// copy that it made before, and is to make a new one.
+fn try_anew(table: &OakTable, pass: &mut Pass, asked: Asked, key: &[u8]) -> Option<RoomPin>
+    requires own { IsPassOf table.now pass.old }
+    requires free { (state pass.old).rooms.pin ≡ None }
+    requires few { length key.now ≤ GREATEST_KEY }
+    ensures own { Stays pass.old pass.new }
+    ensures tries { (n : ℕ) × PinsRooms (sizes table.now) n pass.old pass.new }
+    ensures pinned { IfSome result (λ p. PinsOpen (sizes table.now) (call_of pass.old) p.room (IsAsked asked key.now)
+        (state pass.old) (state pass.new)) }
+    ensures only { IfNone result (OnlyMeets (call_of pass.old) (state pass.old) (state pass.new)) }
+    ensures ended { IfNone result (HadMoment (sizes table.now) (state pass.new)) }
+{
+    pass.forget_hints();
+    let hint = pass.hint_now(key);
+    let room = first_room(table, hint);
+    try_if_open(table, pass, room, asked, key)
+}
+
+/// Pins a room whose range is what is asked. The hinted one, or room 0, is tried first, then the one that the index names
+/// now, and then each that a load finds open.
 fn pin_asked(
     table: &OakTable,
     pass: &mut Pass,
@@ -128,6 +148,9 @@ fn pin_asked(
 {
     let first = first_room(table, hint);
     if let Some(pin) = try_room(table, pass, first, asked, key) {
+        return Ok(pin);
+    }
+    if let Some(pin) = try_anew(table, pass, asked, key) {
         return Ok(pin);
     }
     for room in 0..table.rooms() {

@@ -15,13 +15,27 @@ impl Pass {
         self.reader = reader;
     }
 
-    /// The room in which to look for the key first, as the pass's reader has it. It takes no step on the table, never
-    /// waits and takes no memory.
+    /// The room in which to look for the key first, as the pass's reader has it, by a copy of the index that it made before.
+    /// It takes no step on the table, never waits and takes no memory.
     #[inline(always)]
     pub fn hint(&mut self, key: &[u8]) -> Hint
         ensures { self.new ≡ self.old }
     {
         self.reader.hint(key)
+    }
+
+    /// The room in which to look for the key first, by the index as it is now. It is else as [`Pass::hint`].
+    pub fn hint_now(&mut self, key: &[u8]) -> Hint
+        ensures { self.new ≡ self.old }
+    {
+        self.reader.hint_now(key)
+    }
+
+    /// Tells the pass's reader that its copy of the index is an old one: the next hint has a new one made.
+    pub fn forget_hints(&mut self)
+        ensures { self.new ≡ self.old }
+    {
+        self.reader.forget();
     }
 
     /// The room in which to look first for the keys next below the bound, and without one for the last keys. It is

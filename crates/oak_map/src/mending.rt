@@ -10,6 +10,7 @@ ghost use Rattle.oak_map.specs.Maps.{table_of};
 
 use crate::chunks::{Chunk, read_chunk};
 use crate::map::OakMap;
+use crate::publishing::publish;
 use chunk_ops::KeyBytes;
 use oak_core::Pass;
 use std::sync::Wait;
@@ -27,7 +28,7 @@ fn publish_low<R: Wait + Drop + Send>(
     requires { IsKey low.now }
     ensures { pass.new ≡ pass.old }
 {
-    pass.hint(low).room == Some(room) || map.index.publish(rt, low, room).is_ok()
+    pass.hint_now(low).room == Some(room) || publish(rt, map, pass, low, room)
 }
 
 /// Takes out the pairs of other rooms that the index has within the range of the chunk, which begins at `low`. Another
@@ -49,8 +50,8 @@ fn take_out_others<R: Wait + Drop + Send>(
             return;
         };
         let done = other == chunk.room
-            || map.index.publish(rt, low, other).is_err()
-            || map.index.publish(rt, low, chunk.room).is_err();
+            || !publish(rt, map, pass, low, other)
+            || !publish(rt, map, pass, low, chunk.room);
         if done {
             return;
         }
@@ -87,7 +88,7 @@ fn mend_at<R: Wait + Drop + Send>(
     ensures only { OnlyMeets (call_of pass.old) (state pass.old) (state pass.new) }
     ensures ended { IfSome result (λ _. HadMoment (sizes (table_of map.now)) (state pass.new)) }
 {
-    let hint = pass.hint(key);
+    let hint = pass.hint_now(key);
     let chunk = read_chunk(&map.table, pass, key, hint)?;
     mend_chunk(rt, map, pass, &chunk);
     Some(chunk)

@@ -1,6 +1,6 @@
 //! Where the upper chunk of a split begins is published in the index. Nothing is promised of that, so its want of memory
 //! changes no answer.
-ghost use Rattle.std.specs.Prelude.{IfSome};
+ghost use Rattle.std.specs.Prelude.{◌≡◌, IfSome};
 ghost use Rattle.oak_model.specs.Key.{IsKey};
 ghost use Rattle.oak_core.specs.PassState.{HoldsNothing};
 ghost use Rattle.oak_core.specs.Passes.{IsPassOf, Stays, call_of, state};
@@ -12,6 +12,22 @@ use crate::map::OakMap;
 use chunk_ops::KeyBytes;
 use oak_core::Pass;
 use std::sync::Wait;
+
+/// Publishes where the chunk in the room begins, and has the pass's next hint go by the index as it is then. `false` comes
+/// for want of memory.
+pub(crate) fn publish<R: Wait + Drop + Send>(
+    rt: &R,
+    map: &OakMap<R>,
+    pass: &mut Pass,
+    low: &[u8],
+    room: u32,
+) -> bool
+    requires { IsKey low.now }
+    ensures { pass.new ≡ pass.old }
+{
+    pass.forget_hints();
+    map.index.publish(rt, low, room).is_ok()
+}
 
 /// Where the chunk of the key ends, whose room the index names.
 fn lower_high<R: Wait + Drop + Send>(
@@ -70,6 +86,6 @@ pub(crate) fn publish_upper<R: Wait + Drop + Send>(
     ensures only { OnlyMeets (call_of pass.old) (state pass.old) (state pass.new) }
 {
     if let Some(low) = upper_low(map, pass, key, room) {
-        let _ = map.index.publish(rt, low.as_slice(), room);
+        let _ = publish(rt, map, pass, low.as_slice(), room);
     }
 }

@@ -141,7 +141,7 @@ fn is_named(table: &OakTable, pass: &mut Pass, pin: &RoomPin) -> bool
     match low_key(table, pass, pin) {
         None => last.is_none() || last == Some(pin.room),
         Some(low) => {
-            let first = pass.hint(KeyBytes::of(&low).as_slice()).room;
+            let first = pass.hint_now(KeyBytes::of(&low).as_slice()).room;
             last == Some(pin.room) && first == last
         }
     }

@@ -14,8 +14,11 @@ pub(crate) fn names(rt: &impl Abort, hint: Hint, at: &[u8], room: Option<u32>) {
     assert_eq!(rt; hint.room, room, "at {at:?}");
 }
 
-/// The hint of the key names this room.
+/// The hint of the key names this room, by the index, and by a copy that the reader makes of it.
 fn hints(rt: &impl Abort, reader: &mut IndexReader, key: &[u8], room: Option<u32>) {
+    names(rt, reader.hint_now(key), key, room);
+    reader.forget();
+    names(rt, reader.hint(key), key, room);
     names(rt, reader.hint(key), key, room);
 }
 
@@ -158,9 +161,9 @@ fn set_at_last<R: Wait + Drop + Send>(
 ) -> bool
     requires { IsKey low.now }
 {
-    let seen = reader.hint(low).room;
+    let seen = reader.hint_now(low).room;
     writer.set(low, room).is_ok()
-        || (reader.hint(low).room == seen && writer.set(low, room).is_ok())
+        || (reader.hint_now(low).room == seen && writer.set(low, room).is_ok())
 }
 
 /// Sets a pair at the second try at the latest.
@@ -189,6 +192,30 @@ fn set_five<R: Abort + Wait + Drop + Send>(
     sets(rt, writer, reader, b"w", 5);
 }
 
+/// A reader hints by its copy of the index until it is told that this is an old one.
+fn copy_of_one<R: Abort + Wait + Drop + Send>(
+    rt: &R,
+    writer: &mut IndexWriter<R>,
+    reader: &mut IndexReader,
+) -> Result<(), OutOfMemory> {
+    writer.set(b"k", 1)?;
+    hints(rt, reader, b"q", Some(1));
+    writer.set(b"p", 2)?;
+    names(rt, reader.hint(b"q"), b"q", Some(1));
+    names(rt, reader.hint_now(b"q"), b"q", Some(2));
+    names(rt, reader.hint(b"q"), b"q", Some(1));
+    hints(rt, reader, b"q", Some(2));
+    Ok(())
+}
+
+#[test]
+fn a_reader_keeps_a_copy(rt: HostRuntime) -> Result<(), Fail> {
+    let mut writer = IndexWriter::create(&rt, 4, 1)?;
+    let mut reader = writer.reader();
+    copy_of_one(&rt, &mut writer, &mut reader)?;
+    Ok(())
+}
+
 /// There are more rooms than the index was made for, so its lists grow, by calls of `set` that may find no memory.
 #[test]
 fn want_of_memory_leaves_what_readers_see(rt: HostRuntime) -> Result<(), Fail> {
@@ -201,10 +228,14 @@ fn want_of_memory_leaves_what_readers_see(rt: HostRuntime) -> Result<(), Fail> {
     Ok(())
 }
 
-/// Counts the hints that name no room, or one that the key was never in.
+/// Counts the hints that name no room, or one that the key was never in. Each second one is by a copy of the index that was
+/// made for the one before.
 fn count_wrong(mut reader: IndexReader) -> u32 {
     let mut wrong = 0u32;
-    for _ in 0..20_000 {
+    for i in 0..20_000 {
+        if i % 2 == 0 {
+            reader.forget();
+        }
         let room = reader.hint(b"m").room;
         wrong = wrong.wrapping_add((room != Some(1) && room != Some(2)) as u32);
     }

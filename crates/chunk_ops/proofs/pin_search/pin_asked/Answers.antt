@@ -31,17 +31,34 @@ loop-room-preserved c = let z : Sizes = key c.args.table.now in let call = call_
       alone = tries_more z k (IsAsked c.args.asked c.args.key.now) v.rooms w.rooms v w x i.only.rooms i.alone e.alone;
     }
 
+-- the room that the index names now
+
+pub returns-in-Some-try_anew-clause-pinned : goal.returns-in-Some-try_anew-clause-pinned
+returns-in-Some-try_anew-clause-pinned c = let z : Sizes = key c.args.table.now in let call = call_of c.args.pass.now in let v = state c.args.pass.now in let w = state c.try_room.new.pass in let x = state c.try_anew.new.pass in let r = c.in-Some-try_anew.pin.room in let e = c.in_default.ensures in
+    let p = opens_in z call (call_of c.try_room.new.pass) r (IsAsked c.args.asked c.args.key.now) w x e.own.call c.in-Some-try_anew.ensures.pinned in
+    opens_since z call r (IsAsked c.args.asked c.args.key.now) v w x e.only e.begun p
+
+pub returns-in-Some-try_anew-clause-tries : goal.returns-in-Some-try_anew-clause-tries
+returns-in-Some-try_anew-clause-tries c = let n = c.in-Some-try_anew.ensures.tries in (1 + n.0, pins_both (key c.args.table.now) 1 n.0 c.args.pass.now c.try_room.new.pass c.try_anew.new.pass c.in_default.ensures.tries n.1)
+
+pub returns-in-Some-try_anew-clause-first : goal.returns-in-Some-try_anew-clause-first
+returns-in-Some-try_anew-clause-first c = let z : Sizes = key c.args.table.now in let call = call_of c.args.pass.now in let P = IsAsked c.args.asked c.args.key.now in let v = state c.args.pass.now in let w = state c.try_room.new.pass in let x = state c.try_anew.new.pass in let e = c.in_default.ensures in
+    let p = opens_in z call (call_of c.try_room.new.pass) c.in-Some-try_anew.pin.room P w x e.own.call c.in-Some-try_anew.ensures.pinned in
+    subst (λ (k : ℕ). TriesFirst z call k P c.args.pass.now c.try_anew.new.pass) c.first_room-first.ensures.first
+    (missed_first z call c.first_room-first.result P c.args.pass.now c.try_anew.new.pass (misses_until z call c.first_room-first.result P v w x p.stands.met e.off))
+
 pub loop-room-init : goal.loop-room-init
-loop-room-init c = let z : Sizes = key c.args.table.now in let v = state c.args.pass.now in let w = state c.try_room.new.pass in let e = c.in_default.ensures in record {
-  stays = e.own;
-  only = e.only;
-  off = λ r lt. absurd (omega arith);
-  first = e.off;
-  tries = (1, e.tries);
-  begun = e.begun;
-  ended = e.ended;
-  alone = tries_none z (IsAsked c.args.asked c.args.key.now) v.rooms v w e.only.still;
-}
+loop-room-init c = let z : Sizes = key c.args.table.now in let call = call_of c.args.pass.now in let P = IsAsked c.args.asked c.args.key.now in let v = state c.args.pass.now in let w = state c.try_room.new.pass in let x = state c.try_anew.new.pass in let e = c.in_default.ensures in let a = c.in_default-try_anew.ensures in
+    let only = only_in call (call_of c.try_room.new.pass) w x e.own.call a.only in let both = only_both call v w x e.only only in record {
+      stays = stays_both e.own a.own;
+      only = both;
+      off = λ r lt. absurd (omega arith);
+      first = misses_until z call c.first_room-first.result P v w x only.stands.met e.off;
+      tries = (1 + a.tries.0, pins_both z 1 a.tries.0 c.args.pass.now c.try_room.new.pass c.try_anew.new.pass e.tries a.tries.1);
+      begun = e.begun;
+      ended = a.ended;
+      alone = tries_none z P v.rooms v x both.still;
+    }
 
 pub returns-clause-alone : goal.returns-clause-alone
 returns-clause-alone c = let z : Sizes = key c.args.table.now in let v = state c.args.pass.now in let w = state c.loop-room.pass in let i = c.loop-room.invariant in let is = c.rooms-room-end.ensures.is in let some_room = c.rooms-room-end.ensures.some in let over = c.loop-room-test.false in let most = c.loop-room.auto.room-end in
