@@ -50,6 +50,7 @@ pub fn next_entry(
 }
 
 /// Loads the key of an entry: its key word once, and each word of its bytes once.
+#[inline(always)] // once for each pair of a scan, and an answer goes through memory at a call
 pub fn entry_key(table: &OakTable, pass: &mut Pass, pin: &RoomPin, entry: EntryNo) -> StoredKey
     requires own { IsPassOf table.now pass.old }
     requires pinned { HasRoomPin (sizes table.now) pin.now.room (state pass.old) }
