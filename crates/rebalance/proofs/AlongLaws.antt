@@ -1,5 +1,5 @@
 -- What was read of a room along its links: the slots have the entries in the order of the links, so that their keys rise as those along the links do.
-use Rattle.std.proofs.Common.{◌≡◌, ◌≢◌, ℕ, zero, suc, ◌+◌, ◌-◌, ◌<◌, ◌≤◌, List, [], ◌∷◌, ◌++◌, map, take, length, get_or, sym, ◌∙◌, ap, subst, arith, append_assoc}
+use Rattle.std.proofs.Common.{◌≡◌, ◌≢◌, ℕ, zero, suc, ◌+◌, ◌-◌, ◌<◌, ◌≤◌, Bool, List, [], ◌∷◌, ◌++◌, map, take, length, get_or, sym, ◌∙◌, ap, subst, arith, append_assoc}
 use Rattle.std.proofs.lemmas.List.{get_or-map, get_or_append_left, length-append, length-map, length-take-le}
 use Rattle.oak_model.specs.Counts.{Each}
 use Rattle.oak_model.specs.Key.{IsKeyBefore}
@@ -10,7 +10,7 @@ use Rattle.oak_core.specs.declared.sorting.SortSlot.{SortSlot}
 use Rattle.rebalance.specs.declared.entries.Entry.{Entry}
 use Rattle.rebalance.specs.Compacted.{KeysRise, KeysRiseAlong}
 use Rattle.rebalance.specs.Entries.{entry_at}
-use Rattle.rebalance.specs.Read.{AreAlong, ReadsEntry}
+use Rattle.rebalance.specs.Read.{AreAlong, PutsEntry}
 use Rattle.rebalance.specs.Slots.{entry_of}
 use Rattle.rebalance.proofs.ReadLaws.{front_more}
 
@@ -66,6 +66,6 @@ module _ (m : RoomMemory) (r : ℕ) where
         subst (λ (p : ℕ × ℕ). IsKeyBefore (keys p.0) (keys p.1)) (λ q. (sym (word_along i 0 s (omega arith)) q, sym (word_along j 0 s (omega arith)) q)) (rise i j 0 lt (omega arith))
 
 -- one entry more was read, to the next slot
-pub along_set : (key : List ℕ) (e : Entry) (k : ℕ) (slots slots' : List SortSlot) → k < length slots → ReadsEntry key e k slots slots' → (all left behind : List Entry) → left ≡ e ∷ behind → all ≡ map entry_of (take k slots) ++ left → all ≡ map entry_of (take (k + 1) slots') ++ behind
-along_set key e k slots slots' lt h all left behind next is = is ∙ (ap (λ (es : List Entry). map entry_of (take k slots) ++ es) next ∙ (sym (append_assoc (map entry_of (take k slots)) (e ∷ []) behind)
+pub along_set : (key : List ℕ) (whole : Bool) (e : Entry) (k : ℕ) (slots slots' : List SortSlot) → k < length slots → PutsEntry key whole e k slots slots' → (all left behind : List Entry) → left ≡ e ∷ behind → all ≡ map entry_of (take k slots) ++ left → all ≡ map entry_of (take (k + 1) slots') ++ behind
+along_set key whole e k slots slots' lt h all left behind next is = is ∙ (ap (λ (es : List Entry). map entry_of (take k slots) ++ es) next ∙ (sym (append_assoc (map entry_of (take k slots)) (e ∷ []) behind)
     ∙ ap (λ (es : List Entry). es ++ behind) (sym (ap (λ (xs : List SortSlot). map entry_of (take (k + 1) xs)) h.put ∙ front_more slots k h.slot e h.is lt))))

@@ -157,7 +157,7 @@ module _ (z : Sizes) (r q : ℕ) (w c : RoomCopy) (g : MovingRange) (v : PassSta
 
     -- the key between them
     pub half_stored : (d : SortSlot) → IsStored (key_of (slice_index_or slots (x.kept / 2) d)) (keys_in v.rooms.moving (slice_index_or (take x.kept slots) (x.kept / 2) d).key)
-    half_stored d = subst (λ (s : SortSlot). IsStored (key_of (slice_index_or slots (x.kept / 2) d)) (keys_in v.rooms.moving s.key)) (sym (get_or-take x.kept slots (x.kept / 2) d half_fewer)) (all.read.stored (x.kept / 2) d half_fewer)
+    half_stored d = subst (λ (s : SortSlot). IsStored (key_of (slice_index_or slots (x.kept / 2) d)) (keys_in v.rooms.moving s.key)) (sym (get_or-take x.kept slots (x.kept / 2) d half_fewer)) (all.read.middle d half_fewer)
 
     -- is no longer than a key
     pub half_short : (d : SortSlot) → (slice_index_or slots (x.kept / 2) d).length ≤ GREATEST_KEY
@@ -180,7 +180,7 @@ module _ (r : ℕ) (vs ts : List HeldRoom) (same : copy_of r ts ≡ copy_of r vs
     fits = s.fits;
     same = subst (λ (o : Option RoomCopy). IsPermutation (kept (used o)) (map entry_of (take x.kept slots))) (sym same) s.same;
     rise = s.rise;
-    stored = s.stored;
+    middle = s.middle;
     base = subst (λ (o : Option RoomCopy). x.base ≡ greatest (copy_or o).base (dropped (used o))) (sym same) s.base;
   }
 

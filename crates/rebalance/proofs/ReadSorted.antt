@@ -1,5 +1,5 @@
 -- What reading a held room tells: of its words as they were before, and of the slots once they are in order.
-use Rattle.std.proofs.Common.{◌≡◌, ℕ, ◌<◌, ◌≤◌, List, take, map, length, sym, ap, ◌∙◌, subst}
+use Rattle.std.proofs.Common.{◌≡◌, ℕ, ◌/◌, ◌<◌, ◌≤◌, List, take, map, length, sym, ap, ◌∙◌, subst}
 use Rattle.std.specs.List.{All}
 use Rattle.std.specs.List.Sorted.{IsPermutation}
 use Rattle.std.proofs.lemmas.List.Sorted.{IsPermutation-map, IsPermutation-trans}
@@ -9,7 +9,7 @@ use Rattle.chunk_core.specs.Rooms.{RoomMemory}
 use Rattle.chunk_core.specs.ValueWord.{names_header}
 use Rattle.oak_core.specs.declared.sorting.SortSlot.{SortSlot}
 use Rattle.rebalance.specs.declared.reading.Read.{Read}
-use Rattle.rebalance.specs.Compacted.{linked_in, IsHeldRoom, KeysRise, ReadsSorted}
+use Rattle.rebalance.specs.Compacted.{linked_in, IsHeldRoom, ReadsSorted}
 use Rattle.rebalance.specs.Entries.{kept}
 use Rattle.rebalance.specs.Read.{HasRead}
 use Rattle.rebalance.specs.Slots.{entry_of, AllNamed, AreDistinct, Rise}
@@ -32,11 +32,7 @@ module _ (keys : ℕ → List ℕ) (m : RoomMemory) (r : ℕ) (slots : List Sort
   named_read : AllNamed (take x.kept slots)
   named_read = front_slots (λ (s : SortSlot). 0 < s.key) slots x.kept read.fits read.named
 
-  -- where their keys rise there, they are in order
-  pub rising_read : KeysRise keys (take x.kept slots) → ReadsSorted keys m r slots x
-  rising_read rise = record { many = read.many; fits = read.fits; same = read.front; rise = rise; stored = read.stored; base = read.base }
-
-  -- else their keys differ, as those of the entries do
+  -- their keys differ, as those of the entries do
   pub distinct_read : (names : ℕ → Type 0) (gs : List MovingRange) → IsHeldRoom names keys gs m r (entries_in (m.count r)) → AreDistinct (take x.kept slots)
   distinct_read names gs room = distinct_slots keys (kept (linked_in m r)) (take x.kept slots) slots_are read.front room.distinct
 
@@ -48,7 +44,7 @@ module _ (keys : ℕ → List ℕ) (m : RoomMemory) (r : ℕ) (slots : List Sort
       fits = fits;
       same = IsPermutation-trans (kept (linked_in m r)) (map entry_of (take x.kept slots)) (map entry_of (take x.kept sorted)) read.front (IsPermutation-map entry_of (take x.kept slots) (take x.kept sorted) p);
       rise = keys_rise keys (take x.kept sorted) all rise;
-      stored = each_slot (IsSlot keys) sorted x.kept fits all;
+      middle = each_slot (IsSlot keys) sorted x.kept fits all (x.kept / 2);
       base = read.base;
     }
 

@@ -1,5 +1,5 @@
 -- The entries of a room are read in another order than that of their numbers, and each once.
-use Rattle.std.proofs.Common.{◌≡◌, ℕ, zero, suc, ◌+◌, ◌<◌, ◌≤◌, ◌==◌, not, Bool, true, false, cond, List, [], ◌∷◌, ◌++◌, map, take, length, get_or, set, replicate, get_or-set_other, sym, ◌∙◌, ap, refl, subst, arith, lt-ltb}
+use Rattle.std.proofs.Common.{◌≡◌, ℕ, zero, suc, ◌+◌, ◌/◌, ◌<◌, ◌≤◌, ◌==◌, not, Bool, true, false, cond, List, [], ◌∷◌, ◌++◌, map, take, length, get_or, set, replicate, get_or-set_other, get_or-set_same, sym, ◌∙◌, ap, refl, subst, arith, lt-ltb}
 use Rattle.std.specs.List.{filter}
 use Rattle.std.specs.List.Sorted.{IsPermutation}
 use Rattle.std.proofs.lemmas.List.{get_or-replicate, get_or_past, length-replicate, length-take-le}
@@ -9,14 +9,17 @@ use mathlib.Core.Logic.{dite}
 use native.Mathlib.Decide.{ℕ_discrete, dec_lt}
 use Rattle.oak_model.specs.Counts.{rows}
 use Rattle.oak_model.proofs.Lists.{rows_length}
+use Rattle.chunk_core.specs.LinkedEntries.{entries_in}
 use Rattle.chunk_core.specs.Rooms.{RoomMemory}
+use Rattle.chunk_ops.specs.Stored.{IsStored}
 use Rattle.oak_core.specs.declared.sorting.SortSlot.{SortSlot}
 use Rattle.rebalance.specs.declared.entries.Entry.{Entry}
 use Rattle.rebalance.specs.declared.reading.Read.{Read}
 use Rattle.rebalance.specs.Dropping.{DropsKeys, dropped_ranges}
 use Rattle.rebalance.specs.Entries.{AreValued, entries, entry_at, kept, dropped, greatest, has_value, has_word, lacks_value, linked_among}
-use Rattle.rebalance.specs.Read.{HasAll, HasRead, ReadsEntry}
-use Rattle.rebalance.specs.Slots.{entry_of}
+use Rattle.rebalance.specs.Compacted.{KeysRise, ReadsSorted, linked_in}
+use Rattle.rebalance.specs.Read.{HasAll, PutsEntry}
+use Rattle.rebalance.specs.Slots.{entry_of, key_of}
 use Rattle.rebalance.proofs.ReadLaws.{same_kept, front_more, each_more}
 
 -- the elements at which the flags are set
@@ -77,7 +80,7 @@ mark_set Q seen i j here other is = dite (ℕ_discrete j i) (λ e. subst Q (sym 
 
 -- one entry more was read, to the next slot
 
-module _ (key : List ℕ) (e : Entry) (k : ℕ) (slots slots' : List SortSlot) (lt : k < length slots) (h : ReadsEntry key e k slots slots') where
+module _ (key : List ℕ) (whole : Bool) (e : Entry) (k : ℕ) (slots slots' : List SortSlot) (lt : k < length slots) (h : PutsEntry key whole e k slots slots') where
   pub front_set : (seen : List Bool) (es : List Entry) (i : ℕ) → i < length seen → i < length es → get_or seen i false ≡ false → get_or es i e ≡ e → IsPermutation (marked seen es) (map entry_of (take k slots)) → IsPermutation (marked (set seen i true) es) (map entry_of (take (k + 1) slots'))
   front_set seen es i l few f is p = let long : List Entry = marked seen es ++ e ∷ [] in
       same_kept (marked (set seen i true) es) (marked (set seen i true) es) (map entry_of (take k slots) ++ e ∷ []) (map entry_of (take (k + 1) slots'))
@@ -86,6 +89,12 @@ module _ (key : List ℕ) (e : Entry) (k : ℕ) (slots slots' : List SortSlot) (
 
   pub each_set : (P : SortSlot → Type 0) → P h.slot → ((j : ℕ) (d : SortSlot) → j < k → P (get_or slots j d)) → (j : ℕ) (d : SortSlot) → j < k + 1 → P (get_or slots' j d)
   each_set P here others j d l = subst (λ (xs : List SortSlot). P (get_or xs j d)) (sym h.put) (each_more P slots k h.slot lt here others j d l)
+
+  -- what holds of one of them
+  pub one_set : (P : SortSlot → Type 0) (j : ℕ) → (j ≡ k → P h.slot) → ((d : SortSlot) → j < k → P (get_or slots j d)) → (d : SortSlot) → j < k + 1 → P (get_or slots' j d)
+  one_set P j here other d l = subst (λ (xs : List SortSlot). P (get_or xs j d)) (sym h.put) (dite (ℕ_discrete j k)
+      (λ e. subst P (sym (ap (λ (i : ℕ). get_or (set slots k h.slot) i d) e ∙ get_or-set_same slots k h.slot d lt)) (here e))
+      (λ ne. subst P (sym (get_or-set_other slots k j h.slot d ne)) (other d (omega arith))))
 
 -- all were read
 
@@ -145,13 +154,15 @@ module _ (m : RoomMemory) (r n : ℕ) (valued : AreValued m r n) where
   unfolding dropped_ranges
   ranges_same gs = ap (λ (es : List Entry). dropped_ranges es gs) dropped_none
 
-  pub all_read : (keys : ℕ → List ℕ) (b : ℕ) (slots : List SortSlot) (x : Read) → HasAll keys m r n slots → x.kept ≡ n → x.dropped ≡ 0 → x.base ≡ b → HasRead keys m r b n slots x
+  -- and the slots are in order where their keys rise
+
+  pub all_sorted : (keys : ℕ → List ℕ) (slots : List SortSlot) (x : Read) → n ≡ entries_in (m.count r) → HasAll keys m r n slots → x.kept ≡ n → x.dropped ≡ 0 → x.base ≡ m.base r → KeysRise keys (take x.kept slots) → ReadsSorted keys m r slots x
   unfolding greatest
-  all_read keys b slots x h k d o = let sf = h.fits in record {
+  all_sorted keys slots x count h k d o rise = let sf = h.fits in record {
     many = omega arith;
     fits = omega arith;
-    front = same_kept (entries m r n) (kept (linked_among m r n)) (map entry_of (take n slots)) (map entry_of (take x.kept slots)) h.front (sym kept_all) (ap (λ (i : ℕ). map entry_of (take i slots)) (sym k));
-    named = λ j q l. h.named j q (omega arith);
-    stored = λ j q l. h.stored j q (omega arith);
-    base = o ∙ ap (greatest b) (sym dropped_none);
+    same = same_kept (entries m r n) (kept (linked_in m r)) (map entry_of (take n slots)) (map entry_of (take x.kept slots)) h.front (sym kept_all ∙ ap (λ (i : ℕ). kept (linked_among m r i)) count) (ap (λ (i : ℕ). map entry_of (take i slots)) (sym k));
+    rise = rise;
+    middle = λ q. subst (λ (i : ℕ). i / 2 < i → IsStored (key_of (get_or slots (i / 2) q)) (keys (get_or slots (i / 2) q).key)) (sym k) (h.middle q);
+    base = o ∙ ap (greatest (m.base r)) (sym dropped_none ∙ ap (λ (i : ℕ). dropped (linked_among m r i)) count);
   }

@@ -1,5 +1,5 @@
 -- A held room whose entries are read and sorted, and what it has before that.
-use Rattle.std.specs.Prelude.{◌≡◌, ◌≢◌, ℕ, ◌+◌, ◌<◌, ◌≤◌, List, map, take, length}
+use Rattle.std.specs.Prelude.{◌≡◌, ◌≢◌, ℕ, ◌+◌, ◌/◌, ◌<◌, ◌≤◌, List, map, take, length}
 use Rattle.std.specs.List.{slice_index_or}
 use Rattle.std.specs.List.Sorted.{IsPermutation}
 use Rattle.oak_model.specs.Counts.{one_if, total}
@@ -42,13 +42,13 @@ pub record IsHeldRoom (names : ℕ → Type 0) (keys : ℕ → List ℕ) (gs : L
 abbrev pub KeysRise : (ℕ → List ℕ) → List SortSlot → Type 0
 KeysRise keys xs = (i j : ℕ) (d : SortSlot) → i < j → j < length xs → IsKeyBefore (keys (slice_index_or xs i d).key) (keys (slice_index_or xs j d).key)
 
--- The first slots have the linked entries with a value, in the order of their keys, the others were dropped, and the base is the greatest of the room's and of the floors of the linked ones among these.
+-- The first slots have the linked entries with a value, in the order of their keys, and that at which the upper half of them begins has its key; the others were dropped, and the base is the greatest of the room's and of the floors of the linked ones among these.
 pub record ReadsSorted (keys : ℕ → List ℕ) (m : RoomMemory) (r : ℕ) (slots : List SortSlot) (x : Read) : Type 0 where
   pub many : x.kept + x.dropped ≡ entries_in (m.count r)
   pub fits : x.kept ≤ length slots
   pub same : IsPermutation (kept (linked_in m r)) (map entry_of (take x.kept slots))
   pub rise : KeysRise keys (take x.kept slots)
-  pub stored : (j : ℕ) (d : SortSlot) → j < x.kept → IsStored (key_of (slice_index_or slots j d)) (keys (slice_index_or slots j d).key)
+  pub middle : (d : SortSlot) → x.kept / 2 < x.kept → IsStored (key_of (slice_index_or slots (x.kept / 2) d)) (keys (slice_index_or slots (x.kept / 2) d).key)
   pub base : x.base ≡ greatest (m.base r) (dropped (linked_in m r))
 
 -- Of the first n of the e entries of the room those without a value were dropped, and then it was filled with the slots.

@@ -10,7 +10,7 @@ ghost use Rattle.chunk_ops.specs.Stored.{IsStored};
 ghost use Rattle.rebalance.specs.Dropping.{DropsKeys, dropped_ranges};
 ghost use Rattle.rebalance.specs.Entries.{dropped, linked_among};
 ghost use Rattle.rebalance.specs.HeldRooms.{IsLoose};
-ghost use Rattle.rebalance.specs.Read.{HasRead, ReadsEntry};
+ghost use Rattle.rebalance.specs.Read.{HasRead, PutsEntry, ReadsEntry};
 ghost use Rattle.rebalance.specs.Slots.{entry_of, key_of};
 
 use crate::entries::Entry;
@@ -78,7 +78,7 @@ fn slot_of(entry: Entry, key: &StoredKey) -> SortSlot
 
 /// Reads an entry that has a value to slot `at`, with its key.
 #[inline(always)]
-pub(crate) fn read_slot<H: HeldRooms>(rooms: &mut H, entry: Entry, at: usize)
+fn read_slot<H: HeldRooms>(rooms: &mut H, entry: Entry, at: usize)
     requires named { H.names rooms.old entry.place }
     requires few { at < GREATEST_ENTRIES }
     ensures stays { H.stays rooms.old rooms.new }
@@ -94,6 +94,24 @@ pub(crate) fn read_slot<H: HeldRooms>(rooms: &mut H, entry: Entry, at: usize)
     }
     let key = load_key(rooms, entry.place);
     rooms.put(at, slot_of(entry, &key));
+}
+
+/// Puts an entry that has a value in slot `at`, with its key where that is asked for; else the slot has none.
+#[inline(always)]
+pub(crate) fn put_slot<H: HeldRooms>(rooms: &mut H, entry: Entry, at: usize, with_key: bool)
+    requires named { H.names rooms.old entry.place }
+    requires few { at < GREATEST_ENTRIES }
+    ensures stays { H.stays rooms.old rooms.new }
+    ensures rooms { H.rooms rooms.new ≡ H.rooms rooms.old }
+    ensures ranges { H.ranges rooms.new ≡ H.ranges rooms.old }
+    ensures puts { PutsEntry (H.keys rooms.old entry.place) with_key entry at (H.slots rooms.old) (H.slots rooms.new) }
+{
+    if with_key {
+        read_slot(rooms, entry, at);
+        return;
+    }
+    let none = StoredKey::from_words([0; KEY_WORDS], 0);
+    rooms.put(at, slot_of(entry, &none));
 }
 
 /// Reads one entry: to the next slot where it is linked and has a value; else it is dropped. One that was

@@ -6,11 +6,12 @@ ghost use Rattle.rebalance.specs.Entries.{AreValued};
 ghost use Rattle.rebalance.specs.Read.{AreAlong, HasAll};
 
 use crate::held_rooms::{HeldRooms, RoomWord};
-use crate::reading::read_slot;
+use crate::reading::put_slot;
 use oak_model::GREATEST_ENTRIES;
 
 /// Reads the first `count` entries of a held room along its links, so that their slots are sorted as the
-/// links are. `false` where the links don't come to each of these entries, or one has no value; none is
+/// links are. Nothing is left to sort then, so no key is loaded but that at which the upper half of them begins,
+/// to which the two are parted where the room is split. `false` where the links don't come to each of these entries, or one has no value; none is
 /// dropped then.
 pub(crate) fn read_along<H: HeldRooms>(rooms: &mut H, room: u32, count: u32) -> bool
     requires held { H.held rooms.old room }
@@ -27,6 +28,7 @@ pub(crate) fn read_along<H: HeldRooms>(rooms: &mut H, room: u32, count: u32) -> 
         (m.key room i)) → HasAll keys m room count (H.slots rooms.new) }
     ensures along { result ≡ true → AreAlong (H.rooms rooms.old) room count (H.slots rooms.new) }
 {
+    let middle = count as usize / 2;
     let mut seen = [false; GREATEST_ENTRIES as usize];
     let mut link = rooms.load(room, RoomWord::First);
     for at in 0..count as usize {
@@ -39,7 +41,7 @@ pub(crate) fn read_along<H: HeldRooms>(rooms: &mut H, room: u32, count: u32) -> 
         if seen[i as usize] || entry.place == 0 || !entry.has_value() {
             return false;
         }
-        read_slot(rooms, entry, at);
+        put_slot(rooms, entry, at, at == middle);
         seen[i as usize] = true;
         link = linked.next;
     }

@@ -1,4 +1,4 @@
-use Rattle.std.proofs.Common.{◌≡◌, ℕ, ◌<◌, List, take, length, sym, ap, ◌∙◌, refl, subst}
+use Rattle.std.proofs.Common.{◌≡◌, ℕ, ◌<◌, ◌≤◌, List, take, length, sym, ap, ◌∙◌, refl, subst}
 use Rattle.chunk_core.specs.LinkedEntries.{entries_in}
 use Rattle.chunk_core.specs.Rooms.{RoomMemory}
 use Rattle.chunk_core.specs.ValueWord.{names_header}
@@ -7,12 +7,12 @@ use Rattle.rebalance.specs.declared.reading.Read.{Read}
 use Rattle.rebalance.specs.Compacted.{ReadsSorted}
 use Rattle.rebalance.specs.Dropping.{DropsKeys}
 use Rattle.rebalance.specs.Entries.{AreValued}
-use Rattle.rebalance.specs.Read.{AreAlong, HasAll, HasRead}
+use Rattle.rebalance.specs.Read.{AreAlong, HasAll}
 use Rattle.rebalance.specs.Slots.{AllNamed}
 use Rattle.rebalance.proofs.AlongLaws.{keys_along}
-use Rattle.rebalance.proofs.ReadSorted.{distinct_read, rising_read, same_keys, same_read, sorted_named, sorted_read}
+use Rattle.rebalance.proofs.ReadSorted.{distinct_read, same_keys, same_read, sorted_named, sorted_read}
 use Rattle.rebalance.proofs.SortLaws.{front_slots}
-use Rattle.rebalance.proofs.WalkLaws.{all_read, drops_nothing, ranges_same}
+use Rattle.rebalance.proofs.WalkLaws.{all_sorted, drops_nothing, ranges_same}
 use Rattle.rebalance.proofs.rewriting.read_sorted.Goals as goal
 
 pub returns-then-read_along-clause-sees : goal.returns-then-read_along-clause-sees
@@ -42,9 +42,10 @@ returns-then-read_along-clause-read g c = let rooms = c.args.rooms.now in let t 
     let is = same_keys (g.H.HeldRooms.names rooms) keys (g.H.HeldRooms.keys t) (g.H.HeldRooms.ranges rooms) m (g.H.HeldRooms.rooms t) r k c.requires.room same count (λ w h. (g.met.H.HeldRooms.still_names rooms t w c.load.ensures.stays h).1) in
     let whole : HasAll keys m r n slots = subst (λ (q : ℕ). HasAll keys m r q slots) count (subst (λ (w : RoomMemory). HasAll keys w r k slots) same (c.read_along.ensures.read c.if-read_along.true keys is)) in
     let along : AreAlong m r k slots = subst (λ (w : RoomMemory). AreAlong w r k slots) same (c.read_along.ensures.along c.if-read_along.true) in
-    let read : HasRead keys m r (m.base r) n slots x = all_read m r n valued keys (m.base r) slots x whole count refl (c.load-then-read_along.ensures.word ∙ ap (λ (w : RoomMemory). w.base r) (c.read_along.ensures.rooms ∙ same)) in
+    let fits : k ≤ length slots = subst (λ (q : ℕ). q ≤ length slots) (sym count) whole.fits in
     subst (λ (xs : List SortSlot). ReadsSorted keys m r xs x) (sym c.load-then-read_along.ensures.slots)
-    (rising_read keys m r slots x read (keys_along m r k slots read.fits along keys (c.requires.room.along valued)))
+    (all_sorted m r n valued keys slots x refl whole count refl (c.load-then-read_along.ensures.word ∙ ap (λ (w : RoomMemory). w.base r) (c.read_along.ensures.rooms ∙ same))
+    (keys_along m r k slots fits along keys (c.requires.room.along valued)))
 
 pub returns-then-read_along-clause-named : goal.returns-then-read_along-clause-named
 returns-then-read_along-clause-named g c = let rooms = c.args.rooms.now in let t = c.load.new.self in let m : RoomMemory = g.H.HeldRooms.rooms rooms in let r = c.args.room in let k : ℕ = c.entries_in-count.result in

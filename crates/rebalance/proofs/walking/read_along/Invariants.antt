@@ -1,4 +1,4 @@
-use Rattle.std.proofs.Common.{◌≡◌, ℕ, ◌<◌, List, ◌++◌, true, false, map, take, length, get_or}
+use Rattle.std.proofs.Common.{◌≡◌, ℕ, ◌<◌, ◌/◌, List, ◌++◌, true, false, map, take, length, get_or}
 use Rattle.std.specs.List.Sorted.{IsPermutation}
 use Rattle.chunk_core.specs.LinkedEntries.{linked}
 use Rattle.chunk_core.specs.ValueWord.{names_header}
@@ -22,5 +22,5 @@ invariant-loop-at g l = let m = g.H.HeldRooms.rooms l.fn.rooms in let slots = g.
   front : IsPermutation (marked l.seen (entries m l.room l.count)) (map entry_of (take l.at slots));
   named : (j : ℕ) (d : SortSlot) → j < l.at → 0 < (get_or slots j d).key;
   along : map (entry_at m l.room) (linked m l.room) ≡ map entry_of (take l.at slots) ++ left_along m l.room l.at l.link;
-  stored : (keys : ℕ → List ℕ) → ((j : ℕ) → j < l.count → 0 < m.key l.room j → names_header (m.value l.room j) ≡ 1 → keys (m.key l.room j) ≡ g.H.HeldRooms.keys l.fn.rooms (m.key l.room j)) → (j : ℕ) (d : SortSlot) → j < l.at → IsStored (key_of (get_or slots j d)) (keys (get_or slots j d).key);
+  stored : (keys : ℕ → List ℕ) → ((j : ℕ) → j < l.count → 0 < m.key l.room j → names_header (m.value l.room j) ≡ 1 → keys (m.key l.room j) ≡ g.H.HeldRooms.keys l.fn.rooms (m.key l.room j)) → (d : SortSlot) → l.count / 2 < l.at → IsStored (key_of (get_or slots (l.count / 2) d)) (keys (get_or slots (l.count / 2) d).key);
 }
