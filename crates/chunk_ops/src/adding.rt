@@ -9,8 +9,9 @@ ghost use Rattle.chunk_ops.specs.Finds.{LiesBefore, LiesBehind};
 ghost use Rattle.chunk_ops.specs.PinRecords.{HasRoomPin};
 
 use crate::entries::{AddHalt, EntryNo, NotAdded, number_in};
+use crate::entry_numbers::first_key_at;
 use crate::loading::base_of;
-use crate::pinned_table::{PinnedTable, first_key_at};
+use crate::pinned_table::PinnedTable;
 use crate::room_pins::RoomPin;
 use arena_core::place::place_word;
 use arena_ops::give;

@@ -1,6 +1,8 @@
 //! Words of a pinned room and of its entries.
 ghost use Rattle.std.specs.Prelude.{◌≡◌, ◌<◌, ℕ, List, length, slice_index};
 ghost use Rattle.oak_model.specs.Key.{IsKey};
+ghost use Rattle.chunk_core.specs.Rooms.{at_key};
+ghost use Rattle.oak_core.specs.Memory.{in_rooms, index};
 ghost use Rattle.oak_core.specs.Passes.{IsPassOf, Stays, state, key, call_of};
 ghost use Rattle.chunk_ops.specs.PinRecords.{HasEntry, HasRoomPin, OnlyMeets};
 ghost use Rattle.chunk_ops.specs.RoomWords.{FindsBase, FindsKeyWord};
@@ -26,7 +28,7 @@ pub fn base_of(table: &OakTable, pass: &mut Pass, pin: &RoomPin) -> u64
 }
 
 /// Loads the key word of an entry.
-pub(crate) fn key_word(table: &OakTable, pass: &mut Pass, pin: &RoomPin, entry: EntryNo) -> u64
+fn key_word(table: &OakTable, pass: &mut Pass, pin: &RoomPin, entry: EntryNo) -> u64
     requires own { IsPassOf table.now pass.old }
     requires pinned { HasRoomPin (key table.now) pin.now.room (state pass.old) }
     requires entry { (k : List ℕ) × HasEntry pin.now.room entry.0 k (state pass.old) }
@@ -35,7 +37,26 @@ pub(crate) fn key_word(table: &OakTable, pass: &mut Pass, pin: &RoomPin, entry: 
     ensures only { OnlyMeets (call_of pass.old) (state pass.old) (state pass.new) }
 {
     let word = table.key_at(pin.room, entry.0);
-    load(table, pass, word)
+    key_word_at(table, pass, pin, entry, word)
+}
+
+/// Loads the key word of an entry, by its number.
+pub(crate) fn key_word_at(
+    table: &OakTable,
+    pass: &mut Pass,
+    pin: &RoomPin,
+    entry: EntryNo,
+    at: u32,
+) -> u64
+    requires own { IsPassOf table.now pass.old }
+    requires pinned { HasRoomPin (key table.now) pin.now.room (state pass.old) }
+    requires entry { (k : List ℕ) × HasEntry pin.now.room entry.0 k (state pass.old) }
+    requires number { at ≡ index (key table.now) (in_rooms (at_key pin.now.room entry.0)) }
+    ensures own { Stays pass.old pass.new }
+    ensures word { (k : List ℕ) → (h : HasEntry pin.now.room entry.0 k (state pass.old)) → FindsKeyWord (key table.now) k h.entry result }
+    ensures only { OnlyMeets (call_of pass.old) (state pass.old) (state pass.new) }
+{
+    load(table, pass, at)
 }
 
 /// The length in bytes of an entry's key.

@@ -1,5 +1,5 @@
 //! The real table as a room whose entries are linked.
-ghost use Rattle.std.specs.Prelude.{◌≡◌, ◌<◌};
+ghost use Rattle.std.specs.Prelude.{◌≡◌};
 ghost use Rattle.chunk_core.specs.LinkWords.{link_spot};
 ghost use Rattle.chunk_core.specs.Rooms.{IsInRooms, at_key, at_next, at_value};
 ghost use Rattle.oak_core.specs.Memory.{in_rooms, index};
@@ -12,11 +12,11 @@ ghost use Rattle.chunk_ops.specs.RoomLoads.{IsFirstKey, IsPinnedTable, LoadsInTa
 ghost use Rattle.chunk_ops.specs.TableLaws.{lone_still, meets_nothing, meets_then, most_stays, own_count, table_few};
 
 use crate::comparing::{compare, head_of};
+use crate::entry_numbers::entry_at;
 use crate::finding::search_sorted;
 use crate::key_blocks::key_block_at;
 use crate::room::SearchedRoom;
 use chunk_core::count_word::entries_in;
-use chunk_core::layout::ENTRY_WORDS;
 use link_search::{LinkedRoom, Sorted};
 use oak_core::{OakTable, Pass, load, steps};
 use std::cmp::Ordering;
@@ -34,16 +34,6 @@ pub(crate) struct PinnedTable<'p> {
     pub(crate) place: u64,
 }
 
-/// The number of the key word of a room's first entry.
-pub(crate) fn first_key_at(table: &OakTable, room: u32) -> u32
-    requires { room < (sizes table.now).chunks }
-    ensures { result ≡ index (sizes table.now) (in_rooms (at_key room 0)) }
-{
-    // Each room has an entry.
-    let _entries = table.entries();
-    table.key_at(room, 0)
-}
-
 impl PinnedTable<'_> {
     /// The number of an entry's key word.
     fn key_at(&self, entry: u32) -> u32
@@ -51,7 +41,7 @@ impl PinnedTable<'_> {
         requires inside { IsInRooms (sizes self.now.table.now) (at_key self.now.room entry) }
         ensures { result ≡ index (sizes self.now.table.now) (in_rooms (at_key self.now.room entry)) }
     {
-        self.first + entry * ENTRY_WORDS as u32
+        entry_at(self.table, self.room, self.first, entry)
     }
 
     /// The number of an entry's value word.

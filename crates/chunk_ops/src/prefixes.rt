@@ -6,7 +6,8 @@ ghost use Rattle.oak_core.specs.QuietSteps.{Quiet};
 ghost use Rattle.chunk_ops.specs.PinRecords.{HasRoomPin, UnderPin, WordsStay};
 ghost use Rattle.chunk_ops.specs.Prefixes.{HalvesPrefix, SplitsPrefix};
 
-use crate::pinned_table::{PinnedTable, first_key_at};
+use crate::entry_numbers::first_key_at;
+use crate::pinned_table::PinnedTable;
 use crate::room_pins::RoomPin;
 use chunk_core::count_word::prefix_in;
 use link_search::{LinkedRoom, Sorted};

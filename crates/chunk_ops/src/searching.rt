@@ -11,7 +11,8 @@ ghost use Rattle.chunk_ops.specs.PinRecords.{HasRoomPin, UnderPin};
 ghost use Rattle.chunk_ops.specs.Ways.{Up, Down};
 
 use crate::entries::{EntryNo, Found, as_entry};
-use crate::pinned_table::{PinnedTable, first_key_at};
+use crate::entry_numbers::first_key_at;
+use crate::pinned_table::PinnedTable;
 use crate::room_pins::RoomPin;
 use link_search::{Sought, Tie};
 use oak_core::{OakTable, Pass};

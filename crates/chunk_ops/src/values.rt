@@ -1,6 +1,8 @@
 //! What the value words of entries say.
-ghost use Rattle.std.specs.Prelude.{ℕ, List};
+ghost use Rattle.std.specs.Prelude.{◌≡◌, ℕ, List};
+ghost use Rattle.chunk_core.specs.Rooms.{at_key};
 ghost use Rattle.oak_core.specs.AloneWords.{Runs};
+ghost use Rattle.oak_core.specs.Memory.{in_rooms, index};
 ghost use Rattle.oak_core.specs.Passes.{IsPassOf, Stays, state, key, call_of};
 ghost use Rattle.chunk_ops.specs.declared.entries.Content.{Content};
 ghost use Rattle.chunk_ops.specs.Contents.{FindsContent, Says, SaysIn, TellsOf};
@@ -24,12 +26,19 @@ pub fn content_of(word: u64) -> Content
     }
 }
 
-/// Loads the value word of an entry. By a word that is a floor the entry's key was read absent, up to it;
+/// Loads the value word of an entry, the number of whose key word is known. By a word that is a floor the entry's key was read absent, up to it;
 /// by one that names a header the pass knows that life of the key, past which it has not seen the key go.
-pub fn value_word(table: &OakTable, pass: &mut Pass, pin: &RoomPin, entry: EntryNo) -> u64
+pub fn value_word_at(
+    table: &OakTable,
+    pass: &mut Pass,
+    pin: &RoomPin,
+    entry: EntryNo,
+    at: u32,
+) -> u64
     requires own { IsPassOf table.now pass.old }
     requires pinned { HasRoomPin (key table.now) pin.now.room (state pass.old) }
     requires entry { (k : List ℕ) × HasEntry pin.now.room entry.0 k (state pass.old) }
+    requires number { at ≡ index (key table.now) (in_rooms (at_key pin.now.room entry.0)) }
     ensures own { Stays pass.old pass.new }
     ensures content { (c : Content) → Says c result → FindsContent (key table.now) (call_of pass.old) pin.now.room
         entry.0 c (state pass.old) (state pass.new) }
@@ -39,8 +48,7 @@ pub fn value_word(table: &OakTable, pass: &mut Pass, pin: &RoomPin, entry: Entry
     ensures alone { (c : Content) → Says c result → Runs (SaysIn c (key table.now) pin.now.room entry.0)
         (state pass.old) (state pass.new) }
 {
-    let word = table.value_at(pin.room, entry.0);
-    load(table, pass, word)
+    load(table, pass, at + 1)
 }
 
 /// What the value word of an entry says, which is loaded once. By a floor the entry's key was read
@@ -57,5 +65,6 @@ pub fn content(table: &OakTable, pass: &mut Pass, pin: &RoomPin, entry: EntryNo)
     ensures only { OnlyLearns (call_of pass.old) (state pass.old) (state pass.new) }
     ensures alone { Runs (SaysIn result (key table.now) pin.now.room entry.0) (state pass.old) (state pass.new) }
 {
-    content_of(value_word(table, pass, pin, entry))
+    let at = table.key_at(pin.room, entry.0);
+    content_of(value_word_at(table, pass, pin, entry, at))
 }

@@ -4,7 +4,9 @@ ghost use Rattle.std.specs.Ordering.{is_lt};
 ghost use Rattle.oak_model.specs.declared.limits.TheConstants.{GREATEST_ENTRIES};
 ghost use Rattle.oak_model.specs.Key.{IsKey, is_key, key_cmp};
 ghost use Rattle.arena_core.specs.Words.{word_at};
+ghost use Rattle.chunk_core.specs.Rooms.{at_key};
 ghost use Rattle.oak_core.specs.AloneWords.{Runs};
+ghost use Rattle.oak_core.specs.Memory.{in_rooms, index};
 ghost use Rattle.oak_core.specs.Passes.{IsPassOf, Stays, state, key as sizes, call_of, slots_of};
 ghost use Rattle.oak_core.specs.Scratch.{StaysButSlots};
 ghost use Rattle.chunk_ops.specs.PinRecords.{HasEntry, HasRoomPin, OnlyLearns, OnlyMeets, WordsStay};
@@ -18,8 +20,8 @@ ghost use Rattle.scan_cursor.specs.Views.{Later, view_of};
 use crate::ways::Way;
 use arena_core::words::WORD;
 use chunk_ops::{
-    Content, EntryNo, KEY_WORDS, KeyBytes, RoomPin, StoredKey, content_of, entry_key, next_entry,
-    prefix_below, value_word,
+    Content, EntryNo, KEY_WORDS, KeyBytes, RoomPin, StoredKey, content_of, entry_at, entry_key,
+    entry_key_at, first_key_at, next_entry, next_entry_at, prefix_below, value_word_at,
 };
 use oak_core::{OakTable, Pass, SortSlot};
 
@@ -101,18 +103,20 @@ fn ends_full(full: bool, way: Way) -> bool
     }
 }
 
-/// Loads the value word of an entry of this key: the slot of one that has a value. A scan needs no key words, so none is
-/// kept in its slots.
+/// Loads the value word of an entry of this key, with the number of its key word: the slot of one that has a value. A scan
+/// needs no key words, so none is kept in its slots.
 fn load_slot(
     table: &OakTable,
     pass: &mut Pass,
     pin: &RoomPin,
     entry: EntryNo,
+    at: u32,
     key: &StoredKey,
 ) -> Option<SortSlot>
     requires own { IsPassOf table.now pass.old }
     requires pinned { HasRoomPin (sizes table.now) pin.now.room (state pass.old) }
     requires entry { (q : List ℕ) × HasEntry pin.now.room entry.0 q (state pass.old) }
+    requires number { at ≡ index (sizes table.now) (in_rooms (at_key pin.now.room entry.0)) }
     requires key { (q : List ℕ) → HasEntry pin.now.room entry.0 q (state pass.old) → IsStored key.now q × IsKey q }
     ensures own { Stays pass.old pass.new }
     ensures only { OnlyLearns (call_of pass.old) (state pass.old) (state pass.new) }
@@ -120,7 +124,7 @@ fn load_slot(
         → HasEntry pin.now.room entry.0 q (state pass.old) → ReadsSlot result q
         (view_of z call (state pass.old)) (view_of z call (state pass.new)) }
 {
-    let value = value_word(table, pass, pin, entry);
+    let value = value_word_at(table, pass, pin, entry, at);
     match content_of(value) {
         Content::Floor { stamp: _ } => None,
         Content::Value {
@@ -146,6 +150,7 @@ fn load_known(
     pass: &mut Pass,
     pin: &RoomPin,
     entry: EntryNo,
+    at: u32,
     key: &StoredKey,
     from: &StoredKey,
     aim: Aim,
@@ -153,6 +158,7 @@ fn load_known(
     requires own { IsPassOf table.now pass.old }
     requires pinned { HasRoomPin (sizes table.now) pin.now.room (state pass.old) }
     requires entry { (q : List ℕ) × HasEntry pin.now.room entry.0 q (state pass.old) }
+    requires number { at ≡ index (sizes table.now) (in_rooms (at_key pin.now.room entry.0)) }
     requires key { (q : List ℕ) → HasEntry pin.now.room entry.0 q (state pass.old) → IsStored key.now q × IsKey q }
     requires slot { aim.slot < GREATEST_ENTRIES }
     ensures own { StaysButSlots pass.old pass.new }
@@ -170,7 +176,7 @@ fn load_known(
     if ends_full(aim.full, aim.way) {
         return Outcome::Ends;
     }
-    match load_slot(table, pass, pin, entry, key) {
+    match load_slot(table, pass, pin, entry, at, key) {
         Some(slot) => {
             pass.sorting_mut().set(aim.slot, slot);
             Outcome::Kept
@@ -187,6 +193,7 @@ fn load_found(
     pass: &mut Pass,
     pin: &RoomPin,
     entry: EntryNo,
+    at: u32,
     key: &StoredKey,
     from: &StoredKey,
     aim: Aim,
@@ -194,6 +201,7 @@ fn load_found(
     requires own { IsPassOf table.now pass.old }
     requires pinned { HasRoomPin (sizes table.now) pin.now.room (state pass.old) }
     requires entry { (q : List ℕ) × HasEntry pin.now.room entry.0 q (state pass.old) }
+    requires number { at ≡ index (sizes table.now) (in_rooms (at_key pin.now.room entry.0)) }
     requires key { (q : List ℕ) → HasEntry pin.now.room entry.0 q (state pass.old) → IsStored key.now q × IsKey q }
     requires slot { aim.slot < GREATEST_ENTRIES }
     ensures own { StaysButSlots pass.old pass.new }
@@ -207,9 +215,9 @@ fn load_found(
         let mut only = [0; KEY_WORDS];
         only[0] = words[0];
         let short = StoredKey::from_words(only, length);
-        return load_known(table, pass, pin, entry, &short, from, aim);
+        return load_known(table, pass, pin, entry, at, &short, from, aim);
     }
-    load_known(table, pass, pin, entry, key, from, aim)
+    load_known(table, pass, pin, entry, at, key, from, aim)
 }
 
 /// The bound of a batch that ends before an entry.
@@ -347,6 +355,7 @@ pub(crate) fn gather(
     let _slots = pass.sorting().slots();
     let from = StoredKey::of(key);
     let start = start_of(table, pass, pin, key, many, way);
+    let first = first_key_at(table, pin.room);
     let mut next = start.first;
     let mut passed = 0u32;
     let mut filled = 0;
@@ -355,13 +364,14 @@ pub(crate) fn gather(
             let bound = start.near;
             return Batch { filled, bound };
         };
-        let this = entry_key(table, pass, pin, entry);
+        let at = entry_at(table, pin.room, first, entry.0);
+        let this = entry_key_at(table, pass, pin, entry, at);
         let aim = Aim {
             slot: filled,
             full: filled >= many as usize,
             way,
         };
-        match load_found(table, pass, pin, entry, &this, &from, aim) {
+        match load_found(table, pass, pin, entry, at, &this, &from, aim) {
             Outcome::Ends => {
                 let bound = entry_bound(table, pass, pin, entry, start.near, way);
                 return Batch { filled, bound };
@@ -369,7 +379,7 @@ pub(crate) fn gather(
             Outcome::Passed => {}
             Outcome::Kept => filled += 1,
         }
-        next = next_entry(table, pass, pin, Some(entry));
+        next = next_entry_at(table, pass, pin, entry, at);
         passed += 1;
     }
 }

@@ -2,7 +2,7 @@ use Rattle.std.proofs.Common.{List, ℕ}
 use Rattle.oak_core.specs.Passes.{Stays, state, call_of}
 use Rattle.chunk_ops.specs.PinRecords.{HasEntry, OnlyMeets}
 use Rattle.chunk_ops.proofs.StoredLaws.{Filled}
-use Rattle.chunk_ops.proofs.listing.entry_key.Given as goal
+use Rattle.chunk_ops.proofs.listing.entry_key_at.Given as goal
 
 abbrev pub invariant-loop-i : goal.invariant-loop-i
 invariant-loop-i l = record {
