@@ -30,3 +30,4 @@ pub mod EndLaws
 pub mod FitLaws
 mod CursorLaws
 mod TriedLaws
+mod BlocksAhead

@@ -2,6 +2,7 @@ pub mod Views
 pub mod Holding
 pub mod Gathered
 pub mod Loading
+pub mod LoadingAhead
 pub mod Reading
 pub mod Scanned
 pub mod Fitting
