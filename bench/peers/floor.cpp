@@ -23,11 +23,12 @@
 // split where they were full, entries appended behind the sorted ones. A put that finds its room full gives back what it
 // took, and takes the next ones behind the split; so does one here.
 //
-// A call finds its room by an index of minima, as a reader of it; pins the room, and looks at its bounds; halves the sorted
-// entries, and follows the links; and pins the header of the value, or locks it. A scan pins each room once. Where such a
-// call would have to wait or to look again the program fails instead, since no other thread is in its way then. So what it
-// has to do and to keep for such cases is left out, and so are keys that have not just eight bytes: one word tells two
-// of them apart. Of several ways to halve, and to load ahead, the fastest was taken.
+// A call finds its room by a copy of the index's minima that its thread keeps, which that makes anew, as a reader of the
+// index, where the room was not the one; pins the room, and looks at its bounds; halves the sorted entries, and follows the
+// links; and pins the header of the value, or locks it. A scan pins each room once. Where such a call would have to wait or
+// to look again the program fails instead, since no other thread is in its way then. So what it has to do and to keep for
+// such cases is left out, and so are keys that have not just eight bytes: one word tells two of them apart. Of several ways
+// to halve, and to load ahead, the fastest was taken.
 //
 // A put of a new key makes each ordered step that OakMap's makes, in its order, and so does the split of a full room: it
 // is frozen, held, and opened as two, of which the index is told. The split follows the links, so it reads no key but the
@@ -286,6 +287,10 @@ protected:
     const std::uint32_t number;
     Value value;
 
+    // The thread's copy of the index's minima, where it has one.
+    Minima own;
+    bool has_own = false;
+
     // An entry that is not above a key, and its own key.
     struct Spot {
         std::uint32_t entry;
@@ -325,13 +330,15 @@ protected:
         return table.load(table.block(key_word));
     }
 
-    // The room of a key, as the index says.
+    // The room of a key, as the thread's copy of the index says.
     std::uint32_t look(std::uint64_t key) {
-        add(epoch, 1);
-        const Minima& minima = index.shown();
-        const std::uint32_t room = table.room(minima.rooms[minima.count(key)]);
-        add(epoch, 1);
-        return room;
+        if (!has_own) {
+            add(epoch, 1);
+            own = index.shown();
+            add(epoch, 1);
+            has_own = true;
+        }
+        return table.room(own.rooms[own.count(key)]);
     }
 
     // Pins a room: whether it was open, and has the key in its range.
@@ -539,6 +546,7 @@ template <bool COUNTS> class alignas(128) Putter : public Steps<COUNTS> {
             const std::uint32_t room = Base::look(key);
             if (Base::pin(room, key)) return room;
             subtract(table[room], 1);
+            Base::has_own = false;
             std::this_thread::yield();
         }
     }
@@ -623,6 +631,7 @@ template <bool COUNTS> class alignas(128) Putter : public Steps<COUNTS> {
         const std::lock_guard held(index.writing);
         store(index.turn(), index.go_ahead(head, room_number));
         index.note_readers();
+        Base::own.insert(head, room_number);
         count_ordered();
     }
 
