@@ -17,8 +17,8 @@ returns-else-is_none-clause-only c = let l = c.last_named-last in meets_both c.a
 
 pub returns-then-eq-clause-only : goal.returns-then-eq-clause-only
 returns-then-eq-clause-only c = let p = c.args.pass.now in let l = c.last_named-last in
-    subst (λ (r : Pass). OnlyMeets (call_of p) (state p) (state r)) (sym c.hint-first.ensures) (meets_both p l.new.pass c.low_key.new.pass l.ensures.own l.ensures.only c.low_key.ensures.only)
+    subst (λ (r : Pass). OnlyMeets (call_of p) (state p) (state r)) (sym c.hint_now-first.ensures) (meets_both p l.new.pass c.low_key.new.pass l.ensures.own l.ensures.only c.low_key.ensures.only)
 
 pub returns-else-eq-clause-only : goal.returns-else-eq-clause-only
 returns-else-eq-clause-only c = let p = c.args.pass.now in let l = c.last_named-last in
-    subst (λ (r : Pass). OnlyMeets (call_of p) (state p) (state r)) (sym c.hint-first.ensures) (meets_both p l.new.pass c.low_key.new.pass l.ensures.own l.ensures.only c.low_key.ensures.only)
+    subst (λ (r : Pass). OnlyMeets (call_of p) (state p) (state r)) (sym c.hint_now-first.ensures) (meets_both p l.new.pass c.low_key.new.pass l.ensures.own l.ensures.only c.low_key.ensures.only)
