@@ -9,7 +9,8 @@
 # up to a tenth more, or not, by each change to the program. Printed are nanoseconds a call, or a pair, by one thread on
 # 1,000, 4,000, 16,000 and 60,000 keys with values of 24 bytes and on 16,000 with values of 100, and there by four threads
 # beside each other too: the best of seven runs of about CALLS calls, or 1000000, and how many ordered steps a call makes,
-# of a put of a new key with its share of the splits. The workloads are those of bench/peers.sh.
+# of a put of a new key with its share of the splits. The workloads are those of bench/peers.sh; a pair comes in five ways,
+# as the head of the program says: two of them are the floor, and the others tell what the pins take.
 . "$(dirname "$(readlink -f "${BASH_SOURCE[0]}")")/common.sh"
 take_number CALLS 8 1000000 "$@"
 RUNS=7
@@ -32,7 +33,7 @@ time_work() {
             printf "%-6s %6d keys, %3d bytes, %d threads: %6.1f ns, %s\n", work, keys, bytes, threads, took * threads / calls, said }'
 }
 
-for work in get over ingest scan load walk; do
+for work in get over ingest scan load pins unpinned walk; do
     for keys in 1000 4000 16000 60000; do
         time_work "$work" "$keys" 1 24
     done

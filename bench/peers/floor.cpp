@@ -8,12 +8,18 @@
 // WORK is one of these:
 //
 // - `get`, `over`, `ingest`: as in peers.cpp and crates/rounds;
-// - `scan`, or `up`, as the other programs call it: a scan that follows the links of a room first, and loads ahead what its
-//   pairs are read from;
+// - `scan`, or `up`, as the other programs call it: a scan that follows the links of a room first, ends its pin of the room,
+//   and then reads the pairs, whose words it has loaded ahead;
 // - `load`: the same by loads, where `scan` has the processor's instruction to load ahead, which Rattle has not: a load has
 //   to come back before the processor is done with it, so fewer of them overlap;
-// - `walk`: one that reads each pair as it comes to it, which takes less where the nearer caches hold the table, and more
-//   else. The least of the three is the floor.
+// - `pins`: of such a scan the links, the pins of the pairs and their ends alone, without keys and values: what a pair
+//   takes at least, whatever else is done;
+// - `unpinned`: such a scan without those pins and their ends, which is sound only where nobody writes;
+// - `walk`: a scan that reads each pair as it comes to it, with the room pinned until the last one is read. OakMap's may
+//   not: it pins at most the value of the present pair while its caller looks at it, since nobody could split the room of a
+//   caller that takes its time. So it is no floor, but tells what that promise costs.
+//
+// The lesser of `scan` and `load` is the floor of a pair.
 //
 // Keys, values of BYTES bytes, or 100, their order, and what each thread does are those of the other programs, and so is
 // standard output. Standard error has the nanoseconds of the work, and how many ordered steps a call, or a pair, made, and
@@ -683,6 +689,9 @@ public:
     void work() { Base::told = go_round(0); }
 };
 
+// How a scan goes, as the head of this file has it.
+enum class Way { SCAN, LOAD, PINS, UNPINNED, WALK };
+
 // One thread's gets, puts over values, and scans.
 template <bool COUNTS> class alignas(128) Caller : public Steps<COUNTS> {
     using Base = Steps<COUNTS>;
@@ -775,45 +784,72 @@ template <bool COUNTS> class alignas(128) Caller : public Steps<COUNTS> {
         subtract(table[room], 1);
     }
 
-    // Reads the first eight bytes of the value that a value word names, and copies them as a scan does for its caller.
-    std::uint64_t read_first(std::uint64_t value_word) {
-        const std::uint32_t header = pin_header(value_word);
+    // The header that a value word names, whose pin word is loaded and not changed.
+    std::uint32_t find_header(std::uint64_t value_word) {
+        const std::uint32_t header = table.header(header_in(value_word));
+        if (!is_live(table.load(header), value_word)) fail("a value was not there");
+        return header;
+    }
+
+    // Reads the first eight bytes of the value of a header, and copies them as a scan does for its caller.
+    std::uint64_t read_first(std::uint32_t header) {
         const std::uint64_t place = table.load(header + PLACE);
         if (table.load(header + STAMP) == 0) fail("a value was never written");
         const std::uint64_t first = table.load(table.block(place));
         put_word(value.data(), first);
-        subtract(table[header], 1);
         return first;
     }
 
-    void read_pair(const Pair& pair) {
-        put_word(key_bytes.data(), pair.key);
-        keys_read += pair.key;
-        told_pairs.then(read_first(pair.value_word));
-    }
-
-    // Reads the pairs of a pinned room while it follows the links.
-    void walk_room(std::uint32_t room) {
-        for (std::uint64_t link = table.load(room + FIRST_LINK); link != 0;) {
-            const std::uint32_t entry = entry_at(room, link - 1);
-            link = table.load(entry + LINK);
-            read_pair({table.key(entry), table.load(entry + VALUE)});
+    // Reads a pair, or does of that what the way has.
+    template <Way WAY> void read_pair(const Pair& pair) {
+        std::uint64_t first = 0;
+        if constexpr (WAY != Way::PINS) {
+            put_word(key_bytes.data(), pair.key);
+            keys_read += pair.key;
         }
+        const std::uint32_t header = WAY == Way::UNPINNED ? find_header(pair.value_word) : pin_header(pair.value_word);
+        if constexpr (WAY != Way::PINS) first = read_first(header);
+        if constexpr (WAY != Way::UNPINNED) subtract(table[header], 1);
+        told_pairs.then(first);
     }
 
-    // Follows the links of a pinned room, and then reads the pairs. What a pair is read from is loaded ahead: no load behind
-    // a pin begins before it, so those of pairs that are pinned one behind another never overlap, and those made here do.
-    template <bool BY_LOADS> void gather_room(std::uint32_t room) {
+    // Loads ahead what a pair is read from. No load behind a pin begins before it, so those of pairs that are pinned one
+    // behind another never overlap, and those made here do.
+    template <Way WAY> void load_pair_ahead(std::uint64_t value_word) {
+        const std::uint32_t first = table.block(table.load(table.header(header_in(value_word)) + PLACE));
+        WAY == Way::LOAD ? void(table.load(first)) : table.load_ahead(first);
+    }
+
+    // Follows the links of a pinned room: how many pairs it keeps, to be read behind that.
+    template <Way WAY> std::uint32_t follow_links(std::uint32_t room) {
         std::uint32_t count = 0;
         for (std::uint64_t link = table.load(room + FIRST_LINK); link != 0;) {
             const std::uint32_t entry = entry_at(room, link - 1);
-            const std::uint64_t value_word = table.load(entry + VALUE);
-            pairs[count++] = {table.key(entry), value_word};
-            const std::uint32_t first = table.block(table.load(table.header(header_in(value_word)) + PLACE));
-            BY_LOADS ? void(table.load(first)) : table.load_ahead(first);
             link = table.load(entry + LINK);
+            const Pair pair{WAY == Way::PINS ? 0 : table.key(entry), table.load(entry + VALUE)};
+            if constexpr (WAY == Way::WALK) {
+                read_pair<WAY>(pair);
+            } else {
+                pairs[count++] = pair;
+            }
+            if constexpr (WAY == Way::SCAN || WAY == Way::LOAD) load_pair_ahead<WAY>(pair.value_word);
         }
-        for (std::uint32_t i = 0; i < count; i++) read_pair(pairs[i]);
+        return count;
+    }
+
+    // Reads the whole table, room after room, in the order of keys.
+    template <Way WAY> Told scan_by() {
+        told_pairs = Told();
+        std::uint64_t low = 0;
+        for (bool more = true; more;) {
+            const std::uint32_t room = pin_room(low);
+            const std::uint32_t count = follow_links<WAY>(room);
+            more = table.load(room + HIGH) != 0;
+            low = table.load(room + HIGH + 1);
+            subtract(table[room], 1);
+            for (std::uint32_t i = 0; i < count; i++) read_pair<WAY>(pairs[i]);
+        }
+        return told_pairs;
     }
 
     Told get_between(std::uint32_t from, std::uint32_t to) {
@@ -837,18 +873,12 @@ public:
 
     Caller(Table& on, Index& by, const Asked& what, std::uint32_t thread) : Base(on, by, what, thread) {}
 
-    // Reads the whole table, room after room, in the order of keys.
+    // Reads the whole table.
     Told scan() {
-        told_pairs = Told();
-        std::uint64_t low = 0;
-        for (bool more = true; more;) {
-            const std::uint32_t room = pin_room(low);
-            asked.work == "walk" ? walk_room(room) : asked.work == "load" ? gather_room<true>(room) : gather_room<false>(room);
-            more = table.load(room + HIGH) != 0;
-            low = table.load(room + HIGH + 1);
-            subtract(table[room], 1);
-        }
-        return told_pairs;
+        if (asked.work == "load") return scan_by<Way::LOAD>();
+        if (asked.work == "pins") return scan_by<Way::PINS>();
+        if (asked.work == "unpinned") return scan_by<Way::UNPINNED>();
+        return asked.work == "walk" ? scan_by<Way::WALK>() : scan_by<Way::SCAN>();
     }
 
     Told get_all() { return get_between(0, asked.keys); }
@@ -906,6 +936,7 @@ Told told_scan(std::uint32_t keys, std::uint64_t more) {
 Told told_round(const Asked& asked, std::uint32_t thread) {
     if (asked.work == "over" || asked.work == "ingest")
         return told_zeros((asked.keys - thread + asked.threads - 1) / asked.threads);
+    if (asked.work == "pins") return told_zeros(asked.keys);
     if (asked.work != "get") return told_scan(asked.keys, 0);
     const std::uint32_t from = thread * (asked.keys / asked.threads);
     Told told = told_values(from, asked.keys, 0, asked.bytes);
@@ -957,7 +988,8 @@ template <class Worker> Clock::duration work_beside(std::vector<Worker>& workers
 
 // Reads all that a map has, which has to be what is expected: what a scan came to.
 Told read_all(Map& map, const Asked& asked, const Expected& expected) {
-    Caller<false> reader(map.table, map.index, asked, 0);
+    const Asked all{"scan", asked.keys, 1, 1, asked.bytes};
+    Caller<false> reader(map.table, map.index, all, 0);
     const Told content = reader.scan();
     if (content != expected.content || reader.keys_read != expected.keys) fail("the table has other pairs");
     if (reader.get_all() != expected.values) fail("the table has other values");
@@ -1011,7 +1043,8 @@ bool run(int count, char** words) {
     const Asked asked{words[1], count_in(words[2]), count_in(words[3]), count_in(words[4]),
                       count == 6 ? count_in(words[5]) : 100};
     bool known = false;
-    for (auto work : {"get", "over", "ingest", "scan", "up", "load", "walk"}) known = known || asked.work == work;
+    for (auto work : {"get", "over", "ingest", "scan", "up", "load", "pins", "unpinned", "walk"})
+        known = known || asked.work == work;
     if (!known || asked.keys == 0 || asked.rounds == 0 || asked.threads == 0 || asked.threads > 16) return false;
     if (asked.bytes < 8 || asked.bytes > MOST_BYTES) return false;
     asked.work == "ingest" ? measure<Putter>(asked) : measure<Caller>(asked);
@@ -1022,7 +1055,7 @@ bool run(int count, char** words) {
 
 int main(int count, char** words) {
     if (run(count, words)) return 0;
-    std::fprintf(stderr, "usage: floor get|over|ingest|scan|up|load|walk KEYS ROUNDS THREADS [BYTES]; "
+    std::fprintf(stderr, "usage: floor get|over|ingest|scan|up|load|pins|unpinned|walk KEYS ROUNDS THREADS [BYTES]; "
                          "at most 16 threads, 8 to 256 bytes\n");
     return 2;
 }
