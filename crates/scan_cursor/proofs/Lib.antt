@@ -31,3 +31,4 @@ pub mod FitLaws
 mod CursorLaws
 mod TriedLaws
 mod BlocksAhead
+mod WordsAhead

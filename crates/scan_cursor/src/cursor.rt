@@ -114,6 +114,7 @@ impl Cursor<'_> {
     /// putting its header to another use; to a pass that is alone it never comes. The present value is given back in any
     /// case, so behind `Busy` there is no present pair. The scan keeps its place: no pair is lost or given twice, and what
     /// was read is not read again.
+    #[inline(always)] // once for each pair of a scan
     pub fn try_advance(&mut self, looks: u32) -> Result<bool, Busy>
         requires cursor { IsCursor self.old }
         requires some { 0 < looks }
@@ -215,6 +216,7 @@ impl Cursor<'_> {
 
     /// Goes to the next pair of the scan: false where there is none left. It waits where a room was moved or a value
     /// is being written. It makes loads, pins and their undoing alone, as the whole scan does so far, and takes no block.
+    #[inline(always)] // once for each pair of a scan
     pub fn advance<R: Wait>(&mut self, rt: &R) -> bool
         requires { IsCursor self.old }
         ensures same_reference { self.new.pass.ghost_name ≡ self.old.pass.ghost_name }
