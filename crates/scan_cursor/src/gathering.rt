@@ -324,6 +324,7 @@ fn start_of(
 /// with its key, and of those that lie behind it its value word, into the first slots, those with a value alone. It goes
 /// along the room's links, so the keys of the slots rise. A batch up ends before the entry behind so many pairs; one down
 /// has the entries from so many places of the sorted prefix on. None is told twice, and none left out up to the bound.
+#[inline(always)] // so that its loop is compiled for each direction
 pub(crate) fn gather(
     table: &OakTable,
     pass: &mut Pass,

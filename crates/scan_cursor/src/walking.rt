@@ -224,6 +224,7 @@ fn is_within(bound: &Option<KeyBytes>, low: &[u8], high: &[u8], way: Way) -> boo
 }
 
 /// Loads the next batch of the entries that lie behind the mark in the room in which the scan goes on.
+#[inline(always)] // so that its loops are compiled for each direction
 fn refill(
     table: &OakTable,
     pass: &mut Pass,
@@ -417,7 +418,10 @@ fn step(
     } else if walk.gathered {
         go_ahead(table, pass, walk, low, high, way)
     } else {
-        refill(table, pass, walk, low, high, way)
+        match way {
+            Way::Up => refill(table, pass, walk, low, high, Way::Up),
+            Way::Down => refill(table, pass, walk, low, high, Way::Down),
+        }
     }
 }
 
