@@ -7,7 +7,9 @@
 // - a load of a word whose place was loaded right before, over so much memory, each word in a cache line of its own
 //   and in a random order: what a search pays for each key that it compares, where the caches have none of it;
 // - an ordered addition to a word (which x86 locks), over as much memory: what a pin pays, and its undoing;
-// - the same where another processor changed each word last: what a pin pays among threads.
+// - the same where another processor changed each word last, and the words to come are known, so that a processor may
+//   fetch some of them ahead: the least that a pin pays among threads;
+// - a word that two processors change in turn, each behind the other's change: what a pin of the same word pays.
 //
 // bench/time_machine.sh builds and runs it.
 #include <pthread.h>
@@ -116,6 +118,32 @@ double time_taken_over(std::size_t bytes) {
     return fewest;
 }
 
+// Sets the word to each second number from `first` on, as soon as it is the one before.
+void take_turns(std::atomic<std::uint64_t> &word, std::uint64_t first) {
+    for (std::uint64_t turn = first; turn < STEPS; turn += 2) {
+        while (word.load() != turn) {
+        }
+        word.store(turn + 1);
+    }
+}
+
+// A word that another processor and this one change in turn.
+double time_turns() {
+    double fewest = 1e9;
+    for (int round = 0; round < ROUNDS; round++) {
+        Line line;
+        std::thread other([&] {
+            run_on(1);
+            take_turns(line.word, 1);
+        });
+        const auto begin = Clock::now();
+        take_turns(line.word, 0);
+        fewest = std::min(fewest, since(begin, STEPS));
+        other.join();
+    }
+    return fewest;
+}
+
 } // namespace
 
 int main() {
@@ -126,4 +154,5 @@ int main() {
         std::printf("an ordered addition, over %zu KB: %.1f ns\n", kilobytes, time_additions(kilobytes * 1024));
     for (const std::size_t kilobytes : {256, 4'096})
         std::printf("the same behind another processor's, over %zu KB: %.1f ns\n", kilobytes, time_taken_over(kilobytes * 1024));
+    std::printf("a word that two processors change in turn: %.1f ns a change\n", time_turns());
 }
