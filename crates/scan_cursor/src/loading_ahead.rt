@@ -119,20 +119,43 @@ fn load_all(table: &OakTable, pass: &mut Pass, words: &[u32])
     }
 }
 
+/// Loads ahead what the pairs of the first slots are read from, as many as there are numbers of words, in whose places it
+/// keeps those that it goes by.
+fn load_slots_ahead(table: &OakTable, pass: &mut Pass, words: &mut [u32])
+    requires own { IsPassOf table.now pass.old }
+    requires few { length words.old ≤ GREATEST_ENTRIES }
+    requires words { ArePlainWords (sizes table.now) words.old }
+    ensures own { Stays pass.old pass.new }
+    ensures only { OnlyMeets (call_of pass.old) (state pass.old) (state pass.new) }
+{
+    put_places(table, pass.sorting().slots(), words);
+    follow_places(table, pass, words);
+    load_all(table, pass, words);
+}
+
+/// How many numbers a short array has: room for the first batch of a scan, and mostly for the second.
+const SHORT: usize = 8;
+
+/// How many a longer one has, for a few batches more.
+const LONGER: usize = 64;
+
 /// Loads ahead what the pairs of the first so many slots are read from: where each header's value lies, and the first word
 /// there, for the processor's caches alone. Nothing is asked of the header, and what is found is told to nobody. A pin
 /// waits for all loads before it, and no load behind it begins sooner, so the first loads of pairs that are pinned one
 /// behind another never overlap; those made here do. They stand in loops of their own, with the numbers of their words in
-/// an array, since the less there is to do between two such loads, the more of them overlap.
+/// an array, since the less there is to do between two such loads, the more of them overlap. All of an array is cleared
+/// first, so a batch of few pairs has a short one.
 pub(crate) fn load_batch_ahead(table: &OakTable, pass: &mut Pass, filled: usize)
     requires own { IsPassOf table.now pass.old }
     requires few { filled ≤ GREATEST_ENTRIES }
     ensures own { Stays pass.old pass.new }
     ensures only { OnlyMeets (call_of pass.old) (state pass.old) (state pass.new) }
 {
-    let mut words = [0; GREATEST_ENTRIES as usize];
-    let words = &mut words[..filled];
-    put_places(table, pass.sorting().slots(), words);
-    follow_places(table, pass, words);
-    load_all(table, pass, words);
+    if filled <= SHORT {
+        load_slots_ahead(table, pass, &mut [0; SHORT][..filled]);
+    } else if filled <= LONGER {
+        load_slots_ahead(table, pass, &mut [0; LONGER][..filled]);
+    } else {
+        load_slots_ahead(table, pass, &mut [0; GREATEST_ENTRIES as usize][..filled]);
+    }
 }

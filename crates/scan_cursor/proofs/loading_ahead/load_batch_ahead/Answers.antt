@@ -1,12 +1,14 @@
-use Rattle.oak_core.specs.Passes.{call_of, key as sizes, state}
+use Rattle.oak_core.specs.Passes.{key as sizes}
 use Rattle.oak_model.specs.declared.limits.TheConstants.{GREATEST_ENTRIES}
-use Rattle.chunk_ops.proofs.MeetingCalls.{only_both, only_in}
+use Rattle.scan_cursor.specs.declared.loading_ahead.TheConstants.{LONGER, SHORT}
 use Rattle.scan_cursor.proofs.WordsAhead.{words_0}
 use Rattle.scan_cursor.proofs.loading_ahead.load_batch_ahead.Goals as goal
 
-pub put_places-requires-clause-words : goal.put_places-requires-clause-words
-put_places-requires-clause-words c = words_0 (sizes c.args.table.now) c.args.filled GREATEST_ENTRIES
+pub load_slots_ahead-requires-clause-words : goal.load_slots_ahead-requires-clause-words
+load_slots_ahead-requires-clause-words c = words_0 (sizes c.args.table.now) c.args.filled SHORT
 
-pub returns-clause-only : goal.returns-clause-only
-returns-clause-only c = let call = call_of c.args.pass.now in let v = state c.args.pass.now in let w = state c.follow_places.new.pass in let x = state c.load_all.new.pass in
-    only_both call v w x c.follow_places.ensures.only (only_in call (call_of c.follow_places.new.pass) w x c.follow_places.ensures.own.call c.load_all.ensures.only)
+pub load_slots_ahead-requires-then-filled-le-LONGER-clause-words : goal.load_slots_ahead-requires-then-filled-le-LONGER-clause-words
+load_slots_ahead-requires-then-filled-le-LONGER-clause-words c = words_0 (sizes c.args.table.now) c.args.filled LONGER
+
+pub load_slots_ahead-requires-else-filled-le-LONGER-clause-words : goal.load_slots_ahead-requires-else-filled-le-LONGER-clause-words
+load_slots_ahead-requires-else-filled-le-LONGER-clause-words c = words_0 (sizes c.args.table.now) c.args.filled GREATEST_ENTRIES
