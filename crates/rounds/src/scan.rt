@@ -1,8 +1,9 @@
-//! Fills a map with keys that come in a scrambled order, and then scans it whole, looks up each key, or settles it, again
-//! and again: an example of the map's calls, whose time is measured (`bench/time_scans.sh`, `bench/time_chunks.sh`).
+//! Fills a map with keys that come in a scrambled order, and then scans it whole, looks up each key, or the one behind it,
+//! or settles it, again and again: an example of the map's calls, whose time is measured (`bench/time_scans.sh`,
+//! `bench/time_chunks.sh`).
 ghost use Rattle.std.specs.Prelude.{◌<◌};
 
-mod gets;
+mod looks;
 mod rounds;
 mod words;
 mod work;

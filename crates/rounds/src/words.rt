@@ -50,7 +50,7 @@ pub fn print_usage(rt: &impl Print) -> io::Result<()> {
         "       rounds point GETS FILLS ENTRIES KEYS, at least one fill, {LEAST_ENTRIES} to {GREATEST_ENTRIES} entries, and at most as many keys"
     )?;
     println!(rt;
-        "       rounds scan KEYS ROUNDS up|down|get|settle [ENTRIES], at most {MOST_KEYS} keys"
+        "       rounds scan KEYS ROUNDS up|down|get|next|settle [ENTRIES], at most {MOST_KEYS} keys"
     )?;
     println!(rt;
         "       rounds peer add|ingest|get|over|up|down KEYS ROUNDS THREADS [BYTES], with 1 to 16 threads, 8 to 256 bytes, and at most 32768 keys, 65536 from 17 bytes on, 16384 from 65 on"

@@ -1,5 +1,6 @@
 //! A map that is filled in a scrambled order, and scanned whole.
-ghost use Rattle.std.specs.Prelude.{◌≡◌, ◌+◌, ◌<◌, ◌≤◌, IsSome};
+ghost use Rattle.std.specs.Prelude.{◌≡◌, ◌+◌, ◌<◌, ◌≤◌, IfSome, IsSome};
+ghost use Rattle.oak_model.specs.Key.{IsKey};
 ghost use Rattle.oak_core.specs.MayWrite.{IsNewCall};
 ghost use Rattle.oak_core.specs.PassState.{HoldsNothing};
 ghost use Rattle.oak_core.specs.Passes.{IsPassOf, state as table_state};
@@ -117,15 +118,21 @@ fn go_over<R: Wait>(rt: &R, cursor: &mut Cursor<'_>) -> (u64, u64)
     unreachable!()
 }
 
-/// Begins a scan of the whole map.
-fn begin<'p, R: Wait + Drop + Send>(map: &'p OakMap<R>, pass: &'p mut Pass, way: Way) -> Cursor<'p>
+/// Begins a scan of the map from the least key on, or from this one.
+fn begin<'p, R: Wait + Drop + Send>(
+    map: &'p OakMap<R>,
+    pass: &'p mut Pass,
+    low: Option<&[u8]>,
+    way: Way,
+) -> Cursor<'p>
     requires own { IsPassOf (table_of map.now) pass.old }
     requires idle { HoldsNothing (table_state pass.old) }
+    requires low { IfSome low (λ k. IsKey k.now) }
     ensures same_reference { result.pass.ghost_name ≡ pass.entry.ghost_name }
     ensures same { result.pass.now ≡ pass.old }
     ensures cursor { IsCursor result }
 {
-    scan_of(map, pass, None, None, way)
+    scan_of(map, pass, low, None, way)
 }
 
 /// Scans the whole map by the pass on its table: how many pairs it gave, and their values, added up.
@@ -136,8 +143,28 @@ pub fn scan<R: Wait + Drop + Send>(rt: &R, map: &OakMap<R>, pass: &mut Pass, way
     ensures idle { HoldsNothing (table_state pass.new) }
     ensures numbers { (table_state pass.new).numbers ≡ (table_state pass.old).numbers }
 {
-    let mut cursor = begin(map, pass, way);
+    let mut cursor = begin(map, pass, None, way);
     let told = go_over(rt, &mut cursor);
     cursor.finish();
     told
+}
+
+/// The number that is the value of the first pair of a scan up from a key, where there is one.
+pub fn first<R: Wait + Drop + Send>(
+    rt: &R,
+    map: &OakMap<R>,
+    pass: &mut Pass,
+    key: &[u8],
+) -> Option<u64>
+    requires own { IsPassOf (table_of map.now) pass.old }
+    requires idle { HoldsNothing (table_state pass.old) }
+    requires key { IsKey key.now }
+    ensures own { StaysButSlots pass.old pass.new }
+    ensures idle { HoldsNothing (table_state pass.new) }
+    ensures numbers { (table_state pass.new).numbers ≡ (table_state pass.old).numbers }
+{
+    let mut cursor = begin(map, pass, Some(key), Way::Up);
+    let value = next_value(rt, &mut cursor);
+    cursor.finish();
+    value
 }

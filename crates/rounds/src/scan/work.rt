@@ -2,7 +2,7 @@
 ghost use Rattle.std.specs.Prelude.{◌≡◌};
 ghost use Rattle.oak_map.specs.Maps.{IsReady, state};
 
-use crate::scan::gets::get_all;
+use crate::scan::looks::{Look, look_all};
 use crate::scan::rounds::scan;
 use oak_map::{MapPass, OakMap, Way};
 use std::sync::Wait;
@@ -12,8 +12,8 @@ use std::sync::Wait;
 pub enum Work {
     /// A scan of the whole map, in this way.
     Scan(Way),
-    /// A get of each key that was put.
-    Get,
+    /// A look for each key that was put.
+    Look(Look),
     /// The map is settled.
     Settle,
 }
@@ -24,7 +24,8 @@ impl Work {
         match word {
             "up" => Some(Work::Scan(Way::Up)),
             "down" => Some(Work::Scan(Way::Down)),
-            "get" => Some(Work::Get),
+            "get" => Some(Work::Look(Look::Get)),
+            "next" => Some(Work::Look(Look::Next)),
             "settle" => Some(Work::Settle),
             _ => None,
         }
@@ -45,7 +46,7 @@ fn go_round<R: Wait + Drop + Send>(
 {
     match work {
         Work::Scan(way) => scan(rt, map, pass.pass_mut(), way),
-        Work::Get => get_all(rt, map, pass, keys),
+        Work::Look(which) => look_all(rt, map, pass, keys, which),
         Work::Settle => {
             map.settle(rt, pass);
             (0, 0)

@@ -1,6 +1,6 @@
 use Rattle.std.proofs.Common.{◌≡◌}
 use Rattle.oak_map.specs.Maps.{IsReady, state}
-use Rattle.rounds.proofs.scan.gets.get_all.Given as goal
+use Rattle.rounds.proofs.scan.looks.look_all.Given as goal
 
 abbrev pub invariant-loop-number : goal.invariant-loop-number
 invariant-loop-number g l = record {

@@ -4,7 +4,7 @@ use Rattle.oak_core.specs.Passes.{call_of as table_call, key as table_sizes, sta
 use Rattle.oak_map.specs.Maps.{sizes}
 use Rattle.oak_map.specs.Rests.{RestsAbsent}
 use Rattle.oak_map.proofs.LentEnds.{value_refuses}
-use Rattle.rounds.proofs.scan.gets.get.Goals as goal
+use Rattle.rounds.proofs.scan.looks.get.Goals as goal
 
 pub returns-in-Absent-clause-numbers : goal.returns-in-Absent-clause-numbers
 returns-in-Absent-clause-numbers g c = let z = sizes c.args.map.now in let v = table_state c.args.pass.now in
